@@ -7,13 +7,9 @@ Those by an HMAC session and those of objects are prepared by session_script.py 
 A command that takes a place is followed by its TPM2_FlushContext.
 """
 
-import pathlib
 import sys
 
-TOP = pathlib.Path(__file__).resolve().parent.parent
-sys.path += [str(TOP / "tests" / "outside" / "device")]
-
-import lines
+from tpmsim.standard import lines
 
 NONCE, DIGEST, DATA = "00" * 16, "11" * 32, "22" * 64
 

@@ -94,7 +94,7 @@ PROGRAM
     exit 1
 }
 measured=$folder/crates/measured/out/measured
-python3 "$top/tests/outside/scripts/images.py" "$top/tests/full_device.tpm" |
+"$top/tools/python.sh" "$top/tests/outside/scripts/images.py" "$top/tests/full_device.tpm" |
     sed 's/.*: //' >"$folder/image"
 bytes=$((($(wc -c <"$folder/image") - 1) / 2))
 

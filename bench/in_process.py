@@ -1,21 +1,17 @@
 """Measures libtpmsim beside libtpms, both in one process, and prints a table:
 
-    python3 in_process.py PROGRAM [ROUNDS]
+    tools/python.sh bench/in_process.py PROGRAM [ROUNDS]
 
 PROGRAM is made of in_process.c. In each round every row is measured with each device in turn. A
 figure is the median of the rounds, in microseconds; the least is in brackets.
 """
 
-import pathlib
 import statistics
 import subprocess
 import sys
 from dataclasses import dataclass, field
 
-TOP = pathlib.Path(__file__).resolve().parent.parent
-sys.path.append(str(TOP / "tests" / "outside" / "device"))
-
-import lines
+from tpmsim.standard import lines
 
 ROUNDS = 15
 TARGETS = "tpms", "sim", "still"

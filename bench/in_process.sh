@@ -11,7 +11,6 @@ top=$(CDPATH='' cd "$(dirname "$0")/.." && pwd -P)
 dist=${DIST:-$top/dist}
 folder=$(mktemp -d)
 trap 'rm -rf "$folder"' EXIT
-export PYTHONPATH="$top/tests/outside/device" PYTHONDONTWRITEBYTECODE=1
 
 # compile CALLER SOURCE WORDS..: compiles a caller over the archive.
 compile() {
@@ -25,7 +24,7 @@ compile in_process "$top/bench/in_process.c" -ltpms -lcrypto
 compile stack "$top/tests/library/stack.c" -pthread
 compile devices "$top/tests/library/devices.c"
 
-python3 "$top/bench/in_process.py" "$folder/in_process" "$@"
-python3 "$top/tests/library/scripts.py" --figures "$top/tests" "$folder/stack"
+"$top/tools/python.sh" "$top/bench/in_process.py" "$folder/in_process" "$@"
+"$top/tools/python.sh" "$top/tests/library/scripts.py" --figures "$top/tests" "$folder/stack"
 "$folder/devices" 1000 figures
 wc -c "$dist/libtpmsim.a" "$dist/libtpmsim.so.0"

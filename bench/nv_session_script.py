@@ -10,17 +10,11 @@ is asked for by its own handle. The random bytes are the same for each command, 
 draws the same nonce again, and one prepared buffer is accepted as often as it is sent.
 """
 
-import pathlib
 import sys
 
-TOP = pathlib.Path(__file__).resolve().parent.parent
-sys.path += [str(TOP / "tests" / "outside" / it) for it in ("device", "scripts")]
-
-import lines as words
-from caller import Use
-from commands import CC
-from frames import RH_NULL, RH_OWNER, SHA256, number
-from nv_caller import BY_VALUE, FIRST, NvCaller, area
+from tpmsim.caller import BY_VALUE, Use, area
+from tpmsim.standard import CC, RH_NULL, RH_OWNER, SHA256, lines, number
+from script_caller import FIRST, ScriptCaller
 from script import Script
 
 PCR = 0x10
@@ -36,12 +30,12 @@ def extending(caller, session):
 def in_hex(line):
     """A line with its buffer in hex, where it spells a command in words."""
     spelled = line.removeprefix("do ")
-    return line if spelled == line else f"cmd {words.assemble(spelled.encode('ascii')).hex()}"
+    return line if spelled == line else f"cmd {lines.assemble(spelled.encode('ascii')).hex()}"
 
 
 kind, binding, count = sys.argv[1], sys.argv[2], int(sys.argv[3])
 script = Script("bench", "")
-caller = NvCaller(script)
+caller = ScriptCaller(script)
 script.startup()
 script.entropy(b"\xbb")
 script.fresh = lambda: None

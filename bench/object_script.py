@@ -8,20 +8,17 @@ TPM2_CreatePrimary makes a storage key, with SHA-256, and each one is flushed ag
 TPM2_HMAC is over 1,024 bytes. Each is authorized by a password.
 """
 
-import pathlib
 import sys
 
-TOP = pathlib.Path(__file__).resolve().parent.parent
-sys.path += [str(TOP / "tests" / "outside" / it) for it in ("device", "scripts")]
-
-from frames import RH_OWNER, SHA256
-from object_caller import ObjectCaller, hmac_key, sealed, storage_key
+from tpmsim.caller import hmac_key, sealed, storage_key
+from tpmsim.standard import RH_OWNER, SHA256
+from script_caller import ScriptCaller
 from script import Script
 
 SECRET = bytes(range(32))
 
 script = Script("bench", "")
-caller = ObjectCaller(script)
+caller = ScriptCaller(script)
 script.startup()
 parent = caller.create_primary("A storage key", RH_OWNER, storage_key())
 made = caller.create("Sealed data", parent, sealed(), data=SECRET)

@@ -8,18 +8,15 @@ so that the device draws the same nonce again, and one prepared buffer is accept
 sent.
 """
 
-import pathlib
 import sys
 
-TOP = pathlib.Path(__file__).resolve().parent.parent
-sys.path += [str(TOP / "tests" / "outside" / it) for it in ("device", "scripts")]
-
-from caller import Caller, Use
-from frames import RH_OWNER
+from tpmsim.caller import Use
+from tpmsim.standard import RH_OWNER
+from script_caller import ScriptCaller
 from script import Script
 
 script = Script("bench", "")
-caller = Caller(script)
+caller = ScriptCaller(script)
 script.startup()
 script.entropy(b"\xbb")
 script.fresh = lambda: None

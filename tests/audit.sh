@@ -5,7 +5,6 @@
 tests=$(cd "$(dirname "$0")" && pwd -P)
 . "$tests/common/cases.sh"
 needs python3
-export PYTHONDONTWRITEBYTECODE=1
 scripts=$tests/outside/audit
 audit=$tests/../tools/audit.py
 unlocking=$tests/../examples/disk_unlock.tpm
@@ -40,7 +39,7 @@ run_audit() {
     echo "$1"
     shift
     status=0
-    python3 "$audit" "$@" 2>&1 || status=$?
+    env -u PYTHONPATH python3 "$audit" "$@" 2>&1 || status=$?
     echo "status $status"
 }
 

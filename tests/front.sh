@@ -6,7 +6,6 @@
 tests=$(cd "$(dirname "$0")" && pwd -P)
 . "$tests/common/cases.sh"
 needs python3
-export PYTHONDONTWRITEBYTECODE=1
 
 for part in options control data state faults record complete mssim; do
     echo "$part:"

@@ -3,4 +3,4 @@ tests=$(cd "$(dirname "$0")" && pwd -P)
 . "$tests/common/cases.sh"
 needs python3
 
-PYTHONDONTWRITEBYTECODE=1 python3 "$tests/common/damaged_images.py" "$program"
+python3 "$tests/common/damaged_images.py" "$program"

@@ -5,5 +5,4 @@ tests=$(cd "$(dirname "$0")" && pwd -P)
 . "$tests/common/cases.sh"
 needs python3
 
-export PYTHONDONTWRITEBYTECODE=1
 python3 "$tests/common/kills.py" "$program" 40 1

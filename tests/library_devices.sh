@@ -16,7 +16,6 @@ compile threads threads "$archive"
     compile sanitized_devices devices $sanitizers "$archive"
     compile sanitized_threads threads $sanitizers "$archive"
 }
-export PYTHONPATH="$tests/outside/device" PYTHONDONTWRITEBYTECODE=1
 python3 "$sources/scripts.py" --lines "$tests/../examples/disk_unlock.tpm" >lines || exit 1
 sed -n 's/^cmd //p' lines >commands
 

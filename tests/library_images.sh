@@ -4,5 +4,5 @@ tests=$(cd "$(dirname "$0")" && pwd -P)
 . "$tests/common/library.sh"
 needs python3
 
-PYTHONDONTWRITEBYTECODE=1 python3 "$sources/images.py" "$shared" >answers
+python3 "$sources/images.py" "$shared" >answers
 cmp answers "$tests/images.out" && echo 'each image is answered as by the program'

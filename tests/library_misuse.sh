@@ -11,8 +11,11 @@ wrap='-Wl,--wrap=malloc -Wl,--wrap=realloc'
     compile misuse misuse $wrap "$archive"
     compile sanitized misuse $sanitizers $wrap "$archive"
 }
-export PYTHONPATH="$tests/outside/device" PYTHONDONTWRITEBYTECODE=1
-python3 -c 'import sys, device, image; sys.stdout.buffer.write(image.image(device.Device()))' >image
+python3 -c '
+import sys
+from tpmsim.model import image, machine
+sys.stdout.buffer.write(image.image(machine.Model()))
+' >image
 python3 "$tests/common/damage.py" image body >wrong_body
 
 for caller in misuse sanitized; do

@@ -11,5 +11,4 @@ compile sanitized play $sanitizers "$archive"
 compile shared play "$shared" -Wl,-rpath,"$dist"
 compile stack stack "$archive"
 
-export PYTHONPATH="$tests/outside/device" PYTHONDONTWRITEBYTECODE=1
 python3 "$sources/scripts.py" "$tests" "$room/stack" "$room/static" "$room/sanitized" "$room/shared"

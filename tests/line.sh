@@ -3,7 +3,6 @@
 tests=$(cd "$(dirname "$0")" && pwd -P)
 . "$tests/common/cases.sh"
 needs python3
-export PYTHONDONTWRITEBYTECODE=1
 
 python3 "$tests/common/line.py" "$program"
 

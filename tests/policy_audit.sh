@@ -8,7 +8,6 @@
 tests=$(cd "$(dirname "$0")" && pwd -P)
 . "$tests/common/cases.sh"
 needs python3
-export PYTHONDONTWRITEBYTECODE=1
 scripts=$tests/outside/audit
 audit=$tests/../tools/audit.py
 : >empty

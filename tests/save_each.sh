@@ -5,7 +5,6 @@ tests=$(cd "$(dirname "$0")" && pwd -P)
 . "$tests/common/cases.sh"
 . "$tests/common/served.sh"
 
-export PYTHONPATH="$tests/outside/device"
 python3 "$tests/common/save_each.py" "$program" 22
 
 # The option stands anywhere, and once. It has no value, and is one of serve alone.

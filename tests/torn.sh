@@ -4,5 +4,4 @@
 tests=$(cd "$(dirname "$0")" && pwd -P)
 . "$tests/common/cases.sh"
 needs cc nm python3
-export PYTHONDONTWRITEBYTECODE=1 PYTHONPATH="$tests/outside/device"
 python3 "$tests/common/torn.py" "$program"

@@ -4,4 +4,4 @@ tests=$(cd "$(dirname "$0")" && pwd -P)
 . "$tests/common/cases.sh"
 needs python3
 
-PYTHONDONTWRITEBYTECODE=1 python3 "$tests/outside/scripts/version_1_images.py" "$program"
+python3 "$tests/outside/scripts/version_1_images.py" "$program"

@@ -1,117 +1,13 @@
 #!/usr/bin/env python3
-"""Judges a script by what was printed of it, for who reviews the log of a device:
+"""Judges the log of a device, as python/tpmsim/audit/main.py says; it needs python3 alone."""
 
-    tools/audit.py SCRIPT OUTPUT [--image START] [--policy FILE]..
-
-OUTPUT is what `tpmsim run --trace SCRIPT` printed; `-` is standard input. With --image the device
-was no new one, but the one of an image, as `tpmsim serve --image` leaves it, behind a power cycle.
-Each --policy gives a policy in words, as docs/USING.md has it.
-
-It prints what the log tells: the PCRs, the policies, each use of an entity with the ground on which
-it was let in, the counters, and the failed guesses; and of each policy in words which entities have
-it, and how each use of them met it. The status is 0 where all agrees. It is 1, with a line on
-standard error, where the log is cut, or no device with this start answers so, or the script has a
-bad line; and where no entity has a policy that is given, or a use does not meet it. It is 2 where
-these words, a file, a policy or the image is not what it should be. It needs python3, and no
-program.
-"""
-
-import os
 import pathlib
 import sys
 
-OUTSIDE = pathlib.Path(__file__).resolve().parent.parent / "tests" / "outside"
 sys.dont_write_bytecode = True
-sys.path += [str(OUTSIDE / "device"), str(OUTSIDE / "audit")]
+sys.path.insert(0, str(pathlib.Path(__file__).resolve().parents[1] / "python"))
 
-import start
-from auditor import Auditor
-from image import Fault
-from log import Disagreement, Log
-from policy_file import Fault as PolicyFault
-from policy_file import PolicyFile
-from report import report
-
-USAGE = "usage: tools/audit.py SCRIPT OUTPUT [--image START] [--policy FILE].."
-
-AGREES = (
-    "At each event the answer is that of a device with this start, and the device is what its "
-    "history tells. A log that is consistent cannot be told from a true one."
-)
-
-
-class Usage(Exception):
-    """Why nothing can be judged."""
-
-
-def read(name):
-    try:
-        return sys.stdin.buffer.read() if name == "-" else pathlib.Path(name).read_bytes()
-    except OSError:
-        raise Usage(f"{name} cannot be read") from None
-
-
-def parsed(words):
-    """The names of the script and of its output, that of the image, if there is one, and those of
-    policies.
-    """
-    names, given, words = [], {"--image": [], "--policy": []}, iter(words)
-    for word in words:
-        of_option = given.get(word)
-        if of_option is None:
-            names.append(word)
-        else:
-            of_option.append(next(words, "--"))
-    images, policies = given.values()
-    wrong = [it for it in (*names, *images, *policies) if it.startswith("--")]
-    if len(names) != 2 or len(images) > 1 or wrong or "-" in (names[0], *policies):
-        raise Usage(USAGE)
-    return *names, *(images or [None]), policies
-
-
-def policy_of(name):
-    try:
-        return PolicyFile(name, read(name))
-    except PolicyFault as fault:
-        raise Usage(f"{name} {fault}") from None
-
-
-def start_of(image):
-    if image is None:
-        return start.new()
-    try:
-        return start.of_image(read(image))
-    except Fault as fault:
-        raise Usage(f"image {fault}") from None
-
-
-def tell(auditor, last):
-    """Prints the report; who reads it may close it before it ends."""
-    try:
-        print(*report(auditor), last, sep="\n", flush=True)
-    except BrokenPipeError:
-        os.dup2(os.open(os.devnull, os.O_WRONLY), sys.stdout.fileno())
-
-
-def main(*words):
-    try:
-        script_name, output_name, image, policies = parsed(words)
-        script, log = read(script_name), Log(read(output_name))
-        auditor = Auditor(start_of(image), log, [policy_of(it) for it in policies])
-    except Usage as fault:
-        print(f"audit: {fault}", file=sys.stderr)
-        return 2
-    fault = None
-    try:
-        auditor.read(script)
-    except Disagreement as found:
-        fault = str(found)
-    tell(auditor, f"The report ends here: {fault}." if fault else AGREES)
-    faults = [fault, *auditor.policies.unmet()] if fault else auditor.policies.faults()
-    for it in faults:
-        print(f"audit: {it}", file=sys.stderr)
-    return 1 if faults else 0
-
+from tpmsim.audit.main import run
 
 if __name__ == "__main__":
-    sys.exit(main(*sys.argv[1:]))
+    run()

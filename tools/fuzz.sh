@@ -1,6 +1,6 @@
 #!/bin/sh
 # Plays at random, and compares what the program answers with what the device in plain Python under
-# tests/outside/device answers. Needs python3. In a round are a random script; a bent one, in which
+# python/tpmsim/model answers. Needs python3. In a round are a random script; a bent one, in which
 # commands' bytes, lines and letters are changed; and a stream: connections to a served device, in
 # runs one after another on its image, of which some bytes are missing or have wrong sizes, and
 # images that are bent. What comes in a round hangs on its seed alone.
@@ -12,7 +12,7 @@
 #
 # It runs PROGRAM, or the one that tools/program.sh names. Where an answer differs it says the seed,
 # leaves the script or the stream, and says at which of its lines; the first one it leaves once
-# more, with no line that the difference does not need; tests/outside/device/streams.py says what
+# more, with no line that the difference does not need; python/tpmsim/model/streams.py says what
 # the lines of a stream are. The last lines count what was tried, and the status is 1 where anything
 # differs.
 set -u
@@ -40,4 +40,4 @@ if ! are_words "$@"; then
 fi
 program=${PROGRAM:-$(cd "$top" && . tools/program.sh)} || exit 1
 program=$(cd "$(dirname "$program")" && pwd -P)/$(basename "$program") || exit 1
-exec python3 -B "$top/tests/outside/scripts/fuzz.py" "$program" "$@"
+exec "$top/tools/python.sh" "$top/tests/outside/scripts/fuzz.py" "$program" "$@"

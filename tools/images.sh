@@ -1,6 +1,6 @@
 #!/bin/sh
 # Has a program open damaged images, and compares its answers with those of the device in plain
-# Python under tests/outside/device: every beginning of the largest image of each version, each byte
+# Python under python/tpmsim/model: every beginning of the largest image of each version, each byte
 # of that of version 2 changed in three ways or more, and bodies of a full device that are bent at
 # random, with the length and the digest that they have to have. What is opened of these is saved
 # again, too. It is no part of the gate; tests/images.sh is. Needs python3; takes some minutes.
@@ -18,7 +18,6 @@ program=${PROGRAM:-$(cd "$top" && . tools/program.sh)} || exit 1
 program=$(cd "$(dirname "$program")" && pwd -P)/$(basename "$program")
 folder=$(mktemp -d) || exit 1
 cd "$folder" || exit 1
-export PYTHONDONTWRITEBYTECODE=1
 
-python3 "$top/tests/common/damaged_images.py" "$program" full "$@" || exit 1
+"$top/tools/python.sh" "$top/tests/common/damaged_images.py" "$program" full "$@" || exit 1
 rm -rf "$folder"

@@ -22,7 +22,7 @@ common=$top/tests/common
 count=${1:-1000}
 mkdir each
 if python3 "$common/kills.py" "$program" "$count" "${2:-1}" counts &&
-    cd each && PYTHONPATH=$top/tests/outside/device python3 "$common/save_each.py" "$program" "$count"; then
+    cd each && "$top/tools/python.sh" "$common/save_each.py" "$program" "$count"; then
     rm -rf "$folder"
 else
     echo "The image is in $PWD"

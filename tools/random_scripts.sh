@@ -1,6 +1,6 @@
 #!/bin/sh
 # Writes random scripts, runs them, and compares what the program answers with what the device in
-# plain Python under tests/outside/device answers. It is no part of the gate. Needs python3.
+# plain Python under python/tpmsim/model answers. It is no part of the gate. Needs python3.
 #
 #   tools/random_scripts.sh                 the scripts of the seeds 1 to 20, of 1,000 commands each
 #   tools/random_scripts.sh 7               that of seed 7
@@ -22,7 +22,7 @@ differ=0
 seed=$first
 while [ "$seed" -le "$last" ]; do
     script=$folder/$seed
-    python3 "$top/tests/outside/scripts/random_script.py" "$seed" "$count" "$folder" || exit 1
+    "$top/tools/python.sh" "$top/tests/outside/scripts/random_script.py" "$seed" "$count" "$folder" || exit 1
     "$program" run "$script.tpm" >"$script.given"
     if cmp "$script.out" "$script.given"; then
         agree=$((agree + 1))

@@ -1,6 +1,6 @@
 """Lines of commands, bent token by token, against lines.py of the device in Python:
 
-    PYTHONPATH=tests/outside/device python3 tests/common/bent_lines.py PROGRAM
+    tools/python.sh tests/common/bent_lines.py PROGRAM
 
 Of each command the line of assemble.lines is taken, which begins with one of each. For each way to bend a token
 there is a line: how many bent lines there are, how many buffers and faults come of them, and how
@@ -17,9 +17,9 @@ import subprocess
 import sys
 import tempfile
 
-import lines
-import player
-from device import Device
+from tpmsim.model import player
+from tpmsim.model.machine import Model
+from tpmsim.standard import lines
 
 TESTS = pathlib.Path(__file__).resolve().parent.parent
 AT_ONCE = 4
@@ -216,7 +216,7 @@ def try_faults(pool, program, what, bad):
 
 def try_answers(program, good):
     """One script of all that are lines, as the device in Python answers it."""
-    device, random = Device(), bytes(256)
+    device, random = Model(), bytes(256)
     text = b"".join(b"do " + line + b"\n" for line in good)
     want = [device.execute(lines.assemble(line), 0, random).response.hex() for line in good]
     with tempfile.NamedTemporaryFile() as script:

@@ -1,7 +1,10 @@
 # What the shell tests share: each runs the program in a folder of its own, once a case, and says in
 # a line what came of it. A test is given the program's path, and reads this file first.
 LC_ALL=C
-export LC_ALL
+# shellcheck disable=SC2154 # a test names its folder before it reads this file
+PYTHONPATH=${tests%/*}/python:$tests/outside/scripts
+PYTHONDONTWRITEBYTECODE=1
+export LC_ALL PYTHONPATH PYTHONDONTWRITEBYTECODE
 
 [ "$#" -eq 1 ] || { echo "usage: sh $0 PROGRAM" >&2; exit 2; }
 room=$(mktemp -d) || exit 1

@@ -1,6 +1,6 @@
 """Compares the lists of commands in documents with the description of the commands:
 
-    PYTHONPATH=tests/outside/device python3 tests/common/command_lists.py
+    tools/python.sh tests/common/command_lists.py
 
 A line for each list says how many entries it has; each one that is missing, or too many, has a line
 that begins with DIFFERS. Then documents are changed in one place each, and that has to be found.
@@ -11,8 +11,7 @@ import re
 from collections.abc import Callable, Iterable
 from dataclasses import dataclass
 
-import lines
-from commands import CC, Fact, HandleKind
+from tpmsim.standard import CC, Fact, HandleKind, lines
 
 TOP = pathlib.Path(__file__).resolve().parent.parent.parent
 README, TABLE = "README.md", "docs/table"

@@ -18,15 +18,12 @@ import sys
 
 import client
 
-OUTSIDE = pathlib.Path(__file__).resolve().parent.parent / "outside"
-sys.path += [str(OUTSIDE / "scripts"), str(OUTSIDE / "device")]
-
-import image
+from tpmsim.model import image
+from tpmsim.model.machine import Model
+from tpmsim.standard import lines
 import image_bodies
 import image_versions
-import lines
 from bent_bodies import Bender
-from device import Device
 
 STATUS_OF_FAULT, FAULT = 4, "tpmsim: image "
 EXTEND = "PCR_Extend {} pw:- sha1:a9993e364706816aba3e25717850c26c9cd0d89d"
@@ -184,7 +181,7 @@ def damage(comparison, text):
 
 def device_that_saved(program):
     """The device in Python behind the lines, made sure that the program saves its image, too."""
-    device = Device()
+    device = Model()
     commands = [lines.assemble(line.encode("ascii")) for line in LINES]
     for buffer in commands:
         assert device.execute(buffer, 0, RANDOM).response[6:10] == SUCCESS

@@ -1,6 +1,6 @@
-"""Compares the description of the commands, outside/device/commands.py, with the program:
+"""Compares the description of the commands, python/tpmsim/standard/commands.py, with the program:
 
-    PYTHONPATH=tests/outside/device python3 tests/common/described_commands.py PROGRAM
+    tools/python.sh tests/common/described_commands.py PROGRAM
 
 Each fact of each command is asked of the program. A line for each kind of fact says how often the
 program was asked; each difference has a line that begins with DIFFERS. Then one fact of a command
@@ -16,15 +16,12 @@ from collections.abc import Iterable, Iterator
 from dataclasses import dataclass, replace
 from unittest import mock
 
-import frames
-import general
-import lines
-from capability import COMMANDS, HANDLES, PCRS, TOTAL_COMMANDS, command_attributes
-from commands import CC, NUMBERED, Fact, Handle, HandleKind, Kind
-from frames import KEYEDHASH, RH_LOCKOUT, RH_NULL, RH_OWNER, RH_PLATFORM, RS_PW, SHA256, number
-from general import Fields
-from nv import Attribute, Public
-from objects import Attribute as ObjectAttribute
+from tpmsim.model.capability import COMMANDS, HANDLES, PCRS, TOTAL_COMMANDS, command_attributes
+from tpmsim.standard import CC, Fact, Fields, Handle, HandleKind, KEYEDHASH, Kind, NUMBERED
+from tpmsim.standard import RH_LOCKOUT, RH_NULL, RH_OWNER, RH_PLATFORM, RS_PW, SHA256, frames
+from tpmsim.standard import handle_kinds, lines, number, reading
+from tpmsim.standard.nv import Attribute, Public
+from tpmsim.standard.objects import Attribute as ObjectAttribute
 
 TESTS = pathlib.Path(__file__).resolve().parent.parent
 AT_ONCE = 4
@@ -140,7 +137,7 @@ def answers_of(program: Program, code: CC, buffers: list[bytes]) -> list[Answer]
 
 
 def takes(handle: Handle, number: int) -> bool:
-    return general.IS_OF_KIND[handle.kind](number)
+    return handle_kinds.IS_OF_KIND[handle.kind](number)
 
 
 def right_handles(code: CC) -> list[int]:
@@ -242,7 +239,7 @@ def words(program: Program, codes: list[CC]) -> Iterator[Asked]:
         yield Asked(f"line {buffer}", lines.line_of(bytes.fromhex(buffer)), answer)
 
 
-def handle_kinds(program: Program, codes: list[CC]) -> Iterator[Asked]:
+def kinds_of_handles(program: Program, codes: list[CC]) -> Iterator[Asked]:
     """Which handles a command takes, of all that are there and of some that are none."""
     for code in codes:
         right, wanted, buffers = right_handles(code), [], []
@@ -378,7 +375,7 @@ def read_answer(code: CC, response: bytes | None) -> str:
         body = Fields(fields.take(fields.number(4))) if tag == frames.SESSIONS else fields
         for parameter in code.answered_parameters:
             read_answered(parameter.kind, body)
-    except (general.Short, lines.NoWords):
+    except (reading.Short, lines.NoWords):
         return "cut"
     if not all(map(takes, code.answered_handles, handles)):
         return "another handle"
@@ -410,7 +407,7 @@ CHECKS = {
     "numbers that are served, and that a policy names": served,
     "kinds of parameters": parameters,
     "how parameters are shown": words,
-    "kinds of handles": handle_kinds,
+    "kinds of handles": kinds_of_handles,
     "authorizations and entries": authorizations,
     "sized buffers": encryption,
     "roles": roles,

@@ -13,9 +13,7 @@ import time
 TESTS = pathlib.Path(__file__).resolve().parent.parent
 FRONT = TESTS.parent / "tools" / "swtpm_front.py"
 PROGRAM = sys.argv[1]
-sys.path.insert(0, str(TESTS / "outside" / "device"))
-
-from lines import assemble  # noqa: E402
+from tpmsim.standard.lines import assemble
 
 SECONDS = 20
 MESSAGES = (

@@ -12,11 +12,8 @@ import sys
 
 HERE = pathlib.Path(__file__).resolve().parent
 TOP = HERE.parent.parent
-sys.path.insert(0, str(HERE.parent / "outside" / "device"))
-
-import image  # noqa: E402
-import player  # noqa: E402
-import streams  # noqa: E402
+from tpmsim.model import image, player, streams
+from tpmsim.model.machine import Model
 
 PROGRAM = sys.argv[1]
 IMAGE = pathlib.Path("image")
@@ -179,7 +176,7 @@ def check_entropy():
     random = bytes(range(255, -1, -1))
     pathlib.Path("entropy").write_bytes(random + b"left over")
     run = Run(None, "--entropy", "entropy")
-    run.player.device = streams.new_device(random)
+    run.player.device = Model(random)
     run.tell(b"do Startup 0")
     run.end()
     pathlib.Path("entropy").write_bytes(b"")

@@ -13,9 +13,7 @@ import sys
 
 HERE = pathlib.Path(__file__).resolve().parent
 TOP = HERE.parent.parent
-sys.path.insert(0, str(HERE.parent / "outside" / "device"))
-
-import lines  # noqa: E402
+from tpmsim.standard import lines
 
 PROGRAM = sys.argv[1]
 NO_LINE = 2, b"", b"tpmsim: line NoLine\n"

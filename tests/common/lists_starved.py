@@ -12,27 +12,19 @@ import collections
 import pathlib
 import sys
 
-import device
-import image
-import lines
-from commands import CC
-from player import Player
+from tpmsim.model import image, machine
+from tpmsim.model.player import Player
+from tpmsim.standard import CC, lines
 from refusals import Refusals
 from shims import HERE, Ending, fail
 
 MEMORY = Ending(3, error=b"tpmsim_lists: memory\n")
-STARVED, SUCCESS = device.STARVED.hex(), bytes(4).hex()
+STARVED, SUCCESS = machine.STARVED.hex(), bytes(4).hex()
 CODE = slice(12, 20)
 
 # The commands that may be answered MEMORY, and the script that has each of them at each size at
 # which a list grows, and all other commands.
-GROWING = {
-    CC.StartAuthSession,
-    CC.CreatePrimary,
-    CC.Load,
-    CC.NV_DefineSpace,
-    CC.EvictControl,
-}
+GROWING = {CC.StartAuthSession, CC.CreatePrimary, CC.Load, CC.NV_DefineSpace, CC.EvictControl}
 SCRIPT = (HERE / "growing.tpm").read_bytes()
 LINES = SCRIPT.splitlines()
 
@@ -48,7 +40,7 @@ def code_of(line):
 
 def printed(starved=()):
     """What the script prints, by the device in Python, where these commands are starved."""
-    player = Player(starved)
+    player = Player(starved=starved)
     told = [player.play(line) for line in LINES]
     return [it[-1] for it in told if it and it[-1] != "power"]
 
@@ -91,7 +83,7 @@ class Script:
         """Each command of the device stands in the script, and succeeds there."""
         answered = zip(self.codes, self.whole)
         succeeded = {code for code, answer in answered if answer[CODE] == SUCCESS}
-        if succeeded != set(device.ROWS):
+        if succeeded != set(machine.ROWS):
             fail("the script does not have every command")
 
     def check_run(self, turn, ending):
@@ -126,7 +118,7 @@ class Script:
                 f"{code.name}: growths refused: {self.refused[code]}, each answered MEMORY,"
                 " and the same command then succeeded"
             )
-        print(f"{len(device.ROWS) - len(GROWING)} other commands: never answered MEMORY")
+        print(f"{len(machine.ROWS) - len(GROWING)} other commands: never answered MEMORY")
 
 
 def full_image():

@@ -12,10 +12,11 @@ import socket
 import subprocess
 import sys
 
-import lines
+from tpmsim.model.image import open_image
+from tpmsim.model.machine import Model
+from tpmsim.model.streams import without_clock
+from tpmsim.standard import lines
 from client import connected
-from image import image, open_image
-from streams import new_device, without_clock
 
 IMAGE = pathlib.Path("image")
 SERVE = "serve --socket socket --image image --entropy /dev/zero --locality 0 --connections".split()
@@ -69,14 +70,14 @@ class Run:
     """A run of the program, a connection to it, and the same device in Python."""
 
     def __init__(self, program, connections=MOST_CONNECTIONS, options=(OPTION,)):
-        self.device = open_image(IMAGE.read_bytes()) if IMAGE.exists() else new_device(RANDOM)
+        self.device = open_image(IMAGE.read_bytes()) if IMAGE.exists() else Model(RANDOM)
         self.saved = text_of(self.device) if IMAGE.exists() else None
         self.process = subprocess.Popen(
             [program, *SERVE, str(connections), *options],
             stdout=subprocess.PIPE,
             stderr=subprocess.PIPE,
         )
-        self.client = connected("socket")
+        self.client, self.read = connected("socket"), b""
 
     def wanted(self, line):
         """What the command is answered. The time of an answer is the host's."""
@@ -84,12 +85,13 @@ class Run:
 
     def answer(self):
         """A whole response, or nothing where the stream ends before."""
-        text = b""
-        while len(text) < 6 or len(text) < int.from_bytes(text[2:6], "big"):
+        while len(self.read) < max(6, int.from_bytes(self.read[2:6], "big")):
             piece = self.client.recv(4096)
             if not piece:
                 return None
-            text += piece
+            self.read += piece
+        size = int.from_bytes(self.read[2:6], "big")
+        text, self.read = self.read[:size], self.read[size:]
         return text
 
     def tell(self, line):
@@ -126,7 +128,7 @@ class Run:
 
     def close(self):
         self.client.shutdown(socket.SHUT_WR)
-        if self.client.recv(1):
+        if self.read or self.client.recv(1):
             fail("there is more than the responses")
         self.client.close()
 

@@ -17,7 +17,7 @@ from dataclasses import dataclass
 import refusals
 from client import received
 from shims import HERE, Ending, ended, fail
-from streams import image_told
+from tpmsim.model.streams import image_told
 
 TOP = HERE.parent.parent
 SCRIPT = TOP / "examples/measured_boot.tpm"
@@ -28,7 +28,8 @@ SERVE = "serve --socket socket --image image --entropy entropy --locality 0 --co
 SENT = bytes.fromhex(
     "80010000000c000001440000"
     "80010000000c0000017b0004"
-    "8002000000200000012940000001000000094000000900000100000003" "6f776e"
+    "8002000000200000012940000001000000094000000900000100000003"
+    "6f776e"
 )
 ROOM = pathlib.Path("served")
 

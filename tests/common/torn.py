@@ -18,10 +18,11 @@ import sys
 import time
 from dataclasses import dataclass
 
-import lines
-from image import image, open_image
+from tpmsim.model import machine
+from tpmsim.model.image import image, open_image
+from tpmsim.model.streams import without_clock
+from tpmsim.standard import lines
 from shims import AT_MOST, HERE, Ending, begun, built, check_calls, ended, fail
-from streams import new_device, without_clock
 
 TOP = HERE.parent.parent
 SCRIPT = TOP / "examples/measured_boot.tpm"
@@ -246,7 +247,7 @@ class Model:
     """The device in Python, from an image or new: what commands are answered, and its image."""
 
     def __init__(self, text):
-        self.device = new_device(random_of(0)) if text is None else open_image(text)
+        self.device = machine.Model(random_of(0)) if text is None else open_image(text)
         self.executed = 0
 
     def answers(self, buffers):
@@ -489,7 +490,7 @@ def main():
     check_words(program, library, "a line", ["asm", "Startup 0"])
     check_words(program, library, "a help", ["--help"])
     check_service(program, library, "a device that is made", None)
-    check_service(program, library, "a device from an image", image(new_device(random_of(0))))
+    check_service(program, library, "a device from an image", image(machine.Model(random_of(0))))
     check_socket_rivals(program, library)
     check_image_rivals(program, library)
 

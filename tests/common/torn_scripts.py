@@ -14,10 +14,10 @@ import shutil
 import sys
 from dataclasses import dataclass
 
-import player
-from image import image, open_image
+from tpmsim.model import machine, player
+from tpmsim.model.image import image, open_image
+from tpmsim.model.streams import without_clock
 from shims import Ending, begun, built, ended, fail
-from streams import new_device, without_clock
 
 ROOM, CALLS = pathlib.Path("torn"), pathlib.Path("calls")
 RUN = "run --image image --entropy entropy -".split()
@@ -51,8 +51,7 @@ class Model:
     """
 
     def __init__(self, text):
-        self.player = player.Player()
-        self.player.device = new_device(RANDOM) if text is None else open_image(text)
+        self.player = player.Player(machine.Model(RANDOM) if text is None else open_image(text))
         self.answers = []
         self.images = [[told_of(text), without_clock_of(self.player.device)]]
         for line in LINES:

@@ -1,6 +1,6 @@
 """Has the library open damaged images:
 
-    python3 images.py LIBRARY
+    tools/python.sh images.py LIBRARY
 
 LIBRARY is the shared object. The images, and what is printed of them, are those of
 common/damaged_images.py, which has the program open them.

@@ -1,8 +1,8 @@
 """Scripts over the library:
 
-    python3 scripts.py TESTS STACK PLAYER..       compares
-    python3 scripts.py --figures TESTS STACK      tells how much stack each call takes
-    python3 scripts.py --lines SCRIPT             prints a script without words, for play.c
+    tools/python.sh scripts.py TESTS STACK PLAYER..     compares
+    tools/python.sh scripts.py --figures TESTS STACK    tells how much stack each call takes
+    tools/python.sh scripts.py --lines SCRIPT           prints a script without words, for play.c
 
 Each script of the folder TESTS, and of the examples beside it, that is to end well is played by
 each PLAYER, which play.c is the source of. What one prints has to be what stands in the files
@@ -16,9 +16,9 @@ import subprocess
 import sys
 from collections.abc import Iterator
 
-from device import Device, Outcome
-from image import image, open_image
-from player import Player
+from tpmsim.model.image import image, open_image
+from tpmsim.model.machine import Model, Outcome
+from tpmsim.model.player import Player
 
 SECONDS = 60
 MEMORY, ACTIONS = 255, 20
@@ -38,7 +38,7 @@ def check_number(check: str) -> int:
     return int(check[1:]) + (0 if check[0] == "G" else ACTIONS)
 
 
-class Counted(Device):
+class Counted(Model):
     """The device in Python, which counts the random bytes that a command draws."""
 
     drawn = 0
@@ -61,8 +61,7 @@ class Lines(Player):
     """What a script is without words, and what a player has to print of each command."""
 
     def __init__(self) -> None:
-        super().__init__()
-        self.device = Counted()
+        super().__init__(Counted())
         self.plain: list[str] = []
         self.wanted: list[str] = []
         self.play(b"entropy 00")

@@ -8,13 +8,9 @@ case, what it says on standard error, and the last line of what it prints.
 
 import contextlib
 import io
-import pathlib
 import sys
 
-TOP = pathlib.Path(__file__).resolve().parent.parent.parent.parent
-sys.path.append(str(TOP / "tools"))
-
-import audit
+from tpmsim.audit import main as audit
 
 
 def run(label, *words):

@@ -6,11 +6,8 @@
 import pathlib
 import sys
 
-OUTSIDE = pathlib.Path(__file__).resolve().parent.parent
-sys.path += [str(OUTSIDE / "device")]
-
-from image import image
-from player import Player
+from tpmsim.model.image import image
+from tpmsim.model.player import Player
 
 
 def main(script, name):

@@ -14,19 +14,16 @@ import subprocess
 import sys
 import tempfile
 
-OUTSIDE = pathlib.Path(__file__).resolve().parent.parent
-TOP = OUTSIDE.parent.parent
-sys.path += [str(OUTSIDE / it) for it in ("device", "scripts", "audit")]
-
-import start
-from auditor import Auditor
+from tpmsim.audit import start
+from tpmsim.audit.auditor import Auditor
+from tpmsim.audit.log import Disagreement, Log
+from tpmsim.audit.report import report
+from tpmsim.model.image import image
+from tpmsim.model.player import Player
 from bent_script import bent_script
-from image import image
-from log import Disagreement, Log
-from player import Player
 from random_script import Writer
-from report import report
 
+TOP = pathlib.Path(__file__).resolve().parents[3]
 COMMANDS = 400
 
 

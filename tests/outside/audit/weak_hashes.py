@@ -14,20 +14,14 @@ import sys
 from contextlib import ExitStack
 from unittest import mock
 
-import wrong_devices  # it lets the parts of the device and of the audit be found
-
-import broken
+from tpmsim.audit import broken, start
+from tpmsim.audit.auditor import Auditor
+from tpmsim.audit.log import Log
+from tpmsim.model import player
+from tpmsim.policies import policy_texts, written
+from tpmsim.policies.policy_file import PolicyFile
+from tpmsim.standard import SHA1, SHA256, digest, policy
 import cases
-import player
-import policy
-import policy_texts
-import start
-import written
-from auditor import Auditor
-from frames import SHA1, SHA256
-from log import Log
-from policy_file import PolicyFile
-from sessions import digest
 
 # What TPM2_PolicyLocality of locality 0 is hashed by, behind the digest of a start.
 LOCALITY_0 = bytes.fromhex("0000016f01")

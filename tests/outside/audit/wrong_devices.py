@@ -12,24 +12,19 @@ import sys
 from dataclasses import replace
 from unittest import mock
 
-OUTSIDE = pathlib.Path(__file__).resolve().parent.parent
-TESTS = OUTSIDE.parent
-sys.path += [str(OUTSIDE / it) for it in ("device", "audit")]
+from tpmsim.audit import start
+from tpmsim.audit.auditor import Auditor
+from tpmsim.audit.log import Disagreement, Log
+from tpmsim.model import machine, player, policy_state
+from tpmsim.model.general import Refusal
+from tpmsim.model.machine import Model
+from tpmsim.model.protection import Lockout
+from tpmsim.standard import CC, frames, policy
 
-import device
-import frames
-import player
-import policy
-import start
-from auditor import Auditor
-from commands import CC
-from device import Device
-from general import Refusal
-from log import Disagreement, Log
-from protection import Lockout
+TESTS = pathlib.Path(__file__).resolve().parents[2]
 
-check_use, accepts, nv_increment = policy.check_use, Device.accepts, Device.nv_increment
-restore_pcrs, start_session = Device.restore_pcrs, Device.start_auth_session
+check_use, accepts, nv_increment = policy_state.check_use, Model.accepts, Model.nv_increment
+restore_pcrs, start_session = Model.restore_pcrs, Model.start_auth_session
 
 
 def unless(refused):
@@ -77,16 +72,16 @@ def restores_16_too(self):
         bank[16] = max(bank[:16])
 
 
-def counts_from_1(self, handles, parameters, locality, random):
-    if not self.indices[handles[1]].data:
+def counts_from_1(self, request):
+    if not self.indices[request.handles[1]].data:
         self.largest_counter = 0
-    return nv_increment(self, handles, parameters, locality, random)
+    return nv_increment(self, request)
 
 
-def keeps_a_digest(self, handles, parameters, locality, random):
+def keeps_a_digest(self, request):
     """A new session has the digest of one that lives."""
     was = next((it.policy.digest for it in self.sessions.values()), None)
-    answer = start_session(self, handles, parameters, locality, random)
+    answer = start_session(self, request)
     session = self.sessions[int.from_bytes(answer.handle, "big")]
     session.policy.digest = was or session.policy.digest
     return answer
@@ -94,15 +89,15 @@ def keeps_a_digest(self, handles, parameters, locality, random):
 
 def in_rows(code, row):
     """A command that does something else."""
-    return mock.patch.dict(device.ROWS, {code: row})
+    return mock.patch.dict(machine.ROWS, {code: row})
 
 
 def in_device(name, method):
-    return mock.patch.object(Device, name, method)
+    return mock.patch.object(Model, name, method)
 
 
 def in_policies(refused):
-    return mock.patch.object(policy, "check_use", unless(refused))
+    return mock.patch.object(policy_state, "check_use", unless(refused))
 
 
 def in_lockout(name, method):
@@ -118,9 +113,13 @@ WRONG = (
     (
         "an index may be written or not",
         "policy_nv_written",
-        mock.patch.object(policy, "check_use", written_or_not),
+        mock.patch.object(policy_state, "check_use", written_or_not),
     ),
-    ("any cpHash will do", "policy_cp_hash", mock.patch.object(policy, "check_use", any_cp_hash)),
+    (
+        "any cpHash will do",
+        "policy_cp_hash",
+        mock.patch.object(policy_state, "check_use", any_cp_hash),
+    ),
     ("what has no policy is authorized by one", "clear", in_policies("AUTH_UNAVAILABLE")),
     ("any password will do", "passwords", in_device("accepts", takes_any_password)),
     ("an empty hmac will do", "hmac_sessions", in_device("accepts", takes_no_hmac)),
@@ -153,11 +152,7 @@ WRONG = (
     ("PCR 16 is saved too", "startup_state", in_device("restore_pcrs", restores_16_too)),
     ("a counter begins at 1", "nv_counters", in_rows(CC.NV_Increment, counts_from_1)),
     ("guesses are not counted", "lockout", in_lockout("count", lambda self, touched: None)),
-    (
-        "guesses are no guesses",
-        "lockout",
-        in_device("touched", lambda self, entry, handle: None),
-    ),
+    ("guesses are no guesses", "lockout", in_device("touched", lambda self, entry, handle: None)),
 )
 
 

@@ -15,35 +15,34 @@ from unittest import mock
 
 import wrong_devices as wrong  # it lets the parts of the device and of the audit be found
 
-import player
-import policy
-import start
-from auditor import Auditor
-from commands import CC
-from conditions import Finding
-from general import Answer
-from ground import Grounds
-from log import Disagreement, Log
-from policy_file import PolicyFile
-from uses import Uses
+from tpmsim.audit import start
+from tpmsim.audit.auditor import Auditor
+from tpmsim.audit.conditions import Finding
+from tpmsim.audit.ground import Grounds
+from tpmsim.audit.log import Disagreement, Log
+from tpmsim.audit.uses import Uses
+from tpmsim.model import player, policy_state
+from tpmsim.model.general import Answer
+from tpmsim.policies.policy_file import PolicyFile
+from tpmsim.standard import CC, policy
 
 LOST, WRITTEN = "lost_grounds", "written_policies"
 
 
-def or_of_any_digest(self, handles, parameters, locality, random):
+def or_of_any_digest(self, request):
     """TPM2_PolicyOR for which the digest before it does not matter."""
-    branches = parameters.next().sized_list(policy.LEAST_BRANCHES, policy.MOST_BRANCHES)
-    session = self.sessions[handles[0]]
+    branches = request.parameters.next().sized_list(policy.LEAST_BRANCHES, policy.MOST_BRANCHES)
+    session = self.sessions[request.handles[0]]
     session.policy.digest = policy.after_or(session.algorithm, branches)
     return Answer()
 
 
-def does_nothing(self, handles, parameters, locality, random):
+def does_nothing(self, request):
     return Answer()
 
 
 def in_policy(check):
-    return mock.patch.object(policy, "check_use", check)
+    return mock.patch.object(policy_state, "check_use", check)
 
 
 WRONG = (

@@ -1,19 +1,13 @@
-#!/usr/bin/env python3
 """Writes examples/anti_rollback.tpm: a disk's key that no old image gets any more."""
 
 import hashlib
 
-import paths
-
-import policy
-from commands import CC
-from frames import RH_OWNER, RH_PLATFORM, SHA256, number, selection
-from nv import Attribute
-from nv_caller import NvCaller, counter
-from object_caller import HERE, sealed, storage_key
-from objects import Attribute as ObjectAttribute
+from tpmsim.caller import HERE, counter, sealed, storage_key
+from tpmsim.standard import CC, RH_OWNER, RH_PLATFORM, SHA256, digest, number, policy, selection
+from tpmsim.standard.nv import Attribute
+from tpmsim.standard.objects import Attribute as ObjectAttribute
+from script_caller import ScriptCaller
 from script import Script
-from sessions import digest
 
 MINIMUM = 0x0140_0001
 LESS_OR_EQUAL = 9
@@ -28,7 +22,7 @@ script = Script(
     "measured one and its version is not below the counter. So an old image with a known fault "
     "cannot be brought back, though it is authentic and its sealed key is still on the disk.",
 )
-caller = NvCaller(script)
+caller = ScriptCaller(script)
 platform_auths = 0
 
 
@@ -79,9 +73,7 @@ def hand_over():
 
 
 def compared(session, version):
-    return caller.comparing(
-        session, MINIMUM, version_text(version), operation=LESS_OR_EQUAL
-    )
+    return caller.comparing(session, MINIMUM, version_text(version), operation=LESS_OR_EQUAL)
 
 
 def asserted(session, version):
@@ -118,8 +110,7 @@ def unlock(token, version):
 script.chapter("PROVISIONING, once, by the boot loader of a new computer.")
 script.startup()
 public = counter(
-    MINIMUM,
-    Attribute.PPWRITE | Attribute.AUTHREAD | Attribute.NO_DA | Attribute.PLATFORMCREATE,
+    MINIMUM, Attribute.PPWRITE | Attribute.AUTHREAD | Attribute.NO_DA | Attribute.PLATFORMCREATE
 )
 assert public.attributes == 0x4204_0011
 caller.define(
@@ -176,9 +167,7 @@ caller.fails(
     "AUTH_UNAVAILABLE",
     caller.incrementing(MINIMUM),
 )
-caller.fails(
-    "TPM2_NV_UndefineSpace by the owner", "NV_AUTHORIZATION", caller.undefining(MINIMUM)
-)
+caller.fails("TPM2_NV_UndefineSpace by the owner", "NV_AUTHORIZATION", caller.undefining(MINIMUM))
 
 script.chapter("A START with image 1. The disk is unlocked.")
 start(1)
@@ -187,7 +176,7 @@ hand_over()
 
 script.chapter(
     "THE UPDATE. Image 1 runs, and installs image 2. Its token is sealed before it ever ran: the "
-    "value that PCR 11 will have is known, and a trial session takes it as it is given.",
+    "value that PCR 11 will have is known, and a trial session takes it as it is given."
 )
 parent = storage_root()
 trial = caller.trial("A trial session")
@@ -220,7 +209,7 @@ caller.read("TPM2_NV_Read: the lowest version is 2", MINIMUM, number(2, 8))
 hand_over()
 
 script.chapter(
-    "ROLLBACK. Somebody puts image 1 back, for a fault that image 2 has repaired, with its token.",
+    "ROLLBACK. Somebody puts image 1 back, for a fault that image 2 has repaired, with its token."
 )
 start(1)
 parent = storage_root()
@@ -231,9 +220,9 @@ caller.fails("TPM2_PolicyNV: 2 is not less than or equal to 1", "POLICY", compar
 caller.fails("TPM2_Unseal without it", "POLICY_FAIL/s1", caller.unsealing(handle, session))
 caller.does("TPM2_PolicyNV with 2 as its version, which holds", compared(session, 2))
 caller.fails(
-    "TPM2_Unseal: but the version is in the digest", "POLICY_FAIL/s1", caller.unsealing(
-        handle, session
-    )
+    "TPM2_Unseal: but the version is in the digest",
+    "POLICY_FAIL/s1",
+    caller.unsealing(handle, session),
 )
 other = caller.load("TPM2_Load of the token of image 2", parent, token_2)
 caller.fails(

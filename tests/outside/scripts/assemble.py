@@ -1,4 +1,3 @@
-#!/usr/bin/env python3
 """Writes tests/assemble.lines, the lines that tests/assemble.sh hands to `tpmsim asm`, and
 tests/assemble.out, what comes of them, of those that are longer, too.
 
@@ -8,9 +7,7 @@ A line stands in assemble.lines as printf takes it: a byte that is no ASCII is \
 import re
 
 import paths
-
-import lines
-from commands import CC
+from tpmsim.standard import CC, lines
 
 LONG = "PolicyNV OWNER 01000000 03000000 pw:6f s:02000000:-:01:- s:02000001:aa:41:bb 0102 3 0x4"
 SHA1_DIGEST, SHA256_DIGEST = "11" * 20, "Aa" * 32

@@ -8,13 +8,7 @@ sized buffer of it holds a structure.
 
 from dataclasses import dataclass
 
-import paths
-
-import frames
-import lines
-from commands import CC
-from frames import ALG_NULL, KEYEDHASH, number
-from sessions import digest_bytes
+from tpmsim.standard import ALG_NULL, CC, KEYEDHASH, digest_bytes, frames, lines, number
 
 
 @dataclass(frozen=True)

@@ -6,7 +6,7 @@ A seed always gives the same: of `random` only that is used which is the same ev
 import random
 
 import image_fields
-from image import VERSION_2, framed
+from tpmsim.model.image import VERSION_2, framed
 from image_fields import Counted, Plain, Sized, image_of, text_of
 
 # Pieces that are removed, doubled or put in have at most so many bytes.

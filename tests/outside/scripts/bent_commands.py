@@ -1,16 +1,13 @@
-#!/usr/bin/env python3
 """Writes tests/bent_commands.tpm, and bent_nv_commands.tpm, bent_object_commands.tpm and
 bent_state_commands.tpm: the commands that cut_commands.py, and the like, have, each bent.
 """
-
-import paths
 
 import bends
 import cut_commands
 import cut_nv_commands
 import cut_object_commands
 import cut_state_commands
-from commands import CC
+from tpmsim.standard import CC
 from looks import LookingScript
 
 HEAD = (

@@ -2,14 +2,10 @@
 or turned, and at times a byte of its text changed. And bent images.
 """
 
-import paths  # first: it finds the device
-
-import frames
-from commands import CC
+from tpmsim.model.image import BODY_AT, DIGEST_AT_END, HEAD_BYTES
+from tpmsim.standard import CC, digest, frames
 from expected import buffer_of
-from image import BODY_AT, DIGEST_AT_END, HEAD_BYTES
 from script import line
-from sessions import digest
 
 # Where the length of an image stands in it, and what is behind the seeds and proofs.
 LENGTH_AT, BEHIND_SEEDS = 6, BODY_AT + 4 * 66

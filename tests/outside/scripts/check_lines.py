@@ -1,7 +1,6 @@
-#!/usr/bin/env python3
 """Checks the `do` lines of all scripts under tests/ and examples/:
 
-    python3 tests/outside/scripts/check_lines.py
+    tools/python.sh tests/outside/scripts/check_lines.py
 
 Each is assembled. Its buffer, taken apart as the device takes it apart and put together again by
 frames.py, must be the same, and the line that is found for the buffer must assemble to it. In a
@@ -12,11 +11,8 @@ its commands stand as bytes.
 import sys
 
 import paths
-
-import frames
-import general
-import lines
-from general import Fields
+from tpmsim.model import general
+from tpmsim.standard import Fields, frames, lines
 
 AS_BYTES = "All commands stand as bytes"
 

@@ -1,16 +1,12 @@
-#!/usr/bin/env python3
 """Writes tests/clear.tpm: TPM2_Clear, what it takes away and what it leaves."""
 
-import paths
-
-from commands import CC
-from frames import RH_ENDORSEMENT, RH_LOCKOUT, RH_NULL, RH_OWNER, RH_PLATFORM, SHA256
-from frames import command, number, on_handle
-from nv import Attribute
-from nv_caller import BY_OWNER, BY_PLATFORM, BY_VALUE, FIRST, SECOND, THIRD, area, counter
-from object_caller import sealed, storage_key
+from tpmsim.caller import BY_OWNER, BY_PLATFORM, BY_VALUE, STATE, area, counter, sealed
+from tpmsim.caller import storage_key, wrong
+from tpmsim.standard import CC, RH_ENDORSEMENT, RH_LOCKOUT, RH_NULL, RH_OWNER, RH_PLATFORM, SHA256
+from tpmsim.standard import command, number, on_handle
+from tpmsim.standard.nv import Attribute
+from script_caller import FIRST, SECOND, ScriptCaller, THIRD
 from script import Script
-from state_caller import STATE, StateCaller, wrong
 
 HANDLES, PROPERTIES = 1, 6
 HIERARCHIES = (
@@ -31,11 +27,8 @@ script = Script(
     "seed of its primary objects, and so are its authorization values and its lockout. What is the "
     "platform's stays.",
 )
-caller = StateCaller(script)
-
-
-def says(what, outcome, *buffers):
-    script.command(what, outcome, *buffers)
+caller = ScriptCaller(script)
+says = script.command
 
 
 def listed(what, wanted, *handles):

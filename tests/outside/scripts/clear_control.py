@@ -1,14 +1,10 @@
-#!/usr/bin/env python3
 """Writes tests/clear_control.tpm: TPM2_ClearControl, and TPM2_Clear where it is disabled."""
 
-import paths
-
-import frames
-from commands import CC
-from frames import CONTINUE_SESSION, DECRYPT, ENCRYPT, RH_ENDORSEMENT
-from frames import RH_LOCKOUT, RH_NULL, RH_OWNER, RH_PLATFORM, command, number, on_handle
+from tpmsim.caller import STATE, wrong
+from tpmsim.standard import CC, CONTINUE_SESSION, DECRYPT, ENCRYPT, RH_ENDORSEMENT, RH_LOCKOUT
+from tpmsim.standard import RH_NULL, RH_OWNER, RH_PLATFORM, command, frames, number, on_handle
+from script_caller import ScriptCaller
 from script import Script
-from state_caller import STATE, StateCaller, wrong
 
 NO, YES = 0, 1
 BOTH = RH_LOCKOUT, RH_PLATFORM
@@ -19,11 +15,8 @@ script = Script(
     "TPM2_ClearControl disables TPM2_Clear (YES, 01), by lockoutAuth or by the platform, and "
     "enables it again (NO, 00), which only the platform may.",
 )
-caller = StateCaller(script)
-
-
-def says(what, outcome, *buffers):
-    script.command(what, outcome, *buffers)
+caller = ScriptCaller(script)
+says = script.command
 
 
 def control(handle, disables):
@@ -112,11 +105,7 @@ def wrong_control(session):
 
 def order():
     script.chapter("DISABLED is the check of the command itself, behind all others.")
-    says(
-        "A byte behind the handle",
-        "SIZE",
-        *(on_handle(CC.Clear, it, b"\0") for it in BOTH),
-    )
+    says("A byte behind the handle", "SIZE", *(on_handle(CC.Clear, it, b"\0") for it in BOTH))
     wrong_password = [frames.entry(hmac=b"x")]
     says(
         "A wrong password of the platform",

@@ -1,13 +1,9 @@
-#!/usr/bin/env python3
 """Writes tests/clock.tpm: TPM2_ReadClock, the times and the counts of starts."""
 
-import paths
-
-import frames
-from commands import CC
-from frames import command, number
+from tpmsim.caller import CLEAR, STATE
+from tpmsim.standard import CC, command, frames, number
+from script_caller import ScriptCaller
 from script import Script
-from state_caller import CLEAR, STATE, StateCaller
 
 MOST = 2**32 - 1
 
@@ -17,11 +13,8 @@ script = Script(
     "life; resetCount and restartCount; and that the clock is safe (01), as it never goes back. "
     "The numbers of eight bytes end far beyond what a script can wait for.",
 )
-caller = StateCaller(script)
-
-
-def says(what, outcome, *buffers):
-    script.command(what, outcome, *buffers)
+caller = ScriptCaller(script)
+says = script.command
 
 
 def is_now(what, time, clock, resets, restarts):

@@ -1,32 +1,13 @@
-#!/usr/bin/env python3
 """Writes tests/create.tpm: TPM2_Create, which wraps a new object for its parent."""
 
-import paths
-
-import aes
-import frames
-import objects
-from caller import Use
-from commands import CC
-from frames import (
-    ALG_NULL,
-    CONTINUE_SESSION,
-    DECRYPT,
-    ENCRYPT,
-    RH_ENDORSEMENT,
-    RH_NULL,
-    RH_OWNER,
-    RH_PLATFORM,
-    SHA1,
-    SHA256,
-    SYMCIPHER,
-    number,
-)
-from general import Fields
-from object_caller import HERE, OPEN, STORES, ObjectCaller, hmac_key, sealed, storage_key
-from objects import Attribute, Public
+from tpmsim.caller import HERE, OPEN, STORES, Use, hmac_key, sealed, storage_key
+from tpmsim.model import object_rules
+from tpmsim.standard import ALG_NULL, CC, CONTINUE_SESSION, DECRYPT, ENCRYPT, Fields
+from tpmsim.standard import RH_ENDORSEMENT, RH_NULL, RH_OWNER, RH_PLATFORM, SHA1, SHA256, SYMCIPHER
+from tpmsim.standard import aes, digest, frames, mac, number
+from tpmsim.standard.objects import Attribute, Public
+from script_caller import ScriptCaller
 from script import Script
-from sessions import digest, mac
 
 ORIGIN = Attribute.SENSITIVE_DATA_ORIGIN
 
@@ -35,11 +16,8 @@ script = Script(
     "TPM2_Create makes an object and gives it out in a private area, which its parent alone can "
     "load. Nothing of it stays in the device.",
 )
-caller = ObjectCaller(script)
-
-
-def refused(what, outcome, *prepared):
-    caller.says(what, outcome, *prepared)
+caller = ScriptCaller(script)
+refused = caller.says
 
 
 def under(handle, *uses):
@@ -115,7 +93,7 @@ caller.says("With the same random bytes it is the same", "SUCCESS", again, again
 
 script.chapter(
     "The random bytes are drawn from the front: a key, where none is given, then the seed, and "
-    "then the first block of the cipher, which stands in the private area. Here they are 00 to ff.",
+    "then the first block of the cipher, which stands in the private area. Here they are 00 to ff."
 )
 script.entropy(bytes(range(256)))
 RANDOM = bytes(range(256))
@@ -125,20 +103,15 @@ for what, public, data, key_bytes in (
     ("An HMAC key of SHA-256", hmac_key(attributes=HERE | OPEN | ORIGIN), b"", 32),
     ("Of SHA-1", hmac_key(attributes=HERE | OPEN | ORIGIN, scheme=SHA1), b"", 20),
     ("Of scheme NULL", hmac_key(attributes=HERE | OPEN | ORIGIN, scheme=ALG_NULL), b"", 32),
-    (
-        "Of scheme NULL, and nameAlg SHA-1",
-        hmac_key(SHA1, HERE | OPEN | ORIGIN, ALG_NULL),
-        b"",
-        20,
-    ),
+    ("Of scheme NULL, and nameAlg SHA-1", hmac_key(SHA1, HERE | OPEN | ORIGIN, ALG_NULL), b"", 20),
     ("Of SHA-256, and nameAlg SHA-1", hmac_key(SHA1, HERE | OPEN | ORIGIN), b"", 32),
     ("A storage key", storage_key(), b"", 16),
     ("A storage key, and nameAlg SHA-1", storage_key(SHA1), b"", 16),
 ):
     answer = caller.says(what, "SUCCESS", caller.child(parent, public, data=data))
     fields = Fields(answer[14:])
-    private, made = Fields(fields.sized()), objects.Parameters(fields.data)
-    made = made.structure(objects.read_public)
+    private, made = Fields(fields.sized()), object_rules.Parameters(fields.data)
+    made = made.structure(object_rules.read_public)
     seed_end = key_bytes + (20 if public.name_algorithm == SHA1 else 32)
     key, seed = RANDOM[:key_bytes] or data, RANDOM[key_bytes:seed_end]
     assert made.unique == digest(public.name_algorithm, seed + key)
@@ -154,7 +127,7 @@ long = [
 ]
 script.chapter(
     "A key of 32 bytes, a seed of 32, the first block, and three nonces of 32: 176 random bytes "
-    "are the most that are drawn. What is answered is the longest of a creation, too.",
+    "are the most that are drawn. What is answered is the longest of a creation, too."
 )
 script.entropy(RANDOM)
 prepared = caller.child(
@@ -224,17 +197,13 @@ caller.create(
     data=b"d" * 128,
     outside_info=b"o" * 34,
 )
-refused(
-    "129 bytes of data", "SIZE/p1", caller.child(parent, sealed(), data=bytes(129))
-)
+refused("129 bytes of data", "SIZE/p1", caller.child(parent, sealed(), data=bytes(129)))
 refused(
     "35 bytes of outsideInfo",
     "SIZE/p3",
     caller.child(parent, sealed(), data=b"x", outside_info=bytes(35)),
 )
-refused(
-    "17 banks", "SIZE/p4", caller.child(parent, sealed(), data=b"x", pcrs=17 * [(SHA1, [])])
-)
+refused("17 banks", "SIZE/p4", caller.child(parent, sealed(), data=b"x", pcrs=17 * [(SHA1, [])]))
 whole = under(parent)
 refused("A byte behind creationPCR", "SIZE", whole.but(parameters=whole.parameters + b"\0"))
 script.write()

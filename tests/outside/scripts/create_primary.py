@@ -1,28 +1,12 @@
-#!/usr/bin/env python3
 """Writes tests/create_primary.tpm: TPM2_CreatePrimary, and what it answers."""
 
-import paths
-
-import frames
-from commands import CC
-from frames import (
-    ALG_NULL,
-    RH_ENDORSEMENT,
-    RH_LOCKOUT,
-    RH_NULL,
-    RH_OWNER,
-    RH_PLATFORM,
-    SHA1,
-    SHA256,
-    SYMCIPHER,
-    number,
-    on_handle,
-    sized,
-)
-from object_caller import HERE, OPEN, ObjectCaller, hmac_key, sealed, storage_key
-from objects import Attribute, Public
+from tpmsim.caller import HERE, OPEN, hmac_key, sealed, storage_key
+from tpmsim.standard import ALG_NULL, CC, RH_ENDORSEMENT, RH_LOCKOUT, RH_NULL, RH_OWNER
+from tpmsim.standard import RH_PLATFORM, SHA1, SHA256, SYMCIPHER, digest, frames, mac, number
+from tpmsim.standard import on_handle, sized
+from tpmsim.standard.objects import Attribute, Public
+from script_caller import ScriptCaller
 from script import Script
-from sessions import digest, mac
 
 HIERARCHIES = (
     (RH_OWNER, "TPM_RH_OWNER"),
@@ -37,7 +21,7 @@ script = Script(
     "tests/create_primary.tpm",
     "TPM2_CreatePrimary makes an object out of its template and its hierarchy's seed.",
 )
-caller = ObjectCaller(script)
+caller = ScriptCaller(script)
 
 
 def creates(what, hierarchy, public, **more):
@@ -53,7 +37,7 @@ script.chapter(
     "An HMAC key that is given, byte by byte. inSensitive: userAuth is empty, and the key is "
     '"Jefe". inPublic: type KEYEDHASH (0008), nameAlg SHA-256 (000B), attributes userWithAuth, '
     "noDA and sign (00040440), no authPolicy, scheme HMAC (0005) with SHA-256, and unique is "
-    "empty. No outsideInfo, and no PCRs.",
+    "empty. No outsideInfo, and no PCRs."
 )
 jefe = "0008 0000 0004 4A656665 0010 0008 000B 00040440 0000 0005 000B 0000 0000 00000000"
 script.command(
@@ -169,9 +153,7 @@ for locality in (4, 1, 0):
     same.append((caller.names[handle], caller.creation_data))
     caller.flush_objects("It is flushed", handle)
 assert len({name for name, _ in same}) == 1 and len({data for _, data in same}) == 8
-refused(
-    "35 bytes of outsideInfo", "SIZE/p3", RH_OWNER, storage_key(), outside_info=bytes(35)
-)
+refused("35 bytes of outsideInfo", "SIZE/p3", RH_OWNER, storage_key(), outside_info=bytes(35))
 refused(
     "16 banks, the most that there may be, and one more",
     "SIZE/p4",
@@ -182,9 +164,7 @@ refused(
 creates("16 of them", RH_OWNER, storage_key(), pcrs=16 * [(SHA256, [23])])
 caller.flush_objects("It is flushed", FIRST)
 whole = caller.primary(RH_OWNER, storage_key())
-caller.says(
-    "A byte behind creationPCR", "SIZE", whole.but(parameters=whole.parameters + b"\0")
-)
+caller.says("A byte behind creationPCR", "SIZE", whole.but(parameters=whole.parameters + b"\0"))
 
 script.chapter("Objects of each type, with data that are given and that are generated.")
 GENERATED = Attribute.SENSITIVE_DATA_ORIGIN

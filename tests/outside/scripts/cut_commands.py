@@ -1,17 +1,13 @@
-#!/usr/bin/env python3
 """Writes tests/cut_commands.tpm: each command that succeeds, cut to every shorter length.
 
 Those of objects are in tests/cut_object_commands.tpm, and those on NV indices in
 tests/cut_nv_commands.tpm.
 """
 
-import paths
-
 import cuts
-import frames
-from commands import CC
+from tpmsim.standard import CC, SHA1, SHA256, area, command, digests, entry, frames, number
+from tpmsim.standard import on_handle, sized
 from cuts import AREA, HANDLE
-from frames import SHA1, SHA256, area, command, digests, entry, number, on_handle, sized
 
 HEAD = (
     "Each command that succeeds, cut to every shorter length: first as it is, and then with "
@@ -31,24 +27,18 @@ BY_DECRYPTING = [entry(SESSION, bytes(16), frames.CONTINUE_SESSION | frames.DECR
 
 # A session that masks, instead of encrypting.
 HANDLES, PARAMETERS = frames.start_auth_session(bytes(16), xor=SHA256)
-START_XOR = command(
-    CC.StartAuthSession, b"".join(number(it, 4) for it in HANDLES) + PARAMETERS
-)
+START_XOR = command(CC.StartAuthSession, b"".join(number(it, 4) for it in HANDLES) + PARAMETERS)
 
 # Three entries. The last session ends when they are accepted.
 OTHER = 0x0200_0001
 BY_THREE = [entry(), *BY_SESSION, entry(OTHER, nonce=bytes(16), attributes=0)]
 HANDLES, PARAMETERS = frames.start_auth_session(bytes(16), aes=True)
-START = command(
-    CC.StartAuthSession, b"".join(number(it, 4) for it in HANDLES) + PARAMETERS
-)
+START = command(CC.StartAuthSession, b"".join(number(it, 4) for it in HANDLES) + PARAMETERS)
 
 # A trial session, which has the place of the one above when that has ended.
 TRIAL = 0x0300_0000
 HANDLES, PARAMETERS = frames.start_auth_session(bytes(16), kind=frames.SE_TRIAL)
-START_TRIAL = command(
-    CC.StartAuthSession, b"".join(number(it, 4) for it in HANDLES) + PARAMETERS
-)
+START_TRIAL = command(CC.StartAuthSession, b"".join(number(it, 4) for it in HANDLES) + PARAMETERS)
 POLICY_HANDLE = (14, "within policySession", "INSUFFICIENT/h1")
 
 
@@ -57,7 +47,6 @@ def secret(password):
     body = number(frames.RH_OWNER, 4) + number(TRIAL, 4) + area(entry(hmac=password))
     body += frames.policy_secret(b"nonce", bytes(32), b"policyRef")
     return command(CC.PolicySecret, body, frames.SESSIONS)
-
 
 
 def policy(code, parameters=b""):
@@ -102,12 +91,7 @@ COMMANDS = [
         [HANDLE, AREA, (32, "within its data", "INSUFFICIENT/p1")],
         "SUCCESS",
     ),
-    (
-        "TPM2_PCR_Reset of PCR 16",
-        on_handle(CC.PCR_Reset, 16),
-        [HANDLE, AREA],
-        "SUCCESS",
-    ),
+    ("TPM2_PCR_Reset of PCR 16", on_handle(CC.PCR_Reset, 16), [HANDLE, AREA], "SUCCESS"),
     (
         'TPM2_HierarchyChangeAuth to "abc"',
         on_handle(CC.HierarchyChangeAuth, frames.RH_OWNER, sized(b"abc")),
@@ -249,12 +233,7 @@ COMMANDS = [
         [POLICY_HANDLE, (15, "before writtenSet", "INSUFFICIENT/p1")],
         "SUCCESS",
     ),
-    (
-        "TPM2_FlushContext of it",
-        command(CC.FlushContext, number(TRIAL, 4)),
-        [],
-        "SUCCESS",
-    ),
+    ("TPM2_FlushContext of it", command(CC.FlushContext, number(TRIAL, 4)), [], "SUCCESS"),
     (
         "TPM2_StartAuthSession with TPM_ALG_XOR",
         START_XOR,

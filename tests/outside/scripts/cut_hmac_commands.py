@@ -1,21 +1,16 @@
-#!/usr/bin/env python3
 """Writes tests/cut_hmac_commands.tpm: commands by an hmac, cut behind the authorization area."""
 
 from collections.abc import Iterator
 
-import paths
-
-import frames
-import policy
-from caller import Prepared, Session, Use
-from commands import CC
+from tpmsim.caller import BY_POLICY, BY_VALUE, HERE, Prepared, Session, Use, area, bits, extended
+from tpmsim.caller import hmac_key
+from tpmsim.standard import CC, CONTINUE_SESSION, DECRYPT, RH_LOCKOUT, RH_OWNER, SHA1, SHA256
+from tpmsim.standard import frames, policy, sized
+from tpmsim.standard.nv import Attribute as NvAttribute
+from tpmsim.standard.objects import Attribute
+from script_caller import FIRST, FOURTH, SECOND, THIRD
 from cuts import HEADER_BYTES, with_size
-from frames import CONTINUE_SESSION, DECRYPT, RH_LOCKOUT, RH_OWNER, SHA1, SHA256, sized
 from grounds_caller import GroundsCaller
-from nv import Attribute as NvAttribute
-from nv_caller import BY_POLICY, BY_VALUE, FIRST, FOURTH, SECOND, THIRD, area, bits, extended
-from object_caller import HERE, hmac_key
-from objects import Attribute
 from script import Script
 
 PIN, DATA, LOCKOUT = b"pin", b"abc", b"lockout"
@@ -66,9 +61,7 @@ def comes_whole(prepared: Prepared) -> None:
     caller.tries_are("No try", NO_TRY)
 
 
-def cut(
-    name: str, prepared: Prepared, outcome: str = "AUTH_FAIL/s1", tries: int = TRY
-) -> None:
+def cut(name: str, prepared: Prepared, outcome: str = "AUTH_FAIL/s1", tries: int = TRY) -> None:
     """A command that is cut, and has a byte too many: so many tries each time; and then whole."""
     script.chapter(f"{name}.")
     for what, buffer in cuts_of(prepared):

@@ -1,16 +1,10 @@
-#!/usr/bin/env python3
 """Writes tests/cut_nv_commands.tpm: the commands on NV indices, cut to every shorter length."""
 
-import paths
-
 import cuts
-import frames
-import nv
-import policy
-from commands import CC
+from tpmsim.standard import CC, RH_OWNER, SHA256, command, entry, frames, number, nv, on_handle
+from tpmsim.standard import on_handles, policy, sized
+from tpmsim.standard.nv import Attribute, Type
 from cuts import AREA, HANDLE
-from frames import RH_OWNER, SHA256, command, entry, number, on_handle, on_handles, sized
-from nv import Attribute, Type
 
 HEAD = (
     "The commands on NV indices, each cut to every shorter length: first as it is, and then "
@@ -54,9 +48,7 @@ def by_owner(code, index, parameters=b"", *pieces):
 
 def session_start():
     handles, parameters = frames.start_auth_session(bytes(16), kind=frames.SE_POLICY)
-    return command(
-        CC.StartAuthSession, b"".join(number(it, 4) for it in handles) + parameters
-    )
+    return command(CC.StartAuthSession, b"".join(number(it, 4) for it in handles) + parameters)
 
 
 COMMANDS = [
@@ -97,22 +89,16 @@ COMMANDS = [
     ("TPM2_NV_Increment", *by_owner(CC.NV_Increment, COUNTER)),
     (
         "TPM2_NV_SetBits",
-        *by_owner(
-            CC.NV_SetBits, BITS, number(5, 8), (39, "within bits", "INSUFFICIENT/p1")
-        ),
+        *by_owner(CC.NV_SetBits, BITS, number(5, 8), (39, "within bits", "INSUFFICIENT/p1")),
     ),
     (
         "TPM2_NV_Extend",
-        *by_owner(
-            CC.NV_Extend, EXTENDED, sized(b"abc"), (36, "within data", "INSUFFICIENT/p1")
-        ),
+        *by_owner(CC.NV_Extend, EXTENDED, sized(b"abc"), (36, "within data", "INSUFFICIENT/p1")),
     ),
     ("TPM2_StartAuthSession of a policy session", session_start(), [], "SUCCESS"),
     (
         "TPM2_PolicyNV: the index is FFFF616263FFFFFF",
-        on_handles(
-            CC.PolicyNV, [RH_OWNER, ORDINARY, SESSION], frames.policy_nv(b"abc", 2, 0)
-        ),
+        on_handles(CC.PolicyNV, [RH_OWNER, ORDINARY, SESSION], frames.policy_nv(b"abc", 2, 0)),
         [
             *NV_HANDLES,
             (22, "within policySession", "INSUFFICIENT/h3"),
@@ -123,12 +109,7 @@ COMMANDS = [
         ],
         "SUCCESS",
     ),
-    (
-        "TPM2_PolicyRestart",
-        command(CC.PolicyRestart, number(SESSION, 4)),
-        [],
-        "SUCCESS",
-    ),
+    ("TPM2_PolicyRestart", command(CC.PolicyRestart, number(SESSION, 4)), [], "SUCCESS"),
     (
         "TPM2_PolicyCommandCode of TPM2_NV_ChangeAuth",
         command(CC.PolicyCommandCode, number(SESSION, 4) + number(CC.NV_ChangeAuth, 4)),
@@ -137,9 +118,7 @@ COMMANDS = [
     ),
     (
         "TPM2_NV_ChangeAuth by the session, which is bound to nothing and has no hmac",
-        on_handle(
-            CC.NV_ChangeAuth, ORDINARY, sized(b"abc"), [entry(SESSION, nonce=bytes(16))]
-        ),
+        on_handle(CC.NV_ChangeAuth, ORDINARY, sized(b"abc"), [entry(SESSION, nonce=bytes(16))]),
         [
             (14, "within nvIndex", "INSUFFICIENT/h1"),
             (43, "within the authorization area", "AUTHSIZE"),

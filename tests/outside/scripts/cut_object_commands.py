@@ -1,17 +1,12 @@
-#!/usr/bin/env python3
 """Writes tests/cut_object_commands.tpm: the commands of objects, cut to every shorter length."""
 
-import paths
-
 import cuts
-import frames
-import objects
-from commands import CC
+from tpmsim.caller import hmac_key, sealed, storage_key
+from tpmsim.model import object_rules
+from tpmsim.model.machine import MANUFACTURED
+from tpmsim.model.state import SECRET_BYTES
+from tpmsim.standard import CC, SHA256, command, entry, frames, number, on_handle, sized
 from cuts import AREA, HANDLE
-from device import MANUFACTURED
-from frames import SHA256, command, entry, number, on_handle, sized
-from object_caller import hmac_key, sealed, storage_key
-from state import SECRET_BYTES
 
 HEAD = (
     "The commands of objects, each cut to every shorter length: first as it is, and then with "
@@ -27,7 +22,7 @@ PCR_0 = [(SHA256, [0])]
 
 
 def template(public, data=b""):
-    return objects.Template(b"abc", data, public, b"outside", PCR_0)
+    return object_rules.Template(b"abc", data, public, b"outside", PCR_0)
 
 
 def creation(public, data=b""):
@@ -40,9 +35,10 @@ def creation(public, data=b""):
 
 def loading(data):
     """The parameters of TPM2_Load of what was created with the storage key as its parent."""
-    parent = objects.primary(template(storage_key()), frames.RH_OWNER, MANUFACTURED[:SECRET_BYTES])
-    public, sensitive, _ = objects.created(template(sealed(), data), bytes(256))
-    private = objects.wrapped(parent, public.name, sensitive, bytes(16))
+    seed = MANUFACTURED[:SECRET_BYTES]
+    parent = object_rules.primary(template(storage_key()), frames.RH_OWNER, seed)
+    public, sensitive, _ = object_rules.created(template(sealed(), data), bytes(256))
+    private = object_rules.wrapped(parent, public.name, sensitive, bytes(16))
     return sized(private) + sized(public.text)
 
 
@@ -100,12 +96,7 @@ COMMANDS = [
         [(14, "within objectHandle", "INSUFFICIENT/h1")],
         "SUCCESS",
     ),
-    (
-        "TPM2_Unseal",
-        on_object(CC.Unseal, CHILD),
-        [HANDLE, AREA_ABC],
-        "SUCCESS",
-    ),
+    ("TPM2_Unseal", on_object(CC.Unseal, CHILD), [HANDLE, AREA_ABC], "SUCCESS"),
     (
         "TPM2_FlushContext of it",
         command(CC.FlushContext, number(CHILD, 4)),

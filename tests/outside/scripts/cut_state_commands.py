@@ -1,16 +1,12 @@
-#!/usr/bin/env python3
 """Writes tests/cut_state_commands.tpm: the commands on what a device keeps, cut to every shorter
 length.
 """
 
-import paths
-
 import cuts
-import frames
-from commands import CC
+from tpmsim.caller import storage_key
+from tpmsim.standard import CC, RH_LOCKOUT, RH_OWNER, RH_PLATFORM, command, frames, number
+from tpmsim.standard import on_handle, on_handles, sized
 from cuts import AREA, HANDLE
-from frames import RH_LOCKOUT, RH_OWNER, RH_PLATFORM, command, number, on_handle, on_handles, sized
-from object_caller import storage_key
 
 HEAD = (
     "The commands of starts, of capabilities, of dictionary attack protection, of persistent "
@@ -75,9 +71,7 @@ COMMANDS = [
     (
         "TPM2_DictionaryAttackParameters",
         on_handle(
-            CC.DictionaryAttackParameters,
-            RH_LOCKOUT,
-            frames.attack_parameters(3, 1000, 1000),
+            CC.DictionaryAttackParameters, RH_LOCKOUT, frames.attack_parameters(3, 1000, 1000)
         ),
         [
             HANDLE,

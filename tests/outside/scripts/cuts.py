@@ -4,11 +4,7 @@ A cut buffer whose commandSize is left as it was is refused for that. With comma
 is refused where it is cut: each command says in words and codes up to which length by what.
 """
 
-import paths
-
-import frames
-from commands import CC
-from frames import number
+from tpmsim.standard import CC, frames, number
 from looks import LookingScript
 
 HEADER_BYTES = 10

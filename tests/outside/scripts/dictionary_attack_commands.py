@@ -1,15 +1,10 @@
-#!/usr/bin/env python3
 """Writes tests/dictionary_attack_commands.tpm: the two commands, and all that refuses them."""
 
-import paths
-
-import frames
-from caller import Use
-from commands import CC
-from frames import DECRYPT, ENCRYPT, RH_LOCKOUT, RH_NULL, RH_OWNER, RH_PLATFORM
-from frames import command, number, on_handle
+from tpmsim.caller import Use
+from tpmsim.standard import CC, DECRYPT, ENCRYPT, RH_LOCKOUT, RH_NULL, RH_OWNER, RH_PLATFORM
+from tpmsim.standard import command, frames, number, on_handle
+from script_caller import ScriptCaller
 from script import Script
-from state_caller import StateCaller
 
 LOCK_RESET, PARAMETERS = CC.DictionaryAttackLockReset, CC.DictionaryAttackParameters
 THREE = frames.attack_parameters(3, 1000, 1000)
@@ -20,12 +15,8 @@ script = Script(
     "TPM2_DictionaryAttackLockReset and TPM2_DictionaryAttackParameters: their bytes, and what "
     "refuses them. TPM_RH_LOCKOUT authorizes them, by a password or an HMAC session.",
 )
-caller = StateCaller(script)
-
-
-def says(what, outcome, *buffers):
-    script.command(what, outcome, *buffers)
-
+caller = ScriptCaller(script)
+says = script.command
 
 says(
     "Before TPM2_Startup",

@@ -1,15 +1,12 @@
-#!/usr/bin/env python3
 """Writes examples/disk_pin.tpm: a disk's key behind a PIN of four digits, and who guesses it."""
 
 import hashlib
 
-import paths
-
-from frames import RH_LOCKOUT, RH_OWNER
-from object_caller import HERE, sealed, storage_key
-from objects import Attribute
+from tpmsim.caller import HERE, sealed, storage_key
+from tpmsim.standard import RH_LOCKOUT, RH_OWNER
+from tpmsim.standard.objects import Attribute
+from script_caller import ScriptCaller
 from script import Script
-from state_caller import StateCaller
 
 DISK_KEY = hashlib.sha256(b"the volume key of a disk").digest()
 PIN, RECOVERY = b"7391", b"a long recovery passphrase"
@@ -23,7 +20,7 @@ script = Script(
     "answers nothing but LOCKOUT until time has passed. The standard calls this dictionary attack "
     "protection. `wait MS` lets so many milliseconds pass before the next command.",
 )
-caller = StateCaller(script)
+caller = ScriptCaller(script)
 
 
 def storage_root(what):
@@ -48,7 +45,7 @@ script.chapter(
     "How tries are counted. TPM2_DictionaryAttackParameters is authorized by TPM_RH_LOCKOUT "
     "(4000000A), whose value, lockoutAuth, is empty on a new device. maxTries is 5: five wrong "
     "tries lock. recoveryTime is 600 seconds: each ten minutes forgive one. lockoutRecovery is "
-    "86,400 seconds: one wrong try at lockoutAuth itself closes that for a day.",
+    "86,400 seconds: one wrong try at lockoutAuth itself closes that for a day."
 )
 caller.set_protection("Its three parameters are those", 5, TEN_MINUTES, 86_400)
 caller.says(

@@ -1,18 +1,13 @@
-#!/usr/bin/env python3
 """Writes examples/disk_unlock.tpm: a disk's key, sealed at enrolment and unsealed at each start."""
 
 import hashlib
 from dataclasses import replace
 
-import paths
-
-import policy
-from caller import flipped
-from frames import RH_OWNER, SHA256, selection
-from object_caller import HERE, ObjectCaller, sealed, storage_key
-from objects import Attribute
+from tpmsim.caller import HERE, flipped, sealed, storage_key
+from tpmsim.standard import RH_OWNER, SHA256, digest, policy, selection
+from tpmsim.standard.objects import Attribute
+from script_caller import ScriptCaller
 from script import Script
-from sessions import digest
 
 # Each piece of software is measured into its PCR before it runs, as the boot loader and the stub of
 # a unified kernel image do. PCR 7 and 11 are chosen, as by `--tpm2-pcrs=7+11`.
@@ -33,7 +28,7 @@ script = Script(
     "it was enrolled with, as systemd-cryptenroll and clevis do for LUKS. Their storage key is an "
     "ECC or RSA key; here it is an AES key, and the steps are the same.",
 )
-caller = ObjectCaller(script)
+caller = ScriptCaller(script)
 
 
 def value_behind(pcr, measurements):
@@ -75,7 +70,7 @@ script.chapter(
     "The storage root key. TPM2_CreatePrimary in the owner hierarchy: type SYMCIPHER (0025), "
     "SHA-256 (000B), attributes fixedTPM, fixedParent, sensitiveDataOrigin, userWithAuth, noDA, "
     "restricted and decrypt (00030472), AES-128 in mode CFB. It is not stored anywhere: the same "
-    "template gives the same key again.",
+    "template gives the same key again."
 )
 parent = storage_root("The key is 80000000; the last answered buffer is its Name")
 name_at_enrolment = caller.names[parent]
@@ -96,7 +91,7 @@ script.chapter(
     "is sealed under the storage root key. TPM2_Create: inSensitive has no userAuth, and the 32 "
     "bytes as its data; inPublic is of type KEYEDHASH (0008) with SHA-256 (000B), attributes "
     "fixedTPM, fixedParent and noDA (00000412), the authPolicy, and scheme NULL (0010). As "
-    "userWithAuth is clear, the policy alone authorizes its use. creationPCR notes the PCRs.",
+    "userWithAuth is clear, the policy alone authorizes its use. creationPCR notes the PCRs."
 )
 token = caller.create(
     "What is answered first, outPrivate and outPublic, is written to the disk beside the numbers "
@@ -133,7 +128,7 @@ caller.says(
 caller.unseal("TPM2_Unseal: the disk's key, and the disk is unlocked", handle, DISK_KEY, session)
 
 script.chapter(
-    "What runs later must not get the key. Before the system proper is started, PCR 11 moves on.",
+    "What runs later must not get the key. Before the system proper is started, PCR 11 moves on."
 )
 caller.says("Somebody has prepared a session by then", "SUCCESS", caller.pcrs(session, CHOSEN))
 measure(LEAVE)

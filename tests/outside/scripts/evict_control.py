@@ -1,18 +1,12 @@
-#!/usr/bin/env python3
 """Writes tests/evict_control.tpm: persistent objects, how they come, stay and go."""
 
-import paths
-
-import frames
-from caller import Use
-from commands import CC
-from frames import RH_ENDORSEMENT, RH_LOCKOUT, RH_NULL, RH_OWNER, RH_PLATFORM
-from frames import SHA256, command, number, on_handles
-from nv_caller import area
-from object_caller import HERE, OPEN, STORES, hmac_key, sealed, storage_key
-from objects import Attribute
+from tpmsim.caller import HERE, OPEN, STATE, STORES, Use, area, hmac_key, sealed, storage_key
+from tpmsim.caller import wrong
+from tpmsim.standard import CC, RH_ENDORSEMENT, RH_LOCKOUT, RH_NULL, RH_OWNER, RH_PLATFORM, SHA256
+from tpmsim.standard import command, frames, number, on_handles
+from tpmsim.standard.objects import Attribute
+from script_caller import ScriptCaller
 from script import Script
-from state_caller import STATE, StateCaller, wrong
 
 # The handles of persistent objects: the owner's are below 81800000, the platform's from there on.
 FIRST, OWNERS_LAST, PLATFORMS_FIRST, LAST = 0x8100_0000, 0x817F_FFFF, 0x8180_0000, 0x81FF_FFFF
@@ -31,11 +25,8 @@ script = Script(
     "away. A persistent object outlives power cycles, has a handle from 81000000 on, and is used "
     "as the transient one was.",
 )
-caller = StateCaller(script)
-
-
-def says(what, outcome, *buffers):
-    script.command(what, outcome, *buffers)
+caller = ScriptCaller(script)
+says = script.command
 
 
 def evict(asker, handle, wanted):

@@ -1,13 +1,12 @@
-#!/usr/bin/env python3
 """Writes the expected output NAME.out beside scripts NAME.tpm, without running the simulator; and
 NAME.trace, which `--trace` prints, where there is such a file already, be it an empty one.
 
-    python3 tests/outside/scripts/expected.py                    for every script in tests/
-    python3 tests/outside/scripts/expected.py tests/startup.tpm  for these
+    tools/python.sh tests/outside/scripts/expected.py                    for every script in tests/
+    tools/python.sh tests/outside/scripts/expected.py tests/startup.tpm  for these
 
 The comment above a command, or above a few of them, names what must come: `: SUCCESS`, or a
 response code with its number, as in `: VALUE/p1 (1C4)`. It holds up to the next comment or empty
-line. What is answered is computed by device.py; where the comment names another outcome, that is a
+line. What is answered is computed by the model; where the comment names another outcome, that is a
 fault, and nothing is written.
 """
 
@@ -16,10 +15,8 @@ import re
 import sys
 
 import paths
-
-import frames
-import lines
-from device import Device
+from tpmsim.model.machine import Model
+from tpmsim.standard import frames, lines
 from outputs import POWER, Played, write_outputs
 
 WANTED = re.compile(r": (SUCCESS|[A-Z][A-Z0-9_]+(?:/[hps][1-9])?)(?: \(([0-9A-F]{3})\))?[.,;]")
@@ -90,7 +87,7 @@ def main(names):
     for path in map(pathlib.Path, names) if names else sorted(paths.TESTS.glob("*.tpm")):
         played = []
         try:
-            for event in played_by(path.read_text("ascii"), Device()):
+            for event in played_by(path.read_text("ascii"), Model()):
                 played.append(event)
         except ValueError as fault:
             sys.exit(f"{path}, event {len(played) + 1}: {fault}")

@@ -1,12 +1,8 @@
-#!/usr/bin/env python3
 """Writes tests/flush_context.tpm: TPM2_FlushContext, which ends sessions."""
 
-import paths
-
-import frames
-from caller import Caller
-from commands import CC
-from frames import RH_NULL, RH_OWNER, RS_PW, SHA1, area, command, entry, number
+from tpmsim.standard import CC, RH_NULL, RH_OWNER, RS_PW, SHA1, area, command, entry, frames
+from tpmsim.standard import number
+from script_caller import ScriptCaller
 from script import Script
 
 script = Script(
@@ -14,7 +10,7 @@ script = Script(
     "TPM2_FlushContext ends a session. The handle is its parameter, and needs no authorization. "
     "Objects are flushed in tests/flush_objects.tpm.",
 )
-caller = Caller(script)
+caller = ScriptCaller(script)
 
 
 def flush(handle, behind=b""):

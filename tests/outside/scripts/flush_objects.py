@@ -1,14 +1,10 @@
-#!/usr/bin/env python3
 """Writes tests/flush_objects.tpm: TPM2_FlushContext of transient objects."""
 
 from dataclasses import replace
 
-import paths
-
-import frames
-from commands import CC
-from frames import RH_NULL, RH_OWNER, command, number
-from object_caller import ObjectCaller, hmac_key, sealed, storage_key
+from tpmsim.caller import hmac_key, sealed, storage_key
+from tpmsim.standard import CC, RH_NULL, RH_OWNER, command, frames, number
+from script_caller import ScriptCaller
 from script import Script
 
 FIRST, PLACES = 0x8000_0000, 8
@@ -18,7 +14,7 @@ script = Script(
     "TPM2_FlushContext takes a transient object out of the device. There are eight places, "
     "80000000 to 80000007, and an object gets the lowest that is free.",
 )
-caller = ObjectCaller(script)
+caller = ScriptCaller(script)
 
 
 def flush(handle):
@@ -48,9 +44,7 @@ script.command(
     "AUTH_CONTEXT",
     command(CC.FlushContext, frames.area(frames.entry()) + number(parent, 4), frames.SESSIONS),
 )
-script.command(
-    "Three bytes of a handle", "INSUFFICIENT/p1", command(CC.FlushContext, b"\x80\0\0")
-)
+script.command("Three bytes of a handle", "INSUFFICIENT/p1", command(CC.FlushContext, b"\x80\0\0"))
 script.command("A byte behind it", "SIZE", command(CC.FlushContext, number(parent, 4) + b"\0"))
 
 script.chapter("In any order. The lowest place that is free is taken first.")

@@ -1,20 +1,14 @@
-#!/usr/bin/env python3
 """Writes tests/full_device.tpm: a device that is filled up to each of its limits."""
 
-import paths
-
-import frames
-import nv
-import policy
-from commands import CC
-from frames import ALG_NULL, RH_ENDORSEMENT, RH_LOCKOUT, RH_NULL, RH_OWNER, RH_PLATFORM, SE_HMAC
-from frames import SE_POLICY, SE_TRIAL, SHA1, SHA256
-from nv import Attribute as NvAttribute
-from nv_caller import BY_OWNER, BY_PLATFORM, BY_POLICY, BY_VALUE, area, bits, counter, extended
-from object_caller import HERE, OPEN, hmac_key, sealed, storage_key
-from objects import Attribute
+from tpmsim.caller import BY_OWNER, BY_PLATFORM, BY_POLICY, BY_VALUE, HERE, OPEN, STATE, area, bits
+from tpmsim.caller import counter, extended, hmac_key, sealed, storage_key
+from tpmsim.model import nv_commands
+from tpmsim.standard import ALG_NULL, CC, RH_ENDORSEMENT, RH_LOCKOUT, RH_NULL, RH_OWNER
+from tpmsim.standard import RH_PLATFORM, SE_HMAC, SE_POLICY, SE_TRIAL, SHA1, SHA256, frames, policy
+from tpmsim.standard.nv import Attribute as NvAttribute
+from tpmsim.standard.objects import Attribute
+from script_caller import ScriptCaller
 from script import Script
-from state_caller import STATE, StateCaller
 
 PERSISTENT, OBJECTS, SESSIONS = 16, 8, 16
 AUTH_VALUES = (
@@ -49,7 +43,7 @@ script = Script(
     "ones, 64 NV indices of 16,384 bytes in all, and sixteen sessions. tests/outside/scripts/"
     "images.py prints the image of what it keeps.",
 )
-caller = StateCaller(script)
+caller = ScriptCaller(script)
 
 
 def indices():
@@ -79,13 +73,13 @@ def define_all():
     platforms = area(0x0180_0000, BY_PLATFORM | NvAttribute.PLATFORMCREATE, size=1)
     caller.define("One of the platform", platforms, by=RH_PLATFORM)
     taken = sum(it.data_size for it, _ in defined) + platforms.data_size
-    count = nv.INDICES - len(defined) - 1
+    count = nv_commands.INDICES - len(defined) - 1
     for at in range(count):
-        left_for_this = nv.ALL_BYTES - taken - 8 * (count - 1 - at)
-        public = area(0x0140_0000 + at, BY_OWNER, size=min(left_for_this, nv.INDEX_BYTES))
+        left_for_this = nv_commands.ALL_BYTES - taken - 8 * (count - 1 - at)
+        public = area(0x0140_0000 + at, BY_OWNER, size=min(left_for_this, nv_commands.INDEX_BYTES))
         caller.define("As many as there are, and all bytes" if at == 0 else "", public)
         taken += public.data_size
-    assert taken == nv.ALL_BYTES and len(caller.publics) == nv.INDICES
+    assert taken == nv_commands.ALL_BYTES and len(caller.publics) == nv_commands.INDICES
     caller.fails("One more", "NV_SPACE", caller.defining(area(0x0100_00FF, size=0)))
 
 

@@ -18,11 +18,8 @@ from collections import Counter
 from dataclasses import dataclass, field
 from itertools import zip_longest
 
-import paths  # first: it finds the device
-
-import player
+from tpmsim.model import player, streams
 import serving
-import streams
 from bent_script import bent_script
 from random_script import Writer
 from random_stream import random_stream

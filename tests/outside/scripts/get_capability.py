@@ -1,17 +1,11 @@
-#!/usr/bin/env python3
 """Writes tests/get_capability.tpm: TPM2_GetCapability, each capability at its borders."""
 
-import paths
-
-import frames
-from capability import command_attributes
-from commands import CC
-from frames import CONTINUE_SESSION, DECRYPT, ENCRYPT, RH_OWNER
-from frames import SE_HMAC, SE_POLICY, SE_TRIAL, command, number
-from nv_caller import BY_VALUE, area
-from object_caller import storage_key
+from tpmsim.caller import BY_VALUE, area, storage_key, wrong
+from tpmsim.model.capability import command_attributes
+from tpmsim.standard import CC, CONTINUE_SESSION, DECRYPT, ENCRYPT, RH_OWNER, SE_HMAC, SE_POLICY
+from tpmsim.standard import SE_TRIAL, command, frames, number
+from script_caller import ScriptCaller
 from script import Script
-from state_caller import StateCaller, wrong
 
 HANDLES, COMMANDS, PCRS, PROPERTIES = 1, 2, 5, 6
 MOST = 2**32 - 1
@@ -26,11 +20,8 @@ script = Script(
     "elements from the one that is asked for on, as many as were asked for, and whether there are "
     "more behind them.",
 )
-caller = StateCaller(script)
-
-
-def says(what, outcome, *buffers):
-    script.command(what, outcome, *buffers)
+caller = ScriptCaller(script)
+says = script.command
 
 
 def answer(capability, elements, more):

@@ -1,26 +1,18 @@
-#!/usr/bin/env python3
 """Writes tests/grounds.tpm: each ground on which an entity is authorized, and one use of it."""
 
 from dataclasses import dataclass
 from typing import Callable
 
-import paths
-
-import policy
-from caller import Use
-from commands import CC
-from frames import RH_ENDORSEMENT, RH_LOCKOUT, RH_NULL
-from frames import RH_OWNER, RH_PLATFORM, SHA1, SHA256
+from tpmsim.caller import BY_OWNER, BY_PLATFORM, BY_POLICY, HERE, Use, sealed
+from tpmsim.standard import CC, RH_ENDORSEMENT, RH_LOCKOUT, RH_NULL, RH_OWNER, RH_PLATFORM, SHA1
+from tpmsim.standard import SHA256, name_of, policy
+from tpmsim.standard.nv import Attribute
+from tpmsim.standard.objects import Attribute as ObjectAttribute
+from tpmsim.standard.policy import AUTH_VALUE, PASSWORD
 from grounds_caller import AFTER_AUTH_VALUE, AFTER_LOCALITY_1, AFTER_PCR_16, AT_LOCALITY_1, DATA
 from grounds_caller import OWNER, PCR_16, PIN, SECRET, ZEROS, GroundsCaller, after_code
 from grounds_caller import after_equal_data, after_secret
-from nv import Attribute
-from nv_caller import BY_OWNER, BY_PLATFORM, BY_POLICY
-from object_caller import HERE, sealed
-from objects import Attribute as ObjectAttribute
-from policy import AUTH_VALUE, PASSWORD
 from script import Script
-from sessions import name_of
 
 USER = ObjectAttribute.USER_WITH_AUTH
 ENDS = 0x00
@@ -62,10 +54,7 @@ class Entity:
 def hierarchy(handle):
     name, value = HIERARCHIES[handle]
     return Entity(
-        name,
-        handle,
-        "TPM2_HierarchyChangeAuth",
-        lambda by: caller.change_auth(handle, value, by),
+        name, handle, "TPM2_HierarchyChangeAuth", lambda by: caller.change_auth(handle, value, by)
     )
 
 

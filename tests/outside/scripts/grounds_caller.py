@@ -2,15 +2,11 @@
 indices, whose value is "pin", and the policies that they have.
 """
 
-import frames
-import policy
-from capability import LOCKOUT_COUNTER, PROPERTIES
-from commands import CC
-from frames import RH_OWNER, RH_PLATFORM, SHA256, number
-from nv_caller import area
-from object_caller import HERE, sealed
-from sessions import command_hash, digest, digest_bytes
-from state_caller import StateCaller
+from tpmsim.caller import HERE, area, sealed
+from tpmsim.model.capability import LOCKOUT_COUNTER, PROPERTIES
+from tpmsim.standard import CC, RH_OWNER, RH_PLATFORM, SHA256, digest, digest_bytes, frames, number
+from tpmsim.standard import policy
+from script_caller import ScriptCaller
 
 OWNER, PIN, SECRET, DATA = b"owner", b"pin", b"secret", b"8 bytes."
 PCR_16 = [(SHA256, [16])]
@@ -19,9 +15,7 @@ AT_LOCALITY_1 = 0b10
 # The digest that a session starts with, and those behind one assertion.
 ZEROS = bytes(32)
 AFTER_AUTH_VALUE = policy.after_auth_value(SHA256, ZEROS)
-AFTER_PCR_16 = policy.after_pcr(
-    SHA256, ZEROS, frames.selection(*PCR_16), digest(SHA256, bytes(32))
-)
+AFTER_PCR_16 = policy.after_pcr(SHA256, ZEROS, frames.selection(*PCR_16), digest(SHA256, bytes(32)))
 AFTER_LOCALITY_1 = policy.after_locality(SHA256, ZEROS, AT_LOCALITY_1)
 
 
@@ -39,7 +33,7 @@ def after_equal_data(name, old=ZEROS):
     return policy.after_nv(SHA256, old, compared, name)
 
 
-class GroundsCaller(StateCaller):
+class GroundsCaller(ScriptCaller):
     def __init__(self, script):
         super().__init__(script)
         self.free_indices = iter(range(0x0100_0001, 0x0100_0020))
@@ -97,10 +91,6 @@ class GroundsCaller(StateCaller):
 
     def asserts_password(self, session):
         self.asserts("TPM2_PolicyPassword", self.password_told(session))
-
-    def cp_hash(self, prepared):
-        names = map(self.name, prepared.handles)
-        return command_hash(SHA256, prepared.code, names, prepared.parameters)
 
     # Sending.
 

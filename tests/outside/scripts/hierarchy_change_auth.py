@@ -1,23 +1,9 @@
-#!/usr/bin/env python3
 """Writes tests/hierarchy_change_auth.tpm: TPM2_HierarchyChangeAuth, by passwords and sessions."""
 
-import paths
-
-import frames
-from caller import Caller, Use
-from commands import CC
-from frames import (
-    RH_ENDORSEMENT,
-    RH_LOCKOUT,
-    RH_NULL,
-    RH_OWNER,
-    RH_PLATFORM,
-    SHA1,
-    command,
-    number,
-    on_handle,
-    sized,
-)
+from tpmsim.caller import Use
+from tpmsim.standard import CC, RH_ENDORSEMENT, RH_LOCKOUT, RH_NULL, RH_OWNER, RH_PLATFORM, SHA1
+from tpmsim.standard import command, frames, number, on_handle, sized
+from script_caller import ScriptCaller
 from script import Script
 
 HIERARCHIES = [
@@ -32,7 +18,7 @@ script = Script(
     "TPM2_HierarchyChangeAuth gives a hierarchy, or the reset of the lockout, another "
     "authorization value, and is authorized by the old one.",
 )
-caller = Caller(script)
+caller = ScriptCaller(script)
 
 
 def change(handle, new=b"", password=b""):
@@ -131,7 +117,7 @@ caller.accepted('By two zeros, to "owner"', caller.change_auth(RH_OWNER, b"owner
 
 script.chapter(
     "Through a session that is bound to the entity: the command's hmac is without the "
-    "authorization value, and the response's has the new one, for then the binding is no more.",
+    "authorization value, and the response's has the new one, for then the binding is no more."
 )
 for handle, name, old in HIERARCHIES:
     session = starts(f"bound to {name}", bind=handle)
@@ -176,7 +162,7 @@ caller.accepted(
 caller.accepted("And then not", caller.change_auth(RH_OWNER, b"owner", to_owner))
 
 script.chapter("An empty key and an empty hmac, while the key does not stay empty.")
-caller.accepted('ownerAuth is empty', caller.change_auth(RH_OWNER, b"", b"owner"))
+caller.accepted("ownerAuth is empty", caller.change_auth(RH_OWNER, b"", b"owner"))
 caller.accepted(
     'An empty hmac of the unbound session, to "owner", is answered by an empty one',
     caller.change_auth(RH_OWNER, b"owner", unbound),

@@ -10,9 +10,7 @@ accepted; the first difference ends it, with status 1.
 
 import sys
 
-import paths  # first: it finds the device
-
-from history import History
+from tpmsim.model.history import History
 from random_script import Writer
 
 EVENTS_OF_ONE = 1000

@@ -1,26 +1,19 @@
-#!/usr/bin/env python3
 """Writes tests/hmac_keys.tpm: TPM2_HMAC by keys of each scheme."""
 
-import paths
-
-import frames
-from commands import CC
-from frames import ALG_NULL, RH_NULL, RH_OWNER, SHA1, SHA256, SYMCIPHER, number, sized
-from object_caller import HERE, OPEN, ObjectCaller, hmac_key, sealed, storage_key
-from objects import Attribute, Public
+from tpmsim.caller import HERE, OPEN, hmac_key, sealed, storage_key
+from tpmsim.standard import ALG_NULL, CC, RH_NULL, RH_OWNER, SHA1, SHA256, SYMCIPHER, frames, mac
+from tpmsim.standard import number, sized
+from tpmsim.standard.objects import Attribute, Public
+from script_caller import ScriptCaller
 from script import Script
-from sessions import mac
 
 script = Script(
     "tests/hmac_keys.tpm",
     "TPM2_HMAC makes an HMAC of a buffer by an object that is a key for it: of the hash algorithm "
     "of its scheme, or with scheme NULL of the one that the command names.",
 )
-caller = ObjectCaller(script)
-
-
-def refused(what, outcome, *prepared):
-    caller.says(what, outcome, *prepared)
+caller = ScriptCaller(script)
+refused = caller.says
 
 
 def is_hmac(what, handle, key, data, asked, algorithm):

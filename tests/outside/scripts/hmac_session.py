@@ -1,10 +1,8 @@
-#!/usr/bin/env python3
 """Writes examples/hmac_session.tpm: a caller changes ownerAuth through an HMAC session."""
 
-import paths
-
-from caller import Caller, Use
-from frames import CONTINUE_SESSION, DECRYPT, ENCRYPT, RH_OWNER
+from tpmsim.caller import Use
+from tpmsim.standard import CONTINUE_SESSION, DECRYPT, ENCRYPT, RH_OWNER
+from script_caller import ScriptCaller
 from script import Script
 
 script = Script(
@@ -12,11 +10,11 @@ script = Script(
     "The owner's authorization value is changed through an HMAC session, so that no value crosses "
     "the wire in plain, and no command can be sent again or altered on its way.",
 )
-caller = Caller(script)
+caller = ScriptCaller(script)
 
 script.startup()
 caller.accepted(
-    "On a new device ownerAuth is empty. In a place where nobody listens it becomes \"cradle\" "
+    'On a new device ownerAuth is empty. In a place where nobody listens it becomes "cradle" '
     "(TPM2_HierarchyChangeAuth by the empty password)",
     caller.change_auth(RH_OWNER, b"cradle", b""),
 )
@@ -25,15 +23,15 @@ script.chapter(
     "The caller starts a session that is bound to TPM_RH_OWNER, with SHA-256 and AES-128 in mode "
     "CFB, and sends a nonce of 16 bytes. The response has the session's handle, 02000000, and the "
     "device's nonce. Both sides now compute the session's key of the two nonces and of \"cradle\", "
-    "which is not sent.",
+    "which is not sent."
 )
 session = caller.start("TPM2_StartAuthSession", RH_OWNER, aes=True)
 
 script.chapter(
-    "Now ownerAuth becomes \"a longer value\". The entry has the caller's next nonce, the "
+    'Now ownerAuth becomes "a longer value". The entry has the caller\'s next nonce, the '
     "attributes continueSession and decrypt, and an HMAC, whose key is the session's. The new "
     "value is encrypted; its size, 000e, is not. The response has the device's next nonce and "
-    "proves by its HMAC that the device knows the new value, as this is in its key.",
+    "proves by its HMAC that the device knows the new value, as this is in its key."
 )
 change = caller.change_auth(RH_OWNER, b"a longer value", Use(session, CONTINUE_SESSION | DECRYPT))
 caller.accepted("TPM2_HierarchyChangeAuth", change)
@@ -48,13 +46,13 @@ caller.refused(
 
 script.chapter(
     "No refusal changed the session. The caller fetches 24 random bytes that only the two sides "
-    "can read: the attribute encrypt, in an entry that authorizes nothing.",
+    "can read: the attribute encrypt, in an entry that authorizes nothing."
 )
 caller.accepted("TPM2_GetRandom", caller.random(24, Use(session, CONTINUE_SESSION | ENCRYPT)))
 
 script.chapter(
     "And resets PCR 16 through it, and changes ownerAuth once more. As the value is no more the "
-    "one that the session was bound to, \"a longer value\" is in the key of that command's HMAC.",
+    'one that the session was bound to, "a longer value" is in the key of that command\'s HMAC.'
 )
 caller.accepted("TPM2_PCR_Reset", caller.reset(session))
 caller.accepted(

@@ -1,12 +1,8 @@
-#!/usr/bin/env python3
 """Writes tests/hmac_sessions.tpm: commands that HMAC sessions authorize."""
 
-import paths
-
-import frames
-from caller import Caller, Use, flipped
-from commands import CC
-from frames import RH_ENDORSEMENT, RH_OWNER, SHA1, SHA256, sized
+from tpmsim.caller import Use, flipped
+from tpmsim.standard import CC, RH_ENDORSEMENT, RH_OWNER, SHA1, SHA256, frames, sized
+from script_caller import ScriptCaller
 from script import Script
 
 NAMES = {SHA1: "SHA-1", SHA256: "SHA-256"}
@@ -19,7 +15,7 @@ script = Script(
     "to another. Each of their hmacs was computed outside, and each line `entropy` gives new "
     "random bytes, so that each command has its own nonces.",
 )
-caller = Caller(script)
+caller = ScriptCaller(script)
 
 
 script.startup()
@@ -80,7 +76,7 @@ for bind, words in (
     for algorithm in (SHA1, SHA256):
         script.chapter(
             f"A session of {NAMES[algorithm]}, bound {words}, on TPM2_HierarchyChangeAuth of "
-            'TPM_RH_OWNER, which sets "owner" again.',
+            'TPM_RH_OWNER, which sets "owner" again.'
         )
         session = caller.start("TPM2_StartAuthSession", bind, algorithm)
         right = caller.change_auth(RH_OWNER, AUTH, session)

@@ -5,23 +5,23 @@ is not looked at.
 import copy
 from dataclasses import replace
 
-import frames
+from tpmsim.caller import BY_OWNER, HERE, area, bits, counter, extended, hmac_key, sealed
+from tpmsim.caller import storage_key
+from tpmsim.model import nv_commands
+from tpmsim.model.image import BODY_AT, DIGEST_AT_END, VERSION_2, framed, image
+from tpmsim.model.machine import Model
+from tpmsim.model.object_rules import DATA_BYTES, NAME_BYTES, Object, Sensitive
+from tpmsim.model.persistent import PERSISTENT_OBJECTS
+from tpmsim.model.state import SAVED_PCRS, Saved
+from tpmsim.standard import RH_ENDORSEMENT, RH_LOCKOUT, RH_NULL, RH_OWNER, RH_PLATFORM, SHA1
+from tpmsim.standard import frames
+from tpmsim.standard.nv import Attribute, of_type
+from tpmsim.standard.objects import Attribute as ObjectAttribute
 import full_device
 import image_fields
-import nv
-from device import Device
-from frames import RH_ENDORSEMENT, RH_LOCKOUT, RH_NULL, RH_OWNER, RH_PLATFORM, SHA1
-from image import BODY_AT, DIGEST_AT_END, VERSION_2, framed, image
 from image_cases import Case, areas, pair, pairs, plural, with_indices
 from image_fields import image_of, indices_of, objects_of
 from image_versions import version_cases
-from nv import Attribute, of_type
-from nv_caller import BY_OWNER, area, bits, counter, extended
-from object_caller import HERE, hmac_key, sealed, storage_key
-from objects import Attribute as ObjectAttribute
-from objects import DATA_BYTES, NAME_BYTES, Object, Sensitive
-from persistent import PERSISTENT_OBJECTS
-from state import SAVED_PCRS, Saved
 
 WRITTEN = BY_OWNER | Attribute.WRITTEN
 FIRST = 0x8100_0000
@@ -37,7 +37,7 @@ FULL = full_device.build()
 
 def largest(version=VERSION_2):
     """A device of which each field has as many bytes as it can in an image of a version."""
-    device, value = Device(), b"v" * 32
+    device, value = Model(), b"v" * 32
     device.auth_values = {handle: value for handle in WITH_VALUES}
     device.saved = Saved.STATE
     device.saved_banks = {bank: values[:SAVED_PCRS] for bank, values in device.banks.items()}
@@ -48,7 +48,7 @@ def largest(version=VERSION_2):
     size = version.all_bytes // version.indices
     for index in range(0x0100_0000, 0x0100_0000 + version.indices):
         public = area(index, WRITTEN, size=size, auth_policy=b"p" * 32)
-        device.indices[index] = nv.Index(public, value, bytes(range(size)))
+        device.indices[index] = nv_commands.Index(public, value, bytes(range(size)))
     return device
 
 
@@ -56,7 +56,7 @@ def largest(version=VERSION_2):
 
 
 def one_index(public, data=b"", auth_value=b"a"):
-    return with_indices(nv.Index(public, auth_value, data))
+    return with_indices(nv_commands.Index(public, auth_value, data))
 
 
 def one_object(public=None, handle=FIRST, hierarchy=RH_OWNER, name=b"", **sensitive):
@@ -66,7 +66,7 @@ def one_object(public=None, handle=FIRST, hierarchy=RH_OWNER, name=b"", **sensit
     kept = Object(public, Sensitive(**(given | sensitive)), hierarchy, name)
     return image_of(
         [
-            *image_fields.body_of(Device())[:-2],
+            *image_fields.body_of(Model())[:-2],
             image_fields.Counted([image_fields.object_fields(handle, kept)]),
             image_fields.Counted([]),
         ]
@@ -74,19 +74,19 @@ def one_object(public=None, handle=FIRST, hierarchy=RH_OWNER, name=b"", **sensit
 
 
 def with_auth_value(handle, value):
-    device = Device()
+    device = Model()
     device.auth_values[handle] = value
     return image(device)
 
 
 def with_byte(at, value):
     """The image of a new device with another byte in its body."""
-    text = image(Device())
+    text = image(Model())
     return framed(text[BODY_AT:at] + bytes([value]) + text[at + 1 : -DIGEST_AT_END])
 
 
 def with_saved(value, banks=b""):
-    body = image(Device())[BODY_AT:-DIGEST_AT_END]
+    body = image(Model())[BODY_AT:-DIGEST_AT_END]
     at = SAVED - BODY_AT
     return framed(body[:at] + bytes([value]) + banks + body[at + 1 :])
 
@@ -155,7 +155,7 @@ def list_cases():
             yield from pair(f"{len(groups)} {words} with the count {count}", text, "right", good)
 
     device = copy.deepcopy(FULL)
-    device.indices[0x0100_00FF] = nv.Index(area(0x0100_00FF, size=0), b"")
+    device.indices[0x0100_00FF] = nv_commands.Index(area(0x0100_00FF, size=0), b"")
     yield from pair("65 indices", image(device), "64", good)
     device = copy.deepcopy(FULL)
     device.objects[0x8100_0001] = device.objects[FIRST]
@@ -236,7 +236,7 @@ def public_cases():
         ("the mode CTR", 2, (frames.number(0x0040, 2),)),
         ("TPM_ALG_XOR and SHA-256", 0, (frames.symmetric(xor=frames.SHA256), b"", b"")),
     ):
-        fields = image_fields.body_of(Device())
+        fields = image_fields.body_of(Model())
         kept = Object(storage_key(), Sensitive(frames.SYMCIPHER, b"", b"", b""), RH_OWNER, b"")
         objects_of(fields).groups.append(image_fields.object_fields(FIRST, kept))
         good = image_of(fields)
@@ -311,7 +311,7 @@ def size_cases():
         last = area_fields.pop()
         area_fields.append(image_fields.Plain(last.text[:-1]))
         yield from pair(f"{words} without its last byte", image_of(fields), "with it", good)
-    new = image(Device())
+    new = image(Model())
     body = new[BODY_AT:-DIGEST_AT_END]
     yield from pair("a byte behind the indices", framed(body + b"\0"), "none", new)
     yield from pair("a byte too few", framed(body[:-1]), "none", new)
@@ -326,8 +326,9 @@ def size_cases():
 def not_looked_at():
     """Images with what no definition and no template would take."""
     locked = Attribute.GLOBALLOCK | Attribute.ORDERLY | Attribute.POLICY_DELETE
-    device = Device()
-    device.indices[0x0100_0001] = nv.Index(counter(attributes=WRITTEN), b"", bytes([255] * 8))
+    device = Model()
+    index = nv_commands.Index(counter(attributes=WRITTEN), b"", bytes([255] * 8))
+    device.indices[0x0100_0001] = index
     by_sha1, key_by_sha1 = area(algorithm=SHA1), hmac_key(SHA1)
     st_clear = HERE | ObjectAttribute.ST_CLEAR
     for words, text in (

@@ -4,10 +4,10 @@ NV indices alone.
 
 from dataclasses import dataclass
 
-import nv
-from device import Device
-from image import VERSION_2, image
-from nv_caller import area
+from tpmsim.caller import area
+from tpmsim.model import nv_commands
+from tpmsim.model.image import VERSION_2, image
+from tpmsim.model.machine import Model
 
 
 @dataclass(frozen=True)
@@ -34,7 +34,7 @@ def pairs(of, bad, good):
 
 def with_indices(*indices, version=VERSION_2):
     """Of a device with these indices."""
-    device = Device()
+    device = Model()
     device.indices = {it.public.index: it for it in indices}
     return image(device, version)
 
@@ -42,5 +42,5 @@ def with_indices(*indices, version=VERSION_2):
 def areas(*sizes, version=VERSION_2):
     """Of a device with an index of each of these sizes."""
     numbered = enumerate(sizes, 0x0100_0000)
-    held = (nv.Index(area(index, size=size), b"") for index, size in numbered)
+    held = (nv_commands.Index(area(index, size=size), b"") for index, size in numbered)
     return with_indices(*held, version=version)

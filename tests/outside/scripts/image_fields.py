@@ -6,10 +6,9 @@ with others that are set in their place.
 
 from dataclasses import dataclass
 
-import image
-import persistent
-from frames import RH_LOCKOUT, number
-from state import Saved
+from tpmsim.model import image, persistent
+from tpmsim.model.state import Saved
+from tpmsim.standard import RH_LOCKOUT, number
 
 # Of a SYMCIPHER's cipher and of the scheme of a KEYEDHASH, each number has so many bytes.
 DETAIL_BYTES = 2

@@ -2,16 +2,16 @@
 beyond them.
 """
 
-import frames
-from device import Device
-from image import BODY_AT, DIGEST_AT_END, HEAD_BYTES, VERSION_1, VERSION_2
-from image import digested, image
+from tpmsim.model.image import BODY_AT, DIGEST_AT_END, HEAD_BYTES, VERSION_1, VERSION_2, digested
+from tpmsim.model.image import image
+from tpmsim.model.machine import Model
+from tpmsim.standard import frames
 from image_cases import Case, areas, pair, plural
 
 
 def with_other_limits():
     """Of a new device, with each bit of the limits changed."""
-    body = image(Device())[BODY_AT:-DIGEST_AT_END]
+    body = image(Model())[BODY_AT:-DIGEST_AT_END]
     limits, size = int.from_bytes(VERSION_2.limits, "big"), len(VERSION_2.limits)
     for bit in range(8 * size):
         yield f"bit {bit}", digested(2, frames.number(limits ^ 1 << bit, size) + body)
@@ -19,15 +19,15 @@ def with_other_limits():
 
 def without_state():
     """Of version 2, with bytes for the head and the digest and at most 31 more."""
-    new = image(Device())
+    new = image(Model())
     for size in range(42, 74):
         yield f"of {size} bytes", digested(2, new[HEAD_BYTES : size - DIGEST_AT_END])
 
 
 def version_cases():
     """What stands between the head and the body, and the limits of version 1."""
-    new = image(Device())
-    old, body = image(Device(), VERSION_1), new[BODY_AT:-DIGEST_AT_END]
+    new = image(Model())
+    old, body = image(Model(), VERSION_1), new[BODY_AT:-DIGEST_AT_END]
     for indices, space in ((0, 0), (32, 8192), (63, 16_384), (65, 16_384), (64, 16_383)):
         limits = frames.number(indices, 2) + frames.number(space, 4)
         words = f"version 2 with the limits {indices:,} and {space:,}"

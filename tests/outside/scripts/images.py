@@ -1,9 +1,8 @@
-#!/usr/bin/env python3
 """Prints images of a device's persistent state, as hex:
 
-    python3 tests/outside/scripts/images.py                    of some devices, each behind its name
-    python3 tests/outside/scripts/images.py tests/startup.tpm  of the device behind these scripts
-    python3 tests/outside/scripts/images.py faults             what is no image, behind its fault
+    tools/python.sh tests/outside/scripts/images.py                    of some devices, each behind its name
+    tools/python.sh tests/outside/scripts/images.py tests/startup.tpm  of the device behind these scripts
+    tools/python.sh tests/outside/scripts/images.py faults             what is no image, behind its fault
 
 Before it prints one it opens it, and makes sure that no beginning of it opens, nor what differs
 from it in one byte.
@@ -12,13 +11,11 @@ from it in one byte.
 import pathlib
 import sys
 
-import paths
-
 import image_bodies
-from device import Device
+from tpmsim.model.image import fault_of, image, open_image
+from tpmsim.model.machine import Model
+from tpmsim.standard import number
 from expected import played_by
-from frames import number
-from image import fault_of, image, open_image
 
 
 def checked(device):
@@ -35,7 +32,7 @@ def checked(device):
 
 
 def faults():
-    new = image(Device())
+    new = image(Model())
     version = number(3, 2)
     yield "Short", "41 bytes", new[:41]
     yield "Length", "360 bytes", new[:-1]
@@ -55,12 +52,12 @@ def main(names):
             print(f"{name}: {words}: {text.hex()}")
         return
     for name in names:
-        device = Device()
+        device = Model()
         for _ in played_by(pathlib.Path(name).read_text("ascii"), device):
             pass
         print(f"{name}: {checked(device).hex()}")
     if not names:
-        text = checked(Device())
+        text = checked(Model())
         assert len(text) == 361 and text[:16].hex() == "54504d490002000001690040" "00004000"
         print(f"a new device: {text.hex()}")
         print(f"a full device: {checked(image_bodies.FULL).hex()}")

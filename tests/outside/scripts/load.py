@@ -1,28 +1,20 @@
-#!/usr/bin/env python3
 """Writes tests/load.tpm: TPM2_Load, which takes what TPM2_Create gave."""
 
 from dataclasses import replace
 
-import paths
-
-import frames
-from commands import CC
-from frames import RH_ENDORSEMENT, RH_NULL, RH_OWNER, SHA1, SHA256, number, sized
-from object_caller import HERE, OPEN, STORES, ObjectCaller, hmac_key, sealed, storage_key
-from objects import Attribute
+from tpmsim.caller import HERE, OPEN, STORES, hmac_key, sealed, storage_key
+from tpmsim.standard import CC, RH_ENDORSEMENT, RH_NULL, RH_OWNER, SHA1, SHA256, frames, mac
+from tpmsim.standard import number, sized
+from tpmsim.standard.objects import Attribute
+from script_caller import ScriptCaller
 from script import Script
-from sessions import mac
 
 script = Script(
     "tests/load.tpm",
     "TPM2_Load takes a private and a public area that TPM2_Create gave for this parent.",
 )
-caller = ObjectCaller(script)
-
-
-def refused(what, outcome, *prepared):
-    caller.says(what, outcome, *prepared)
-
+caller = ScriptCaller(script)
+refused = caller.says
 
 script.startup()
 parent = caller.create_primary(
@@ -50,9 +42,7 @@ refused(
     "REFERENCE_H0",
     *(caller.loading(it, made) for it in (0x8000_0001, 0x8000_0008, 0x80FF_FFFF)),
 )
-refused(
-    "A persistent object", "HANDLE/h1", caller.loading(0x8100_0000, made)
-)
+refused("A persistent object", "HANDLE/h1", caller.loading(0x8100_0000, made))
 script.command(
     "It has to be authorized: no sessions (tag 8001)",
     "AUTH_MISSING",
@@ -109,10 +99,7 @@ for what, changes in (
     ("An authPolicy", {"auth_policy": bytes(32)}),
     ("Another unique", {"unique": bytes(32)}),
     ("Without unique", {"unique": b""}),
-    (
-        "An HMAC key",
-        {"attributes": HERE | OPEN | Attribute.SIGN, "scheme": SHA256},
-    ),
+    ("An HMAC key", {"attributes": HERE | OPEN | Attribute.SIGN, "scheme": SHA256}),
     ("A storage key", {"kind": frames.SYMCIPHER, "attributes": HERE | OPEN | STORES}),
 ):
     refused(what, "INTEGRITY/p1", with_public(**changes))

@@ -1,13 +1,10 @@
-#!/usr/bin/env python3
 """Writes tests/localities.tpm: each PCR extended and reset from each locality.
 
 Which PCR changes from where is the table of TPM2_PCR_Extend in docs/table/pcrs.md, once more.
 """
 
 import paths
-
-from commands import CC
-from frames import SHA1, SHA256, command, digests, number, on_handle, selection
+from tpmsim.standard import CC, SHA1, SHA256, command, digests, number, on_handle, selection
 from script import line
 
 SCRIPT = paths.TESTS / "localities.tpm"
@@ -40,7 +37,9 @@ def reset(pcr):
 def changes(name, of, pcrs, use, accepted):
     named = f"PCR {pcrs[0]}" + (f" to {pcrs[-1]}" if len(pcrs) > 1 else "")
     outcome = "SUCCESS" if accepted else "LOCALITY (907)"
-    return f"\n# {name} of {named}, {use}: {outcome}.\n" + "".join(line(of(pcr)) + "\n" for pcr in pcrs)
+    return f"\n# {name} of {named}, {use}: {outcome}.\n" + "".join(
+        line(of(pcr)) + "\n" for pcr in pcrs
+    )
 
 
 def reading(algorithm, name):

@@ -1,17 +1,11 @@
-#!/usr/bin/env python3
 """Writes tests/lockout.tpm: wrong tries are counted, lock, and are forgiven."""
 
-import paths
-
-import policy
-from commands import CC
-from frames import RH_OWNER, SHA256
-from nv_caller import BY_VALUE, FIRST, SECOND, THIRD, area
-from nv import Attribute as NvAttribute
-from object_caller import HERE, sealed
-from objects import Attribute
+from tpmsim.caller import BY_VALUE, HERE, area, sealed
+from tpmsim.standard import CC, RH_OWNER, SHA256, policy
+from tpmsim.standard.nv import Attribute as NvAttribute
+from tpmsim.standard.objects import Attribute
+from script_caller import FIRST, SECOND, ScriptCaller, THIRD
 from script import Script
-from state_caller import StateCaller
 
 PIN, SECRET = b"2468", b"a secret"
 
@@ -25,7 +19,7 @@ script = Script(
     "and the right value is refused too. For each recoveryTime that passes one try is forgiven. A "
     "new device has maxTries 3, recoveryTime 1,000 seconds, and lockoutRecovery 1,000 seconds.",
 )
-caller = StateCaller(script)
+caller = ScriptCaller(script)
 
 
 def right(what, index=FIRST):
@@ -294,9 +288,7 @@ def order():
     caller.fails(
         "An index that its value may not write", "AUTH_UNAVAILABLE", caller.writing(SECOND, b"x")
     )
-    caller.fails(
-        "One that has no policy", "AUTH_UNAVAILABLE", caller.reading(SECOND, 8, session)
-    )
+    caller.fails("One that has no policy", "AUTH_UNAVAILABLE", caller.reading(SECOND, 8, session))
     caller.fails(
         "A policy session whose digest is another",
         "POLICY_FAIL/s1",

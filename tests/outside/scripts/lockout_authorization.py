@@ -1,14 +1,9 @@
-#!/usr/bin/env python3
 """Writes tests/lockout_authorization.tpm: wrong entries that are a try at lockoutAuth."""
 
-import paths
-
-import frames
-from commands import CC
-from frames import RH_LOCKOUT, RH_OWNER, on_handle, sized
-from nv_caller import BY_VALUE, FIRST, area
+from tpmsim.caller import BY_VALUE, area, wrong
+from tpmsim.standard import CC, RH_LOCKOUT, RH_OWNER, frames, on_handle, sized
+from script_caller import FIRST, ScriptCaller
 from script import Script
-from state_caller import StateCaller, wrong
 
 LOCKOUT = b"lockout"
 
@@ -19,7 +14,7 @@ script = Script(
     "start. "
     "Every other wrong entry is BAD_AUTH. Each such try closes lockoutAuth for lockoutRecovery.",
 )
-caller = StateCaller(script)
+caller = ScriptCaller(script)
 
 
 def by_password(handle, password):
@@ -102,9 +97,7 @@ caller.refused(
     "Of TPM2_StartAuthSession, as the second",
     "AUTH_FAIL/s2",
     wrong(
-        caller.prepare(
-            CC.StartAuthSession, *frames.start_auth_session(bytes(16)), to_owner, bound
-        ),
+        caller.prepare(CC.StartAuthSession, *frames.start_auth_session(bytes(16)), to_owner, bound),
         2,
     ),
 )

@@ -1,19 +1,12 @@
-#!/usr/bin/env python3
 """Writes tests/lockout_commands.tpm: a try by each command that a protected entity authorizes."""
 
-import paths
-
-import policy
-from caller import Use
-from commands import CC
-from frames import RH_OWNER, SHA256
-from nv import Attribute as NvAttribute
-from nv_caller import BY_POLICY, BY_VALUE, FIRST, FOURTH, SECOND, THIRD, area, bits, counter
-from nv_caller import extended
-from object_caller import HERE, STORES, hmac_key, sealed, storage_key
-from objects import Attribute
+from tpmsim.caller import BY_POLICY, BY_VALUE, HERE, STORES, Use, area, bits, counter, extended
+from tpmsim.caller import hmac_key, sealed, storage_key, wrong
+from tpmsim.standard import CC, RH_OWNER, SHA256, policy
+from tpmsim.standard.nv import Attribute as NvAttribute
+from tpmsim.standard.objects import Attribute
+from script_caller import FIRST, FOURTH, SECOND, ScriptCaller, THIRD
 from script import Script
-from state_caller import StateCaller, wrong
 
 PIN, DATA = b"pin", b"data"
 FIFTH = 0x0100_0005
@@ -31,7 +24,7 @@ script = Script(
     "Each command that is authorized by a protected entity: with maxTries 1 one wrong entry locks, "
     "and the right one is refused then, whichever command the try was made by.",
 )
-caller = StateCaller(script)
+caller = ScriptCaller(script)
 
 
 def unlock(what="TPM2_DictionaryAttackLockReset"):

@@ -1,20 +1,14 @@
-#!/usr/bin/env python3
 """Writes tests/lockout_sessions.tpm: which entries are a try at a protected value."""
 
 from dataclasses import dataclass
 from typing import Callable
 
-import paths
-
-import policy
-from caller import Use
-from frames import RH_LOCKOUT, RH_OWNER, SHA256
-from nv import Attribute as NvAttribute
-from nv_caller import BY_POLICY, BY_VALUE, FIRST, SECOND, area
-from object_caller import HERE, sealed
-from objects import Attribute
+from tpmsim.caller import BY_POLICY, BY_VALUE, HERE, Use, area, sealed, wrong
+from tpmsim.standard import RH_LOCKOUT, RH_OWNER, SHA256, policy
+from tpmsim.standard.nv import Attribute as NvAttribute
+from tpmsim.standard.objects import Attribute
+from script_caller import FIRST, SECOND, ScriptCaller
 from script import Script
-from state_caller import StateCaller, wrong
 
 PIN, DATA, OWNER, LOCKOUT = b"pin", b"a secret", b"owner", b"lockout"
 DEMANDING = policy.after_auth_value(SHA256, bytes(32))
@@ -25,7 +19,7 @@ script = Script(
     "in the key of an hmac, or else because its session was bound to a protected entity at the "
     "start. maxTries is 1 here. So one wrong entry of such a way locks it, and all the others.",
 )
-caller = StateCaller(script)
+caller = ScriptCaller(script)
 
 
 @dataclass
@@ -182,7 +176,9 @@ def lasting():
     caller.refused("It is locked", "LOCKOUT", caller.reset(bound))
     unlock()
     caller.define(
-        "The index again, with TPMA_NV_NO_DA", area(SECOND, BY_VALUE | NvAttribute.NO_DA), OWNER,
+        "The index again, with TPMA_NV_NO_DA",
+        area(SECOND, BY_VALUE | NvAttribute.NO_DA),
+        OWNER,
         auth=PIN,
     )
     free = caller.start("A session that is bound to it now", SECOND)

@@ -1,15 +1,8 @@
-#!/usr/bin/env python3
 """Writes tests/long_policy.tpm: a policy of all assertions, in a trial and a policy session."""
 
-import paths
-
-import frames
-import policy
-from commands import CC
-from frames import RH_OWNER, SHA1, SHA256
-from policy_caller import HASHES, PolicyCaller, zeros
+from tpmsim.standard import CC, RH_OWNER, SHA1, SHA256, digest, frames, name_of, policy
+from script_caller import HASHES, ScriptCaller, zeros
 from script import Script
-from sessions import digest, name_of
 
 BANKS = [(SHA1, [0, 7]), (SHA256, [0, 1, 2, 3, 4, 5, 6, 7, 8])]
 REFERENCE = b"first of January"
@@ -19,7 +12,7 @@ script = Script(
     "A policy of many assertions. A trial session comes to the digest that a policy session comes "
     "to, without anything being so yet.",
 )
-caller = PolicyCaller(script)
+caller = ScriptCaller(script)
 
 
 def values_digest(algorithm):

@@ -4,15 +4,10 @@ at the state of the device, which is as before.
 
 import copy
 
-import paths
-
-import capability
-import frames
-import general
-from commands import CC
-from frames import HMAC_SESSION, NV, PERSISTENT, RH_OWNER, SHA1, SHA256, TRANSIENT
-from frames import command, number, on_handles, sized
-from nv import Attribute
+from tpmsim.model import capability
+from tpmsim.standard import CC, HMAC_SESSION, NV, PERSISTENT, RH_OWNER, SHA1, SHA256, TRANSIENT
+from tpmsim.standard import command, frames, handle_kinds, number, on_handles
+from tpmsim.standard.nv import Attribute
 from script import Script
 
 AS_BYTES = (
@@ -72,7 +67,7 @@ def at_all(device):
     yield at_protection()
     yield command(CC.ReadClock, b"")
     for handle in device.sessions:
-        if general.is_policy(handle):
+        if handle_kinds.is_policy(handle):
             yield command(CC.PolicyGetDigest, number(handle, 4))
     for index in device.indices.values():
         yield from at_index(index, device.auth_value(RH_OWNER))

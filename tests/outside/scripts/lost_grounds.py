@@ -1,24 +1,15 @@
-#!/usr/bin/env python3
 """Writes tests/lost_grounds.tpm: each way in which a ground of tests/grounds.tpm is lost."""
 
-import paths
-
-import frames
-import policy
-from caller import Use, flipped
-from commands import CC
-from frames import RH_ENDORSEMENT, RH_LOCKOUT
-from frames import RH_NULL, RH_OWNER, RH_PLATFORM, SHA1, SHA256, digests
+from tpmsim.caller import BY_OWNER, BY_POLICY, BY_VALUE, HERE, Use, flipped, sealed
+from tpmsim.standard import CC, RH_ENDORSEMENT, RH_LOCKOUT, RH_NULL, RH_OWNER, RH_PLATFORM, SHA1
+from tpmsim.standard import SHA256, digests, frames, name_of, policy
+from tpmsim.standard.nv import Attribute
+from tpmsim.standard.objects import Attribute as ObjectAttribute
+from tpmsim.standard.policy import ALL_LOCALITIES, AUTH_VALUE, PASSWORD
 from grounds_caller import AFTER_AUTH_VALUE, AFTER_LOCALITY_1, AFTER_PCR_16, AT_LOCALITY_1, DATA
 from grounds_caller import OWNER, PCR_16, PIN, SECRET, ZEROS, GroundsCaller, after_code
 from grounds_caller import after_equal_data, after_secret
-from nv import Attribute
-from nv_caller import BY_OWNER, BY_POLICY, BY_VALUE
-from object_caller import HERE, sealed
-from objects import Attribute as ObjectAttribute
-from policy import ALL_LOCALITIES, AUTH_VALUE, PASSWORD
 from script import Script
-from sessions import name_of
 
 USER = ObjectAttribute.USER_WITH_AUTH
 ENDS = 0x00

@@ -1,7 +1,6 @@
-#!/usr/bin/env python3
 """Writes images of version 1 that are not there yet, and compares those that are:
 
-    python3 tests/outside/scripts/make_version_1.py PROGRAM
+    tools/python.sh tests/outside/scripts/make_version_1.py PROGRAM
 
 PROGRAM is one that writes this version. It serves the device of each script NAME.tpm in
 tests/version_1: a run up to each `power` line, of the script's random bytes and at its times, which
@@ -17,12 +16,11 @@ import sys
 import tempfile
 from dataclasses import dataclass
 
-import paths  # first: it finds the device
-
+import paths
 import expected
 import serving
 import version_1
-from device import MANUFACTURED, Device
+from tpmsim.model.machine import MANUFACTURED, Model
 
 RANDOM_BYTES = 256
 FIRST_SECOND = 1_000_000
@@ -61,7 +59,7 @@ def runs_of(script):
 
 def played(runs):
     """The responses of the device in Python, and its image of this version."""
-    device, answers = Device(), []
+    device, answers = Model(), []
     for number, run in enumerate(runs):
         if number:
             device.power_cycle()

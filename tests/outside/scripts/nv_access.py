@@ -1,24 +1,9 @@
-#!/usr/bin/env python3
 """Writes tests/nv_access.tpm: who may write an index and read it, by each attribute alone."""
 
-import paths
-
-import frames
-import nv
-from frames import RH_OWNER, RH_PLATFORM
-from nv import Attribute
-from nv_caller import (
-    BY_POLICY,
-    BY_VALUE,
-    FIRST,
-    SECOND,
-    THIRD,
-    NvCaller,
-    area,
-    bits,
-    counter,
-    extended,
-)
+from tpmsim.caller import BY_POLICY, BY_VALUE, area, bits, counter, extended
+from tpmsim.standard import RH_OWNER, RH_PLATFORM, frames, nv
+from tpmsim.standard.nv import Attribute
+from script_caller import FIRST, SECOND, ScriptCaller, THIRD
 from script import Script
 
 # What an index allows by one attribute for writing and one for reading, and who then may.
@@ -35,7 +20,7 @@ script = Script(
     "Each attribute for writing and reading alone, with each kind of authHandle: the owner, the "
     "platform, the index itself and another one. By passwords, which a policy is not.",
 )
-caller = NvCaller(script)
+caller = ScriptCaller(script)
 ASKERS = (("The owner", RH_OWNER, "owner"), ("The platform", RH_PLATFORM, "platform"))
 
 
@@ -88,9 +73,7 @@ def may_read(attribute, allowed):
     caller.does("TPM2_NV_Write", caller.writing(FIRST, b"written."))
     each_asker("TPM2_NV_Read", allowed, lambda by: caller.reading(FIRST, 8, by=by))
     session = caller.policy("A policy session")
-    each_asker(
-        "TPM2_PolicyNV", allowed, lambda by: caller.comparing(session, FIRST, b"w", by=by)
-    )
+    each_asker("TPM2_PolicyNV", allowed, lambda by: caller.comparing(session, FIRST, b"w", by=by))
     caller.says("It is flushed", "SUCCESS", caller.flush(session))
     session = caller.policy("Another, to be told TPM2_PolicySecret")
     comes_to(
@@ -148,12 +131,10 @@ caller.does("The first is written", caller.writing(FIRST, b"x"))
 caller.fails("TPM2_NV_Read by the one", "AUTH_UNAVAILABLE", caller.reading(FIRST, 1, by=THIRD))
 caller.fails("TPM2_NV_Write by it", "AUTH_UNAVAILABLE", caller.writing(FIRST, b"x", by=THIRD))
 caller.fails(
-    "With its right value the other may not, either", "NV_AUTHORIZATION", caller.reading(
-        FIRST, 1, by=SECOND
-    )
+    "With its right value the other may not, either",
+    "NV_AUTHORIZATION",
+    caller.reading(FIRST, 1, by=SECOND),
 )
-caller.fails(
-    "Nor with a wrong one", "AUTH_FAIL/s1", caller.reading(FIRST, 1, b"a", by=SECOND)
-)
+caller.fails("Nor with a wrong one", "AUTH_FAIL/s1", caller.reading(FIRST, 1, b"a", by=SECOND))
 wrong_handles()
 script.write()

@@ -1,15 +1,10 @@
-#!/usr/bin/env python3
 """Writes tests/nv_bits_and_extend.tpm: indices of bits, and indices that are extended."""
 
-import paths
-
-import frames
-from frames import RH_OWNER, SHA1, number
-from nv import Attribute
-from nv_caller import BY_OWNER, FIRST, SECOND, THIRD, NvCaller, bits, extended
-from policy_caller import HASHES
+from tpmsim.caller import BY_OWNER, bits, extended
+from tpmsim.standard import RH_OWNER, SHA1, digest, digest_bytes, frames, number
+from tpmsim.standard.nv import Attribute
+from script_caller import FIRST, HASHES, SECOND, ScriptCaller, THIRD
 from script import Script
-from sessions import digest, digest_bytes
 
 CLEARED = Attribute.CLEAR_STCLEAR
 
@@ -18,7 +13,7 @@ script = Script(
     "Indices of bits, in which TPM2_NV_SetBits sets more and more, and indices that are extended "
     "as PCRs are, each by its own hash algorithm.",
 )
-caller = NvCaller(script)
+caller = ScriptCaller(script)
 
 
 def set_bits(what, index, more, value):
@@ -45,9 +40,10 @@ set_bits("No bit is set, and it is written", SECOND, 0, 0)
 set_bits("TPM2_NV_SetBits of 8", SECOND, 8, 8)
 wrong = caller.setting(SECOND, 0, by=RH_OWNER)
 caller.fails(
-    "Seven bytes, and none", "INSUFFICIENT/p1", wrong.but(parameters=bytes(7)), wrong.but(
-        parameters=b""
-    )
+    "Seven bytes, and none",
+    "INSUFFICIENT/p1",
+    wrong.but(parameters=bytes(7)),
+    wrong.but(parameters=b""),
 )
 caller.fails("Nine bytes", "SIZE", wrong.but(parameters=bytes(9)))
 
@@ -60,9 +56,9 @@ for index, (algorithm, name) in zip((THIRD, THIRD + 1), HASHES):
         extended(index, BY_OWNER, algorithm=algorithm),
     )
     caller.fails(
-        "TPM2_NV_Read before the first", "NV_UNINITIALIZED", caller.reading(
-            index, size, by=RH_OWNER
-        )
+        "TPM2_NV_Read before the first",
+        "NV_UNINITIALIZED",
+        caller.reading(index, size, by=RH_OWNER),
     )
     value = zeros
     for what, data in (
@@ -89,9 +85,7 @@ script.chapter("At the next start the first is as it was, and the second is not 
 script.power()
 script.startup()
 caller.read("TPM2_NV_Read of the first", FIRST, b"\xff" * 8, by=RH_OWNER)
-caller.fails(
-    "Of the second", "NV_UNINITIALIZED", caller.reading(SECOND, 8, by=RH_OWNER)
-)
+caller.fails("Of the second", "NV_UNINITIALIZED", caller.reading(SECOND, 8, by=RH_OWNER))
 set_bits("TPM2_NV_SetBits of 2 in the second", SECOND, 2, 2)
 caller.read("The last one goes on", THIRD + 1, value, by=RH_OWNER)
 caller.does('TPM2_NV_Extend by "next"', caller.extending(THIRD + 1, b"next", by=RH_OWNER))

@@ -1,25 +1,19 @@
-#!/usr/bin/env python3
 """Writes tests/nv_change_auth.tpm: the authorization value of an index, changed by a policy."""
 
-import paths
-
-import policy
-from caller import Use
-from commands import CC
-from frames import CONTINUE_SESSION, DECRYPT, RH_OWNER, RH_PLATFORM, SHA1, SHA256, number, sized
-from nv import Attribute
-from nv_caller import BY_OWNER, BY_POLICY, BY_VALUE, FIRST, SECOND, THIRD, NvCaller, area
-from policy import AUTH_VALUE, PASSWORD
-from policy_caller import HASHES, zeros
+from tpmsim.caller import BY_OWNER, BY_POLICY, BY_VALUE, Use, area
+from tpmsim.standard import CC, CONTINUE_SESSION, DECRYPT, RH_OWNER, RH_PLATFORM, SHA1, SHA256
+from tpmsim.standard import digest_bytes, number, policy, sized
+from tpmsim.standard.nv import Attribute
+from tpmsim.standard.policy import AUTH_VALUE, PASSWORD
+from script_caller import FIRST, HASHES, SECOND, ScriptCaller, THIRD, zeros
 from script import Script
-from sessions import digest_bytes
 
 script = Script(
     "tests/nv_change_auth.tpm",
     "TPM2_NV_ChangeAuth: an index is authorized in the ADMIN role, which takes a policy with "
     "TPM2_PolicyCommandCode of this very command.",
 )
-caller = NvCaller(script)
+caller = ScriptCaller(script)
 
 
 def changing_policy(algorithm=SHA256, before=None):
@@ -101,18 +95,14 @@ caller.does(
 )
 says("TPM2_PolicyAuthValue", caller.auth_value_told(session))
 caller.fails(
-    "TPM2_NV_ChangeAuth", "POLICY_FAIL/s1", caller.changing_auth(
-        FIRST, b"new", Use(session, demand=AUTH_VALUE)
-    )
+    "TPM2_NV_ChangeAuth",
+    "POLICY_FAIL/s1",
+    caller.changing_auth(FIRST, b"new", Use(session, demand=AUTH_VALUE)),
 )
 undefine(FIRST)
 caller.define(
     "One whose policy is TPM2_PolicyCommandCode of TPM2_NV_Write",
-    area(
-        FIRST,
-        BY_POLICY,
-        auth_policy=policy.after_command_code(SHA256, bytes(32), CC.NV_Write),
-    ),
+    area(FIRST, BY_POLICY, auth_policy=policy.after_command_code(SHA256, bytes(32), CC.NV_Write)),
 )
 says("TPM2_PolicyRestart", caller.restart(session))
 says("TPM2_PolicyCommandCode of TPM2_NV_Write", caller.command_code(session, CC.NV_Write))
@@ -121,9 +111,7 @@ caller.does("TPM2_NV_Write", caller.writing(FIRST, b"x", session))
 undefine(FIRST)
 caller.define("One without a policy", area(FIRST, BY_VALUE))
 told(session)
-caller.fails(
-    "TPM2_NV_ChangeAuth", "AUTH_UNAVAILABLE", caller.changing_auth(FIRST, b"new", session)
-)
+caller.fails("TPM2_NV_ChangeAuth", "AUTH_UNAVAILABLE", caller.changing_auth(FIRST, b"new", session))
 says("TPM2_PolicyRestart", caller.restart(session))
 undefine(FIRST)
 

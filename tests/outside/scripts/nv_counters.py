@@ -1,11 +1,9 @@
-#!/usr/bin/env python3
 """Writes tests/nv_counters.tpm: counters, which never go back."""
 
-import paths
-
-from frames import RH_OWNER, SHA1, number
-from nv import Attribute
-from nv_caller import BY_OWNER, FIRST, FOURTH, SECOND, THIRD, NvCaller, area, counter
+from tpmsim.caller import BY_OWNER, area, counter
+from tpmsim.standard import RH_OWNER, SHA1, number
+from tpmsim.standard.nv import Attribute
+from script_caller import FIRST, FOURTH, SECOND, ScriptCaller, THIRD
 from script import Script
 
 script = Script(
@@ -13,7 +11,7 @@ script = Script(
     "Counters. A new one begins behind the largest value that any counter ever had, so that none "
     "has a value twice. Index 01000002 has the attributes 00020012.",
 )
-caller = NvCaller(script)
+caller = ScriptCaller(script)
 
 
 def count(what, index, value, times=1):
@@ -43,9 +41,7 @@ caller.fails(
 )
 count("Three times TPM2_NV_Increment", SECOND, 3, times=3)
 define_again("It is defined again", SECOND)
-caller.fails(
-    "TPM2_NV_Read", "NV_UNINITIALIZED", caller.reading(SECOND, 8, by=RH_OWNER)
-)
+caller.fails("TPM2_NV_Read", "NV_UNINITIALIZED", caller.reading(SECOND, 8, by=RH_OWNER))
 count("TPM2_NV_Increment: it goes on behind 3", SECOND, 4)
 assert script.last_response == bytes.fromhex(
     "8002 0000001D 00000000 0000000A 0008 0000000000000004 0000 01 0000"
@@ -88,12 +84,8 @@ caller.fails("Past the end", "NV_RANGE", caller.reading(FIRST, 2, offset=7, by=R
 
 script.chapter("What is no counter does not count.")
 caller.define("An ordinary index of eight bytes", area(THIRD, BY_OWNER))
-caller.does(
-    "TPM2_NV_Write of 255", caller.writing(THIRD, number(255, 8), by=RH_OWNER)
-)
-caller.fails(
-    "TPM2_NV_Increment", "ATTRIBUTES/h2", caller.incrementing(THIRD, by=RH_OWNER)
-)
+caller.does("TPM2_NV_Write of 255", caller.writing(THIRD, number(255, 8), by=RH_OWNER))
+caller.fails("TPM2_NV_Increment", "ATTRIBUTES/h2", caller.incrementing(THIRD, by=RH_OWNER))
 define_again("01000001 again", FIRST)
 count("TPM2_NV_Increment: the ordinary index does not matter", FIRST, 12)
 

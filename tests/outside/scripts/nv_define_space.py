@@ -1,16 +1,12 @@
-#!/usr/bin/env python3
 """Writes tests/nv_define_space.tpm: what an index can be defined with, and how many can be."""
 
-import paths
-
-import frames
-import nv
-from frames import RH_ENDORSEMENT, RH_LOCKOUT, RH_NULL, RH_OWNER, RH_PLATFORM, SHA1, number, sized
-from nv import Attribute, Type
-from nv_caller import BY_OWNER, FIRST, NvCaller, area, bits, counter, extended
-from policy_caller import HASHES
+from tpmsim.caller import BY_OWNER, area, bits, counter, extended
+from tpmsim.model import nv_commands
+from tpmsim.standard import RH_ENDORSEMENT, RH_LOCKOUT, RH_NULL, RH_OWNER, RH_PLATFORM, SHA1
+from tpmsim.standard import digest_bytes, frames, number, nv, sized
+from tpmsim.standard.nv import Attribute, Type
+from script_caller import FIRST, HASHES, ScriptCaller
 from script import Script
-from sessions import digest_bytes
 
 CREATED = Attribute.PLATFORMCREATE
 
@@ -18,7 +14,7 @@ script = Script(
     "tests/nv_define_space.tpm",
     "TPM2_NV_DefineSpace: which public areas an index can have, and how many indices there can be.",
 )
-caller = NvCaller(script)
+caller = ScriptCaller(script)
 
 
 def fitting(what, public, **more):
@@ -180,7 +176,7 @@ def attributes():
     unfitting(
         "POLICY_DELETE, WRITELOCKED, GLOBALLOCK, ORDERLY, READLOCKED and WRITTEN",
         "ATTRIBUTES/p2",
-        *(area(attributes=BY_OWNER | it) for it in Attribute if it & nv.NOT_DEFINED),
+        *(area(attributes=BY_OWNER | it) for it in Attribute if it & nv_commands.NOT_DEFINED),
     )
     unfitting(
         "No attribute that allows to write",
@@ -206,9 +202,9 @@ def attributes():
             fitting(f"{each.name} and OWNERREAD", area(attributes=each | Attribute.OWNERREAD))
         elif each & nv.READS:
             fitting(f"OWNERWRITE and {each.name}", area(attributes=each | Attribute.OWNERWRITE))
-        elif not each & nv.NOT_DEFINED and each != CREATED:
+        elif not each & nv_commands.NOT_DEFINED and each != CREATED:
             fitting(f"OWNERWRITE, OWNERREAD and {each.name}", area(attributes=each | BY_OWNER))
-    every = nv.NAMED & ~nv.NOT_DEFINED & ~CREATED & ~nv.of_type(nv.TYPE_MASK)
+    every = nv.NAMED & ~nv_commands.NOT_DEFINED & ~CREATED & ~nv.of_type(nv.TYPE_MASK)
     fitting("All of these", area(attributes=every))
 
 
@@ -276,9 +272,7 @@ def limit_of_bytes():
         if index == FIRST + 1:
             continue
         for half in (0, 1024):
-            what = "The others read as written" if (index, half) == (
-                FIRST, 0
-            ) else ""
+            what = "The others read as written" if (index, half) == (FIRST, 0) else ""
             caller.read(what, index, values[index][half : half + 1024], offset=half)
     caller.does("The last one is undefined", caller.undefining(FIRST + 9))
     unfitting("One of 1,025 bytes", "NV_SPACE", area(FIRST + 9, size=1025))

@@ -1,10 +1,8 @@
-#!/usr/bin/env python3
 """Writes tests/nv_first_index.tpm: an index is defined, written and read, byte by byte."""
 
-import paths
-
-from frames import RH_OWNER
-from nv_caller import BY_VALUE, FIRST, NvCaller, area
+from tpmsim.caller import BY_VALUE, area
+from tpmsim.standard import RH_OWNER
+from script_caller import FIRST, ScriptCaller
 from script import Script
 
 script = Script(
@@ -12,7 +10,7 @@ script = Script(
     "A first NV index: 01000001, of SHA-256, with AUTHWRITE and AUTHREAD (attributes 00040004), "
     'eight bytes and the authorization value "a".',
 )
-caller = NvCaller(script)
+caller = ScriptCaller(script)
 PUBLIC = area(FIRST, BY_VALUE)
 
 
@@ -43,9 +41,9 @@ assert script.last_response == bytes.fromhex(
 )
 caller.is_now("TPM2_NV_ReadPublic: it has WRITTEN now, and so another Name", FIRST)
 caller.fails(
-    "TPM2_NV_Write of eight bytes at offset 1", "NV_RANGE", caller.writing(
-        FIRST, bytes(8), offset=1
-    )
+    "TPM2_NV_Write of eight bytes at offset 1",
+    "NV_RANGE",
+    caller.writing(FIRST, bytes(8), offset=1),
 )
 caller.fails(
     "TPM2_NV_WriteLock, without WRITEDEFINE and WRITE_STCLEAR",
@@ -99,9 +97,7 @@ caller.fails(
 )
 caller.fails("The empty password", "AUTH_FAIL/s1", caller.writing(FIRST, b"x", b""))
 caller.read("The right one with zeros behind it", FIRST, WHOLE, b"a\0\0")
-caller.fails(
-    "TPM2_NV_Read by the owner", "NV_AUTHORIZATION", caller.reading(FIRST, 8, by=RH_OWNER)
-)
+caller.fails("TPM2_NV_Read by the owner", "NV_AUTHORIZATION", caller.reading(FIRST, 8, by=RH_OWNER))
 caller.fails(
     "TPM2_NV_Write by the owner", "NV_AUTHORIZATION", caller.writing(FIRST, b"x", by=RH_OWNER)
 )

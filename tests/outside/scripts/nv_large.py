@@ -1,20 +1,18 @@
-#!/usr/bin/env python3
 """Writes tests/nv_large.tpm: indices that are larger than a buffer."""
 
 import hashlib
 
-import paths
-
-from frames import RH_OWNER, number
-from nv import Attribute
-from nv_caller import BY_OWNER, FIRST, SECOND, THIRD, NvCaller, area
+from tpmsim.caller import BY_OWNER, area
+from tpmsim.standard import RH_OWNER, number
+from tpmsim.standard.nv import Attribute
+from script_caller import FIRST, SECOND, ScriptCaller, THIRD
 from script import Script
 
 script = Script(
     "tests/nv_large.tpm",
     "1,024 bytes are written and read at once; an index of 2,048 takes two commands.",
 )
-caller = NvCaller(script)
+caller = ScriptCaller(script)
 
 
 def some(size, seed=b""):
@@ -96,9 +94,7 @@ caller.fails(
 caller.fails("It is not written", "NV_UNINITIALIZED", caller.reading(THIRD, 8, by=RH_OWNER))
 write("TPM2_NV_Write of all", THIRD, data)
 read("A piece of it can be read", THIRD, data[100:200], 100)
-caller.fails(
-    "TPM2_NV_Write of fewer bytes", "NV_RANGE", caller.writing(THIRD, b"x", by=RH_OWNER)
-)
+caller.fails("TPM2_NV_Write of fewer bytes", "NV_RANGE", caller.writing(THIRD, b"x", by=RH_OWNER))
 write("TPM2_NV_Write of all again", THIRD, data[::-1])
 read("TPM2_NV_Read", THIRD, data[::-1])
 caller.does("It is undefined", caller.undefining(THIRD))
@@ -110,9 +106,7 @@ caller.fails(
     "TPM2_NV_Write of 1,024 bytes", "NV_RANGE", caller.writing(THIRD, bytes(1024), by=RH_OWNER)
 )
 caller.does("It is undefined", caller.undefining(THIRD))
-caller.define(
-    "One of no bytes", area(THIRD, BY_OWNER | Attribute.WRITEALL, size=0)
-)
+caller.define("One of no bytes", area(THIRD, BY_OWNER | Attribute.WRITEALL, size=0))
 caller.fails("TPM2_NV_Read", "NV_UNINITIALIZED", caller.reading(THIRD, 0, by=RH_OWNER))
 caller.fails("TPM2_NV_Write of a byte", "NV_RANGE", caller.writing(THIRD, b"x", by=RH_OWNER))
 write("TPM2_NV_Write of no bytes, which are all", THIRD, b"")

@@ -1,13 +1,9 @@
-#!/usr/bin/env python3
 """Writes tests/nv_locks.tpm: TPM2_NV_WriteLock, TPM2_NV_ReadLock, and what starts make of them."""
 
-import paths
-
-import frames
-from commands import CC
-from frames import RH_OWNER
-from nv import Attribute
-from nv_caller import BY_OWNER, FIRST, SECOND, NvCaller, area, bits, extended
+from tpmsim.caller import BY_OWNER, area, bits, extended
+from tpmsim.standard import CC, RH_OWNER, frames
+from tpmsim.standard.nv import Attribute
+from script_caller import FIRST, SECOND, ScriptCaller
 from script import Script
 
 DEFINE, WRITE_CLEAR = Attribute.WRITEDEFINE, Attribute.WRITE_STCLEAR
@@ -22,7 +18,7 @@ script = Script(
     "and READ_STCLEAR lock it until the next start. CLEAR_STCLEAR has it not written at each "
     "start.",
 )
-caller = NvCaller(script)
+caller = ScriptCaller(script)
 
 
 def start():
@@ -67,15 +63,11 @@ def refused_locks():
     script.chapter("What may be locked: neither attribute says what the other does.")
     for attributes in (0, CLEARED, READ_CLEAR, READ_CLEAR | CLEARED):
         define(attributes)
-        caller.fails(
-            "TPM2_NV_WriteLock", "ATTRIBUTES/h2", caller.write_locking(FIRST, by=RH_OWNER)
-        )
+        caller.fails("TPM2_NV_WriteLock", "ATTRIBUTES/h2", caller.write_locking(FIRST, by=RH_OWNER))
         undefine()
     for attributes in (0, CLEARED, DEFINE, WRITE_CLEAR, DEFINE | WRITE_CLEAR):
         define(attributes)
-        caller.fails(
-            "TPM2_NV_ReadLock", "ATTRIBUTES/h2", caller.read_locking(FIRST, by=RH_OWNER)
-        )
+        caller.fails("TPM2_NV_ReadLock", "ATTRIBUTES/h2", caller.read_locking(FIRST, by=RH_OWNER))
         undefine()
 
 
@@ -198,9 +190,7 @@ def cleared():
     not_written()
     not_read()
     start()
-    caller.is_now(
-        "It is as it was defined", FIRST, cleared=WRITTEN | WRITE_LOCKED | READ_LOCKED
-    )
+    caller.is_now("It is as it was defined", FIRST, cleared=WRITTEN | WRITE_LOCKED | READ_LOCKED)
     not_read(outcome="NV_UNINITIALIZED")
     write()
     read()

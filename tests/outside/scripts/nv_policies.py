@@ -1,19 +1,12 @@
-#!/usr/bin/env python3
 """Writes tests/nv_policies.tpm: indices that are written and read by policy sessions."""
 
-import paths
-
-import nv
-import policy
-from caller import Use
-from commands import CC
-from frames import CONTINUE_SESSION, DECRYPT, ENCRYPT, RH_OWNER, SHA1, SHA256, selection
-from nv import Attribute
-from nv_caller import BY_OWNER, BY_POLICY, FIRST, SECOND, THIRD, NvCaller, area
-from policy import AUTH_VALUE, PASSWORD
-from policy_caller import HASHES, zeros
+from tpmsim.caller import BY_OWNER, BY_POLICY, Use, area
+from tpmsim.standard import CC, CONTINUE_SESSION, DECRYPT, ENCRYPT, RH_OWNER, SHA1, SHA256, digest
+from tpmsim.standard import digest_bytes, nv, policy, selection
+from tpmsim.standard.nv import Attribute
+from tpmsim.standard.policy import AUTH_VALUE, PASSWORD
+from script_caller import FIRST, HASHES, SECOND, ScriptCaller, THIRD, zeros
 from script import Script
-from sessions import digest, digest_bytes
 
 DATA = b"8 bytes."
 POLICYWRITE, POLICYREAD = Attribute.POLICYWRITE, Attribute.POLICYREAD
@@ -24,7 +17,7 @@ script = Script(
     "Indices and policy sessions: POLICYWRITE and POLICYREAD let the policy of an index authorize "
     "what is asked of it.",
 )
-caller = NvCaller(script)
+caller = ScriptCaller(script)
 
 
 def says(what, prepared):
@@ -50,9 +43,7 @@ def demands():
         caller.fails(
             "TPM2_NV_Write by the password", "AUTH_UNAVAILABLE", caller.writing(FIRST, DATA)
         )
-        caller.fails(
-            "By the owner", "NV_AUTHORIZATION", caller.writing(FIRST, DATA, by=RH_OWNER)
-        )
+        caller.fails("By the owner", "NV_AUTHORIZATION", caller.writing(FIRST, DATA, by=RH_OWNER))
         session = caller.policy("A policy session", algorithm=algorithm)
         caller.fails("Without an assertion", "POLICY_FAIL/s1", caller.writing(FIRST, DATA, session))
         for demand, name, prepare in (
@@ -261,14 +252,14 @@ def who_authorizes():
         "The third by another digest", "POLICY_FAIL/s1", caller.writing(THIRD, DATA, by_value())
     )
     caller.fails(
-        "The first, by the second", "NV_AUTHORIZATION", caller.writing(
-            FIRST, DATA, by_value(), by=SECOND
-        )
+        "The first, by the second",
+        "NV_AUTHORIZATION",
+        caller.writing(FIRST, DATA, by_value(), by=SECOND),
     )
     caller.fails(
-        "The first, by the owner", "AUTH_UNAVAILABLE", caller.writing(
-            FIRST, DATA, by_value(), by=RH_OWNER
-        )
+        "The first, by the owner",
+        "AUTH_UNAVAILABLE",
+        caller.writing(FIRST, DATA, by_value(), by=RH_OWNER),
     )
     caller.does("The first, by itself", caller.writing(FIRST, DATA, by_value()))
     trial = caller.trial("A trial session")

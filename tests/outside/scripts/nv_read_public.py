@@ -1,23 +1,18 @@
-#!/usr/bin/env python3
 """Writes tests/nv_read_public.tpm: public areas of indices, and the Names that change with them."""
 
-import paths
-
-import frames
-from caller import Use
-from frames import CONTINUE_SESSION, ENCRYPT, RH_NULL, RH_OWNER, number, sized
-from nv import Attribute
-from nv_caller import BY_OWNER, BY_VALUE, FIRST, SECOND, NvCaller, area, counter, extended
-from policy_caller import HASHES
+from tpmsim.caller import BY_OWNER, BY_VALUE, Use, area, counter, extended
+from tpmsim.standard import CONTINUE_SESSION, ENCRYPT, RH_NULL, RH_OWNER, digest, digest_bytes
+from tpmsim.standard import frames, number, sized
+from tpmsim.standard.nv import Attribute
+from script_caller import FIRST, HASHES, SECOND, ScriptCaller
 from script import Script
-from sessions import digest, digest_bytes
 
 script = Script(
     "tests/nv_read_public.tpm",
     "TPM2_NV_ReadPublic needs no authorization. It answers the public area with the attributes of "
     "now, and the Name, which is nameAlg and the digest of the public area.",
 )
-caller = NvCaller(script)
+caller = ScriptCaller(script)
 LOCKS = Attribute.WRITE_STCLEAR | Attribute.READ_STCLEAR
 
 script.startup()

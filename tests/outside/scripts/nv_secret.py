@@ -1,16 +1,11 @@
-#!/usr/bin/env python3
 """Writes examples/nv_secret.tpm: a secret behind a password, that is read once at each start."""
 
 import hashlib
 
-import paths
-
-import frames
-from caller import Use
-from commands import CC
-from frames import CONTINUE_SESSION, DECRYPT, ENCRYPT, RH_OWNER
-from nv import Attribute
-from nv_caller import NvCaller, area
+from tpmsim.caller import Use, area
+from tpmsim.standard import CC, CONTINUE_SESSION, DECRYPT, ENCRYPT, RH_OWNER, frames
+from tpmsim.standard.nv import Attribute
+from script_caller import ScriptCaller
 from script import Script
 
 SECRET_INDEX = 0x0100_0020
@@ -24,7 +19,7 @@ script = Script(
     "The boot loader asks for the password, reads the secret through a session that encrypts it, "
     "and locks the index: nobody reads it again before the next start, whoever knows the password.",
 )
-caller = NvCaller(script)
+caller = ScriptCaller(script)
 
 
 def start():
@@ -91,7 +86,7 @@ caller.is_now(
 caller.auth_values[SECRET_INDEX] = b"battery staple"
 session = bound_session(
     "Somebody mistypes the password. TPM2_StartAuthSession takes it, as the device does not learn "
-    "it: its session's key is made of the right one",
+    "it: its session's key is made of the right one"
 )
 caller.fails(
     "TPM2_NV_Read: the hmac is wrong. As the index has no NO_DA, it is protected from guessing",

@@ -1,26 +1,10 @@
-#!/usr/bin/env python3
 """Writes tests/nv_sessions.tpm: commands on indices by HMAC sessions."""
 
-import paths
-
-import frames
-from caller import Use, flipped
-from commands import CC
-from frames import CONTINUE_SESSION, DECRYPT, ENCRYPT, RH_NULL, RH_OWNER, SHA1, SHA256
-from nv import Attribute
-from nv_caller import (
-    BY_OWNER,
-    BY_VALUE,
-    FIRST,
-    FOURTH,
-    SECOND,
-    THIRD,
-    NvCaller,
-    area,
-    bits,
-    counter,
-    extended,
-)
+from tpmsim.caller import BY_OWNER, BY_VALUE, Use, area, bits, counter, extended, flipped
+from tpmsim.standard import CC, CONTINUE_SESSION, DECRYPT, ENCRYPT, RH_NULL, RH_OWNER, SHA1, SHA256
+from tpmsim.standard import frames
+from tpmsim.standard.nv import Attribute
+from script_caller import FIRST, FOURTH, SECOND, ScriptCaller, THIRD
 from script import Script
 
 DECRYPTS, ENCRYPTS = CONTINUE_SESSION | DECRYPT, CONTINUE_SESSION | ENCRYPT
@@ -32,7 +16,7 @@ script = Script(
     "NV indices and HMAC sessions: the Name of an index, which its first write changes, is in the "
     "hmacs and in what a session is bound to.",
 )
-caller = NvCaller(script)
+caller = ScriptCaller(script)
 
 
 def flush(*held):
@@ -67,9 +51,9 @@ def unbound():
             caller.does("The second", change())
             wrong = change()
             caller.fails(
-                "A wrong hmac", "AUTH_FAIL/s1", wrong.but_entry(
-                    1, hmac=flipped(wrong.entries[0].hmac)
-                )
+                "A wrong hmac",
+                "AUTH_FAIL/s1",
+                wrong.but_entry(1, hmac=flipped(wrong.entries[0].hmac)),
             )
             caller.fails("None", "AUTH_FAIL/s1", wrong.but_entry(1, hmac=b""))
             caller.does("TPM2_NV_Read", caller.reading(index, 8, session))
@@ -109,7 +93,7 @@ def names():
 def bound():
     script.chapter(
         "A session that is bound to an index before its first write. The command's hmac is without "
-        "the value; as the Name is another then, the response's has it in its key.",
+        "the value; as the Name is another then, the response's has it in its key."
     )
     caller.define("An index", area(FIRST, BY_VALUE | LOCKS), auth=b"a")
     session = caller.start("A session that is bound to it", bind=FIRST)
@@ -156,9 +140,9 @@ def bound():
         caller.undefining(FIRST, session).but_entry(1, hmac=bytes(32)),
     )
     caller.fails(
-        "And by the second", "BAD_AUTH/s1", caller.undefining(FIRST, other).but_entry(
-            1, hmac=bytes(32)
-        )
+        "And by the second",
+        "BAD_AUTH/s1",
+        caller.undefining(FIRST, other).but_entry(1, hmac=bytes(32)),
     )
     caller.fails("A wrong password of the second", "BAD_AUTH/s1", caller.reading(SECOND, 1, b"x"))
     caller.fails("Of the first", "AUTH_FAIL/s1", caller.reading(FIRST, 1, b"x"))
@@ -185,9 +169,7 @@ def encryption():
             f"TPM2_NV_Write with its data encrypted by {name}",
             caller.writing(FIRST, DATA, Use(use, DECRYPTS)),
         )
-        caller.read(
-            "TPM2_NV_Read with its answer encrypted", FIRST, DATA, Use(use, ENCRYPTS)
-        )
+        caller.read("TPM2_NV_Read with its answer encrypted", FIRST, DATA, Use(use, ENCRYPTS))
         caller.does("TPM2_NV_Extend", caller.extending(SECOND, DATA, Use(use, DECRYPTS)))
         caller.is_now("TPM2_NV_ReadPublic", SECOND, Use(use, ENCRYPTS))
     caller.does(
@@ -198,9 +180,7 @@ def encryption():
     caller.read(
         "One session authorizes, another encrypts", FIRST, b"8 others", plain, Use(owner, ENCRYPTS)
     )
-    caller.does(
-        "No bytes to encrypt", caller.writing(FIRST, b"", Use(session, DECRYPTS), offset=3)
-    )
+    caller.does("No bytes to encrypt", caller.writing(FIRST, b"", Use(session, DECRYPTS), offset=3))
     whole = bytes(range(256)) * 4
     caller.define(
         "An index of 1,024 bytes",
@@ -276,9 +256,7 @@ def others():
     caller.accepted(
         "TPM2_PolicySecret: it has another Name", caller.secret(secret, session, of=FIRST)
     )
-    caller.fails(
-        "A wrong password", "AUTH_FAIL/s1", caller.secret(secret, b"x", of=FIRST)
-    )
+    caller.fails("A wrong password", "AUTH_FAIL/s1", caller.secret(secret, b"x", of=FIRST))
     flush(session, secret)
     only = area(SECOND, BY_OWNER | Attribute.AUTHWRITE)
     caller.define("An index that its value can only write", only, auth=b"a")
@@ -295,7 +273,7 @@ def others():
 def sent_again():
     script.chapter(
         "A buffer that is sent again. The index has the attributes 00040004, eight bytes and the "
-        'value "a", and is written once by the password.',
+        'value "a", and is written once by the password.'
     )
     caller.define("TPM2_NV_DefineSpace", area(FIRST, BY_VALUE), auth=b"a")
     caller.does("TPM2_NV_Write by the password", caller.writing(FIRST, DATA))
@@ -310,7 +288,7 @@ def sent_again():
         script.entropy(seed)
         response = caller.says("TPM2_StartAuthSession", "SUCCESS", start)
         answer = caller.received(start, response)
-        return caller.started(start, answer, nonce, RH_NULL, SHA256, frames.SE_HMAC)
+        return caller.started(answer, nonce, RH_NULL, SHA256, frames.SE_HMAC)
 
     session = start_session("A session that is bound to nothing")
     write = caller.writing(FIRST, b"again...", session)

@@ -1,12 +1,9 @@
-#!/usr/bin/env python3
 """Writes tests/nv_types.tpm: indices of each type, and the commands that do not fit it."""
 
-import paths
-
-from frames import RH_OWNER, number
-from nv_caller import BY_OWNER, FIRST, NvCaller, area, bits, counter, extended
+from tpmsim.caller import BY_OWNER, area, bits, counter, extended
+from tpmsim.standard import RH_OWNER, digest, number
+from script_caller import FIRST, ScriptCaller
 from script import Script
-from sessions import digest
 
 SECRET = b"8 bytes."
 
@@ -15,7 +12,7 @@ script = Script(
     "An ordinary index is written, a counter incremented, bits are set, and what is extended is "
     "extended. Every other change is refused, before the first one and after it.",
 )
-caller = NvCaller(script)
+caller = ScriptCaller(script)
 
 
 def writing(index):

@@ -1,12 +1,9 @@
-#!/usr/bin/env python3
 """Writes tests/nv_undefine_space.tpm: who takes an index away, and what goes with it."""
 
-import paths
-
-from commands import CC
-from frames import RH_ENDORSEMENT, RH_NULL, RH_OWNER, RH_PLATFORM
-from nv import Attribute
-from nv_caller import BY_OWNER, BY_VALUE, FIRST, SECOND, THIRD, NvCaller, area
+from tpmsim.caller import BY_OWNER, BY_VALUE, area
+from tpmsim.standard import CC, RH_ENDORSEMENT, RH_NULL, RH_OWNER, RH_PLATFORM
+from tpmsim.standard.nv import Attribute
+from script_caller import FIRST, SECOND, ScriptCaller, THIRD
 from script import Script
 
 CREATED = Attribute.PLATFORMCREATE
@@ -15,19 +12,15 @@ script = Script(
     "tests/nv_undefine_space.tpm",
     "TPM2_NV_UndefineSpace: the owner takes its own indices away, the platform all.",
 )
-caller = NvCaller(script)
+caller = ScriptCaller(script)
 
 script.startup()
 caller.define("An index of the owner's", area(FIRST, BY_VALUE), auth=b"a")
-caller.define(
-    "One of the platform's", area(SECOND, BY_VALUE | CREATED), auth=b"b", by=RH_PLATFORM
-)
+caller.define("One of the platform's", area(SECOND, BY_VALUE | CREATED), auth=b"b", by=RH_PLATFORM)
 caller.does("Both are written", caller.writing(FIRST, b"first"))
 caller.does("", caller.writing(SECOND, b"second"))
 
-caller.fails(
-    "The platform's by the owner", "NV_AUTHORIZATION", caller.undefining(SECOND)
-)
+caller.fails("The platform's by the owner", "NV_AUTHORIZATION", caller.undefining(SECOND))
 caller.read("It is still there", SECOND, b"second")
 caller.does("The owner's by the owner, whatever its value is", caller.undefining(FIRST))
 caller.fails(
@@ -96,6 +89,8 @@ caller.does("The second is there yet, and only encrypts", caller.random(4, of_in
 caller.define(
     "The index is defined again, with the same value", area(FIRST, BY_VALUE), bound, auth=b"a"
 )
-caller.does("Its session is bound to it again, as Name and value are those of then",
-    caller.writing(FIRST, b"x", of_index))
+caller.does(
+    "Its session is bound to it again, as Name and value are those of then",
+    caller.writing(FIRST, b"x", of_index),
+)
 script.write()

@@ -1,28 +1,13 @@
-#!/usr/bin/env python3
 """Writes tests/object_policies.tpm: policies that authorize objects, and what each of them asks."""
 
-import paths
-
-import policy
-from caller import Use
-from commands import CC
-from frames import (
-    ALG_NULL,
-    CONTINUE_SESSION,
-    DECRYPT,
-    ENCRYPT,
-    RH_ENDORSEMENT,
-    RH_OWNER,
-    SHA1,
-    SHA256,
-    selection,
-)
-from object_caller import HERE, ObjectCaller, hmac_key, sealed, storage_key
-from objects import Attribute
-from policy import AUTH_VALUE, PASSWORD
-from policy_caller import zeros
+from tpmsim.caller import HERE, Use, hmac_key, sealed, storage_key
+from tpmsim.standard import ALG_NULL, CC, CONTINUE_SESSION, DECRYPT, ENCRYPT, RH_ENDORSEMENT
+from tpmsim.standard import RH_OWNER, SHA1, SHA256, command_hash, digest, name_of, policy
+from tpmsim.standard import selection
+from tpmsim.standard.objects import Attribute
+from tpmsim.standard.policy import AUTH_VALUE, PASSWORD
+from script_caller import ScriptCaller, zeros
 from script import Script
-from sessions import command_hash, digest, name_of
 
 NO_DA, USER = Attribute.NO_DA, Attribute.USER_WITH_AUTH
 PCR_16 = [(SHA256, [16])]
@@ -33,7 +18,7 @@ script = Script(
     "A policy session authorizes an object whose authPolicy is its digest. What it was told is "
     "held against the command and the device, and it counts for one command.",
 )
-caller = ObjectCaller(script)
+caller = ScriptCaller(script)
 script.startup()
 script.allow_tries()
 parent = caller.create_primary("A storage key", RH_OWNER, storage_key())
@@ -71,9 +56,7 @@ for algorithm, hash_name in ((SHA256, "SHA-256"), (SHA1, "SHA-1")):
     script.chapter(
         f"TPM2_PolicyPassword and TPM2_PolicyAuthValue, which make one digest, of {hash_name}."
     )
-    handle = sealed_by(
-        'Sealed data whose value is "pin"', AFTER_AUTH_VALUE[algorithm], algorithm
-    )
+    handle = sealed_by('Sealed data whose value is "pin"', AFTER_AUTH_VALUE[algorithm], algorithm)
     session = caller.policy("A policy session", algorithm=algorithm)
     caller.refused("Nothing is asserted", "POLICY_FAIL/s1", caller.unsealing(handle, session))
 
@@ -175,9 +158,7 @@ for algorithm, hash_name in ((SHA256, "SHA-256"), (SHA1, "SHA-1")):
     caller.unseal("With the hmac of an empty key, and it is answered by one", handle, SECRET, shown)
     says("TPM2_PolicyPassword", caller.password_told(session))
     caller.refused(
-        "That, where the password is asked for",
-        "BAD_AUTH/s1",
-        caller.unsealing(handle, shown),
+        "That, where the password is asked for", "BAD_AUTH/s1", caller.unsealing(handle, shown)
     )
     by_password = caller.unsealing(handle, Use(session, demand=PASSWORD))
     caller.accepted("Three zeros, as the password", by_password.but_entry(1, hmac=bytes(3)))
@@ -312,8 +293,7 @@ for locality in (1, 2, 3, 4):
 script.locality_is(0)
 caller.unseal("From locality 0", handle, SECRET, session)
 says(
-    "The same assertions in another order: first the code",
-    caller.command_code(session, CC.Unseal),
+    "The same assertions in another order: first the code", caller.command_code(session, CC.Unseal)
 )
 says("Then the PCRs", caller.pcrs(session, PCR_16))
 says("TPM2_PolicySecret", caller.secret(session, cp_hash=cp_hash_of(handle)))
@@ -381,11 +361,7 @@ for what, attributes, by_value in (
     says("TPM2_PolicyCommandCode of TPM2_HMAC", caller.command_code(session, CC.HMAC))
     caller.refused("TPM2_Unseal by this policy", "POLICY_CC/s1", caller.unsealing(handle, session))
     caller.accepted("TPM2_HMAC by this policy", caller.hmac(handle, b"text", ALG_NULL, session))
-    caller.refused(
-        "Once more",
-        "POLICY_FAIL/s1",
-        caller.hmac(handle, b"text", ALG_NULL, session),
-    )
+    caller.refused("Once more", "POLICY_FAIL/s1", caller.hmac(handle, b"text", ALG_NULL, session))
     for each in (plain, bound):
         says("An HMAC session is flushed", caller.flush(each))
     caller.flush_objects("The object is flushed", handle)
@@ -462,9 +438,7 @@ for what, attributes, outcome in (
         ("The second: nothing of it has the value in it", unbound, "BAD_AUTH/s1"),
     ):
         says("TPM2_PolicyCommandCode", caller.command_code(each, CC.Unseal))
-        caller.refused(
-            words, code, caller.unsealing(handle, each).but_entry(1, hmac=bytes(32))
-        )
+        caller.refused(words, code, caller.unsealing(handle, each).but_entry(1, hmac=bytes(32)))
         caller.unseal("The right one", handle, SECRET, each)
     for each in (bound, unbound):
         says("A session is flushed", caller.flush(each))

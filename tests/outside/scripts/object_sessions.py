@@ -1,25 +1,10 @@
-#!/usr/bin/env python3
 """Writes tests/object_sessions.tpm: HMAC sessions that authorize objects, or are bound to them."""
 
-import paths
-
-import policy
-from caller import Use
-from commands import CC
-from frames import (
-    ALG_NULL,
-    RH_ENDORSEMENT,
-    RH_OWNER,
-    SHA1,
-    SHA256,
-    command,
-    number,
-    policy_secret,
-    start_auth_session,
-)
-from object_caller import HERE, ObjectCaller, hmac_key, sealed, storage_key
-from objects import Attribute
-from policy_caller import zeros
+from tpmsim.caller import HERE, Use, hmac_key, sealed, storage_key
+from tpmsim.standard import ALG_NULL, CC, RH_ENDORSEMENT, RH_OWNER, SHA1, SHA256, command, number
+from tpmsim.standard import policy, policy_secret, start_auth_session
+from tpmsim.standard.objects import Attribute
+from script_caller import ScriptCaller, zeros
 from script import Script
 
 PROTECTED = HERE | Attribute.USER_WITH_AUTH
@@ -30,7 +15,7 @@ script = Script(
     "HMAC sessions that authorize objects. The Name of an object stands where that of a hierarchy "
     "is its handle: in the hash of a command, in a binding, and in TPM2_PolicySecret.",
 )
-caller = ObjectCaller(script)
+caller = ScriptCaller(script)
 script.startup()
 script.allow_tries()
 parent = caller.create_primary("A storage key", RH_OWNER, storage_key())
@@ -241,9 +226,9 @@ for algorithm, hash_name in ((SHA256, "SHA-256"), (SHA1, "SHA-1")):
     caller.flush_objects("The key is flushed", key)
     caller.unseal("TPM2_Unseal: what was shown counts", target, SECRET, session)
     caller.says(
-        "The key is no more", "REFERENCE_H0", caller.prepare(
-            CC.PolicySecret, [key, session.handle], policy_secret(), b""
-        )
+        "The key is no more",
+        "REFERENCE_H0",
+        caller.prepare(CC.PolicySecret, [key, session.handle], policy_secret(), b""),
     )
     caller.flush_objects("The object is flushed", target)
     for each in (session, bound):

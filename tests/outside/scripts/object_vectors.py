@@ -1,22 +1,16 @@
-#!/usr/bin/env python3
 """Writes tests/object_vectors.tpm: objects whose every byte is computed here, step by step.
 
-    python3 tests/outside/scripts/object_vectors.py    also prints each step, for tests that want numbers
+    tools/python.sh tests/outside/scripts/object_vectors.py    also prints each step, for tests that want numbers
 
-It uses hashlib and hmac, and aes.py for the cipher, and nothing of objects.py: the equations of
+It uses hashlib and hmac, and aes.py for the cipher, and nothing of object_rules.py: the equations of
 objects stand here once more, each on its own line, with the numbers of one example. The script's
-answers, which device.py gives, are compared with them.
+answers, which the model gives, are compared with them.
 """
 
 import hashlib
 import hmac
 
-import paths
-
-import aes
-from commands import CC
-from frames import RH_OWNER, command, number, on_handle
-from frames import selection, sized
+from tpmsim.standard import CC, RH_OWNER, aes, command, number, on_handle, selection, sized
 from script import Script
 
 # The device of a script is manufactured with the bytes 00 to ff, eight pieces of 32: the seeds of
@@ -105,12 +99,9 @@ seed_value, iv = random[:32], random[32:48]
 unique = step("sealed unique", sha256(seed_value, data))
 public = template[:-2] + sized(unique)
 name = step("sealed Name", SHA256_NUMBER + sha256(public))
-qualified_name = step(
-    "sealed qualified name", SHA256_NUMBER + sha256(parent_qualified_name, name)
-)
+qualified_name = step("sealed qualified name", SHA256_NUMBER + sha256(parent_qualified_name, name))
 sensitive = step(
-    "sealed TPMT_SENSITIVE",
-    bytes.fromhex("0008") + sized(b"pin") + sized(seed_value) + sized(data),
+    "sealed TPMT_SENSITIVE", bytes.fromhex("0008") + sized(b"pin") + sized(seed_value) + sized(data)
 )
 storage_key = step("STORAGE key", kdfa(parent_seed, b"STORAGE", name, b"", 128))
 protected = sized(iv) + aes.cfb_encrypt(storage_key, iv, sized(sensitive))

@@ -1,12 +1,9 @@
-#!/usr/bin/env python3
 """Writes tests/objects_power_cycle.tpm: what a power cycle leaves of objects."""
 
-import paths
-
-import frames
-from commands import CC
-from frames import RH_ENDORSEMENT, RH_NULL, RH_OWNER, RH_PLATFORM, SHA1, number
-from object_caller import ObjectCaller, hmac_key, sealed, storage_key
+from tpmsim.caller import hmac_key, sealed, storage_key
+from tpmsim.standard import CC, RH_ENDORSEMENT, RH_NULL, RH_OWNER, RH_PLATFORM, SHA1, frames
+from tpmsim.standard import number
+from script_caller import ScriptCaller
 from script import Script
 
 NAMES = (
@@ -22,7 +19,7 @@ script = Script(
     "the platform hierarchy stay, and so the same primary objects can be made again. The null "
     "hierarchy has a new seed and a new proof after each TPM2_Startup(CLEAR).",
 )
-caller = ObjectCaller(script)
+caller = ScriptCaller(script)
 
 
 def start(what, seed):

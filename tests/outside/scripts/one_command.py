@@ -1,14 +1,10 @@
-#!/usr/bin/env python3
 """Writes examples/one_command.tpm: a policy that lets one command through, by its cpHash."""
 
-import paths
-
-import policy
-from frames import RH_OWNER, SHA256
-from nv import Attribute
-from nv_caller import FIRST, NvCaller, area
+from tpmsim.caller import area
+from tpmsim.standard import RH_OWNER, SHA256, command_hash, name_of, policy
+from tpmsim.standard.nv import Attribute
+from script_caller import FIRST, ScriptCaller
 from script import Script
-from sessions import command_hash, name_of
 
 OWNER_AUTH = b"administrator"
 OLD, NEW, OTHER = b"boot=disk   ", b"boot=network", b"boot=usb    "
@@ -19,12 +15,12 @@ script = Script(
     "index, once. The technician gets no password. What is let through is a cpHash: the hash of a "
     "command's code, of the Names of its handles and of its parameters.",
 )
-caller = NvCaller(script)
+caller = ScriptCaller(script)
 
 script.chapter("THE ADMINISTRATOR SETS IT UP, once.")
 script.startup()
 caller.does(
-    "TPM2_HierarchyChangeAuth: ownerAuth is \"administrator\"",
+    'TPM2_HierarchyChangeAuth: ownerAuth is "administrator"',
     caller.change_auth(RH_OWNER, OWNER_AUTH, b""),
 )
 by_owner = policy.after_secret(SHA256, bytes(32), name_of(RH_OWNER), b"")
@@ -87,9 +83,7 @@ caller.accepted(
 )
 before = caller.cp_hash_told(session, approved)
 caller.says("TPM2_PolicyCpHash of what was approved before", "CPHASH", before)
-caller.says(
-    "Of what is approved now", "SUCCESS", caller.cp_hash_told(session, hash_of(write(OLD)))
-)
+caller.says("Of what is approved now", "SUCCESS", caller.cp_hash_told(session, hash_of(write(OLD))))
 caller.fails(
     "The cpHash holds, and the digest is another now. No authPolicy of the index can be that one: "
     "it is in the index's Name, and the Name is in cpHash. TPM2_NV_Write",

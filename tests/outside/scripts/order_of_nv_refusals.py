@@ -1,27 +1,11 @@
-#!/usr/bin/env python3
 """Writes tests/order_of_nv_refusals.tpm: many faults at once, repaired one by one."""
 
-import paths
-
-import frames
-import general
-import policy
-from caller import Use
-from commands import CC
-from frames import (
-    DECRYPT,
-    RH_LOCKOUT,
-    RH_OWNER,
-    RH_PLATFORM,
-    SHA1,
-    area as entries_area,
-    command,
-    number,
-    sized,
-)
-from general import Entry
-from nv import Attribute
-from nv_caller import BY_OWNER, BY_POLICY, BY_VALUE, NvCaller, area, bits, counter, extended
+from tpmsim.caller import BY_OWNER, BY_POLICY, BY_VALUE, Use, area, bits, counter, extended
+from tpmsim.standard import CC, DECRYPT, Entry, RH_LOCKOUT, RH_OWNER, RH_PLATFORM, SHA1
+from tpmsim.standard import area as entries_area, command, frames, handle_kinds, number, policy
+from tpmsim.standard import sized
+from tpmsim.standard.nv import Attribute
+from script_caller import ScriptCaller
 from script import Script
 
 ORDINARY, COUNTER, BITS, EXTENDED = range(0x0100_0001, 0x0100_0005)
@@ -36,7 +20,7 @@ script = Script(
     "The order of refusals in the commands on NV indices: a buffer with many faults, of which one "
     "after the other is repaired. What is answered is the first that is left.",
 )
-caller = NvCaller(script)
+caller = ScriptCaller(script)
 
 
 def wrong(prepared, *places):
@@ -56,7 +40,7 @@ def handles_in_order(code, handles):
             ("One that is not there", "REFERENCE_H2", number(0x0300_000F, 4)),
         ):
             absent = int.from_bytes(text, "big")
-            is_of_kind = general.IS_OF_KIND[code.handles[place - 1].kind]
+            is_of_kind = handle_kinds.IS_OF_KIND[code.handles[place - 1].kind]
             if len(text) == 4 and absent != RH_LOCKOUT and not is_of_kind(absent):
                 continue
             script.command(
@@ -84,7 +68,7 @@ def general_refusals(code, handles, cut, uses):
         f"REFERENCE_S{last - 1}",
         prepared.but(entries=[*wrong(prepared, 1).entries[:-1], ABSENT_SESSION]),
     )
-    is_first = general.IS_OF_KIND[code.handles[0].kind]
+    is_first = handle_kinds.IS_OF_KIND[code.handles[0].kind]
     if code.authorized and is_first(BY_OTHERS) and code != CC.NV_ChangeAuth:
         unavailable = caller.prepare(code, [BY_OTHERS, *handles[1:]], cut, *uses)
         caller.refused(
@@ -93,7 +77,7 @@ def general_refusals(code, handles, cut, uses):
             wrong(unavailable, 1, last),
         )
     if last > 1:
-        refused = "AUTH_FAIL/s1" if general.is_index(handles[0]) else "BAD_AUTH/s1"
+        refused = "AUTH_FAIL/s1" if handle_kinds.is_index(handles[0]) else "BAD_AUTH/s1"
         caller.refused("Both entries are wrong", refused, wrong(prepared, 1, last))
     caller.refused("The last one is", f"BAD_AUTH/s{last}", wrong(prepared, last))
 
@@ -267,11 +251,7 @@ def change_auth():
         "ATTRIBUTES/s1",
         wrong(prepared(cut, Use(trial, shows_empty_key=True), hides, index=ORDINARY), 1, 2),
     )
-    refused(
-        "A password",
-        "AUTH_UNAVAILABLE",
-        wrong(prepared(cut, VALUE, hides), 1, 2),
-    )
+    refused("A password", "AUTH_UNAVAILABLE", wrong(prepared(cut, VALUE, hides), 1, 2))
     refused(
         "A policy session, on an index without a policy",
         "AUTH_UNAVAILABLE",
@@ -279,9 +259,7 @@ def change_auth():
     )
     caller.says("TPM2_PolicyPCR of no PCRs", "SUCCESS", caller.pcrs(told, []))
     caller.says(
-        "TPM2_PolicyCommandCode of TPM2_NV_Write",
-        "SUCCESS",
-        caller.command_code(told, CC.NV_Write),
+        "TPM2_PolicyCommandCode of TPM2_NV_Write", "SUCCESS", caller.command_code(told, CC.NV_Write)
     )
     caller.says("TPM2_PolicyLocality of locality 1", "SUCCESS", caller.locality(told, 2))
     caller.does("A PCR is extended", caller.event(b"", b""))
@@ -292,9 +270,7 @@ def change_auth():
     refused("A PCR has changed, and another code is recorded", "PCR_CHANGED", all_wrong())
     caller.says("TPM2_PolicyRestart", "SUCCESS", caller.restart(told))
     caller.says(
-        "TPM2_PolicyCommandCode of TPM2_NV_Write",
-        "SUCCESS",
-        caller.command_code(told, CC.NV_Write),
+        "TPM2_PolicyCommandCode of TPM2_NV_Write", "SUCCESS", caller.command_code(told, CC.NV_Write)
     )
     caller.says("TPM2_PolicyLocality of locality 1", "SUCCESS", caller.locality(told, 2))
     refused("Another code, and another locality", "POLICY_CC/s1", all_wrong())
@@ -317,9 +293,9 @@ def change_auth():
     )
     refused("Both hmacs are wrong", "BAD_AUTH/s1", all_wrong())
     refused(
-        "The last one is", "BAD_AUTH/s2", wrong(
-            prepared(cut, Use(told, shows_empty_key=True), hides), 2
-        )
+        "The last one is",
+        "BAD_AUTH/s2",
+        wrong(prepared(cut, Use(told, shows_empty_key=True), hides), 2),
     )
     for what, outcome, parameters in (
         ("newAuth is cut", "INSUFFICIENT/p1", cut),

@@ -1,26 +1,10 @@
-#!/usr/bin/env python3
 """Writes tests/order_of_object_refusals.tpm: many faults at once, repaired one by one."""
 
-import paths
-
-import frames
-from caller import Use
-from commands import CC
-from frames import (
-    ALG_NULL,
-    DECRYPT,
-    RH_LOCKOUT,
-    RH_OWNER,
-    SHA1,
-    SHA256,
-    area,
-    command,
-    number,
-    sized,
-)
-from general import Entry
-from object_caller import HERE, OPEN, ObjectCaller, hmac_key, sealed, storage_key
-from objects import Attribute
+from tpmsim.caller import HERE, OPEN, Use, hmac_key, sealed, storage_key
+from tpmsim.standard import ALG_NULL, CC, DECRYPT, Entry, RH_LOCKOUT, RH_OWNER, SHA1, SHA256, area
+from tpmsim.standard import command, frames, number, sized
+from tpmsim.standard.objects import Attribute
+from script_caller import ScriptCaller
 from script import Script
 
 script = Script(
@@ -28,7 +12,7 @@ script = Script(
     "The order of refusals in the commands of objects: a buffer with many faults, of which one "
     "after the other is repaired. What is answered is the first that is left.",
 )
-caller = ObjectCaller(script)
+caller = ScriptCaller(script)
 ABSENT, SECRET = 0x8000_0007, b"secret"
 ABSENT_SESSION = Entry(0x0200_000F, b"", 1, b"")
 
@@ -65,14 +49,10 @@ def general_refusals(code, handle, other_handle, cut, uses):
         )
     if code != CC.ReadPublic:
         script.command(
-            "No sessions",
-            "AUTH_MISSING",
-            raw(number(handle, 4), cut, tag=frames.NO_SESSIONS),
+            "No sessions", "AUTH_MISSING", raw(number(handle, 4), cut, tag=frames.NO_SESSIONS)
         )
     script.command(
-        "An area of eight bytes",
-        "AUTHSIZE",
-        raw(number(handle, 4), area(bytes(8)) + cut),
+        "An area of eight bytes", "AUTHSIZE", raw(number(handle, 4), area(bytes(8)) + cut)
     )
     prepared = caller.prepare(code, [handle], cut, *uses)
     last = len(uses)

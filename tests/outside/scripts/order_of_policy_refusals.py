@@ -1,25 +1,9 @@
-#!/usr/bin/env python3
 """Writes tests/order_of_policy_refusals.tpm: policy commands with many faults."""
 
-import paths
-
-import frames
-from caller import Use, flipped
-from commands import CC
-from frames import (
-    CONTINUE_SESSION,
-    DECRYPT,
-    ENCRYPT,
-    RH_LOCKOUT,
-    RH_NULL,
-    RH_OWNER,
-    SHA256,
-    number,
-    selection,
-    sized,
-)
-from general import Entry
-from policy_caller import PolicyCaller
+from tpmsim.caller import Use, flipped
+from tpmsim.standard import CC, CONTINUE_SESSION, DECRYPT, ENCRYPT, Entry, RH_LOCKOUT, RH_NULL
+from tpmsim.standard import RH_OWNER, SHA256, frames, number, selection, sized
+from script_caller import ScriptCaller
 from script import Script
 
 DECRYPTS, ENCRYPTS = CONTINUE_SESSION | DECRYPT, CONTINUE_SESSION | ENCRYPT
@@ -31,7 +15,7 @@ script = Script(
     "The order of refusals of the policy commands: of many faults one after the other is repaired. "
     "What is answered is the first that is left, in the order of docs/table/order_of_refusals.md.",
 )
-caller = PolicyCaller(script)
+caller = ScriptCaller(script)
 
 
 def wrong(prepared, *places):
@@ -263,9 +247,7 @@ caller.refused(
 
 def by_right(what, outcome, *texts):
     """By the right password, and the policy session itself decrypts nonceTPM."""
-    caller.refused(
-        what, outcome, *(secret(it, b"lockout", Use(policy, DECRYPTS)) for it in texts)
-    )
+    caller.refused(what, outcome, *(secret(it, b"lockout", Use(policy, DECRYPTS)) for it in texts))
 
 
 NONCE = bytes(16)

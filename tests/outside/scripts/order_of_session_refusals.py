@@ -1,13 +1,9 @@
-#!/usr/bin/env python3
 """Writes tests/order_of_session_refusals.tpm: commands with sessions and many faults."""
 
-import paths
-
-import frames
-from caller import Caller, Use, flipped
-from commands import CC
-from frames import CONTINUE_SESSION, DECRYPT, ENCRYPT, RH_NULL, RH_OWNER, number, sized
-from general import Entry
+from tpmsim.caller import Use, flipped
+from tpmsim.standard import CC, CONTINUE_SESSION, DECRYPT, ENCRYPT, Entry, RH_NULL, RH_OWNER
+from tpmsim.standard import frames, number, sized
+from script_caller import ScriptCaller
 from script import Script
 
 DECRYPTS = CONTINUE_SESSION | DECRYPT
@@ -19,7 +15,7 @@ script = Script(
     "The order of refusals of commands with sessions: of many faults one after the other is "
     "repaired. What is answered is the first that is left, in the order of docs/table/order_of_refusals.md.",
 )
-caller = Caller(script)
+caller = ScriptCaller(script)
 
 
 def wrong(prepared, *places):
@@ -35,7 +31,7 @@ second = caller.start("Another one", RH_OWNER, aes=True)
 
 script.chapter(
     "TPM2_StartAuthSession with two sessions that decrypt and encrypt; its first parameter is cut, "
-    "and the hmacs of both are wrong.",
+    "and the hmacs of both are wrong."
 )
 
 
@@ -201,9 +197,7 @@ caller.refused("The nonce, which is cut", "INSUFFICIENT/p1", start(NULLS, cut, *
 caller.refused(
     "It has 33 bytes once it is whole", "SIZE/p1", start(NULLS, masked(WRONG_HASH, 33), *uses)
 )
-caller.refused(
-    "sessionType 02", "VALUE/p3", start(NULLS, masked(WRONG_HASH, kind=b"\2"), *uses)
-)
+caller.refused("sessionType 02", "VALUE/p3", start(NULLS, masked(WRONG_HASH, kind=b"\2"), *uses))
 caller.refused(
     "A hash that is none, and no authHash", "HASH/p4", start(NULLS, masked(WRONG_HASH), *uses)
 )

@@ -2,8 +2,8 @@
 
 from dataclasses import dataclass
 
-import lines
-from device import Outcome
+from tpmsim.model.machine import Outcome
+from tpmsim.standard import lines
 
 
 @dataclass(frozen=True)

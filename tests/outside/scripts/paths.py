@@ -1,10 +1,6 @@
-"""Where things lie. Imported first, it lets a program find the device in the folder ../device."""
+"""Where things lie."""
 
 import pathlib
-import sys
 
-OUTSIDE = pathlib.Path(__file__).resolve().parent.parent
-TESTS = OUTSIDE.parent
+TESTS = pathlib.Path(__file__).resolve().parents[2]
 TOP = TESTS.parent
-
-sys.path.append(str(OUTSIDE / "device"))

@@ -1,11 +1,7 @@
-#!/usr/bin/env python3
 """Writes tests/policy_auth_value.tpm: TPM2_PolicyAuthValue and TPM2_PolicyPassword."""
 
-import paths
-
-import policy
-from commands import CC
-from policy_caller import PolicyCaller, zeros
+from tpmsim.standard import CC, policy
+from script_caller import ScriptCaller, zeros
 from script import Script
 
 script = Script(
@@ -13,7 +9,7 @@ script = Script(
     "TPM2_PolicyAuthValue and TPM2_PolicyPassword: who uses the policy has to show the entity's "
     "authorization value, in an hmac or as a password. They make the same digest.",
 )
-caller = PolicyCaller(script)
+caller = ScriptCaller(script)
 
 script.startup()
 for session in caller.each_session():

@@ -1,12 +1,7 @@
-#!/usr/bin/env python3
 """Writes tests/policy_command_code.tpm: TPM2_PolicyCommandCode, of each code that there is."""
 
-import paths
-
-import policy
-from commands import CC
-from frames import SE_POLICY, SE_TRIAL, SHA1, SHA256, number
-from policy_caller import PolicyCaller, zeros
+from tpmsim.standard import CC, SE_POLICY, SE_TRIAL, SHA1, SHA256, number, policy
+from script_caller import ScriptCaller, zeros
 from script import Script
 
 UNKNOWN = 0x194
@@ -16,7 +11,7 @@ script = Script(
     "TPM2_PolicyCommandCode: the policy is for one command alone. Its parameter is the code of a "
     "command, served or not.",
 )
-caller = PolicyCaller(script)
+caller = ScriptCaller(script)
 
 
 def raw(session, text):
@@ -80,9 +75,7 @@ for kind, name, algorithm, hash_name in (
     script.chapter("And each number between 11F and 190 that is no code.")
     caller.says("TPM2_PolicyRestart", "SUCCESS", caller.restart(session))
     others = sorted(set(range(0x11F, 0x191)) - set(CC))
-    caller.says(
-        "All of them", "POLICY_CC/p1", *(caller.command_code(session, it) for it in others)
-    )
+    caller.says("All of them", "POLICY_CC/p1", *(caller.command_code(session, it) for it in others))
     caller.says(
         "Unseal's code with a vendor's bit, with a reserved bit, and with its bytes turned round",
         "POLICY_CC/p1",

@@ -1,21 +1,13 @@
-#!/usr/bin/env python3
 """Writes tests/policy_cp_hash.tpm: TPM2_PolicyCpHash, and policies for one command."""
 
 import hashlib
 
-import paths
-
-import policy
-from caller import Use, flipped
-from commands import CC
-from frames import CONTINUE_SESSION, DECRYPT, RH_ENDORSEMENT, RH_OWNER, SHA1, SHA256
-from frames import number, sized
-from nv_caller import BY_OWNER, BY_POLICY, FIRST, NvCaller, area
-from object_caller import HERE, sealed, storage_key
-from objects import Attribute
-from policy_caller import is_trial, zeros
+from tpmsim.caller import BY_OWNER, BY_POLICY, HERE, Use, area, flipped, sealed, storage_key
+from tpmsim.standard import CC, CONTINUE_SESSION, DECRYPT, RH_ENDORSEMENT, RH_OWNER, SHA1, SHA256
+from tpmsim.standard import command_hash, digest_bytes, name_of, number, policy, sized
+from tpmsim.standard.objects import Attribute
+from script_caller import FIRST, ScriptCaller, is_trial, zeros
 from script import Script
-from sessions import command_hash, digest_bytes, name_of
 
 DECRYPTS = CONTINUE_SESSION | DECRYPT
 
@@ -24,7 +16,7 @@ script = Script(
     "TPM2_PolicyCpHash: the policy is for one command alone, with its handles and its parameters. "
     "Its parameter is the cpHash of that command, by the session's hash.",
 )
-caller = NvCaller(script)
+caller = ScriptCaller(script)
 
 
 def says(what, outcome, session, *hashes):
@@ -138,7 +130,7 @@ WRONG = (
 )
 caller.says("TPM2_PolicyLocality of locality 1", "SUCCESS", caller.locality(session, 2))
 caller.fails("TPM2_NV_Write from locality 0", "LOCALITY", writes())
-says("The cpHash of TPM2_NV_Write of \"data\" at 0", "SUCCESS", session, RIGHT)
+says('The cpHash of TPM2_NV_Write of "data" at 0', "SUCCESS", session, RIGHT)
 caller.fails("TPM2_NV_Write of it: the cpHash holds, the locality does not", "LOCALITY", writes())
 caller.fails(
     "Of other data, or at another offset, from this locality too",
@@ -154,7 +146,7 @@ for words, other in WRONG:
         caller.locality(session, 2),
     )
     says(f"The cpHash {words}", "SUCCESS", session, other)
-    caller.fails("TPM2_NV_Write of \"data\" at 0", "POLICY_FAIL/s1", writes())
+    caller.fails('TPM2_NV_Write of "data" at 0', "POLICY_FAIL/s1", writes())
 script.locality_is(1)
 caller.fails("From locality 1", "POLICY_FAIL/s1", writes())
 caller.says("TPM2_PolicyRestart", "SUCCESS", caller.restart(session))

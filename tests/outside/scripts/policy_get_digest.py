@@ -1,11 +1,7 @@
-#!/usr/bin/env python3
 """Writes tests/policy_get_digest.tpm: what a policy session's digest is."""
 
-import paths
-
-import policy
-from commands import CC
-from policy_caller import PolicyCaller, zeros
+from tpmsim.standard import CC, policy
+from script_caller import ScriptCaller, zeros
 from script import Script
 
 script = Script(
@@ -13,7 +9,7 @@ script = Script(
     "TPM2_PolicyGetDigest answers the digest that a policy session or a trial session has come to. "
     "It has no parameters, and changes nothing.",
 )
-caller = PolicyCaller(script)
+caller = ScriptCaller(script)
 
 script.startup()
 for session in caller.each_session(size=20):

@@ -1,13 +1,9 @@
-#!/usr/bin/env python3
 """Writes tests/policy_handles.tpm: the handles of the policy commands, and their entries."""
 
-import paths
-
-import frames
-from caller import flipped
-from commands import CC
-from frames import RH_ENDORSEMENT, RH_NULL, RH_OWNER, RS_PW, SHA1, SHA256, area, entry, number
-from policy_caller import PolicyCaller
+from tpmsim.caller import flipped
+from tpmsim.standard import CC, RH_ENDORSEMENT, RH_NULL, RH_OWNER, RS_PW, SHA1, SHA256, area, entry
+from tpmsim.standard import frames, number
+from script_caller import ScriptCaller
 from script import Script
 
 script = Script(
@@ -15,7 +11,7 @@ script = Script(
     "The commands of policies have the handle of a policy session or a trial session, which needs "
     "no authorization; TPM2_PolicySecret has it as its second one.",
 )
-caller = PolicyCaller(script)
+caller = ScriptCaller(script)
 
 COMMANDS = (
     ("TPM2_PolicyRestart", CC.PolicyRestart, b""),
@@ -49,9 +45,7 @@ def plain(code, text):
 def by_password(handle, session, parameters, cut=None):
     """TPM2_PolicySecret by the empty password."""
     text = number(handle, 4) + number(session, 4)
-    return frames.command(
-        CC.PolicySecret, text[:cut] + area(entry()) + parameters, frames.SESSIONS
-    )
+    return frames.command(CC.PolicySecret, text[:cut] + area(entry()) + parameters, frames.SESSIONS)
 
 
 def refused(what, outcome, *buffers):
@@ -71,9 +65,7 @@ refused(
     "REFERENCE_H0",
     *(plain(code, number(0x0300_0000, 4) + text) for _, code, text in (*COMMANDS, *LATER)),
 )
-refused(
-    "TPM2_PolicySecret", "REFERENCE_H1", by_password(RH_ENDORSEMENT, 0x0300_0000, NOTHING)
-)
+refused("TPM2_PolicySecret", "REFERENCE_H1", by_password(RH_ENDORSEMENT, 0x0300_0000, NOTHING))
 hmac = caller.start("An HMAC session, 02000000, whose place no policy session has", RH_OWNER)
 policy = caller.policy("A policy session, 03000001, bound to TPM_RH_OWNER", bind=RH_OWNER)
 trial = caller.trial("A trial session, 03000002")
@@ -178,9 +170,7 @@ refused(
     *(by_password(RH_OWNER, it, NOTHING) for it in OTHER_KINDS),
 )
 refused(
-    "One that is not there",
-    "REFERENCE_H1",
-    *(by_password(RH_OWNER, it, NOTHING) for it in ABSENT),
+    "One that is not there", "REFERENCE_H1", *(by_password(RH_OWNER, it, NOTHING) for it in ABSENT)
 )
 refused(
     "Without sessions (tag 8001), behind the handles",
@@ -193,9 +183,7 @@ refused(
     plain(CC.PolicySecret, number(RH_OWNER, 4) + number(0x0300_0000, 4) + NOTHING),
 )
 caller.refused(
-    "A second password, which authorizes nothing",
-    "HANDLE/s2",
-    caller.secret(policy, b"", b""),
+    "A second password, which authorizes nothing", "HANDLE/s2", caller.secret(policy, b"", b"")
 )
 caller.accepted(
     "A password, the HMAC session and the policy session itself",

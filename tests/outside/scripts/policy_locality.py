@@ -1,11 +1,7 @@
-#!/usr/bin/env python3
 """Writes tests/policy_locality.tpm: TPM2_PolicyLocality, and how its localities become fewer."""
 
-import paths
-
-import policy
-from commands import CC
-from policy_caller import PolicyCaller, zeros
+from tpmsim.standard import CC, policy
+from script_caller import ScriptCaller, zeros
 from script import Script
 
 script = Script(
@@ -13,7 +9,7 @@ script = Script(
     "TPM2_PolicyLocality: the policy is for some localities alone. Its parameter has a bit for "
     "each of the localities 0 to 4, and what is left is what all such parameters have in common.",
 )
-caller = PolicyCaller(script)
+caller = ScriptCaller(script)
 
 
 def says(what, outcome, session, *masks):
@@ -29,9 +25,7 @@ for session in caller.each_session():
         "RANGE/p1",
         *(session, 0x20, 0x21, 0x3F, 0x40, 0x5F, 0x80, 0x81, 0xE0, 0xFF),
     )
-    caller.says(
-        "No parameter", "INSUFFICIENT/p1", caller.told(CC.PolicyLocality, session, b"")
-    )
+    caller.says("No parameter", "INSUFFICIENT/p1", caller.told(CC.PolicyLocality, session, b""))
     caller.says(
         "A byte behind it, also where it is 0",
         "SIZE",

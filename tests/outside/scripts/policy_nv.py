@@ -1,32 +1,12 @@
-#!/usr/bin/env python3
 """Writes tests/policy_nv.tpm: TPM2_PolicyNV, its comparisons, and what it is hashed of."""
 
 import hashlib
 
-import paths
-
-import frames
-import policy
-from caller import Use
-from commands import CC
-from frames import RH_OWNER, RH_PLATFORM, SHA1, SHA256, number, sized
-from nv import Attribute
-from nv_caller import (
-    BY_OWNER,
-    BY_PLATFORM,
-    BY_POLICY,
-    BY_VALUE,
-    FIRST,
-    FOURTH,
-    SECOND,
-    THIRD,
-    NvCaller,
-    area,
-    bits,
-    counter,
-    extended,
-)
-from policy_caller import is_trial, zeros
+from tpmsim.caller import BY_OWNER, BY_PLATFORM, BY_POLICY, BY_VALUE, Use, area, bits, counter
+from tpmsim.caller import extended
+from tpmsim.standard import CC, RH_OWNER, RH_PLATFORM, SHA1, SHA256, frames, number, policy, sized
+from tpmsim.standard.nv import Attribute
+from script_caller import FIRST, FOURTH, SECOND, ScriptCaller, THIRD, is_trial, zeros
 from script import Script
 
 NAMES = (
@@ -42,7 +22,7 @@ script = Script(
     "TPM2_PolicyNV: the policy is for when an index holds what is compared with it. Its parameters "
     "are operandB, offset and operation; the index stands at the left of the comparison.",
 )
-caller = NvCaller(script)
+caller = ScriptCaller(script)
 
 
 def of(algorithm):
@@ -246,9 +226,14 @@ def sizes_and_offsets():
     )
     holds("", session, LT, b"\0\x80\0", 1, index=THIRD)
     fails(
-        "Past the end", session, EQ, b"\x3b\0", bytes(
-            32
-        ), offset=63, index=THIRD, outcome="NV_RANGE"
+        "Past the end",
+        session,
+        EQ,
+        b"\x3b\0",
+        bytes(32),
+        offset=63,
+        index=THIRD,
+        outcome="NV_RANGE",
     )
     fails(
         "One byte, and none, behind it",
@@ -336,9 +321,7 @@ def refusals():
         caller.digest_is("Its digest", trial, old)
     script.chapter("But the authorization does, and so do handles and parameters.")
     right = caller.comparing(trial, THIRD, b"x")
-    caller.fails(
-        "A wrong password", "AUTH_FAIL/s1", caller.comparing(trial, THIRD, b"x", b"wrong")
-    )
+    caller.fails("A wrong password", "AUTH_FAIL/s1", caller.comparing(trial, THIRD, b"x", b"wrong"))
     caller.define(
         "An index that its value cannot read", area(FOURTH, BY_OWNER | BY_POLICY), auth=b"a"
     )
@@ -403,9 +386,7 @@ def sessions(session, trial):
     )
     caller.digest_is("The digest is zeros", session, zeros(session))
     caller.says("TPM2_PolicyAuthValue", "SUCCESS", caller.auth_value_told(session))
-    caller.does(
-        "To the trial session", caller.comparing(trial, 0x0100_0005, b"x", by_value())
-    )
+    caller.does("To the trial session", caller.comparing(trial, 0x0100_0005, b"x", by_value()))
     caller.fails(
         "By the trial session", "ATTRIBUTES/s1", caller.comparing(trial, 0x0100_0005, b"x", trial)
     )

@@ -1,22 +1,14 @@
-#!/usr/bin/env python3
 """Writes tests/policy_nv_written.tpm: TPM2_PolicyNvWritten, and indices that are written once."""
 
 import hashlib
 
-import paths
-
-import frames
-import policy
-from caller import Use, flipped
-from commands import CC
-from frames import RH_OWNER, SHA1, SHA256
-from nv import Attribute
-from nv_caller import BY_OWNER, BY_POLICY, FIRST, FOURTH, NvCaller, SECOND, THIRD, area, counter
-from object_caller import HERE, sealed, storage_key
-from objects import Attribute as ObjectAttribute
-from policy_caller import zeros
+from tpmsim.caller import BY_OWNER, BY_POLICY, HERE, Use, area, counter, flipped, sealed
+from tpmsim.caller import storage_key
+from tpmsim.standard import CC, RH_OWNER, SHA1, SHA256, command_hash, frames, policy
+from tpmsim.standard.nv import Attribute
+from tpmsim.standard.objects import Attribute as ObjectAttribute
+from script_caller import FIRST, FOURTH, SECOND, ScriptCaller, THIRD, zeros
 from script import Script
-from sessions import command_hash
 
 NO, YES = False, True
 FIFTH = 0x0100_0005
@@ -26,7 +18,7 @@ script = Script(
     "TPM2_PolicyNvWritten: the policy is for an NV index that is written (1), or for one that is "
     "not (0). Whether it is, is looked at when the session authorizes.",
 )
-caller = NvCaller(script)
+caller = ScriptCaller(script)
 
 
 def says(what, outcome, session, *values):
@@ -129,9 +121,7 @@ for _ in range(2):
     caller.fails("Once more", "POLICY_FAIL/s1", caller.incrementing(FIFTH, session))
     caller.says("TPM2_PolicyRestart", "SUCCESS", caller.restart(session))
     caller.does("It is undefined", caller.undefining(FIFTH))
-    caller.define(
-        "And defined again", counter(FIFTH, BY_OWNER | BY_POLICY, auth_policy=unwritten)
-    )
+    caller.define("And defined again", counter(FIFTH, BY_OWNER | BY_POLICY, auth_policy=unwritten))
 
 script.chapter(
     "What is no NV index is neither written nor not: an object whose policy is the same refuses "
@@ -217,9 +207,7 @@ changes = policy.after_nv_written(SHA256, bytes(32), NO)
 SEVENTH = 0x0100_0007
 caller.define("An index", area(SEVENTH, BY_OWNER | BY_POLICY, auth_policy=changes))
 says("0, and no command code", "SUCCESS", session, NO)
-caller.fails(
-    "TPM2_NV_ChangeAuth", "POLICY_FAIL/s1", caller.changing_auth(SEVENTH, b"new", session)
-)
+caller.fails("TPM2_NV_ChangeAuth", "POLICY_FAIL/s1", caller.changing_auth(SEVENTH, b"new", session))
 caller.does("TPM2_NV_Write, in the role USER", caller.writing(SEVENTH, b"data", session))
 
 script.chapter("With an hmac, and by a session that ends.")

@@ -1,21 +1,14 @@
-#!/usr/bin/env python3
 """Writes tests/policy_or.tpm: TPM2_PolicyOR, and of which lists it is."""
 
-import paths
-
-import frames
-import policy
-from commands import CC
-from frames import number, sized
-from policy_caller import PolicyCaller, is_trial, zeros
+from tpmsim.standard import CC, digest, frames, number, policy, sized
+from script_caller import ScriptCaller, is_trial, zeros
 from script import Script
-from sessions import digest
 
 script = Script(
     "tests/policy_or.tpm",
     "TPM2_PolicyOR: the digest is one of two to eight in a list, and becomes that of the list.",
 )
-caller = PolicyCaller(script)
+caller = ScriptCaller(script)
 
 
 def other(session, count):
@@ -49,8 +42,7 @@ for session in caller.each_session():
     caller.says("TPM2_PolicyAuthValue", "SUCCESS", caller.auth_value_told(session))
     branches = [b"", zeros(session)]
     current = policy.after_auth_value(
-        session.algorithm,
-        policy.after_or(session.algorithm, 2 * [zeros(session)]),
+        session.algorithm, policy.after_or(session.algorithm, 2 * [zeros(session)])
     )
     joins(
         "Another digest than zeros, the third of three|and the zeros that it is hashed behind are "
@@ -155,5 +147,7 @@ caller.says("Localities of which none is left", "RANGE/p1", caller.locality(sess
 another = digest(session.algorithm, b"another command")
 caller.says("Another cpHash", "CPHASH", caller.secret(session, cp_hash=another))
 caller.accepted("TPM2_PCR_Reset of PCR 16", caller.reset(b""))
-caller.says("PCRs, of which one changed", "PCR_CHANGED", caller.pcrs(session, [(frames.SHA256, [0])]))
+caller.says(
+    "PCRs, of which one changed", "PCR_CHANGED", caller.pcrs(session, [(frames.SHA256, [0])])
+)
 script.write()

@@ -1,15 +1,9 @@
-#!/usr/bin/env python3
 """Writes tests/policy_pcr.tpm: TPM2_PolicyPCR, its selections, and PCRs that change behind it."""
 
-import paths
-
-import frames
-import policy
-from commands import CC
-from frames import RH_NULL, SHA1, SHA256, number, selection, sized
-from policy_caller import PolicyCaller, is_trial, zeros
+from tpmsim.standard import CC, RH_NULL, SHA1, SHA256, digest, frames, number, policy, selection
+from tpmsim.standard import sized
+from script_caller import ScriptCaller, is_trial, zeros
 from script import Script
-from sessions import digest
 
 ALL = range(24)
 
@@ -18,7 +12,7 @@ script = Script(
     "TPM2_PolicyPCR: the policy is for PCRs that have the values of now. Its parameters are the "
     "digest that they should have, if any, and the selection of PCRs.",
 )
-caller = PolicyCaller(script)
+caller = ScriptCaller(script)
 
 
 def values_digest(session, banks):
@@ -158,9 +152,7 @@ for session in caller.each_session():
     caller.says("Once more, and nothing has changed", "SUCCESS", caller.pcrs(session, zero))
     value = digest(SHA256, b"more")
     extend = frames.digests((SHA256, value))
-    caller.accepted(
-        "TPM2_PCR_Extend of PCR 0", caller.prepare(CC.PCR_Extend, [0], extend, b"")
-    )
+    caller.accepted("TPM2_PCR_Extend of PCR 0", caller.prepare(CC.PCR_Extend, [0], extend, b""))
     changed("TPM2_PolicyPCR again", session, zero)
     changed("And of PCRs that are as they were, or of none", session, [(SHA256, [1])])
     changed("", session, [])

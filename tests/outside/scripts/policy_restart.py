@@ -1,22 +1,15 @@
-#!/usr/bin/env python3
 """Writes tests/policy_restart.tpm: TPM2_PolicyRestart, by which a session forgets its policy."""
 
-import paths
-
-import frames
-import policy
-from caller import Use
-from commands import CC
-from frames import RH_OWNER, SHA1, SHA256
-from policy_caller import PolicyCaller, is_trial, zeros
+from tpmsim.caller import Use
+from tpmsim.standard import CC, RH_OWNER, SHA1, SHA256, digest_bytes, frames, policy
+from script_caller import ScriptCaller, is_trial, zeros
 from script import Script
-from sessions import digest_bytes
 
 script = Script(
     "tests/policy_restart.tpm",
     "TPM2_PolicyRestart: the session has forgotten what it was told, and keeps all else.",
 )
-caller = PolicyCaller(script)
+caller = ScriptCaller(script)
 PCR_0 = [(SHA256, [0])]
 
 
@@ -77,8 +70,7 @@ for algorithm in (SHA1, SHA256):
     )
     caller.says("TPM2_PolicyRestart", "SUCCESS", caller.restart(session))
     caller.accepted(
-        "TPM2_PolicySecret with its nonceTPM",
-        caller.secret(session, nonce_tpm=session.nonce_tpm),
+        "TPM2_PolicySecret with its nonceTPM", caller.secret(session, nonce_tpm=session.nonce_tpm)
     )
     caller.accepted("TPM2_PolicyRestart by its own hmac", caller.restart(session, session))
     caller.digest_is("The digest is zeros", session, zeros(session))

@@ -1,24 +1,10 @@
-#!/usr/bin/env python3
 """Writes tests/policy_secret.tpm: TPM2_PolicySecret, its parameters and what it is hashed of."""
 
-import paths
-
-import frames
-import policy
-from caller import Use, flipped
-from frames import (
-    RH_ENDORSEMENT,
-    RH_LOCKOUT,
-    RH_OWNER,
-    RH_PLATFORM,
-    SHA1,
-    SHA256,
-    number,
-    sized,
-)
-from policy_caller import PolicyCaller, is_trial, zeros
+from tpmsim.caller import Use, flipped
+from tpmsim.standard import RH_ENDORSEMENT, RH_LOCKOUT, RH_OWNER, RH_PLATFORM, SHA1, SHA256
+from tpmsim.standard import digest_bytes, frames, name_of, number, policy, sized
+from script_caller import ScriptCaller, is_trial, zeros
 from script import Script
-from sessions import digest_bytes, name_of
 
 ENTITIES = (
     (RH_OWNER, "TPM_RH_OWNER"),
@@ -35,7 +21,7 @@ script = Script(
     "shows it now. Its parameters are nonceTPM, cpHashA, policyRef and expiration. Here by the "
     "empty password alone.",
 )
-caller = PolicyCaller(script)
+caller = ScriptCaller(script)
 
 
 def after(session, old, of=RH_ENDORSEMENT, policy_ref=b""):
@@ -234,8 +220,7 @@ caller.says("It is no more", "REFERENCE_H0", caller.get_digest(session))
 unbound = caller.policy("One that is bound to nothing", algorithm=SHA1)
 caller.accepted("It has neither key nor hmac", caller.secret(unbound, b"", unbound))
 caller.accepted(
-    "With an hmac by the empty key",
-    caller.secret(unbound, b"", Use(unbound, shows_empty_key=True)),
+    "With an hmac by the empty key", caller.secret(unbound, b"", Use(unbound, shows_empty_key=True))
 )
 caller.digest_is("Its digest", unbound, after(unbound, after(unbound, zeros(unbound))))
 script.write()

@@ -1,14 +1,10 @@
-#!/usr/bin/env python3
 """Writes tests/policy_secret_authorization.tpm: by what entries TPM2_PolicySecret is authorized."""
 
-import paths
-
-import policy
-from caller import Use, flipped
-from frames import RH_ENDORSEMENT, RH_LOCKOUT, RH_OWNER, RH_PLATFORM, SHA1, SHA256
-from policy_caller import HASHES, PolicyCaller, zeros
+from tpmsim.caller import Use, flipped
+from tpmsim.standard import RH_ENDORSEMENT, RH_LOCKOUT, RH_OWNER, RH_PLATFORM, SHA1, SHA256
+from tpmsim.standard import name_of, policy
+from script_caller import HASHES, ScriptCaller, zeros
 from script import Script
-from sessions import name_of
 
 VALUES = (
     (RH_OWNER, "TPM_RH_OWNER", b"owner"),
@@ -22,7 +18,7 @@ script = Script(
     "TPM2_PolicySecret is authorized by the value of its first handle, in a password or an HMAC "
     "session, as any other command. Of the policy session nothing is asked.",
 )
-caller = PolicyCaller(script)
+caller = ScriptCaller(script)
 
 
 def wrong(prepared, place=1):

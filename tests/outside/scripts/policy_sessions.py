@@ -1,14 +1,9 @@
-#!/usr/bin/env python3
 """Writes tests/policy_sessions.tpm: where policy sessions have their place, and how they end."""
 
-import paths
-
-import frames
-from caller import Use, flipped
-from commands import CC
-from frames import RH_LOCKOUT, RH_OWNER, SE_HMAC, SE_POLICY, SE_TRIAL, SHA1, SHA256, number
-from general import Entry
-from policy_caller import HASHES, PolicyCaller, zeros
+from tpmsim.caller import Use, flipped
+from tpmsim.standard import CC, Entry, RH_LOCKOUT, RH_OWNER, SE_HMAC, SE_POLICY, SE_TRIAL, SHA1
+from tpmsim.standard import SHA256, frames, number
+from script_caller import HASHES, ScriptCaller, zeros
 from script import Script
 
 PLACES = 16
@@ -19,7 +14,7 @@ script = Script(
     "Policy sessions and trial sessions have the sixteen places that HMAC sessions have. Their "
     "handles begin with 03, and those of HMAC sessions with 02.",
 )
-caller = PolicyCaller(script)
+caller = ScriptCaller(script)
 
 
 def start(kind, place, what=None, **choices):
@@ -55,18 +50,14 @@ for kind, name in NAMES.items():
     caller.says(
         f"A seventeenth one: a {name} session",
         "SESSION_MEMORY",
-        caller.prepare(
-            CC.StartAuthSession, *frames.start_auth_session(bytes(16), kind=kind)
-        ),
+        caller.prepare(CC.StartAuthSession, *frames.start_auth_session(bytes(16), kind=kind)),
     )
 caller.says("Each has zeros", "SUCCESS", *map(caller.get_digest, sessions))
 caller.says("The ninth is told something", "SUCCESS", caller.auth_value_told(sessions[8]))
 caller.digest_is("The eleventh is not", sessions[10], zeros(sessions[10]))
 caller.accepted("Three of them beside TPM2_GetRandom", caller.random(4, *sessions[2:5]))
 ending = caller.prepare(
-    CC.StartAuthSession,
-    *frames.start_auth_session(bytes(16), kind=SE_POLICY),
-    Use(sessions[4], 0),
+    CC.StartAuthSession, *frames.start_auth_session(bytes(16), kind=SE_POLICY), Use(sessions[4], 0)
 )
 caller.refused(
     "A session beside it that would end gives its place up too late", "SESSION_MEMORY", ending

@@ -1,22 +1,9 @@
-#!/usr/bin/env python3
 """Writes tests/policy_sessions_authorize_nothing.tpm: policy sessions as the first entry."""
 
-import paths
-
-import frames
-from caller import Use, flipped
-from commands import CC
-from frames import (
-    CONTINUE_SESSION,
-    DECRYPT,
-    RH_ENDORSEMENT,
-    RH_LOCKOUT,
-    RH_NULL,
-    RH_OWNER,
-    RH_PLATFORM,
-)
-from general import Entry
-from policy_caller import PolicyCaller, zeros
+from tpmsim.caller import Use, flipped
+from tpmsim.standard import CC, CONTINUE_SESSION, DECRYPT, Entry, RH_ENDORSEMENT, RH_LOCKOUT
+from tpmsim.standard import RH_NULL, RH_OWNER, RH_PLATFORM, frames
+from script_caller import ScriptCaller, zeros
 from script import Script
 
 script = Script(
@@ -24,7 +11,7 @@ script = Script(
     "A policy session authorizes what has a policy. Hierarchies and PCRs have none: they are "
     "authorized by their authorization value alone. A trial session never authorizes.",
 )
-caller = PolicyCaller(script)
+caller = ScriptCaller(script)
 
 script.startup()
 caller.accepted('ownerAuth is "owner"', caller.change_auth(RH_OWNER, b"owner", b""))

@@ -1,26 +1,10 @@
-#!/usr/bin/env python3
 """Writes tests/policy_sessions_that_encrypt.tpm: policy sessions that authorize nothing."""
 
-import paths
-
-import frames
-import policy
-from caller import Use, flipped
-from commands import CC
-from frames import (
-    CONTINUE_SESSION,
-    DECRYPT,
-    ENCRYPT,
-    RH_ENDORSEMENT,
-    RH_LOCKOUT,
-    RH_OWNER,
-    SE_POLICY,
-    SE_TRIAL,
-    SHA1,
-)
-from policy_caller import HASHES, KINDS, PolicyCaller, zeros
+from tpmsim.caller import Use, flipped
+from tpmsim.standard import CC, CONTINUE_SESSION, DECRYPT, ENCRYPT, RH_ENDORSEMENT, RH_LOCKOUT
+from tpmsim.standard import RH_OWNER, SE_POLICY, SE_TRIAL, SHA1, digest, frames, name_of, policy
+from script_caller import HASHES, KINDS, ScriptCaller, zeros
 from script import Script
-from sessions import digest, name_of
 
 DECRYPTS, ENCRYPTS = CONTINUE_SESSION | DECRYPT, CONTINUE_SESSION | ENCRYPT
 
@@ -30,7 +14,7 @@ script = Script(
     "held against their hmac as HMAC sessions are. They can decrypt and encrypt, and keep what "
     "they were told.",
 )
-caller = PolicyCaller(script)
+caller = ScriptCaller(script)
 
 
 def wrong(prepared, place):
@@ -66,9 +50,7 @@ for algorithm, hash_name in HASHES:
         caller.accepted(
             "TPM2_GetRandom, which it encrypts", caller.random(20, Use(session, ENCRYPTS))
         )
-        caller.accepted(
-            "TPM2_GetRandom that it does not encrypt", caller.random(20, hmac, session)
-        )
+        caller.accepted("TPM2_GetRandom that it does not encrypt", caller.random(20, hmac, session))
         caller.digest_is("Its digest is as it was", session, told)
         encrypted = caller.get_digest(session, Use(session, ENCRYPTS))
         caller.accepted("TPM2_PolicyGetDigest, which it encrypts itself", encrypted)
@@ -100,9 +82,7 @@ for algorithm, hash_name in HASHES:
             "TPM2_PolicyPCR whose digest it decrypts itself|and its digest is of the plain one",
             caller.pcrs(session, [], digest(algorithm, b""), [Use(session, DECRYPTS)]),
         )
-        told = policy.after_pcr(
-            algorithm, told, frames.selection(), digest(algorithm, b"")
-        )
+        told = policy.after_pcr(algorithm, told, frames.selection(), digest(algorithm, b""))
         caller.digest_is("Its digest", session, told)
         caller.accepted(
             "TPM2_PolicySecret, of which it decrypts nonceTPM itself: the one of before",
@@ -232,9 +212,7 @@ caller.refused(
     caller.pcrs(plain, [], b"", [Use(plain, DECRYPTS)]),
     caller.get_digest(plain, Use(plain, ENCRYPTS)),
 )
-caller.refused(
-    "Behind a password", "SYMMETRIC/s2", caller.event(b"a", b"", Use(plain, DECRYPTS))
-)
+caller.refused("Behind a password", "SYMMETRIC/s2", caller.event(b"a", b"", Use(plain, DECRYPTS)))
 
 script.chapter("Started beside others, and with others beside it.")
 first = caller.policy("A policy session, with AES", bind=RH_OWNER, aes=True)

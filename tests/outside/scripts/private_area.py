@@ -1,23 +1,20 @@
-#!/usr/bin/env python3
 """Writes tests/private_area.tpm: private areas that were changed, or that were made outside."""
 
-import paths
-
-import aes
-import objects
-from caller import flipped
-from frames import KEYEDHASH, RH_OWNER, SHA1, SHA256, SYMCIPHER, number, sized
-from object_caller import HERE, OPEN, STORES, Made, ObjectCaller, hmac_key, sealed, storage_key
-from objects import Public, Sensitive
+from tpmsim.caller import HERE, Made, OPEN, STORES, flipped, hmac_key, sealed, storage_key
+from tpmsim.model import object_rules
+from tpmsim.model.object_rules import Sensitive
+from tpmsim.standard import KEYEDHASH, RH_OWNER, SHA1, SHA256, SYMCIPHER, aes, digest, digest_bytes
+from tpmsim.standard import kdfa, mac, number, sized
+from tpmsim.standard.objects import Public
+from script_caller import ScriptCaller
 from script import Script
-from sessions import digest, digest_bytes, kdfa, mac
 
 script = Script(
     "tests/private_area.tpm",
     "A private area is an integrity value, the first block of the cipher, and the encrypted "
     "sensitive area. TPM2_Load takes it where its parent made it for this public area.",
 )
-caller = ObjectCaller(script)
+caller = ScriptCaller(script)
 
 
 def refused(what, parent, public, *privates):
@@ -61,7 +58,7 @@ script.chapter(
 
 
 def forge(parent, public, text, iv=b"\x5a" * aes.BLOCK, name=None, algorithm=None):
-    """A private area whose encrypted part is this text, by the equations and not by objects.py."""
+    """A private area whose encrypted part is this text, by the equations and not by object_rules.py."""
     known = script.device.objects[parent]
     seed = known.sensitive.seed_value
     algorithm = algorithm or known.public.name_algorithm
@@ -85,7 +82,7 @@ for algorithm, hash_name in ((SHA1, "SHA-1"), (SHA256, "SHA-256")):
     private = forge(parent, public, sensitive())
     known = script.device.objects[parent]
     same = Sensitive(KEYEDHASH, b"", b"s" * 32, b"forged")
-    assert private == objects.wrapped(known, public.name, same, b"\x5a" * aes.BLOCK)
+    assert private == object_rules.wrapped(known, public.name, same, b"\x5a" * aes.BLOCK)
 
     handle = caller.load("TPM2_Load of one", parent, Made(private, public, b""))
     caller.unseal("TPM2_Unseal: unique is not compared with it", handle, b"forged")
@@ -124,7 +121,7 @@ for algorithm, hash_name in ((SHA1, "SHA-1"), (SHA256, "SHA-256")):
 
     def behind(rest):
         """A private area with anything behind the right integrity value of it."""
-        return sized(objects.integrity(known, rest, public.name)) + rest
+        return sized(object_rules.integrity(known, rest, public.name)) + rest
 
     refused(
         "Cut, as its size reaches too far: nothing is behind the integrity value, half a size, "
@@ -139,10 +136,7 @@ for algorithm, hash_name in ((SHA1, "SHA-1"), (SHA256, "SHA-256")):
         "Another type than that of the public area",
         parent,
         public,
-        *(
-            forge(parent, public, sensitive(kind=it))
-            for it in (SYMCIPHER, 0, 1, 0x0010, 0xFFFF)
-        ),
+        *(forge(parent, public, sensitive(kind=it)) for it in (SYMCIPHER, 0, 1, 0x0010, 0xFFFF)),
     )
     text = sensitive(auth=b"a")
     content = text[2:]
@@ -180,16 +174,16 @@ for algorithm, hash_name in ((SHA1, "SHA-1"), (SHA256, "SHA-256")):
         behind(
             sized(bytes(aes.BLOCK))
             + aes.cfb_encrypt(
-                objects.encrypting_key(known, storage_key().name), bytes(aes.BLOCK), text
+                object_rules.encrypting_key(known, storage_key().name), bytes(aes.BLOCK), text
             )
         ),
     )
 
     script.chapter("What is not made by TPM2_Create, and is loaded none the less.")
     for what, auth, given in (
-        ("The value is \"a\" and two zeros, which count for nothing", b"a\0\0", b"a"),
+        ('The value is "a" and two zeros, which count for nothing', b"a\0\0", b"a"),
         ("It is 32 zeros, the empty one", bytes(32), b""),
-        ("It is a zero and \"a\"", b"\0a", b"\0a"),
+        ('It is a zero and "a"', b"\0a", b"\0a"),
     ):
         private = forge(parent, public, sensitive(auth=auth))
         handle = caller.load(f"{what}: TPM2_Load", parent, Made(private, public, given))

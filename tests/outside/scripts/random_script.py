@@ -1,4 +1,4 @@
-"""A random script, and what device.py answers to it:
+"""A random script, and what the model answers to it:
 
     random_script.py SEED COUNT FOLDER
 
@@ -12,21 +12,12 @@ import random
 import sys
 from dataclasses import replace
 
-import paths
-
-import frames
-import general
-import nv
-import persistent
-import policy
-import sessions
-import state
-from commands import CC, Fact, HandleKind
-from device import Device
-from frames import AES, ALG_NULL, CONTINUE_SESSION, DECRYPT, ENCRYPT, KEYEDHASH, RH_NULL, RS_PW
-from frames import SHA1, SHA256, SYMCIPHER, XOR, number, sized
-from general import Entry, Refusal, Short
-from objects import Attribute, Public
+from tpmsim.model import general, nv_commands, persistent, state
+from tpmsim.model.machine import Model
+from tpmsim.standard import AES, ALG_NULL, CC, CONTINUE_SESSION, DECRYPT, ENCRYPT, Entry, Fact
+from tpmsim.standard import HandleKind, KEYEDHASH, RH_NULL, RS_PW, SHA1, SHA256, SYMCIPHER, Short
+from tpmsim.standard import XOR, frames, handle_kinds, number, nv, policy, reading, sessions, sized
+from tpmsim.standard.objects import Attribute, Public
 from outputs import POWER, Played, write_outputs
 from script import line
 
@@ -58,7 +49,7 @@ class Writer(random.Random):
 
     def __init__(self, seed):
         super().__init__(seed)
-        self.device, self.locality = Device(), 0
+        self.device, self.locality = Model(), 0
         self.lines, self.played = [f"# Random script {seed}."], []
         self.made, self.digests = [], [b""]
 
@@ -79,7 +70,7 @@ class Writer(random.Random):
         return 0x000C if self.happens(0.01) else self.choice((SHA1, SHA256, SHA256))
 
     def hierarchy(self):
-        return self.choice(general.PRIMARY_HIERARCHIES)
+        return self.choice(handle_kinds.PRIMARY_HIERARCHIES)
 
     def object(self, test=lambda it: True):
         """The handle of a loaded object, if any; seldom of one that is not there."""
@@ -97,7 +88,7 @@ class Writer(random.Random):
     def entity(self):
         return self.choice(
             (
-                *general.HIERARCHIES,
+                *handle_kinds.HIERARCHIES,
                 *(self.choice(PCR_NUMBERS), self.object(), self.object()),
                 *(self.index(), self.index()),
             )
@@ -151,15 +142,13 @@ class Writer(random.Random):
             public = replace(public, attributes=attributes)
         user_auth = self.choice(AUTH_VALUES) + bytes(self.randrange(2))
         sensitive = frames.sensitive_create(user_auth, data)
-        return frames.creation(
-            sensitive, sized(public.text), self.some_bytes(34), self.selection()
-        )
+        return frames.creation(sensitive, sized(public.text), self.some_bytes(34), self.selection())
 
     # NV indices.
 
     def nv_attributes(self, hierarchy):
         """Who may write and read, what may be locked, and the type."""
-        some = self.getrandbits(32) & self.getrandbits(32) & nv.NAMED & ~nv.NOT_DEFINED
+        some = self.getrandbits(32) & self.getrandbits(32) & nv.NAMED & ~nv_commands.NOT_DEFINED
         attributes = some & ~nv.of_type(nv.TYPE_MASK) | self.choice((0, 0x000E_000E, 0x0006_0006))
         attributes &= ~nv.Attribute.PLATFORMCREATE
         if (hierarchy == frames.RH_PLATFORM) != self.happens():
@@ -253,7 +242,7 @@ class Writer(random.Random):
         if operand and self.happens(0.4):
             operand = self.bent(operand)
         operand += self.happens() * bytes(30)
-        operation = self.randrange(len(nv.OPERATIONS) + self.happens())
+        operation = self.randrange(len(nv_commands.OPERATIONS) + self.happens())
         (session,), _ = self.told()
         return [*handles, session], frames.policy_nv(operand, offset, operation)
 
@@ -387,7 +376,10 @@ class Writer(random.Random):
         CC.PCR_Reset: (2, lambda w: (w.pcr(), b"")),
         CC.HierarchyChangeAuth: (
             3,
-            lambda w: ([w.choice(general.HIERARCHIES)], sized(w.choice(AUTH_VALUES) + bytes(2))),
+            lambda w: (
+                [w.choice(handle_kinds.HIERARCHIES)],
+                sized(w.choice(AUTH_VALUES) + bytes(2)),
+            ),
         ),
         CC.FlushContext: (12, flushed),
         CC.StartAuthSession: (14, start),
@@ -399,10 +391,7 @@ class Writer(random.Random):
         CC.PolicyOR: (3, policy_or),
         CC.PolicyAuthValue: (4, told),
         CC.PolicyPassword: (4, told),
-        CC.PolicyCommandCode: (
-            6,
-            lambda w: w.told(number(w.choice((*USES, *NV_USES, 0x999)), 4)),
-        ),
+        CC.PolicyCommandCode: (6, lambda w: w.told(number(w.choice((*USES, *NV_USES, 0x999)), 4))),
         CC.PolicyCpHash: (4, policy_cp_hash),
         CC.PolicyNvWritten: (6, policy_nv_written),
         CC.PolicyLocality: (3, lambda w: w.told(number(w.choice((0, 1, 3, 31, 31, 32)), 1))),
@@ -419,10 +408,7 @@ class Writer(random.Random):
         CC.NV_ReadPublic: (4, lambda w: ([w.index()], b"")),
         CC.NV_Write: (14, nv_write),
         CC.NV_Increment: (6, lambda w: (w.asked(nv.Type.COUNTER), b"")),
-        CC.NV_SetBits: (
-            4,
-            lambda w: (w.asked(nv.Type.BITS), number(1 << w.randrange(64), 8)),
-        ),
+        CC.NV_SetBits: (4, lambda w: (w.asked(nv.Type.BITS), number(1 << w.randrange(64), 8))),
         CC.NV_Extend: (
             4,
             lambda w: (w.asked(nv.Type.EXTEND), sized(w.some_bytes(w.choice((4, 64, 1024))))),
@@ -511,7 +497,7 @@ class Writer(random.Random):
         if entry.handle == RS_PW:
             return device.auth_value(handle) + bytes(self.randrange(2))
         held = device.sessions[entry.handle]
-        if general.is_policy(entry.handle) and handle is not None:
+        if handle_kinds.is_policy(entry.handle) and handle is not None:
             entry.demand = held.policy.demand
             if entry.demand == policy.PASSWORD:
                 return device.auth_value(handle)
@@ -534,9 +520,7 @@ class Writer(random.Random):
     def code(self):
         """Of a command that is served. Where it is locked, mostly soon of one that unlocks."""
         if self.device.lockout.is_locked() and self.happens(0.1):
-            return self.choice(
-                (CC.DictionaryAttackLockReset, CC.DictionaryAttackParameters)
-            )
+            return self.choice((CC.DictionaryAttackLockReset, CC.DictionaryAttackParameters))
         codes = list(self.COMMANDS)
         (code,) = self.choices(codes, [self.COMMANDS[it][0] for it in codes])
         return code
@@ -609,7 +593,7 @@ class Writer(random.Random):
         """Keeps what TPM2_Create answered in plain, and the digests that policies have."""
         if not refused and buffer[:2] == number(frames.SESSIONS, 2):
             if int.from_bytes(buffer[6:10], "big") == CC.Create:
-                fields = general.Fields(response[14:])
+                fields = reading.Fields(response[14:])
                 parent = self.device.name(int.from_bytes(buffer[10:14], "big"))
                 self.made = [*self.made[-20:], (parent, fields.sized(), fields.sized())]
         for held in self.device.sessions.values():

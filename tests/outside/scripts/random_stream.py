@@ -1,13 +1,9 @@
 """Random connections to a served device, in runs one after another: the lines of streams.py."""
 
-import paths  # first: it finds the device
-
-import frames
-import state
-import streams
+from tpmsim.model import state, streams
+from tpmsim.model.image import Fault, VERSION_1, image, open_image
+from tpmsim.standard import CC, frames
 from bent_script import bent_image
-from commands import CC
-from image import VERSION_1, Fault, image, open_image
 from random_script import MOST_TRIES, Writer
 
 # No time passes that counts for dictionary attack protection: none of these is over before the
@@ -60,7 +56,17 @@ class StreamWriter(Writer):
 
     def with_wrong_size(self, buffer):
         size = len(buffer)
-        wrong = 0, 6, 9, 4097, 2**32 - 1, max(0, size - 1), size + 1, 2 * size, self.randrange(4097)
+        wrong = (
+            0,
+            6,
+            9,
+            4097,
+            2**32 - 1,
+            max(0, size - 1),
+            size + 1,
+            2 * size,
+            self.randrange(4097),
+        )
         return buffer[:2] + frames.number(self.choice(wrong), 4) + buffer[6:]
 
     def command(self):

@@ -1,14 +1,9 @@
-#!/usr/bin/env python3
 """Writes tests/read_public.tpm: TPM2_ReadPublic, and the Names that it answers."""
 
-import paths
-
-from caller import Use
-from commands import CC
-from frames import ENCRYPT, RH_NULL, RH_OWNER, SHA1, SHA256, command, number
-from object_caller import ObjectCaller, hmac_key, sealed, storage_key
+from tpmsim.caller import Use, hmac_key, sealed, storage_key
+from tpmsim.standard import CC, ENCRYPT, RH_NULL, RH_OWNER, SHA1, SHA256, command, digest, number
+from script_caller import ScriptCaller
 from script import Script
-from sessions import digest
 
 script = Script(
     "tests/read_public.tpm",
@@ -16,7 +11,7 @@ script = Script(
     "that area, and its qualified name, which has the Names of all that are above it in it. It "
     "needs no authorization.",
 )
-caller = ObjectCaller(script)
+caller = ScriptCaller(script)
 
 
 def read(handle):
@@ -36,9 +31,7 @@ script.command(
     *map(read, (0x8000_0000, 0x8000_0007, 0x8000_0008, 0x80FF_FFFF)),
 )
 script.command(
-    "A persistent object, while there is none",
-    "HANDLE/h1",
-    *map(read, (0x8100_0000, 0x81FF_FFFF)),
+    "A persistent object, while there is none", "HANDLE/h1", *map(read, (0x8100_0000, 0x81FF_FFFF))
 )
 script.command("Three bytes of a handle", "INSUFFICIENT/h1", command(CC.ReadPublic, b"\x80\0\0"))
 

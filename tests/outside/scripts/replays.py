@@ -1,21 +1,15 @@
-#!/usr/bin/env python3
 """Writes tests/replays.tpm: commands that were accepted, and are sent again byte for byte."""
 
 from dataclasses import replace
 
-import paths
-
-import frames
-from caller import Use
-from commands import CC
-from frames import CONTINUE_SESSION, DECRYPT, ENCRYPT, RH_ENDORSEMENT, RH_LOCKOUT, RH_NULL
-from frames import RH_OWNER, SE_HMAC, SE_POLICY, SHA256
+from tpmsim.caller import BY_POLICY, BY_VALUE, CLEAR, STATE, Use
+from tpmsim.standard import CC, CONTINUE_SESSION, DECRYPT, ENCRYPT, RH_ENDORSEMENT, RH_LOCKOUT
+from tpmsim.standard import RH_NULL, RH_OWNER, SE_HMAC, SE_POLICY, SHA256, frames
+from tpmsim.standard.nv import Attribute
+from tpmsim.standard.policy import AUTH_VALUE, PASSWORD
+from script_caller import FIRST
 from grounds_caller import AFTER_AUTH_VALUE, DATA, OWNER, ZEROS, GroundsCaller
-from nv import Attribute
-from nv_caller import BY_POLICY, BY_VALUE, FIRST
-from policy import AUTH_VALUE, PASSWORD
 from script import Script
-from state_caller import CLEAR, STATE
 
 VALUE, LOCKOUT_AUTH, OTHER_DATA = b"a", b"lockout", b"to write"
 ENDS = 0x00
@@ -56,7 +50,7 @@ class Start:
         handles, parameters = frames.start_auth_session(nonce, self.bind, kind=self.kind)
         start = caller.prepare(CC.StartAuthSession, handles, parameters)
         answer = with_random(what, seed, start)
-        return caller.started(start, answer, nonce, self.bind, SHA256, self.kind)
+        return caller.started(answer, nonce, self.bind, SHA256, self.kind)
 
     def again(self):
         """The session is then what it was at first."""
@@ -136,10 +130,7 @@ def not_counted(session, to_endorsement):
             "TPM2_HierarchyChangeAuth of the owner",
             lambda: caller.change_auth(RH_OWNER, OWNER, session),
         ),
-        (
-            "TPM2_PCR_Event by a session with a key",
-            lambda: caller.event(b"event", to_endorsement),
-        ),
+        ("TPM2_PCR_Event by a session with a key", lambda: caller.event(b"event", to_endorsement)),
     ):
         again("The same again", "BAD_AUTH/s1", accepted(what, prepare()))
     caller.tries_are("There is no failed try", 0)
@@ -148,9 +139,7 @@ def not_counted(session, to_endorsement):
 def counted_otherwise(session):
     script.chapter("LOCKOUTAUTH. A wrong entry closes it for lockoutRecovery.")
     caller.does('It is "lockout"', caller.change_auth(RH_LOCKOUT, LOCKOUT_AUTH, b""))
-    first = accepted(
-        "TPM2_DictionaryAttackLockReset by the session", caller.lock_reset(session)
-    )
+    first = accepted("TPM2_DictionaryAttackLockReset by the session", caller.lock_reset(session))
     again("The same again", "AUTH_FAIL/s1", first)
     caller.tries_are("It is no failed try", 0)
     again("But lockoutAuth is closed: the same again", "LOCKOUT", first)

@@ -1,19 +1,11 @@
-#!/usr/bin/env python3
 """Writes tests/saved_state.tpm: which commands cancel what TPM2_Shutdown(STATE) saved."""
 
-import paths
-
-import frames
-import policy
-from caller import Use
-from commands import CC, Fact
-from frames import RH_ENDORSEMENT, RH_OWNER, RH_PLATFORM, SHA256
-from nv import Attribute
-from nv_caller import BY_OWNER, BY_VALUE, FIRST, FOURTH, SECOND, THIRD, area, bits, counter
-from nv_caller import extended
-from object_caller import hmac_key, sealed, storage_key
+from tpmsim.caller import BY_OWNER, BY_VALUE, CLEAR, STATE, Use, area, bits, counter, extended
+from tpmsim.caller import hmac_key, sealed, storage_key, wrong
+from tpmsim.standard import CC, Fact, RH_ENDORSEMENT, RH_OWNER, RH_PLATFORM, SHA256, frames, policy
+from tpmsim.standard.nv import Attribute
+from script_caller import FIRST, FOURTH, SECOND, ScriptCaller, THIRD
 from script import Script
-from state_caller import CLEAR, STATE, StateCaller, wrong
 
 FIFTH = 0x0100_0005
 KEPT = 0x8100_0001
@@ -27,7 +19,7 @@ script = Script(
     "Here each command follows a TPM2_Shutdown(STATE); behind a power cycle TPM2_Startup(STATE) "
     "then says whether the state was there still.",
 )
-caller = StateCaller(script)
+caller = ScriptCaller(script)
 
 
 def session():

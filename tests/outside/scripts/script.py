@@ -1,14 +1,12 @@
-"""A script that a program writes: NAME.tpm, and NAME.out as device.py answers it."""
+"""A script that a program writes: NAME.tpm, and NAME.out as the model answers it."""
 
 import hashlib
 import textwrap
 
 import paths
-
-import frames
-import lines
-from commands import CC
-from device import Device
+from tpmsim.device.base import line, line_in_bytes
+from tpmsim.model.machine import Model
+from tpmsim.standard import CC, frames
 from outputs import POWER, Played, write_outputs
 
 COLUMNS = 100
@@ -18,23 +16,12 @@ RANDOM_BYTES = 256
 SEED_BYTES = 7
 
 
-def line(buffer):
-    """The script's line that executes a buffer: in words, where some say just these bytes."""
-    words = lines.line_of(buffer)
-    return f"cmd {buffer.hex()}" if words is None else f"do {words}"
-
-
-def line_in_bytes(buffer):
-    """The same as bytes, be there words or not; that of the empty buffer is `cmd` alone."""
-    return f"cmd {buffer.hex()}".rstrip()
-
-
 class Script:
     """Lines, and a device that executes them as they are written."""
 
     def __init__(self, path, head, program=None):
         self.path, self.lines, self.played = paths.TOP / path, [], []
-        self.device, self.locality, self.random = Device(), 0, bytes(RANDOM_BYTES)
+        self.device, self.locality, self.random = Model(), 0, bytes(RANDOM_BYTES)
         self.seeds, self.elapsed, self.pause = 0, 0, 0
         program = program or self.path.stem
         self.write_comment(f"{head} Written by tests/outside/scripts/{program}.py.")
@@ -104,9 +91,7 @@ class Script:
 
     def startup(self):
         return self.command(
-            "TPM2_Startup(CLEAR)",
-            "SUCCESS",
-            frames.command(CC.Startup, frames.number(0, 2)),
+            "TPM2_Startup(CLEAR)", "SUCCESS", frames.command(CC.Startup, frames.number(0, 2))
         )
 
     def allow_tries(self):

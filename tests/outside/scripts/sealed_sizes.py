@@ -1,24 +1,10 @@
-#!/usr/bin/env python3
 """Writes tests/sealed_sizes.tpm: what is sealed, loaded and unsealed in encrypted parameters."""
 
-import paths
-
-from caller import Use
-from commands import CC
-from frames import (
-    ALG_NULL,
-    CONTINUE_SESSION,
-    DECRYPT,
-    ENCRYPT,
-    RH_OWNER,
-    SHA1,
-    SHA256,
-    number,
-    sized,
-)
-from object_caller import ObjectCaller, hmac_key, sealed, storage_key
+from tpmsim.caller import Use, hmac_key, sealed, storage_key
+from tpmsim.standard import ALG_NULL, CC, CONTINUE_SESSION, DECRYPT, ENCRYPT, RH_OWNER, SHA1
+from tpmsim.standard import SHA256, mac, number, sized
+from script_caller import ScriptCaller
 from script import Script
-from sessions import mac
 
 IN, OUT = CONTINUE_SESSION | DECRYPT, CONTINUE_SESSION | ENCRYPT
 BOTH = CONTINUE_SESSION | DECRYPT | ENCRYPT
@@ -29,7 +15,7 @@ script = Script(
     "TPM2_Create, inPrivate of TPM2_Load, outData of TPM2_Unseal, and what TPM2_HMAC takes and "
     "answers.",
 )
-caller = ObjectCaller(script)
+caller = ScriptCaller(script)
 script.startup()
 parent = caller.create_primary(
     'A storage key, whose value is "parent"', RH_OWNER, storage_key(), user_auth=b"parent"
@@ -94,7 +80,10 @@ for algorithm, hash_name in ((SHA256, "SHA-256"), (SHA1, "SHA-1")):
     caller.refused(
         "inSensitive is cut, and encrypted",
         "INSUFFICIENT/p1",
-        *(caller.prepare(CC.Create, [parent], whole[:it], Use(session, IN)) for it in (0, 1, 2, 133)),
+        *(
+            caller.prepare(CC.Create, [parent], whole[:it], Use(session, IN))
+            for it in (0, 1, 2, 133)
+        ),
     )
 
     script.chapter("Both ways at once.")
@@ -143,11 +132,7 @@ for algorithm, hash_name in ((SHA256, "SHA-256"), (SHA1, "SHA-1")):
     key = caller.create_primary(
         "A key", RH_OWNER, hmac_key(algorithm, scheme=ALG_NULL), user_auth=b"k", data=b"key"
     )
-    for what, use in (
-        ("buffer alone", IN),
-        ("outHMAC alone", OUT),
-        ("Both", BOTH),
-    ):
+    for what, use in (("buffer alone", IN), ("outHMAC alone", OUT), ("Both", BOTH)):
         _, answer = caller.accepted(
             what, caller.hmac(key, b"a text of some length", SHA256, Use(session, use))
         )

@@ -1,16 +1,10 @@
-#!/usr/bin/env python3
 """Writes tests/sealed_to_pcrs.tpm: data that are given out while a PCR has the value of then."""
 
-import paths
-
-import policy
-from commands import CC
-from frames import RH_NULL, RH_OWNER, SHA256, digests, selection
-from object_caller import HERE, ObjectCaller, sealed, storage_key
-from objects import Attribute
-from policy_caller import zeros
+from tpmsim.caller import HERE, sealed, storage_key
+from tpmsim.standard import CC, RH_NULL, RH_OWNER, SHA256, digest, digests, policy, selection
+from tpmsim.standard.objects import Attribute
+from script_caller import ScriptCaller, zeros
 from script import Script
-from sessions import digest
 
 CHOSEN = [(SHA256, [10])]
 SECRET = b"the secret"
@@ -20,7 +14,7 @@ script = Script(
     "Sealed data whose authPolicy is that of TPM2_PolicyPCR over PCR 10: a trial session tells its "
     "digest, and a policy session authorizes TPM2_Unseal while PCR 10 has the same value.",
 )
-caller = ObjectCaller(script)
+caller = ScriptCaller(script)
 
 
 def measured():

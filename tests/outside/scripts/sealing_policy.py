@@ -1,14 +1,8 @@
-#!/usr/bin/env python3
 """Writes examples/sealing_policy.tpm: the policy of a disk's key, made in a trial session."""
 
-import paths
-
-import policy
-from commands import CC
-from frames import SHA256, selection
-from policy_caller import PolicyCaller, zeros
+from tpmsim.standard import CC, SHA256, digest, policy, selection
+from script_caller import ScriptCaller, zeros
 from script import Script
-from sessions import digest
 
 # Each piece of software is measured into its PCR before it runs. These PCRs are chosen.
 MEASURED = (
@@ -28,7 +22,7 @@ script = Script(
     "with which the key is then sealed. Nothing is authorized by it yet, and so a trial session "
     "does.",
 )
-caller = PolicyCaller(script)
+caller = ScriptCaller(script)
 
 
 def measured_by(measurements):
@@ -97,7 +91,7 @@ script.chapter(
     "An update is to come, of the boot loader. A key with the policy above would be lost with it, "
     "and so it is sealed by another policy: either the PCRs of now or those of the update. The "
     "unlocker computes what the values will be, and gives their digest as pcrDigest, which a trial "
-    "session takes as it is.",
+    "session takes as it is."
 )
 UPDATED = tuple(NEXT_LOADER if it[0] == NEXT_LOADER[0] else it for it in MEASURED)
 branches = []
@@ -138,9 +132,7 @@ caller.digest_is(
 script.chapter("Another time secure boot is off.")
 script.power()
 script.startup()
-start_of(
-    (7, "That secure boot is off", b"secure boot off") if it[0] == 7 else it for it in UPDATED
-)
+start_of((7, "That secure boot is off", b"secure boot off") if it[0] == 7 else it for it in UPDATED)
 session = caller.policy("TPM2_StartAuthSession")
 says("TPM2_PolicyPCR, which makes another digest", caller.pcrs(session, CHOSEN))
 caller.says(

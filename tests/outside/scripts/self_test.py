@@ -1,25 +1,17 @@
-#!/usr/bin/env python3
 """Writes tests/self_test.tpm: TPM2_SelfTest, which finds nothing, and what refuses it."""
 
-import paths
-
-import frames
-from commands import CC
-from frames import CONTINUE_SESSION, DECRYPT, ENCRYPT, command, number
+from tpmsim.caller import wrong
+from tpmsim.standard import CC, CONTINUE_SESSION, DECRYPT, ENCRYPT, command, frames, number
+from script_caller import ScriptCaller
 from script import Script
-from state_caller import StateCaller, wrong
 
 script = Script(
     "tests/self_test.tpm",
     "TPM2_SelfTest, of all tests (YES, 01) or of those that were not run yet (NO, 00). The device "
     "has none that could fail.",
 )
-caller = StateCaller(script)
-
-
-def says(what, outcome, *buffers):
-    script.command(what, outcome, *buffers)
-
+caller = ScriptCaller(script)
+says = script.command
 
 BOTH = [command(CC.SelfTest, number(it, 1)) for it in (0, 1)]
 says("Before TPM2_Startup", "INITIALIZE", *BOTH)

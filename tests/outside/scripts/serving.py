@@ -8,9 +8,7 @@ import tempfile
 import time
 from itertools import zip_longest
 
-import paths  # first: it finds the device
-
-import streams
+from tpmsim.model import streams
 
 SECONDS = 60
 

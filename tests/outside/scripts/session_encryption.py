@@ -1,22 +1,9 @@
-#!/usr/bin/env python3
 """Writes tests/session_encryption.tpm: first parameters and first answers that sessions encrypt."""
 
-import paths
-
-import frames
-from caller import Caller, Use, flipped
-from commands import CC
-from frames import (
-    CONTINUE_SESSION,
-    DECRYPT,
-    ENCRYPT,
-    RH_ENDORSEMENT,
-    RH_OWNER,
-    SHA1,
-    SHA256,
-    number,
-    sized,
-)
+from tpmsim.caller import Use, flipped
+from tpmsim.standard import CC, CONTINUE_SESSION, DECRYPT, ENCRYPT, RH_ENDORSEMENT, RH_OWNER, SHA1
+from tpmsim.standard import SHA256, frames, sized
+from script_caller import ScriptCaller
 from script import Script
 
 DECRYPTS = CONTINUE_SESSION | DECRYPT
@@ -28,7 +15,7 @@ script = Script(
     "Parameter encryption by AES-128 in mode CFB: a session with the attribute decrypt has "
     "encrypted the bytes of the first parameter, and one with encrypt those of the first answer.",
 )
-caller = Caller(script)
+caller = ScriptCaller(script)
 
 
 def others_are(*sessions):
@@ -170,7 +157,7 @@ caller.accepted("Without", caller.random(32, session, Use(third, ENCRYPTS)))
 
 script.chapter(
     "TPM2_StartAuthSession has a sized buffer in both directions. The new session's key is of the "
-    "nonces in plain, and its nonce is drawn before the others'.",
+    "nonces in plain, and its nonce is drawn before the others'."
 )
 other = caller.start("Another session, bound to TPM_RH_ENDORSEMENT", RH_ENDORSEMENT, aes=True)
 for words, uses in (

@@ -1,13 +1,9 @@
-#!/usr/bin/env python3
 """Writes tests/session_entries.tpm: what is refused of entries before any hmac is looked at."""
 
-import paths
-
-import frames
-from caller import Caller, Use
-from commands import CC
-from frames import CONTINUE_SESSION, DECRYPT, ENCRYPT, RH_OWNER, RS_PW, SHA256, number, sized
-from general import Entry
+from tpmsim.caller import Use
+from tpmsim.standard import CC, CONTINUE_SESSION, DECRYPT, ENCRYPT, Entry, RH_OWNER, RS_PW, SHA256
+from tpmsim.standard import frames, number, sized
+from script_caller import ScriptCaller
 from script import Script
 
 STAYS = CONTINUE_SESSION
@@ -18,7 +14,7 @@ script = Script(
     "Entries of sessions in an authorization area: what is refused of them before any hmac is "
     "looked at, entry by entry, and in each the first of these faults.",
 )
-caller = Caller(script)
+caller = ScriptCaller(script)
 
 
 def entry(session, attributes=STAYS, nonce=b"", hmac=b""):
@@ -216,7 +212,7 @@ caller.refused(
 
 script.chapter(
     "The order within an entry: one fault after the other is repaired. The command is "
-    "TPM2_PCR_Event with a right entry before.",
+    "TPM2_PCR_Event with a right entry before."
 )
 right = caller.event(b"abc", aes)
 

@@ -1,16 +1,11 @@
-#!/usr/bin/env python3
 """Writes tests/sha1_parent.tpm: parents with nameAlg SHA-1, and what parents hand on."""
 
-import paths
-
-import policy
-from commands import CC
-from frames import RH_ENDORSEMENT, RH_NULL, RH_OWNER, RH_PLATFORM, SHA1, SHA256, number
-from general import Fields
-from object_caller import OPEN, STORES, ObjectCaller, hmac_key, sealed, storage_key
-from objects import Attribute
+from tpmsim.caller import OPEN, STORES, hmac_key, sealed, storage_key
+from tpmsim.standard import CC, Fields, RH_ENDORSEMENT, RH_NULL, RH_OWNER, RH_PLATFORM, SHA1
+from tpmsim.standard import SHA256, digest, digest_bytes, number, policy
+from tpmsim.standard.objects import Attribute
+from script_caller import ScriptCaller
 from script import Script
-from sessions import digest, digest_bytes
 
 script = Script(
     "tests/sha1_parent.tpm",
@@ -18,7 +13,7 @@ script = Script(
     "hashes in the creation data and unique are by the nameAlg of the object itself. The hierarchy "
     "comes from the parent.",
 )
-caller = ObjectCaller(script)
+caller = ScriptCaller(script)
 ALGORITHMS = ((SHA1, "SHA-1"), (SHA256, "SHA-256"))
 
 
@@ -140,9 +135,7 @@ caller.says(
     "ATTRIBUTES/p2",
     caller.child(child, sealed(), data=b"leaf"),
 )
-leaf = caller.create(
-    "With neither of them", child, sealed(attributes=OPEN), data=b"leaf"
-)
+leaf = caller.create("With neither of them", child, sealed(attributes=OPEN), data=b"leaf")
 handle = caller.load("TPM2_Load", child, leaf)
 caller.unseal("TPM2_Unseal", handle, b"leaf")
 caller.flush_objects("They are flushed", primary, child, handle)

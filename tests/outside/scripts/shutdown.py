@@ -1,25 +1,18 @@
-#!/usr/bin/env python3
 """Writes tests/shutdown.tpm: TPM2_Shutdown, what refuses it, and what it is to the next start."""
 
-import paths
-
-import frames
-from caller import Use
-from commands import CC
-from frames import CONTINUE_SESSION, DECRYPT, ENCRYPT, RH_OWNER, command, number
+from tpmsim.caller import CLEAR, STATE, Use, wrong
+from tpmsim.standard import CC, CONTINUE_SESSION, DECRYPT, ENCRYPT, RH_OWNER, command, frames
+from tpmsim.standard import number
+from script_caller import ScriptCaller
 from script import Script
-from state_caller import CLEAR, STATE, StateCaller, wrong
 
 script = Script(
     "tests/shutdown.tpm",
     "TPM2_Shutdown says which state is kept for the next TPM2_Startup: none but what is kept "
     "anyway, CLEAR (0000), or PCR 0 to 15, STATE (0001).",
 )
-caller = StateCaller(script)
-
-
-def says(what, outcome, *buffers):
-    script.command(what, outcome, *buffers)
+caller = ScriptCaller(script)
+says = script.command
 
 
 def shutdown(kind):

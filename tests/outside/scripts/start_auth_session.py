@@ -1,27 +1,10 @@
-#!/usr/bin/env python3
 """Writes tests/start_auth_session.tpm: TPM2_StartAuthSession, its faults and its sessions."""
 
-import paths
-
-import frames
-from caller import Caller, Use
-from commands import CC
-from frames import (
-    ALG_NULL,
-    RH_ENDORSEMENT,
-    RH_LOCKOUT,
-    RH_NULL,
-    RH_OWNER,
-    RH_PLATFORM,
-    RS_PW,
-    SHA1,
-    SHA256,
-    area,
-    command,
-    entry,
-    number,
-    sized,
-)
+from tpmsim.caller import Use
+from tpmsim.standard import ALG_NULL, CC, RH_ENDORSEMENT, RH_LOCKOUT, RH_NULL, RH_OWNER
+from tpmsim.standard import RH_PLATFORM, RS_PW, SHA1, SHA256, area, command, entry, frames, number
+from tpmsim.standard import sized
+from script_caller import ScriptCaller
 from script import Script
 
 NONCE = bytes(range(16))
@@ -33,7 +16,7 @@ script = Script(
     "handles are tpmKey and bind; its parameters are nonceCaller, encryptedSalt, sessionType, "
     "symmetric and authHash.",
 )
-caller = Caller(script)
+caller = ScriptCaller(script)
 
 
 def start(**changes):

@@ -1,14 +1,10 @@
-#!/usr/bin/env python3
 """Writes tests/startup_state.tpm: what TPM2_Startup(STATE) restores, and what a restart does."""
 
-import paths
-
-from frames import RH_NULL, RH_OWNER, RH_PLATFORM, SE_HMAC, SE_POLICY, SE_TRIAL, SHA256
-from nv import Attribute
-from nv_caller import BY_OWNER, BY_VALUE, FIRST, FOURTH, SECOND, THIRD, area
-from object_caller import storage_key
+from tpmsim.caller import BY_OWNER, BY_VALUE, CLEAR, STATE, area, storage_key
+from tpmsim.standard import RH_NULL, RH_OWNER, RH_PLATFORM, SE_HMAC, SE_POLICY, SE_TRIAL, SHA256
+from tpmsim.standard.nv import Attribute
+from script_caller import FIRST, FOURTH, SECOND, ScriptCaller, THIRD
 from script import Script
-from state_caller import CLEAR, STATE, StateCaller
 
 # PCR 16 and 23 start as zeros, and so do those up to 15; 17 to 22 start as ones.
 PCRS = 0, 3, 15, 16, 17, 22, 23
@@ -20,7 +16,7 @@ script = Script(
     "TPM2_Startup(CLEAR) starts over: platformAuth, and the locks of NV indices. The objects and "
     "the sessions are gone all the same.",
 )
-caller = StateCaller(script)
+caller = ScriptCaller(script)
 
 
 def extend(what):

@@ -1,15 +1,10 @@
-#!/usr/bin/env python3
 """Writes tests/state_vectors.tpm: commands and answers whose bytes were written down by hand."""
 
-import paths
-
-import frames
-from frames import RH_NULL
-from nv_caller import BY_VALUE, FIRST, area
-from object_caller import sealed, storage_key
-from objects import Attribute
+from tpmsim.caller import BY_VALUE, area, sealed, storage_key
+from tpmsim.standard import RH_NULL, frames
+from tpmsim.standard.objects import Attribute
+from script_caller import FIRST, ScriptCaller
 from script import Script
-from state_caller import StateCaller
 
 # The empty password, and the answer to it where nothing else is answered.
 PW = "00000009 40000009 0000 01 0000"
@@ -25,7 +20,7 @@ script = Script(
     "Commands whose answers were written down by hand, byte by byte, before there was a device to "
     "ask. Their program stops where an answer is another.",
 )
-caller = StateCaller(script)
+caller = ScriptCaller(script)
 
 
 def bytes_of(text):
@@ -57,10 +52,7 @@ def clock_and_capabilities():
         "8001 00000023 00000000 0000000000000005 0000000000000005 00000001 00000000 01",
     )
     answered(
-        "With an authorization area",
-        "AUTH_CONTEXT",
-        f"8002 00000017 00000181 {PW}",
-        code(0x145),
+        "With an authorization area", "AUTH_CONTEXT", f"8002 00000017 00000181 {PW}", code(0x145)
     )
     answered(
         "TPM2_GetCapability of one command from 131 on: TPM2_CreatePrimary has one handle, and "

@@ -1,15 +1,12 @@
-#!/usr/bin/env python3
 """Writes examples/suspend_resume.tpm: a laptop sleeps, and its TPM loses power and comes back."""
 
 import hashlib
 
-import paths
-
-from frames import RH_OWNER, SHA256
-from object_caller import HERE, sealed, storage_key
-from objects import Attribute
+from tpmsim.caller import CLEAR, HERE, STATE, sealed, storage_key
+from tpmsim.standard import RH_OWNER, SHA256
+from tpmsim.standard.objects import Attribute
+from script_caller import ScriptCaller
 from script import Script
-from state_caller import CLEAR, STATE, StateCaller
 
 KEY = hashlib.sha256(b"the key of a user's home directory").digest()
 BOOT = (
@@ -26,7 +23,7 @@ script = Script(
     "started, and is not measured again. So the operating system asks the TPM to save the PCRs "
     "before it sleeps, and the firmware asks for them back.",
 )
-caller = StateCaller(script)
+caller = ScriptCaller(script)
 
 
 def measure(*measurements):

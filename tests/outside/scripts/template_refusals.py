@@ -1,25 +1,11 @@
-#!/usr/bin/env python3
 """Writes tests/template_refusals.tpm: what is refused of an object that is asked for, in order."""
 
-import paths
-
-import frames
-from commands import CC
-from frames import (
-    AES,
-    ALG_HMAC,
-    ALG_NULL,
-    CFB,
-    KEYEDHASH,
-    RH_OWNER,
-    SHA1,
-    SHA256,
-    SYMCIPHER,
-    number,
-    sized,
-)
-from object_caller import HERE, OPEN, STORES, ObjectCaller, hmac_key, sealed, storage_key
-from objects import NAMED, Attribute, Public
+from tpmsim.caller import HERE, OPEN, STORES, hmac_key, sealed, storage_key
+from tpmsim.model.object_rules import NAMED
+from tpmsim.standard import AES, ALG_HMAC, ALG_NULL, CC, CFB, KEYEDHASH, RH_OWNER, SHA1, SHA256
+from tpmsim.standard import SYMCIPHER, frames, number, sized
+from tpmsim.standard.objects import Attribute, Public
+from script_caller import ScriptCaller
 from script import Script
 
 RESTRICTED, SIGN, DECRYPT = Attribute.RESTRICTED, Attribute.SIGN, Attribute.DECRYPT
@@ -33,7 +19,7 @@ script = Script(
     "what cannot be read, in reading order, then what is asked of every public area, and then what "
     "is asked of what is created.",
 )
-caller = ObjectCaller(script)
+caller = ScriptCaller(script)
 
 
 def raw(code, handle, first, public):
@@ -99,9 +85,7 @@ for code, handle, name in TARGETS[:2]:
 
 
 def head(kind=KEYEDHASH, name_algorithm=SHA256, attributes=HERE | OPEN, auth_policy=b""):
-    return (
-        number(kind, 2) + number(name_algorithm, 2) + number(attributes, 4) + sized(auth_policy)
-    )
+    return number(kind, 2) + number(name_algorithm, 2) + number(attributes, 4) + sized(auth_policy)
 
 
 CIPHER_HEAD = head(SYMCIPHER, SHA256, storage_key().attributes)
@@ -254,10 +238,7 @@ WRONG_ATTRIBUTES = (
 WRONG_SCHEMES = (
     (
         "A KEYEDHASH with scheme HMAC and without sign",
-        (
-            sealed(scheme=SHA256),
-            sealed(SHA1, scheme=SHA1),
-        ),
+        (sealed(scheme=SHA256), sealed(SHA1, scheme=SHA1)),
     ),
     (
         "A restricted KEYEDHASH with scheme NULL",
@@ -369,12 +350,8 @@ for code, handle, name in TARGETS[:2]:
 
     script.chapter("Two faults at once.")
     long = given(b"a" * 21, b"secret")
-    created(
-        "authPolicy, and userAuth", "SIZE/p2", sealed(SHA1, auth_policy=b"p"), long
-    )
-    created(
-        "Scheme HMAC without sign, and userAuth", "SCHEME/p2", sealed(SHA1, scheme=SHA1), long
-    )
+    created("authPolicy, and userAuth", "SIZE/p2", sealed(SHA1, auth_policy=b"p"), long)
+    created("Scheme HMAC without sign, and userAuth", "SCHEME/p2", sealed(SHA1, scheme=SHA1), long)
     created(
         "userAuth, and neither sensitiveDataOrigin nor data",
         "SIZE/p1",
@@ -387,12 +364,7 @@ for code, handle, name in TARGETS[:2]:
         storage_key(),
         given(data=bytes(15)),
     )
-    created(
-        "Scheme HMAC without sign, and no data",
-        "SCHEME/p2",
-        sealed(scheme=SHA256),
-        NOTHING,
-    )
+    created("Scheme HMAC without sign, and no data", "SCHEME/p2", sealed(scheme=SHA256), NOTHING)
 
     script.chapter("What is just right.")
     for what, public, user_auth, data in (
@@ -425,9 +397,7 @@ for code, name in ((CC.Create, "TPM2_Create"), (CC.Load, "TPM2_Load")):
         raw(code, key, first, sized(sealed(auth_policy=b"p").text)),
     )
     caller.says(
-        f"{name}, of what cannot be read",
-        "TYPE/p2",
-        raw(code, key, first, sized(number(1, 2))),
+        f"{name}, of what cannot be read", "TYPE/p2", raw(code, key, first, sized(number(1, 2)))
     )
 for place in range(6):
     caller.load("" if place else "Eight objects are there", parent, child)
@@ -446,9 +416,7 @@ caller.says(
         sized(Public(SYMCIPHER, SHA256, HERE | OPEN | STORES).text),
     ),
 )
-caller.says(
-    "With nothing wrong", "OBJECT_MEMORY", raw(CC.CreatePrimary, RH_OWNER, SECRET, GOOD)
-)
+caller.says("With nothing wrong", "OBJECT_MEMORY", raw(CC.CreatePrimary, RH_OWNER, SECRET, GOOD))
 caller.says(
     "TPM2_Load of a ninth, with an empty private area",
     "INTEGRITY/p1",

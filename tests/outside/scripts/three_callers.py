@@ -1,4 +1,3 @@
-#!/usr/bin/env python3
 """Writes three scripts of three callers of one device, of which each does one thing: the first
 measures into PCR 10 and reads it; the second has data unsealed by a policy on PCR 10; and the third
 writes an NV index in an HMAC session, and sends one command again. They take turns, or take them
@@ -14,17 +13,13 @@ compared with what its history tells of it, and so is the answer to TPM2_PCR_Rea
 
 import copy
 
-import paths  # first: it finds the device
-
-import policy
-from commands import CC
-from frames import RH_NULL, RH_OWNER, SHA256, digests, selection
-from history import History
-from nv import Attribute
-from nv_caller import NvCaller, area
-from object_caller import HERE, Attribute as ObjectAttribute, sealed, storage_key
+from tpmsim.caller import HERE, area, sealed, storage_key
+from tpmsim.model.history import History
+from tpmsim.standard import CC, RH_NULL, RH_OWNER, SHA256, digest, digests, policy, selection
+from tpmsim.standard.nv import Attribute
+from tpmsim.standard.objects import Attribute as ObjectAttribute
+from script_caller import ScriptCaller
 from script import Script
-from sessions import digest
 
 CHOSEN = [(SHA256, [10])]
 SECRET = b"the secret"
@@ -39,7 +34,7 @@ class Stage:
     def __init__(self, name, head):
         self.script, self.history = Script(f"tests/{name}.tpm", head, "three_callers"), History()
         self.script.device.tell = self.history.add
-        self.callers = [NvCaller(self.script) for _ in range(3)]
+        self.callers = [ScriptCaller(self.script) for _ in range(3)]
         for number_of, caller in enumerate(self.callers, 1):
             caller.nonces = 1000 * number_of
 

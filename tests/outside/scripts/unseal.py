@@ -1,24 +1,16 @@
-#!/usr/bin/env python3
 """Writes tests/unseal.tpm: TPM2_Unseal, which gives out what is sealed."""
 
-import paths
-
-import frames
-from commands import CC
-from frames import RH_NULL, RH_OWNER, SHA1, SHA256, SYMCIPHER, number
-from object_caller import HERE, OPEN, ObjectCaller, hmac_key, sealed, storage_key
-from objects import Attribute, Public
+from tpmsim.caller import HERE, OPEN, hmac_key, sealed, storage_key
+from tpmsim.standard import CC, RH_NULL, RH_OWNER, SHA1, SHA256, SYMCIPHER, frames, number
+from tpmsim.standard.objects import Attribute, Public
+from script_caller import ScriptCaller
 from script import Script
 
 script = Script(
     "tests/unseal.tpm", "TPM2_Unseal gives out the data of a sealed object, by its authorization."
 )
-caller = ObjectCaller(script)
-
-
-def refused(what, outcome, *prepared):
-    caller.says(what, outcome, *prepared)
-
+caller = ScriptCaller(script)
+refused = caller.says
 
 script.startup()
 refused(
@@ -58,9 +50,7 @@ for what, value, passwords, wrong in (
         "SUCCESS",
         *(caller.unsealing(handle, it) for it in passwords),
     )
-    refused(
-        "By others", "BAD_AUTH/s1", *(caller.unsealing(handle, it) for it in wrong)
-    )
+    refused("By others", "BAD_AUTH/s1", *(caller.unsealing(handle, it) for it in wrong))
     caller.flush_objects("It is flushed", handle)
 guarded = sealed(attributes=HERE | Attribute.USER_WITH_AUTH)
 made = caller.create("Without noDA", parent, guarded, data=b"secret")

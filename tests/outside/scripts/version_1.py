@@ -3,9 +3,8 @@ program of that version saved, and NAME.tpm the script of its device. Neither is
 """
 
 import paths
-
-import image
-from device import Device
+from tpmsim.model import image
+from tpmsim.model.machine import Model
 from expected import played_by
 
 FOLDER = paths.TESTS / "version_1"
@@ -33,7 +32,7 @@ def spelled(text):
 
 def device_of(name):
     """The device behind the script, each of whose comments names what must come."""
-    device = Device()
+    device = Model()
     for _ in played_by(script(name), device):
         pass
     return device

@@ -1,7 +1,6 @@
-#!/usr/bin/env python3
 """Has a program open the images of version 1 that are kept in tests/version_1:
 
-    python3 tests/outside/scripts/version_1_images.py PROGRAM
+    tools/python.sh tests/outside/scripts/version_1_images.py PROGRAM
 
 What it answers to commands that look at the device, and use what it has, and what it saves
 afterwards, which is of version 2, has to be what the device in Python answers and saves. It says of
@@ -14,24 +13,15 @@ import os
 import sys
 import tempfile
 
-import paths  # first: it finds the device
-
-import frames
-import image
-import lines
-import nv
+from tpmsim.caller import BY_OWNER, CLEAR, STATE, area, counter, sealed, storage_key
+from tpmsim.model import image, nv_commands, streams
+from tpmsim.model.capability import HANDLES, PROPERTIES
+from tpmsim.standard import ALG_NULL, CC, NV, PERSISTENT, RH_ENDORSEMENT, RH_LOCKOUT, RH_NULL
+from tpmsim.standard import RH_OWNER, RH_PLATFORM, SHA256, SYMCIPHER, TRANSIENT, frames, lines, nv
+from tpmsim.standard.handle_kinds import first_byte
+from tpmsim.standard.objects import Attribute
 import serving
-import streams
 import version_1
-from capability import HANDLES, PROPERTIES
-from commands import CC
-from frames import ALG_NULL, NV, PERSISTENT, RH_ENDORSEMENT, RH_LOCKOUT, RH_NULL, RH_OWNER
-from frames import RH_PLATFORM, SHA256, SYMCIPHER, TRANSIENT
-from general import first_byte
-from nv_caller import BY_OWNER, area, counter
-from object_caller import sealed, storage_key
-from objects import Attribute
-from state_caller import CLEAR, STATE
 
 PRIMARY = RH_OWNER, RH_ENDORSEMENT, RH_PLATFORM, RH_NULL
 WITH_VALUES = RH_OWNER, RH_ENDORSEMENT, RH_PLATFORM
@@ -136,14 +126,10 @@ def changes(device):
     yield line("PCR_Event", "00000005", "pw:-", "6576656e74")
     for hierarchy in WITH_VALUES:
         entries = by(device, hierarchy)
-        yield frames.on_handle(
-            CC.HierarchyChangeAuth, hierarchy, frames.sized(b"new"), entries
-        )
+        yield frames.on_handle(CC.HierarchyChangeAuth, hierarchy, frames.sized(b"new"), entries)
     for handle in sorted(it for it in device.objects if first_byte(it) == PERSISTENT):
         yield line("Unseal", f"{handle:08x}", "pw:77726f6e67")
-    yield frames.on_handle(
-        CC.DictionaryAttackLockReset, RH_LOCKOUT, entries=by(device, RH_LOCKOUT)
-    )
+    yield frames.on_handle(CC.DictionaryAttackLockReset, RH_LOCKOUT, entries=by(device, RH_LOCKOUT))
     yield line("DictionaryAttackLockReset", "LOCKOUT", "pw:77726f6e67")
 
 
@@ -277,14 +263,14 @@ def damaged(text):
 def beyond_limits(text):
     """A full device has as much as an image of this version can have."""
     device = image.open_image(text)
-    device.indices[LAST_INDEX] = nv.Index(area(LAST_INDEX, BY_OWNER, size=0), b"", b"")
+    device.indices[LAST_INDEX] = nv_commands.Index(area(LAST_INDEX, BY_OWNER, size=0), b"", b"")
     assert len(device.indices) == image.VERSION_1.indices + 1
     yield "Body", version_1.image_of(device), "with an index more, of no bytes"
 
     device = image.open_image(text)
     index, held = next(it for it in device.indices.items() if it[1].public.data_size == 0)
     public = area(index, held.public.attributes & ~nv.Attribute.WRITTEN, size=1)
-    device.indices[index] = nv.Index(public, held.auth_value, b"")
+    device.indices[index] = nv_commands.Index(public, held.auth_value, b"")
     taken = sum(it.public.data_size for it in device.indices.values())
     assert taken == image.VERSION_1.all_bytes + 1
     yield "Body", version_1.image_of(device), "with a byte of data more"

@@ -1,13 +1,9 @@
-#!/usr/bin/env python3
 """Writes tests/what_stays.tpm: what a device still knows of sessions and counters that are gone."""
 
-import paths  # first: it finds the device
-
-from commands import CC
-from frames import RH_LOCKOUT, SHA256, number
-from history import History
-from nv_caller import FIRST, SECOND, NvCaller, counter
-from policy_caller import zeros
+from tpmsim.caller import counter
+from tpmsim.model.history import History
+from tpmsim.standard import CC, RH_LOCKOUT, SHA256, number
+from script_caller import FIRST, SECOND, ScriptCaller, zeros
 from script import Script
 
 script = Script(
@@ -17,7 +13,7 @@ script = Script(
 )
 history = History()
 script.device.tell = history.add
-caller = NvCaller(script)
+caller = ScriptCaller(script)
 
 
 def counts_up_to(value, handle, times):

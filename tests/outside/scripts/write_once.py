@@ -1,14 +1,11 @@
-#!/usr/bin/env python3
 """Writes examples/write_once.tpm: an NV index that is written once, and never again."""
 
 import hashlib
 
-import paths
-
-import policy
-from frames import RH_OWNER, RH_PLATFORM, SHA256
-from nv import Attribute
-from nv_caller import FIRST, NvCaller, area
+from tpmsim.caller import area
+from tpmsim.standard import RH_OWNER, RH_PLATFORM, SHA256, policy
+from tpmsim.standard.nv import Attribute
+from script_caller import FIRST, ScriptCaller
 from script import Script
 
 # What the factory writes: the serial number of a board, and the digest of its certificate.
@@ -21,7 +18,7 @@ script = Script(
     "TPM2_PolicyNvWritten makes the policy for that: a writer has to find the index unwritten. The "
     "platform alone, whose value the firmware sets at each start, can still remove the index.",
 )
-caller = NvCaller(script)
+caller = ScriptCaller(script)
 
 script.chapter("THE POLICY, computed once, on any device.")
 script.startup()
@@ -53,9 +50,7 @@ caller.define(
 session = caller.policy("A policy session: 03000000")
 caller.says("TPM2_PolicyNvWritten of 0 in it", "SUCCESS", caller.written_told(session, False))
 caller.does("TPM2_NV_Write of the record", caller.writing(FIRST, RECORD, session))
-caller.is_now(
-    "TPM2_NV_ReadPublic: the index has WRITTEN (20000000) now, and another Name", FIRST
-)
+caller.is_now("TPM2_NV_ReadPublic: the index has WRITTEN (20000000) now, and another Name", FIRST)
 
 script.chapter("NOBODY WRITES IT AGAIN. The same assertion still makes the policy's digest ...")
 caller.says("TPM2_PolicyNvWritten of 0", "SUCCESS", caller.written_told(session, False))

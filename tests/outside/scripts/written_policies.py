@@ -1,22 +1,15 @@
-#!/usr/bin/env python3
 """Writes tests/written_policies.tpm: uses of entities by policies that have branches, and by other
 ones, and what is refused of them. tests/policy_audit.sh has these policies in words.
 """
 
-import paths
-
-import policy
-from caller import Use
-from commands import CC
-from frames import RH_ENDORSEMENT, RH_OWNER, SHA1, SHA256, number, selection
+from tpmsim.caller import BY_OWNER, HERE, Use
+from tpmsim.standard import CC, RH_ENDORSEMENT, RH_OWNER, SHA1, SHA256, digest, name_of, number
+from tpmsim.standard import policy, selection
+from tpmsim.standard.nv import Attribute
+from tpmsim.standard.objects import Attribute as ObjectAttribute
+from tpmsim.standard.policy import AUTH_VALUE, PASSWORD
 from grounds_caller import AFTER_AUTH_VALUE, PIN, SECRET, ZEROS, GroundsCaller, after_code
-from nv import Attribute
-from nv_caller import BY_OWNER
-from object_caller import HERE
-from objects import Attribute as ObjectAttribute
-from policy import AUTH_VALUE, PASSWORD
 from script import Script
-from sessions import digest, name_of
 
 USER = ObjectAttribute.USER_WITH_AUTH
 CHOSEN = [(SHA256, [7, 11])]

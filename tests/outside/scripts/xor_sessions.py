@@ -1,4 +1,3 @@
-#!/usr/bin/env python3
 """Writes tests/xor_sessions.tpm: sessions that mask, instead of encrypting, by TPM_ALG_XOR.
 
 Each mask is computed here by hashlib and hmac alone, with nothing of sessions.py: what goes in is
@@ -8,28 +7,11 @@ masked by hand, and what comes back is compared as the bytes that are answered.
 import hashlib
 import hmac
 
-import paths
-
-import frames
-import policy
-from caller import Use, flipped
-from commands import CC
-from frames import (
-    CONTINUE_SESSION,
-    DECRYPT,
-    ENCRYPT,
-    RH_ENDORSEMENT,
-    RH_OWNER,
-    SE_TRIAL,
-    SHA1,
-    SHA256,
-    number,
-    sized,
-)
-from general import COMMAND_BYTES
-from nv_caller import FIRST, NvCaller, area
-from object_caller import HERE, OPEN, hmac_key, sealed, storage_key
-from policy import AUTH_VALUE, PASSWORD
+from tpmsim.caller import HERE, OPEN, Use, area, flipped, hmac_key, sealed, storage_key
+from tpmsim.standard import CC, COMMAND_BYTES, CONTINUE_SESSION, DECRYPT, ENCRYPT, RH_ENDORSEMENT
+from tpmsim.standard import RH_OWNER, SE_TRIAL, SHA1, SHA256, frames, number, policy, sized
+from tpmsim.standard.policy import AUTH_VALUE, PASSWORD
+from script_caller import FIRST, ScriptCaller
 from script import Script
 
 DECRYPTS, ENCRYPTS = CONTINUE_SESSION | DECRYPT, CONTINUE_SESSION | ENCRYPT
@@ -46,7 +28,7 @@ script = Script(
     "TPM_ALG_XOR: the bytes of the first parameter, or of the first answer, have on them a mask of "
     'as many bytes, KDFa(authHash, sessionKey || authValue, "XOR", nonceNewer, nonceOlder, bits).',
 )
-caller = NvCaller(script)
+caller = ScriptCaller(script)
 
 
 # The masks, by the book.
@@ -77,9 +59,7 @@ def masking(what, prepared, plain, place=1, auth_value=b""):
     nonce and the device's.
     """
     session, nonce = prepared.uses[place - 1].session, prepared.uses[place - 1].nonce
-    wanted = mask(
-        session.algorithm, session.key + auth_value, nonce, session.nonce_tpm, len(plain)
-    )
+    wanted = mask(session.algorithm, session.key + auth_value, nonce, session.nonce_tpm, len(plain))
     assert first_buffer(prepared.parameters) == exclusive_or(plain, wanted)
     return caller.accepted(what, prepared)[1]
 
@@ -258,9 +238,7 @@ for name, made_by, demand, in_key in (
         caller.create(
             "TPM2_Create of data with that policy",
             parent,
-            sealed(
-                attributes=HERE | OPEN, auth_policy=policy.after_auth_value(SHA256, bytes(32))
-            ),
+            sealed(attributes=HERE | OPEN, auth_policy=policy.after_auth_value(SHA256, bytes(32))),
             user_auth=b"pin",
             data=b"behind a policy",
         ),
@@ -283,9 +261,7 @@ script.chapter(
     "TPM2_StartAuthSession has a sized buffer in both directions, and a nonce that is masked is "
     "that of the new session's key in plain."
 )
-new = caller.start(
-    "One session does both", RH_OWNER, size=20, xor=True, uses=[Use(session, BOTH)]
-)
+new = caller.start("One session does both", RH_OWNER, size=20, xor=True, uses=[Use(session, BOTH)])
 caller.accepted("By the new session", caller.change_auth(RH_OWNER, OWNER_AUTH, Use(new, DECRYPT)))
 
 script.chapter(
@@ -335,9 +311,7 @@ caller.refused(
     "BAD_AUTH/s1",
     right.but(parameters=flipped(right.parameters)),
 )
-caller.refused(
-    "The same bytes in plain", "BAD_AUTH/s1", right.but(parameters=sized(b"event data"))
-)
+caller.refused("The same bytes in plain", "BAD_AUTH/s1", right.but(parameters=sized(b"event data")))
 caller.refused(
     "The attribute decrypt taken away",
     "BAD_AUTH/s1",

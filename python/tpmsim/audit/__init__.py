@@ -1,0 +1,1 @@
+"""Logs of devices, judged event by event."""

@@ -1,0 +1,120 @@
+"""A script and what was printed of it, judged event by event: by the device in Python, and by what
+the history alone tells.
+"""
+
+from tpmsim.audit.counter_lines import CounterLines
+from tpmsim.audit.entities import Entities
+from tpmsim.audit.ground import Grounds
+from tpmsim.audit.guesses import Guesses
+from tpmsim.audit.log import Disagreement
+from tpmsim.audit.pcr_lines import PcrLines
+from tpmsim.audit.policy_lines import Policies
+from tpmsim.audit.repeats import Repeats
+from tpmsim.audit.session_lines import SessionLines
+from tpmsim.audit.uses import Uses
+from tpmsim.audit.value_lines import ValueLines
+from tpmsim.audit.watch import Watch
+from tpmsim.model.player import BadLine, LINES, Player
+from tpmsim.standard.commands import NUMBERED
+
+
+class Counts:
+    """How many events there were, of each kind."""
+
+    def __init__(self):
+        self.accepted = self.refused = self.power_cycles = 0
+
+    @property
+    def events(self):
+        return self.accepted + self.refused + self.power_cycles
+
+
+class Auditor:
+    """A log that is judged, by the policies that are given too, with what is told of it; `last` is
+    the line of its latest event.
+    """
+
+    def __init__(self, start, log, policy_files=()):
+        device, history = start.device, start.history
+        self.start, self.log, self.history = start, log, history
+        self.player, self.watch = Player(device), Watch(device)
+        self.device, self.counts, self.last = device, Counts(), 0
+        self.pcrs = PcrLines(history, start.has_image)
+        self.values = ValueLines(start.has_image)
+        self.sessions = SessionLines(history)
+        self.entities, self.counters = Entities(device), CounterLines(device, history)
+        self.guesses = Guesses(device, self.sessions)
+        self.repeats = Repeats(self.sessions)
+        self.grounds = Grounds(history, self.sessions, self.pcrs, self.values)
+        self.policies = Policies(policy_files, self.entities, self.grounds)
+        self.uses = Uses(*(self.grounds, self.entities, self.guesses, self.repeats, self.policies))
+
+    def read(self, script):
+        """Judges all lines of a script; the first Disagreement ends it."""
+        lines = script.removesuffix(b"\n").split(b"\n") if script else []
+        for number, line in enumerate(lines[:LINES], 1):
+            try:
+                self.watch.seen = None
+                printed = self.player.play(line)
+            except BadLine:
+                self.log.end()
+                words = f"script line {number} is no line of a script; up to it the log agrees"
+                raise Disagreement(words) from None
+            if printed:
+                self.judge(number, printed)
+        self.log.end()
+        if len(lines) > LINES:
+            words = f"the script has more than {LINES} lines; up to there the log agrees"
+            raise Disagreement(words)
+
+    def judge(self, number, printed):
+        """An event, by what was printed of it."""
+        seen = self.watch.seen
+        seen.line = self.last = number
+        try:
+            self.compare(seen, printed)
+            if seen.event is None:
+                self.refuse(seen)
+            else:
+                self.accept(seen)
+            self.follow()
+        except Disagreement as fault:
+            raise Disagreement(f"{named(seen)}: {fault}") from None
+
+    def compare(self, seen, printed):
+        try:
+            self.log.check(printed)
+        except Disagreement as fault:
+            raise Disagreement(f"{fault}{self.uses.reason(seen)}") from None
+
+    def refuse(self, seen):
+        self.counts.refused += 1
+        self.guesses.refuse(seen, self.grounds)
+        self.uses.refuse(seen)
+
+    def accept(self, seen):
+        """First its entries, by the history before it; then what the history tells with it."""
+        if seen.is_power_cycle:
+            self.counts.power_cycles += 1
+        else:
+            self.counts.accepted += 1
+            self.uses.accept(seen)
+            self.sessions.assert_on(seen)
+        self.history.add(seen.event)
+        for part in (self.pcrs, self.values, self.sessions, self.entities, self.counters):
+            part.note(seen)
+        self.guesses.note(seen)
+
+    def follow(self):
+        """The device follows its history."""
+        told = ", ".join(self.history.differences(self.device))
+        if told:
+            raise Disagreement(f"the device is not what its history tells: {told}")
+
+
+def named(seen):
+    """An event, in words: the line, and the command where it is known."""
+    if seen.is_power_cycle:
+        return f"script line {seen.line}, power"
+    code = seen.outcome.row.code
+    return f"script line {seen.line}" + (f", {NUMBERED[code].name}" if code in NUMBERED else "")

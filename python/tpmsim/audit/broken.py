@@ -1,0 +1,75 @@
+"""How a policy session came to the digest of a policy that it does not meet: the hash is broken in
+one of the ways that tpm_policy_meaning has (Meaning, BreaksHash), or the device took a
+TPM2_PolicyOR that none takes.
+"""
+
+from tpmsim.audit.asserted import PolicyOr
+from tpmsim.policies.policy_texts import policy_digest, policy_texts, texts_after, zeros
+from tpmsim.standard.sessions import digest
+
+
+def explanation(algorithm, policy, told):
+    """It, in words."""
+    for find in (wrong_or, collision, hash_of_zeros, astride):
+        found = find(algorithm, policy, told)
+        if found:
+            return found
+    return "nothing tells how the session came to the digest of the policy"
+
+
+def wrong_or(algorithm, policy, told):
+    """A TPM2_PolicyOR that no device accepts."""
+    for it in told:
+        if isinstance(it.said, PolicyOr) and it.before not in it.said.digests:
+            return f"line {it.line}: TPM2_PolicyOR is accepted without the digest before it"
+    return None
+
+
+def session_texts(algorithm, told):
+    """The texts that a session hashed, each with the line of its assertion."""
+    for it in told:
+        old = zeros(algorithm) if isinstance(it.said, PolicyOr) else it.before
+        for text in texts_after(algorithm, old, it.said.update(algorithm)):
+            yield text, it.line
+
+
+def collision(algorithm, policy, told):
+    """Two texts with one hash, one of the policy and one of the session."""
+    written = [(it, digest(algorithm, it)) for it in policy_texts(algorithm, policy)]
+    for text, line in session_texts(algorithm, told):
+        found = digest(algorithm, text)
+        for other, wanted in written:
+            if found == wanted and text != other:
+                both = f"{other.hex()} of the policy, and {text.hex()} of line {line}"
+                return f"two texts have one hash: {both}"
+    return None
+
+
+def hash_of_zeros(algorithm, policy, told):
+    of_policy = [(it, "the policy") for it in policy_texts(algorithm, policy)]
+    of_session = [(text, f"line {line}") for text, line in session_texts(algorithm, told)]
+    for text, whose in of_policy + of_session:
+        if digest(algorithm, text) == zeros(algorithm):
+            return f"a text has a hash of zeros: {text.hex()} of {whose}"
+    return None
+
+
+def branch_lists(algorithm, policy):
+    """The digests of the branches of each PolicyOR, with the line of its `either`."""
+    if policy.branches:
+        yield policy.line, [policy_digest(algorithm, it) for it in policy.branches]
+        for branch in policy.branches:
+            yield from branch_lists(algorithm, branch)
+
+
+def astride(algorithm, policy, told):
+    """A digest that is none of the branches', but the end of one and the beginning of the next."""
+    had = [(zeros(algorithm), "the start"), *((it.digest, f"line {it.line}") for it in told)]
+    for line, digests in branch_lists(algorithm, policy):
+        for found, since in had:
+            for place, (first, second) in enumerate(zip(digests, digests[1:]), 1):
+                inner = (first + second)[1:-1]
+                if found not in digests and found in inner:
+                    branches = f"branches {place} and {place + 1} of policy line {line}"
+                    return f"the digest {found.hex()} of {since} is astride {branches}"
+    return None

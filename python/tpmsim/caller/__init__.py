@@ -1,0 +1,19 @@
+"""What a caller of a TPM computes, and a caller that sends it to a device."""
+
+from tpmsim.caller.caller import Caller
+from tpmsim.caller.entries import Made, Means, Prepared, Session, Use, flipped, wrong
+from tpmsim.caller.knowledge import CLEAR, Knowledge, NONCE_BYTES, STATE, WrongResponse
+from tpmsim.caller.responses import Refused, Response
+from tpmsim.caller.templates import BY_OWNER, BY_PLATFORM, BY_POLICY, BY_VALUE, FIRST, HERE, OPEN
+from tpmsim.caller.templates import STORES, area, bits, counter, extended, hmac_key, sealed
+from tpmsim.caller.templates import storage_key
+from tpmsim.policies.told import digest_of
+
+# fmt: off
+__all__ = [
+    "area", "bits", "BY_OWNER", "BY_PLATFORM", "BY_POLICY", "BY_VALUE", "Caller", "CLEAR",
+    "counter", "digest_of", "extended", "FIRST", "flipped", "HERE", "hmac_key", "Knowledge",
+    "Made", "Means", "NONCE_BYTES", "OPEN", "Prepared", "Refused", "Response", "sealed",
+    "Session", "STATE", "storage_key", "STORES", "Use", "wrong", "WrongResponse"
+]
+# fmt: on

@@ -1,0 +1,175 @@
+"""A caller of a device: it sends commands, and each response makes it know more."""
+
+import secrets
+from typing import Any, Callable, Protocol, Sequence
+
+from tpmsim.caller.entries import Made, Means, Prepared, Session, Use
+from tpmsim.caller.knowledge import CLEAR, NONCE_BYTES
+from tpmsim.caller.prepared_commands import PreparedCommands
+from tpmsim.caller.responses import Refused, Response
+from tpmsim.policies.told import Step, policy_of, steps_of
+from tpmsim.standard import nv, objects, policy
+from tpmsim.standard.commands import CC
+from tpmsim.standard.frames import ALG_NULL, RH_NULL, RH_OWNER, SE_HMAC, SE_POLICY, SE_TRIAL
+from tpmsim.standard.frames import SHA256, XOR
+from tpmsim.standard.sessions import trimmed
+from tpmsim.standard.values import Cipher
+
+
+class Answered(Protocol):
+    """A response's bytes, and the check of the trace where the device tells it."""
+
+    @property
+    def response(self) -> bytes:
+        ...
+
+    @property
+    def check(self) -> str | None:
+        ...
+
+
+class Executes(Protocol):
+    """A device, as far as a caller needs one."""
+
+    def execute(self, buffer: bytes) -> Answered:
+        ...
+
+
+class Caller(PreparedCommands):
+    """Sends commands to a device. `nonce` gives as many bytes as it is asked for."""
+
+    def __init__(
+        self, device: Executes, nonce: Callable[[int], bytes] = secrets.token_bytes
+    ) -> None:
+        super().__init__(nonce)
+        self.device = device
+
+    def send(self, prepared: Prepared) -> Response:
+        """The response; Refused where the device refuses, and WrongResponse where no device that
+        has the session's key answers so.
+        """
+        answered = self.device.execute(prepared.buffer())
+        code = int.from_bytes(answered.response[6:10], "big")
+        if code:
+            raise Refused(prepared, code, answered.check)
+        return Response(prepared.code, *self.received(prepared, answered.response))
+
+    def call(
+        self, name: str | CC, *those: int | Session, uses: Sequence[Means] = (), **arguments: Any
+    ) -> Response:
+        """Sends any command, as `call("NV_Read", index, index, size=8, offset=0)`."""
+        return self.send(self.command(name, *those, uses=uses, **arguments))
+
+    # Starts and sessions.
+
+    def start_up(self, kind: int = CLEAR) -> None:
+        self.send(self.starting(kind))
+
+    def session(
+        self,
+        bind: int = RH_NULL,
+        *uses: Means,
+        kind: int = SE_HMAC,
+        algorithm: int = SHA256,
+        cipher: int = ALG_NULL,
+        size: int = NONCE_BYTES,
+    ) -> Session:
+        """Starts a session, bound to an entity or to nothing. `cipher` is AES or XOR where it is to
+        encrypt; `size` is that of its nonces in bytes.
+        """
+        nonce, mask = self.nonce(size), algorithm if cipher == XOR else None
+        response = self.call(
+            CC.StartAuthSession,
+            RH_NULL,
+            bind,
+            uses=uses,
+            nonceCaller=nonce,
+            encryptedSalt=b"",
+            sessionType=kind,
+            symmetric=Cipher(cipher, mask),
+            authHash=algorithm,
+        )
+        answer = response.handle, response.parameters
+        return self.started(answer, nonce, bind, algorithm, kind, cipher)
+
+    def trial(self, algorithm: int = SHA256) -> Session:
+        return self.session(kind=SE_TRIAL, algorithm=algorithm)
+
+    def policy(self, words: str, algorithm: int = SHA256, **choices: Any) -> Use:
+        """Starts a policy session that is told a policy in words (docs/USING.md), and gives the use
+        of it. Of an `either` the branches are tried in turn, and the first that the device does not
+        refuse is taken; Refused where it refuses all of them.
+        """
+        session = self.session(kind=SE_POLICY, algorithm=algorithm, **choices)
+        return self.tell(session, words)
+
+    def tell(self, session: Session, words: str) -> Use:
+        """Tells a policy or a trial session a policy in words."""
+        use = Use(session)
+        for step in steps_of(policy_of(words), session.algorithm):
+            self.tell_step(use, step)
+        return use
+
+    def tell_step(self, use: Use, step: Step) -> None:
+        session = use.session
+        if step.branches:
+            self.tell_branch(use, step)
+        elif step.code in (CC.PolicySecret, CC.PolicyNV):
+            those = [self.handle_of(step.name), session.handle]
+            if step.code == CC.PolicyNV:
+                those.insert(0, those[0])
+            self.send(self.prepare(step.code, those, step.parameters, *self.by((), those[0])))
+        else:
+            self.send(self.told(step.code, session, step.parameters))
+        demands = {CC.PolicyAuthValue: policy.AUTH_VALUE, CC.PolicyPassword: policy.PASSWORD}
+        use.demand = demands.get(step.code, use.demand)
+
+    def tell_branch(self, use: Use, step: Step) -> None:
+        refused: Refused | None = None
+        for branch in step.branches:
+            try:
+                for it in branch:
+                    self.tell_step(use, it)
+                self.send(self.told(CC.PolicyOR, use.session, step.parameters))
+                return
+            except Refused as fault:
+                refused, use.demand = fault, None
+                self.send(self.restart(use.session))
+        assert refused is not None
+        raise refused
+
+    def handle_of(self, name: bytes) -> int:
+        """The handle of a Name that is known, or that is a handle itself."""
+        known = [handle for handle, it in self.names.items() if it == name]
+        return known[0] if known else int.from_bytes(name, "big")
+
+    # Objects and indices.
+
+    def create_primary(
+        self, public: objects.Public, *uses: Means, hierarchy: int = RH_OWNER, **more: Any
+    ) -> int:
+        """The handle of a primary object. `user_auth`, `data`, `outside_info` and `pcrs` may be
+        given.
+        """
+        handle = self.send(self.primary(hierarchy, public, *uses, **more)).handle
+        assert handle is not None
+        return handle
+
+    def create(
+        self, parent: int, public: objects.Public, *uses: Means, user_auth: bytes = b"", **more: Any
+    ) -> Made:
+        response = self.send(self.child(parent, public, *uses, user_auth=user_auth, **more))
+        area = objects.Public.read(response["outPublic"])
+        return Made(response["outPrivate"], area, trimmed(user_auth))
+
+    def load(self, parent: int, made: Made, *uses: Means) -> int:
+        """The handle of an object that is loaded."""
+        handle = self.send(self.loading(parent, made, *uses)).handle
+        assert handle is not None
+        self.auth_values[handle] = made.auth_value
+        return handle
+
+    def define(self, public: nv.Public, *uses: Means, auth: bytes = b"", by: int = RH_OWNER) -> int:
+        """The handle of an index that is defined, with this authorization value."""
+        self.send(self.defining(public, *uses, auth=auth, by=by))
+        return public.index

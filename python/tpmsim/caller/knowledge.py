@@ -1,0 +1,315 @@
+"""What a caller of a device knows, and what it computes from that: commands that sessions
+authorize, and what their responses tell.
+
+It learns nonces from responses alone, knows the authorization values because it set them and the
+Names of objects because it was answered their public areas, and stops where a response's hmac is
+not the one that it computes itself.
+"""
+
+import contextlib
+import secrets
+from typing import Any, Callable, Iterator, Sequence
+
+from tpmsim.caller.entries import Means, Prepared, Session, Use
+from tpmsim.standard import frames, handle_kinds, nv, policy, sessions, values
+from tpmsim.standard.aes_tables import encrypt_block
+from tpmsim.standard.commands import CC
+from tpmsim.standard.frames import CONTINUE_SESSION, DECRYPT, ENCRYPT, Entry, RH_ENDORSEMENT
+from tpmsim.standard.frames import RH_LOCKOUT, RH_NULL, RH_OWNER, RH_PLATFORM, RS_PW, TRANSIENT
+from tpmsim.standard.reading import Fields
+from tpmsim.standard.sessions import trimmed
+
+NONCE_BYTES = 16
+
+# The parameter of TPM2_Startup and TPM2_Shutdown.
+CLEAR, STATE = 0, 1
+
+# What each command leaves in the attributes of the index that it is used on.
+MARKS = {
+    CC.NV_Write: nv.Attribute.WRITTEN,
+    CC.NV_Increment: nv.Attribute.WRITTEN,
+    CC.NV_SetBits: nv.Attribute.WRITTEN,
+    CC.NV_Extend: nv.Attribute.WRITTEN,
+    CC.NV_WriteLock: nv.Attribute.WRITELOCKED,
+    CC.NV_ReadLock: nv.Attribute.READLOCKED,
+}
+
+
+class WrongResponse(Exception):
+    """A response that no device gives which has the keys of the sessions, in words."""
+
+
+def expect(holds: bool, words: str) -> None:
+    if not holds:
+        raise WrongResponse(words)
+
+
+class Knowledge:
+    """The authorization values, the Names and the public areas of indices, each by its handle.
+    `nonce` gives as many bytes as it is asked for, by default random ones.
+    """
+
+    def __init__(self, nonce: Callable[[int], bytes] = secrets.token_bytes) -> None:
+        self.nonce = nonce
+        self.auth_values: dict[int, bytes] = {}
+        self.names: dict[int, bytes] = {}
+        self.publics: dict[int, nv.Public] = {}
+
+    def auth_value(self, handle: int | None) -> bytes:
+        """That of what has none is empty."""
+        return b"" if handle is None else self.auth_values.get(handle, b"")
+
+    def name(self, handle: int) -> bytes:
+        return self.names.get(handle) or sessions.name_of(handle)
+
+    def note(self, handle: int, name: bytes, auth_value: bytes) -> None:
+        self.names[handle], self.auth_values[handle] = name, auth_value
+
+    def note_public(self, public: nv.Public) -> None:
+        self.publics[public.index], self.names[public.index] = public, public.name
+
+    def forget(self, *those: int) -> None:
+        for handle in those:
+            self.names.pop(handle, None)
+            self.auth_values.pop(handle, None)
+            self.publics.pop(handle, None)
+
+    @contextlib.contextmanager
+    def breaking(self, **rules: Any) -> Iterator[None]:
+        """What is prepared within keeps to these in place of the rules of this class."""
+        vars(self).update(rules)
+        try:
+            yield
+        finally:
+            for name in rules:
+                del vars(self)[name]
+
+    # Commands.
+
+    def prepare(
+        self, code: CC, handles: Sequence[int], parameters: bytes = b"", *means: Means
+    ) -> Prepared:
+        """A command with an entry for each means: a password's bytes, a session, or a `Use`."""
+        uses = [Use(it) if isinstance(it, Session) else it for it in means]
+        for use in uses:
+            if isinstance(use, Use) and use.nonce is None:
+                use.nonce = self.nonce(len(use.session.nonce_tpm))
+        prepared = Prepared(code, list(handles), parameters, uses, [])
+        for place, use in enumerate(uses, 1):
+            if isinstance(use, Use) and use.attributes & DECRYPT:
+                handle = prepared.authorized(place)
+                prepared.parameters = self.encrypted(use, handle, prepared.parameters)
+        prepared.entries = [self.entry(prepared, place) for place in range(1, len(uses) + 1)]
+        return prepared
+
+    def key(self, use: Use, handle: int | None) -> bytes:
+        """The key of an hmac. In an HMAC session the authorization value is in it, but where the
+        session is bound to the entity and that has the value that it had at the start; in a policy
+        session where the policy asks for it.
+        """
+        session = use.session
+        if handle is None:
+            return session.key
+        auth_value = self.auth_value(handle)
+        if handle_kinds.is_policy(session.handle):
+            is_in_key = use.demand == policy.AUTH_VALUE
+        else:
+            is_in_key = (session.bind, session.bind_auth) != (self.name(handle), auth_value)
+        return session.key + (auth_value if is_in_key else b"")
+
+    def encrypted(self, use: Use, handle: int | None, parameters: bytes) -> bytes:
+        """Parameters of a command with the bytes of the first one encrypted."""
+        session = use.session
+        nonces = use.nonce or b"", session.nonce_tpm
+        return self.changed(sessions.encrypted, session, handle, nonces, parameters)
+
+    def decrypted(self, use: Use, handle: int | None, parameters: bytes) -> bytes:
+        """The other way round."""
+        session = use.session
+        nonces = use.nonce or b"", session.nonce_tpm
+        return self.changed(sessions.decrypted, session, handle, nonces, parameters)
+
+    def changed(
+        self,
+        change: Callable[..., bytes],
+        session: Session,
+        handle: int | None,
+        nonces: tuple[bytes, bytes],
+        parameters: bytes,
+    ) -> bytes:
+        key = session.key + self.auth_value(handle)
+        return sessions.on_first_buffer(
+            lambda data: change(
+                *(session.cipher, session.algorithm, key, *nonces, data, encrypt_block)
+            ),
+            parameters,
+        )
+
+    def entry(self, prepared: Prepared, place: int) -> Entry:
+        use = prepared.uses[place - 1]
+        if isinstance(use, bytes):
+            return Entry(RS_PW, b"", CONTINUE_SESSION, use)
+        session, nonce = use.session, use.nonce or b""
+        handle = prepared.authorized(place)
+        key, hmac = self.key(use, handle), b""
+        if use.demand == policy.PASSWORD:
+            hmac = self.auth_value(handle)
+        elif key or use.shows_empty_key:
+            hmac = sessions.entry_hmac(
+                session.algorithm,
+                key,
+                self.cp_hash(prepared, session.algorithm),
+                nonce,
+                session.nonce_tpm,
+                self.nonces_of_others(prepared, place, handle),
+                use.attributes,
+            )
+        return Entry(session.handle, nonce, use.attributes, hmac)
+
+    def cp_hash(self, prepared: Prepared, algorithm: int = frames.SHA256) -> bytes:
+        """That of a command, by the Names of its handles as they are known."""
+        names = [self.name(it) for it in prepared.handles]
+        return sessions.command_hash(algorithm, prepared.code, names, prepared.parameters)
+
+    @staticmethod
+    def nonces_of_others(prepared: Prepared, place: int, handle: int | None) -> list[bytes]:
+        """In the first entry, where it authorizes: the nonce of the session that decrypts, then of
+        the one that encrypts, and not of its own.
+        """
+        if place != 1 or handle is None:
+            return []
+        others = [it for it in prepared.uses[1:] if isinstance(it, Use)]
+        decrypting = [it for it in others if it.attributes & DECRYPT]
+        encrypting = [it for it in others if it.attributes & ENCRYPT and it not in decrypting]
+        return [it.session.nonce_tpm for it in decrypting + encrypting]
+
+    def started(
+        self,
+        answer: tuple[int | None, bytes],
+        nonce: bytes,
+        bind: int,
+        algorithm: int,
+        kind: int,
+        cipher: int = frames.ALG_NULL,
+    ) -> Session:
+        """The session of what TPM2_StartAuthSession answered: its handle and its parameters."""
+        handle, parameters = answer
+        nonce_tpm, bind_auth = Fields(parameters).sized(), self.auth_value(bind)
+        key = b""
+        if bind != RH_NULL:
+            key = sessions.session_key(algorithm, bind_auth, nonce_tpm, nonce)
+        bound = self.name(bind), bind_auth
+        return Session(handle or 0, algorithm, nonce_tpm, key, *bound, kind, cipher)
+
+    # Responses of commands that were accepted.
+
+    def received(self, prepared: Prepared, response: bytes) -> tuple[int | None, bytes]:
+        """The handle and the parameters that a response answers, in plain. What the command changed
+        is known from then on. WrongResponse where it is not the response to this command.
+        """
+        fields = Fields(response)
+        tag, size, code = fields.number(2), fields.number(4), fields.number(4)
+        expect((size, code) == (len(response), 0), "the response is no success of its size")
+        wanted = frames.SESSIONS if prepared.entries else frames.NO_SESSIONS
+        expect(tag == wanted, f"the tag of the response is {tag:04x}")
+        handle = fields.number(4) if prepared.code.answers_handle else None
+        request = self.plain_request(prepared)
+        self.note_effect(prepared, request)
+        if not prepared.entries:
+            parameters = fields.data
+        else:
+            parameters = fields.take(fields.number(4))
+            for place in range(1, len(prepared.entries) + 1):
+                self.check_answer(prepared, place, parameters, fields)
+            expect(not fields.data, "bytes are left behind the response")
+            parameters = self.plain_answer(prepared, parameters)
+        self.note_answer(prepared, request, handle, parameters)
+        return handle, parameters
+
+    def plain_request(self, prepared: Prepared) -> bytes:
+        """The parameters of a command, before they were encrypted."""
+        for place, use in enumerate(prepared.uses, 1):
+            if isinstance(use, Use) and use.attributes & DECRYPT:
+                return self.decrypted(use, prepared.authorized(place), prepared.parameters)
+        return prepared.parameters
+
+    def note_effect(self, prepared: Prepared, request: bytes) -> None:
+        """What an accepted command, with its parameters in plain, changes before it is answered."""
+        code, handles = prepared.code, prepared.handles
+        if code in MARKS and handles[1] in self.publics:
+            self.note_public(self.publics[handles[1]].but(added=MARKS[code]))
+        elif code == CC.NV_UndefineSpace:
+            self.forget(handles[1])
+        elif code == CC.Clear:
+            for hierarchy in (RH_OWNER, RH_ENDORSEMENT, RH_LOCKOUT):
+                self.auth_values.pop(hierarchy, None)
+        elif code in (CC.HierarchyChangeAuth, CC.NV_ChangeAuth):
+            self.auth_values[handles[0]] = trimmed(Fields(request).sized())
+
+    def note_answer(
+        self, prepared: Prepared, request: bytes, handle: int | None, parameters: bytes
+    ) -> None:
+        """What else it tells, with its answer in plain."""
+        code, fields = prepared.code, Fields(request)
+        if code == CC.NV_ReadPublic:
+            self.note_public(nv.Public.read(Fields(parameters).sized()))
+        elif code == CC.Startup and fields.number(2) == CLEAR:
+            self.auth_values.pop(RH_PLATFORM, None)
+        elif code == CC.FlushContext:
+            flushed = fields.number(4)
+            if handle_kinds.first_byte(flushed) == TRANSIENT:
+                self.forget(flushed)
+        elif code == CC.EvictControl:
+            self.note_evicted(prepared.handles[1], fields.number(4))
+        elif code == CC.NV_DefineSpace:
+            auth_value, public = fields.sized(), nv.Public.read(fields.sized())
+            self.note_public(public)
+            self.auth_values[public.index] = trimmed(auth_value)
+        elif handle is not None and code in (CC.CreatePrimary, CC.Load):
+            name = values.read_all(code.answered_parameters, parameters)["name"]
+            # The value of a loaded object is in its private area, and whoever made that knows it.
+            user_auth = Fields(fields.sized()).sized() if code == CC.CreatePrimary else b""
+            self.note(handle, name, trimmed(user_auth))
+
+    def note_evicted(self, handle: int, wanted: int) -> None:
+        if handle == wanted:
+            self.forget(handle)
+        else:
+            self.note(wanted, self.name(handle), self.auth_value(handle))
+
+    def check_answer(
+        self, prepared: Prepared, place: int, parameters: bytes, fields: Fields
+    ) -> None:
+        """Takes the answer to an entry from the fields, and checks it."""
+        use, entry = prepared.uses[place - 1], prepared.entries[place - 1]
+        nonce_tpm, attributes, hmac = fields.sized(), fields.number(1), fields.sized()
+        if isinstance(use, bytes):
+            wanted = b"", CONTINUE_SESSION, b""
+            expect((nonce_tpm, attributes, hmac) == wanted, "a password is answered otherwise")
+            return
+        session = use.session
+        is_like = attributes == entry.attributes and len(nonce_tpm) == len(session.nonce_tpm)
+        expect(is_like, f"the answer to entry {place} has other attributes, or no nonce")
+        session.nonce_tpm = nonce_tpm
+        if not entry.hmac or use.demand == policy.PASSWORD:
+            expect(not hmac, f"entry {place} is answered by an hmac")
+            return
+        wanted_hmac = sessions.entry_hmac(
+            session.algorithm,
+            self.key(use, prepared.authorized(place)),
+            sessions.response_hash(session.algorithm, prepared.code, parameters),
+            nonce_tpm,
+            entry.nonce,
+            [],
+            attributes,
+        )
+        expect(hmac == wanted_hmac, f"entry {place} is answered by a wrong hmac")
+
+    def plain_answer(self, prepared: Prepared, parameters: bytes) -> bytes:
+        for place, use in enumerate(prepared.uses, 1):
+            if isinstance(use, Use) and use.attributes & ENCRYPT:
+                session = use.session
+                nonces = session.nonce_tpm, use.nonce or b""
+                handle = prepared.authorized(place)
+                return self.changed(sessions.decrypted, session, handle, nonces, parameters)
+        return parameters

@@ -1,0 +1,107 @@
+"""TPM2_GetCapability: what the device has and is (TPM 2.0 Library, Part 3, section 30.2)."""
+
+from __future__ import annotations
+
+from tpmsim.model.general import Answer, Refusal
+from tpmsim.model.held import Held
+from tpmsim.model.parameters import Request
+from tpmsim.standard import frames, handle_kinds
+from tpmsim.standard.commands import CC
+from tpmsim.standard.frames import HMAC_SESSION, NV, PERSISTENT, POLICY_SESSION, TRANSIENT, number
+from tpmsim.standard.sessions import HASHES
+
+# The capabilities that are served (Part 2, section 6.12), and the most elements of one answer.
+HANDLES, COMMANDS, PCRS, PROPERTIES = 1, 2, 5, 6
+MOST_ELEMENTS = 64
+
+# The first bytes of the handles of PCRs, and of what is always there.
+PCR_KIND, PERMANENT_KIND = 0x00, 0x40
+PERMANENT = (
+    frames.RH_OWNER,
+    frames.RH_NULL,
+    frames.RS_PW,
+    frames.RH_LOCKOUT,
+    frames.RH_ENDORSEMENT,
+    frames.RH_PLATFORM,
+)
+
+# The properties (section 6.13). The family is "2.0", with a zero behind it.
+FAMILY_INDICATOR, TOTAL_COMMANDS = 0x100, 0x129
+LOCKOUT_COUNTER, MAX_AUTH_FAIL, LOCKOUT_INTERVAL, LOCKOUT_RECOVERY = range(0x20E, 0x212)
+FAMILY = b"2.0\0"
+
+# Where the attributes of a command (TPMA_CC) have the number of its handles, and that it answers
+# one.
+HANDLES_SHIFT, ANSWERED_HANDLE = 25, 1 << 28
+PLACE_BITS = 0xFF_FFFF
+
+
+def command_attributes(code: CC) -> int:
+    answered = ANSWERED_HANDLE if code.answers_handle else 0
+    return code | len(code.handles) << HANDLES_SHIFT | answered
+
+
+class Commands(Held):
+    """The command, of a device that has all that is asked for."""
+
+    def get_capability(self, request: Request) -> Answer:
+        capability = request.parameters.next().number(4)
+        wanted = request.parameters.next().number(4)
+        count = request.parameters.next().number(4)
+        request.parameters.end()
+
+        if capability == PCRS:
+            banks = frames.selection(*((algorithm, handle_kinds.PCRS) for algorithm in HASHES))
+            return Answer(b"\0" + number(PCRS, 4) + banks)
+        elements = self.elements(capability, wanted)
+        given = elements[: min(count, MOST_ELEMENTS)]
+        more = number(len(given) < len(elements), 1)
+        return Answer(more + number(capability, 4) + number(len(given), 4) + b"".join(given))
+
+    def elements(self, capability: int, wanted: int) -> list[bytes]:
+        """All from the one that is wanted on, in their order."""
+        if capability == HANDLES:
+            return [number(it, 4) for it in self.handles_from(wanted)]
+        if capability == COMMANDS:
+            codes = sorted(it for it in CC if it >= wanted)
+            return [number(command_attributes(it), 4) for it in codes]
+        if capability == PROPERTIES:
+            properties = sorted(self.properties().items())
+            return [number(key, 4) + value for key, value in properties if key >= wanted]
+        raise Refusal("VALUE/p1", "A1")
+
+    def handles_from(self, wanted: int) -> list[int]:
+        """The handles of the kind that the first byte of the wanted one says."""
+        kind = handle_kinds.first_byte(wanted)
+        held = {
+            PCR_KIND: handle_kinds.PCRS,
+            PERMANENT_KIND: PERMANENT,
+            NV: self.indices,
+            TRANSIENT: self.objects,
+            PERSISTENT: self.objects,
+        }
+        if kind == HMAC_SESSION:
+            return self.sessions_from(wanted & PLACE_BITS)
+        # That asks for saved sessions, and none is ever saved.
+        if kind == POLICY_SESSION:
+            return []
+        if kind not in held:
+            raise Refusal("HANDLE/p2", "A2")
+        of_kind = [it for it in held[kind] if handle_kinds.first_byte(it) == kind]
+        return sorted(it for it in of_kind if it >= wanted)
+
+    def sessions_from(self, place: int) -> list[int]:
+        """Sessions of all types, in the order of their places."""
+        by_place = sorted((it & PLACE_BITS, it) for it in self.sessions)
+        return [handle for at, handle in by_place if at >= place]
+
+    def properties(self) -> dict[int, bytes]:
+        lockout = self.lockout
+        return {
+            FAMILY_INDICATOR: FAMILY,
+            TOTAL_COMMANDS: number(len(CC), 4),
+            LOCKOUT_COUNTER: number(lockout.failed_tries, 4),
+            MAX_AUTH_FAIL: number(lockout.max_tries, 4),
+            LOCKOUT_INTERVAL: number(lockout.recovery_time, 4),
+            LOCKOUT_RECOVERY: number(lockout.lockout_recovery, 4),
+        }

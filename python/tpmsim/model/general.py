@@ -1,0 +1,184 @@
+"""What every command goes through before its own parameters: the checks of its buffer, its handles
+and the entries of its authorization area, in the order of docs/table/order_of_refusals.md.
+"""
+
+from __future__ import annotations
+
+from dataclasses import dataclass
+from typing import Iterator, TYPE_CHECKING
+
+from tpmsim.standard import frames
+from tpmsim.standard.commands import CC, Fact, Handle, NUMBERED
+from tpmsim.standard.frames import AUDIT, AUDIT_EXCLUSIVE, AUDIT_RESET, COMMAND_BYTES, DECRYPT
+from tpmsim.standard.frames import ENCRYPT, Entry, HEADER_BYTES, MOST_ENTRIES, PERSISTENT, RESERVED
+from tpmsim.standard.frames import RS_PW, TRANSIENT
+from tpmsim.standard.handle_kinds import IS_OF_KIND, first_byte, is_index, is_policy, is_session
+from tpmsim.standard.reading import Fields, Short
+
+if TYPE_CHECKING:
+    from tpmsim.model.machine import Session
+    from tpmsim.model.nv_commands import Index
+    from tpmsim.model.object_rules import Object
+
+LEAST_AREA, MOST_NONCE_OR_HMAC = 9, 32
+
+# The checks of a command's header, which come before it is known which command it is.
+HEADER_CHECKS = "G1", "G2", "G3", "G4"
+
+
+class Refusal(Exception):
+    """A command that is refused; `name` is that of the code, as HASH/p1, and `check` that of the
+    check which refuses it, as G11 or A1. `touched` is what dictionary attack protection counts it
+    at, if at anything.
+    """
+
+    def __init__(self, name: str, check: str, touched: str | None = None) -> None:
+        super().__init__(name)
+        self.name, self.check, self.touched = name, check, touched
+
+
+@dataclass
+class Command:
+    """A command that its buffer spells; without sessions `entries` is None. A handle of the
+    `authorized` first ones is that of the entry in its place.
+    """
+
+    code: CC
+    handles: list[int]
+    entries: list[Entry] | None
+    parameters: bytes
+
+    def places(self) -> Iterator[tuple[int, Entry, int | None]]:
+        """Each entry with its number and the handle that it authorizes, if any."""
+        authorized = self.handles[: self.code.authorized]
+        for place, entry in enumerate(self.entries or [], 1):
+            yield place, entry, authorized[place - 1] if place <= len(authorized) else None
+
+    def with_attribute(self, attribute: int) -> tuple[int, Entry, int | None] | None:
+        """The entry that decrypts or encrypts, its number, and the handle that it authorizes."""
+        for place, entry, handle in self.places():
+            if entry.attributes & attribute:
+                return place, entry, handle
+        return None
+
+
+@dataclass
+class Answer:
+    """What a command answers, and how many random bytes it drew."""
+
+    parameters: bytes = b""
+    handle: bytes = b""
+    drawn: int = 0
+
+
+def read_header(fields: Fields, length: int) -> tuple[int, CC]:
+    if not HEADER_BYTES <= length <= COMMAND_BYTES:
+        raise Refusal("COMMAND_SIZE", "G1")
+    tag, size, code = fields.number(2), fields.number(4), fields.number(4)
+    if tag not in (frames.NO_SESSIONS, frames.SESSIONS):
+        raise Refusal("BAD_TAG", "G2")
+    if size != length:
+        raise Refusal("COMMAND_SIZE", "G3")
+    if code not in NUMBERED:
+        raise Refusal("COMMAND_CODE", "G4")
+    return tag, NUMBERED[code]
+
+
+def read_handles(
+    fields: Fields,
+    wanted: tuple[Handle, ...],
+    sessions: dict[int, Session],
+    objects: dict[int, Object],
+    indices: dict[int, Index],
+) -> list[int]:
+    handles = []
+    for place, it in enumerate(wanted, 1):
+        try:
+            handle = fields.number(4)
+        except Short:
+            raise Refusal(f"INSUFFICIENT/h{place}", "G6") from None
+        if not IS_OF_KIND[it.kind](handle):
+            raise Refusal(f"VALUE/h{place}", "G6")
+        if is_policy(handle) and handle not in sessions:
+            raise Refusal(f"REFERENCE_H{place - 1}", "G6")
+        if first_byte(handle) == TRANSIENT and handle not in objects:
+            raise Refusal(f"REFERENCE_H{place - 1}", "G6")
+        if is_index(handle) and handle not in indices:
+            raise Refusal(f"HANDLE/h{place}", "G6")
+        if first_byte(handle) == PERSISTENT and handle not in objects:
+            raise Refusal(f"HANDLE/h{place}", "G6")
+        handles.append(handle)
+    return handles
+
+
+def read_area(fields: Fields) -> list[Entry]:
+    try:
+        size = fields.number(4)
+        if size < LEAST_AREA:
+            raise Refusal("AUTHSIZE", "G8")
+        area, entries = Fields(fields.take(size)), []
+        while area.data:
+            entry = Entry(area.number(4), area.sized(), area.number(1), area.sized())
+            entries.append(entry)
+    except Short:
+        raise Refusal("AUTHSIZE", "G8") from None
+    if len(entries) > MOST_ENTRIES:
+        raise Refusal("AUTHSIZE", "G8")
+    return entries
+
+
+def check_entry(
+    command: Command, place: int, entry: Entry, handle: int | None, sessions: dict[int, Session]
+) -> None:
+    """What is wrong with an entry, whatever its hmac is."""
+    before = (command.entries or [])[: place - 1]
+    if max(len(entry.nonce), len(entry.hmac)) > MOST_NONCE_OR_HMAC:
+        raise Refusal(f"SIZE/s{place}", "G8")
+    is_password = entry.handle == RS_PW
+    if not is_password and not is_session(entry.handle):
+        raise Refusal(f"VALUE/s{place}", "G8")
+    if not is_password and entry.handle not in sessions:
+        raise Refusal(f"REFERENCE_S{place - 1}", "G8")
+    if is_password and handle is None:
+        raise Refusal(f"HANDLE/s{place}", "G8")
+    if not is_password and entry.handle in [it.handle for it in before]:
+        raise Refusal(f"HANDLE/s{place}", "G8")
+
+    if entry.attributes & RESERVED:
+        raise Refusal(f"RESERVED_BITS/s{place}", "G8")
+    if entry.attributes & (AUDIT_EXCLUSIVE | AUDIT_RESET | AUDIT):
+        raise Refusal(f"ATTRIBUTES/s{place}", "G8")
+    for attribute, has_buffer in (
+        (DECRYPT, command.code.takes_sized),
+        (ENCRYPT, command.code.answers_sized),
+    ):
+        taken = any(it.attributes & attribute for it in before)
+        if entry.attributes & attribute and (is_password or taken or not has_buffer):
+            raise Refusal(f"ATTRIBUTES/s{place}", "G8")
+    encrypts = entry.attributes & (DECRYPT | ENCRYPT)
+    if encrypts and sessions[entry.handle].cipher == frames.ALG_NULL:
+        raise Refusal(f"SYMMETRIC/s{place}", "G8")
+
+
+def decode(
+    buffer: bytes,
+    started: bool,
+    sessions: dict[int, Session],
+    objects: dict[int, Object],
+    indices: dict[int, Index],
+) -> Command:
+    """The command of a buffer, or its first refusal that no authorization value decides."""
+    fields = Fields(buffer)
+    tag, code = read_header(fields, len(buffer))
+    if started == (code == CC.Startup):
+        raise Refusal("INITIALIZE", "G5")
+    handles = read_handles(fields, code.handles, sessions, objects, indices)
+    if tag == frames.SESSIONS and code.has(Fact.NO_SESSIONS):
+        raise Refusal("AUTH_CONTEXT", "G7")
+    if tag == frames.NO_SESSIONS and code.authorized:
+        raise Refusal("AUTH_MISSING", "G7")
+    entries = read_area(fields) if tag == frames.SESSIONS else None
+    command = Command(code, handles, entries, fields.data)
+    for place, entry, handle in command.places():
+        check_entry(command, place, entry, handle, sessions)
+    return command

@@ -1,0 +1,417 @@
+"""What a device has accepted, and what that alone tells of it: the values of its PCRs, its
+counters, its authorization values, and the start, key, nonce and policy of each session.
+
+Each of them is a fold over the accepted events, the first one first. It reads nothing of the device
+but what an event shows; its rules are those of docs/THEOREMS.md.
+"""
+
+from __future__ import annotations
+
+from dataclasses import dataclass, field, replace
+from typing import Any, Callable, Iterator, TYPE_CHECKING
+
+from tpmsim.model import nv_commands, object_rules, pcrs, policy_state, state
+from tpmsim.model.parameters import Parameters
+from tpmsim.standard import frames, nv, policy, sessions
+from tpmsim.standard.commands import CC
+from tpmsim.standard.frames import RH_ENDORSEMENT, RH_LOCKOUT, RH_NULL, RH_OWNER, RH_PLATFORM
+from tpmsim.standard.frames import RS_PW, SHA1, SHA256, number
+from tpmsim.standard.handle_kinds import PCRS
+from tpmsim.standard.sessions import DIGEST_BYTES, digest, digest_bytes, trimmed
+
+if TYPE_CHECKING:
+    from tpmsim.model.machine import Model
+
+
+@dataclass(frozen=True)
+class Use:
+    """An entry of a command: its session, whether that goes on, and whether the entry authorizes a
+    handle.
+    """
+
+    handle: int
+    continues: bool
+    authorizes: bool
+
+
+@dataclass(frozen=True)
+class Accepted:
+    """An accepted command: its handles, with their Names and protections before it, its entries, its
+    parameters in plain, the event's random bytes and how many of them the command itself drew, the
+    handle that it answered, if any, and for TPM2_Load the authorization value of the sensitive area.
+    """
+
+    code: int
+    handles: list
+    names: list
+    protections: list
+    uses: list
+    parameters: bytes
+    random: bytes
+    drawn: int
+    answered: int | None = None
+    loaded: bytes | None = None
+
+    @property
+    def handle(self) -> int:
+        """The handle that it answered, of a command that does."""
+        assert self.answered is not None
+        return self.answered
+
+    def read(self) -> Parameters:
+        return Parameters(self.parameters)
+
+
+@dataclass(frozen=True)
+class PowerCycle:
+    """Power goes off and on again."""
+
+
+# PCRs: a value for each bank and number, and those that the last shutdown found.
+
+
+def started_values() -> dict[tuple[int, int], bytes]:
+    return {(bank, pcr): pcrs.starting_value(bank, pcr) for bank in (SHA1, SHA256) for pcr in PCRS}
+
+
+@dataclass
+class Pcrs:
+    """The values, how many were written and TPM2_Clear accepted since the last startup, and what
+    the last shutdown found.
+    """
+
+    values: dict = field(default_factory=started_values)
+    updates: int = 0
+    saved: dict = field(default_factory=started_values)
+
+    def set(self, bank: int, pcr: int, value: bytes) -> None:
+        self.values[bank, pcr] = value
+        self.updates += 1
+
+    def extend(self, pcr: int, values: list[tuple[int, bytes]]) -> None:
+        for bank, value in values:
+            self.set(bank, pcr, digest(bank, self.values[bank, pcr] + value))
+
+    def power_cycle(self) -> None:
+        self.values, self.updates = started_values(), 0
+
+    def command(self, it: Accepted) -> None:
+        pcr = it.handles[0] if it.handles else None
+        if it.code == CC.Startup:
+            self.updates = 0
+            if it.read().next().number(2) == state.STATE:
+                self.values |= {at: was for at, was in self.saved.items() if at[1] < 16}
+        elif it.code == CC.Shutdown:
+            self.saved = dict(self.values)
+        elif it.code == CC.Clear:
+            self.updates += 1
+        elif pcr == RH_NULL:
+            pass
+        elif it.code == CC.PCR_Extend:
+            self.extend(pcr, self.digests(it.read().next()))
+        elif it.code == CC.PCR_Event:
+            data = it.read().next().sized(pcrs.EVENT_BYTES)
+            self.extend(pcr, [(bank, digest(bank, data)) for bank in (SHA1, SHA256)])
+        elif it.code == CC.PCR_Reset:
+            for bank in (SHA1, SHA256):
+                self.set(bank, pcr, bytes(digest_bytes(bank)))
+
+    @staticmethod
+    def digests(fields: Parameters) -> list[tuple[int, bytes]]:
+        """Each with the hash algorithm of its bank."""
+        count = fields.number(4)
+        banks = []
+        for _ in range(count):
+            bank = fields.number(2)
+            banks.append((bank, fields.take(digest_bytes(bank))))
+        return banks
+
+    def digest(self, algorithm: int, selection: list[tuple[int, list[int]]]) -> bytes:
+        values = [self.values[bank, pcr] for bank, numbers in selection for pcr in numbers]
+        return digest(algorithm, b"".join(values))
+
+
+# Authorization values: the one that was set last for each handle.
+
+
+@dataclass
+class AuthValues:
+    values: dict = field(default_factory=dict)
+
+    def of(self, handle: int) -> bytes:
+        return self.values.get(handle, b"")
+
+    def command(self, it: Accepted) -> None:
+        fields = it.read().next()
+        if it.code in (CC.HierarchyChangeAuth, CC.NV_ChangeAuth):
+            self.values[it.handles[0]] = trimmed(fields.sized(DIGEST_BYTES))
+        elif it.code == CC.NV_DefineSpace:
+            auth_value = trimmed(fields.sized(DIGEST_BYTES))
+            self.values[defined_index(it)] = auth_value
+        elif it.code == CC.CreatePrimary:
+            self.values[it.handle] = trimmed(object_rules.read_template(it.read()).user_auth)
+        elif it.code == CC.Load and it.loaded is not None:
+            self.values[it.handle] = trimmed(it.loaded)
+        elif it.code == CC.EvictControl:
+            self.values[fields.number(4)] = self.of(it.handles[1])
+        elif it.code == CC.Startup and fields.number(2) == state.CLEAR:
+            self.values[RH_PLATFORM] = b""
+        elif it.code == CC.Clear:
+            self.values |= {it: b"" for it in (RH_OWNER, RH_ENDORSEMENT, RH_LOCKOUT)}
+
+
+def defined_index(it: Accepted) -> int:
+    """The handle of the index that TPM2_NV_DefineSpace defines."""
+    fields = it.read().next()
+    fields.sized(DIGEST_BYTES)
+    return fields.next().structure(nv_commands.read_public).index
+
+
+# Counters: the value of each since its definition, all that any ever had, and the largest of these.
+
+
+@dataclass
+class Counters:
+    values: dict = field(default_factory=dict)
+    all: list = field(default_factory=list)
+    largest: int = 0
+
+    def command(self, it: Accepted) -> None:
+        if it.code == CC.NV_DefineSpace:
+            self.values.pop(defined_index(it), None)
+        elif it.code == CC.NV_Increment:
+            value = self.values.get(it.handles[1], self.largest) + 1
+            self.values[it.handles[1]] = value
+            self.all.append(value)
+            self.largest = max(self.largest, value)
+
+
+# Sessions, with their policies. What one is bound to: a Name, its authorization value, and how it
+# is protected.
+Bound = tuple[bytes, bytes, str | None]
+
+
+@dataclass(frozen=True)
+class LiveSession:
+    """A session's start: its type, its hash, its cipher, and the Name, the authorization value and
+    the protection to which it is bound; its key; its latest nonce; and its policy.
+    """
+
+    kind: int
+    algorithm: int
+    cipher: int
+    bound: Bound | None
+    key: bytes
+    nonce_tpm: bytes
+    policy: policy_state.State
+
+
+@dataclass
+class Sessions:
+    """The sessions that live. What they need of PCRs and authorization values is as it was before
+    the command.
+    """
+
+    live: dict = field(default_factory=dict)
+
+    def power_cycle(self) -> None:
+        self.live = {}
+
+    def command(self, it: Accepted, values: Pcrs, auth_values: AuthValues) -> None:
+        if it.code == CC.StartAuthSession:
+            self.live[it.handle] = self.started(it, auth_values)
+        elif it.code == CC.FlushContext:
+            self.live.pop(it.read().next().number(4), None)
+        elif it.code == CC.PolicyRestart:
+            self.change(it.handles[0], restarted)
+        elif it.code in ASSERTIONS:
+            self.change(it.handles[-1], lambda session: asserted(it, session, values))
+        self.roll(it)
+        for use in it.uses:
+            self.end(use)
+
+    def change(self, handle: int, change: Callable[[LiveSession], LiveSession]) -> None:
+        self.live[handle] = change(self.live[handle])
+
+    def started(self, it: Accepted, auth_values: AuthValues) -> LiveSession:
+        fields = it.read()
+        nonce_caller = fields.next().sized(DIGEST_BYTES)
+        fields.next().sized(DIGEST_BYTES)
+        kind = fields.next().number(1)
+        (cipher, _), algorithm = fields.next().symmetric(), fields.next().hash()
+        nonce_tpm, bind = it.random[: len(nonce_caller)], it.handles[1]
+        bound: Bound | None = None
+        key = b""
+        if bind != RH_NULL:
+            bound = it.names[1], auth_values.of(bind), it.protections[1]
+            key = sessions.session_key(algorithm, bound[1], nonce_tpm, nonce_caller)
+        starting = policy_state.starting_state(algorithm)
+        return LiveSession(kind, algorithm, cipher, bound, key, nonce_tpm, starting)
+
+    def roll(self, it: Accepted) -> None:
+        """A new nonce of its size for the session of each entry, in order."""
+        left = it.random[it.drawn :]
+        for use in it.uses:
+            if use.handle != RS_PW:
+                session = self.live[use.handle]
+                size = len(session.nonce_tpm)
+                self.live[use.handle] = replace(session, nonce_tpm=left[:size])
+                left = left[size:]
+
+    def end(self, use: Use) -> None:
+        if use.handle == RS_PW:
+            return
+        if not use.continues:
+            del self.live[use.handle]
+        elif use.authorizes and self.live[use.handle].kind == frames.SE_POLICY:
+            self.change(use.handle, restarted)
+
+
+Made = dict[str, Any]
+
+
+def restarted(session: LiveSession) -> LiveSession:
+    return replace(session, policy=policy_state.starting_state(session.algorithm))
+
+
+def asserted(it: Accepted, session: LiveSession, values: Pcrs) -> LiveSession:
+    """The session with what an assertion makes of its policy."""
+    was = session.policy
+    made = ASSERTIONS[CC(it.code)](it, session.algorithm, session.kind, was.digest, values)
+    cp_hash = made.pop("cp_hash", None) or was.cp_hash
+    localities = was.localities & made.pop("localities", policy.ALL_LOCALITIES)
+    return replace(session, policy=replace(was, cp_hash=cp_hash, localities=localities, **made))
+
+
+def pcr_asserted(it: Accepted, algorithm: int, kind: int, old: bytes, values: Pcrs) -> Made:
+    fields = it.read()
+    given, selection = fields.next().sized(DIGEST_BYTES), fields.next().selection()
+    found = values.digest(algorithm, selection)
+    taken = given if kind == frames.SE_TRIAL and given else found
+    made = policy.after_pcr(algorithm, old, frames.selection(*selection), taken)
+    return {"digest": made, "update_counter": values.updates}
+
+
+def or_asserted(it: Accepted, algorithm: int, kind: int, old: bytes, values: Pcrs) -> Made:
+    branches = it.read().next().sized_list(policy.LEAST_BRANCHES, policy.MOST_BRANCHES)
+    return {"digest": policy.after_or(algorithm, branches)}
+
+
+def demand_asserted(it: Accepted, algorithm: int, kind: int, old: bytes, values: Pcrs) -> Made:
+    wants_password = it.code == CC.PolicyPassword
+    demand = policy.PASSWORD if wants_password else policy.AUTH_VALUE
+    return {"digest": policy.after_auth_value(algorithm, old), "demand": demand}
+
+
+def command_code_asserted(
+    it: Accepted, algorithm: int, kind: int, old: bytes, values: Pcrs
+) -> Made:
+    code = it.read().next().number(4)
+    return {"digest": policy.after_command_code(algorithm, old, code), "code": code}
+
+
+def cp_hash_asserted(it: Accepted, algorithm: int, kind: int, old: bytes, values: Pcrs) -> Made:
+    cp_hash = it.read().next().sized(DIGEST_BYTES)
+    return {"digest": policy.after_cp_hash(algorithm, old, cp_hash), "cp_hash": cp_hash}
+
+
+def nv_written_asserted(it: Accepted, algorithm: int, kind: int, old: bytes, values: Pcrs) -> Made:
+    is_written = bool(it.read().next().number(1))
+    made = policy.after_nv_written(algorithm, old, is_written)
+    return {"digest": made, "nv_written": is_written}
+
+
+def locality_asserted(it: Accepted, algorithm: int, kind: int, old: bytes, values: Pcrs) -> Made:
+    localities = it.read().next().number(1)
+    made = policy.after_locality(algorithm, old, localities)
+    return {"digest": made, "localities": localities}
+
+
+def secret_asserted(it: Accepted, algorithm: int, kind: int, old: bytes, values: Pcrs) -> Made:
+    fields = it.read()
+    _, cp_hash, policy_ref = (fields.next().sized(DIGEST_BYTES) for _ in range(3))
+    made = policy.after_secret(algorithm, old, it.names[0], policy_ref)
+    return {"digest": made, "cp_hash": cp_hash}
+
+
+def nv_asserted(it: Accepted, algorithm: int, kind: int, old: bytes, values: Pcrs) -> Made:
+    operand, offset, operation = nv_commands.read_policy_nv(it.read())
+    arguments = operand + number(offset, 2) + number(operation, 2)
+    return {"digest": policy.after_nv(algorithm, old, arguments, it.names[1])}
+
+
+ASSERTIONS = {
+    CC.PolicyPCR: pcr_asserted,
+    CC.PolicyOR: or_asserted,
+    CC.PolicyAuthValue: demand_asserted,
+    CC.PolicyPassword: demand_asserted,
+    CC.PolicyCommandCode: command_code_asserted,
+    CC.PolicyCpHash: cp_hash_asserted,
+    CC.PolicyNvWritten: nv_written_asserted,
+    CC.PolicyLocality: locality_asserted,
+    CC.PolicySecret: secret_asserted,
+    CC.PolicyNV: nv_asserted,
+}
+
+
+# All of it, and a device that is compared with it.
+
+
+@dataclass
+class History:
+    pcrs: Pcrs = field(default_factory=Pcrs)
+    auth_values: AuthValues = field(default_factory=AuthValues)
+    counters: Counters = field(default_factory=Counters)
+    sessions: Sessions = field(default_factory=Sessions)
+
+    def add(self, event: Accepted | PowerCycle) -> None:
+        if isinstance(event, PowerCycle):
+            self.pcrs.power_cycle()
+            self.sessions.power_cycle()
+        else:
+            self.sessions.command(event, self.pcrs, self.auth_values)
+            self.pcrs.command(event)
+            self.auth_values.command(event)
+            self.counters.command(event)
+
+    def differences(self, device: Model) -> Iterator[str]:
+        """What a device has that its history does not tell, each with its name."""
+        yield from self.pcr_differences(device)
+        yield from self.auth_differences(device)
+        yield from self.counter_differences(device)
+        yield from self.session_differences(device)
+
+    def pcr_differences(self, device: Model) -> Iterator[str]:
+        for bank, values in device.banks.items():
+            for pcr, value in enumerate(values):
+                if value != self.pcrs.values[bank, pcr]:
+                    yield f"PCR {pcr} of bank {bank:04x}"
+        if device.update_counter != self.pcrs.updates:
+            yield "the count of updates"
+
+    def auth_differences(self, device: Model) -> Iterator[str]:
+        hierarchies = RH_OWNER, RH_ENDORSEMENT, RH_PLATFORM, RH_LOCKOUT, RH_NULL, *PCRS
+        for handle in (*hierarchies, *device.objects, *device.indices):
+            if device.auth_value(handle) != self.auth_values.of(handle):
+                yield f"the authorization value of {handle:08x}"
+
+    def counter_differences(self, device: Model) -> Iterator[str]:
+        for handle, index in device.indices.items():
+            if index.public.kind == nv.Type.COUNTER:
+                stored = int.from_bytes(index.data, "big") if index.data else None
+                if stored != self.counters.values.get(handle):
+                    yield f"the counter {handle:08x}"
+        if device.largest_counter != self.counters.largest:
+            yield "the largest value of any counter"
+
+    def session_differences(self, device: Model) -> Iterator[str]:
+        if device.sessions.keys() != self.sessions.live.keys():
+            yield "which sessions live"
+        for handle, session in device.sessions.items():
+            told = self.sessions.live.get(handle)
+            binding = session.bind, session.bind_auth, session.bind_protection
+            bound = binding if told and told.bound else None
+            kinds = session.kind, session.algorithm, session.cipher
+            has = LiveSession(*kinds, bound, session.key, session.nonce_tpm, session.policy)
+            if has != told:
+                yield f"the session {handle:08x}"

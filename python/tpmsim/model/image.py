@@ -1,0 +1,247 @@
+"""The image of what a device keeps without power: bytes that another device is opened from.
+
+Behind the word TPMI stand a version and the length of the whole; at the end stands the SHA-256 of
+all before. The body has the fields of docs/table in their order. Version 2 is written, and has the
+limits on NV indices before the body; version 1 is read, too, within limits of its own.
+"""
+
+from __future__ import annotations
+
+from dataclasses import dataclass
+
+from tpmsim.model import nv_commands, object_rules, persistent, protection, state
+from tpmsim.model.general import Refusal
+from tpmsim.model.machine import Model
+from tpmsim.model.parameters import Parameters
+from tpmsim.model.protection import Lockout
+from tpmsim.standard import aes, nv
+from tpmsim.standard.frames import RH_ENDORSEMENT, RH_LOCKOUT, RH_NULL, RH_OWNER, RH_PLATFORM, SHA1
+from tpmsim.standard.frames import SHA256, number, sized
+from tpmsim.standard.reading import Fields, Short
+from tpmsim.standard.sessions import DIGEST_BYTES, digest, digest_bytes, trimmed
+
+MAGIC = b"TPMI"
+HEAD_BYTES, DIGEST_AT_END = 10, 32
+
+# The hierarchies in their order, and the hash algorithms of the banks.
+HIERARCHIES = RH_OWNER, RH_ENDORSEMENT, RH_PLATFORM, RH_NULL
+WITH_PERSISTENT = RH_OWNER, RH_ENDORSEMENT, RH_PLATFORM
+BANKS = SHA1, SHA256
+
+
+class Fault(Exception):
+    """Why bytes are no image: Short, Magic, Version, Length, Digest or Body."""
+
+
+@dataclass(frozen=True)
+class Version:
+    """How many NV indices an image has at most, and how many bytes of their data; and whether it
+    says these limits.
+    """
+
+    number: int
+    indices: int
+    all_bytes: int
+    says_limits: bool
+
+    @property
+    def limits(self) -> bytes:
+        return number(self.indices, 2) + number(self.all_bytes, 4) if self.says_limits else b""
+
+
+VERSION_1 = Version(1, 32, 8192, False)
+VERSION_2 = Version(2, nv_commands.INDICES, nv_commands.ALL_BYTES, True)
+VERSIONS = {it.number: it for it in (VERSION_1, VERSION_2)}
+
+# Where the body begins in an image that is written.
+BODY_AT = HEAD_BYTES + len(VERSION_2.limits)
+
+
+# Writing.
+
+
+def image(device: Model, version: Version = VERSION_2) -> bytes:
+    body = b"".join(
+        (
+            hierarchies_text(device),
+            number(device.disable_clear, 1),
+            lockout_text(device.lockout),
+            counts_text(device),
+            saved_text(device),
+            objects_text(device),
+            indices_text(device),
+        )
+    )
+    return framed(body, version)
+
+
+def framed(body: bytes, version: Version = VERSION_2) -> bytes:
+    """A body between its head, with the limits behind it that the version says, and its digest."""
+    return digested(version.number, version.limits + body)
+
+
+def digested(version: int, behind_head: bytes) -> bytes:
+    """What is behind the head of a version, whatever that is, between the head and the digest."""
+    length = HEAD_BYTES + len(behind_head) + DIGEST_AT_END
+    text = MAGIC + number(version, 2) + number(length, 4) + behind_head
+    return text + digest(SHA256, text)
+
+
+def hierarchies_text(device: Model) -> bytes:
+    text = b""
+    for hierarchy in HIERARCHIES:
+        text += sized(device.auth_value(hierarchy))
+        text += device.seeds[hierarchy] + device.proofs[hierarchy]
+    return text + sized(device.auth_value(RH_LOCKOUT))
+
+
+def lockout_text(lockout: Lockout) -> bytes:
+    """The two times are not kept: a power cycle starts them anew."""
+    numbers = (
+        lockout.failed_tries,
+        lockout.max_tries,
+        lockout.recovery_time,
+        lockout.lockout_recovery,
+    )
+    return b"".join(number(it, 4) for it in numbers) + number(lockout.is_closed, 1)
+
+
+def counts_text(device: Model) -> bytes:
+    starts = number(device.reset_count, 4) + number(device.restart_count, 4)
+    return number(device.clock, 8) + starts + number(device.largest_counter, 8)
+
+
+def saved_text(device: Model) -> bytes:
+    text = number(device.saved, 1)
+    if device.saved == state.Saved.STATE:
+        text += b"".join(value for bank in BANKS for value in device.saved_banks[bank])
+    return text
+
+
+def objects_text(device: Model) -> bytes:
+    held = sorted(it for it in device.objects if persistent.is_persistent(it))
+    text = number(len(held), 2)
+    for handle in held:
+        kept = device.objects[handle]
+        text += number(handle, 4) + number(kept.hierarchy, 4) + sized(kept.qualified_name)
+        text += sized(kept.public.text) + sized(kept.sensitive.text)
+    return text
+
+
+def indices_text(device: Model) -> bytes:
+    text = number(len(device.indices), 2)
+    for handle in sorted(device.indices):
+        index = device.indices[handle]
+        text += sized(index.public.text) + sized(index.auth_value) + sized(index.data)
+    return text
+
+
+# Reading. A fault of the body is a refusal of the readers that commands have, or one of these.
+
+
+def check(holds: bool) -> None:
+    if not holds:
+        raise Fault("Body")
+
+
+def open_image(text: bytes, block_cipher: aes.BlockCipher = aes.encrypt_block) -> Model:
+    """The device of an image, as it is behind a power cycle."""
+    if len(text) < HEAD_BYTES + DIGEST_AT_END:
+        raise Fault("Short")
+    fields = Fields(text)
+    if fields.take(len(MAGIC)) != MAGIC:
+        raise Fault("Magic")
+    version = VERSIONS.get(fields.number(2))
+    if version is None:
+        raise Fault("Version")
+    if fields.number(4) != len(text):
+        raise Fault("Length")
+    if digest(SHA256, text[:-DIGEST_AT_END]) != text[-DIGEST_AT_END:]:
+        raise Fault("Digest")
+    device = Model(block_cipher=block_cipher)
+    try:
+        read_body(Parameters(text[HEAD_BYTES:-DIGEST_AT_END]), version, device)
+    except (Refusal, Short):
+        raise Fault("Body") from None
+    return device
+
+
+def fault_of(text: bytes) -> str | None:
+    """Why a text is no image, or nothing where it is one."""
+    try:
+        open_image(text)
+    except Fault as fault:
+        return str(fault)
+    return None
+
+
+def read_body(fields: Parameters, version: Version, device: Model) -> None:
+    check(fields.take(len(version.limits)) == version.limits)
+    read_hierarchies(fields, device)
+    device.disable_clear = bool(fields.one_of(1, (0, 1), "VALUE"))
+    numbers = [fields.number(4) for _ in range(4)]
+    is_closed = bool(fields.one_of(1, (0, 1), "VALUE"))
+    tries, most, recovery, lockout_recovery = numbers
+    device.lockout = protection.Lockout(tries, most, recovery, lockout_recovery, is_closed)
+    device.clock = fields.number(8)
+    device.reset_count, device.restart_count = fields.number(4), fields.number(4)
+    device.largest_counter = fields.number(8)
+    read_saved(fields, device)
+    read_objects(fields, device)
+    read_indices(fields, device, version)
+    fields.end()
+
+
+def read_auth_value(fields: Parameters) -> bytes:
+    auth_value = fields.sized(DIGEST_BYTES)
+    check(auth_value == trimmed(auth_value))
+    return auth_value
+
+
+def read_hierarchies(fields: Parameters, device: Model) -> None:
+    for hierarchy in HIERARCHIES:
+        device.auth_values[hierarchy] = read_auth_value(fields)
+        device.seeds[hierarchy] = fields.take(state.SECRET_BYTES)
+        device.proofs[hierarchy] = fields.take(state.SECRET_BYTES)
+    check(not device.auth_values[RH_NULL])
+    device.auth_values[RH_LOCKOUT] = read_auth_value(fields)
+
+
+def read_saved(fields: Parameters, device: Model) -> None:
+    device.saved = state.Saved(fields.one_of(1, list(state.Saved), "VALUE"))
+    if device.saved == state.Saved.STATE:
+        for bank in BANKS:
+            size = digest_bytes(bank)
+            values = [fields.take(size) for _ in range(state.SAVED_PCRS)]
+            device.saved_banks[bank] = values
+
+
+def read_objects(fields: Parameters, device: Model) -> None:
+    count, last = fields.number(2), -1
+    check(count <= persistent.PERSISTENT_OBJECTS)
+    for _ in range(count):
+        handle, hierarchy = fields.number(4), fields.number(4)
+        check(persistent.is_persistent(handle) and handle > last)
+        check(hierarchy in WITH_PERSISTENT)
+        qualified_name = fields.sized(object_rules.NAME_BYTES)
+        public = fields.structure(object_rules.read_public)
+        sensitive = fields.structure(object_rules.read_sensitive)
+        check(sensitive.kind == public.kind)
+        check(sensitive.auth_value == trimmed(sensitive.auth_value))
+        device.objects[handle] = object_rules.Object(public, sensitive, hierarchy, qualified_name)
+        last = handle
+
+
+def read_indices(fields: Parameters, device: Model, version: Version) -> None:
+    count, last = fields.number(2), -1
+    check(count <= version.indices)
+    for _ in range(count):
+        public = fields.structure(nv_commands.read_public)
+        check(public.index > last)
+        check(public.kind in list(nv.Type) and not nv_commands.has_wrong_size(public))
+        auth_value, data = read_auth_value(fields), fields.sized(nv_commands.INDEX_BYTES)
+        check(len(data) == (public.data_size if public.has(nv.Attribute.WRITTEN) else 0))
+        device.indices[public.index] = nv_commands.Index(public, auth_value, data)
+        last = public.index
+    taken = sum(it.public.data_size for it in device.indices.values())
+    check(taken <= version.all_bytes)

@@ -1,0 +1,515 @@
+"""The device once more, in plain Python: what it answers to each event, and what it then is.
+
+It knows nothing of the product's code, and its rules are those of docs/table.
+"""
+
+from __future__ import annotations
+
+from dataclasses import dataclass
+from typing import Callable
+
+from tpmsim.model import capability, general, history, nv_commands, object_commands, pcrs
+from tpmsim.model import persistent, policy_commands, policy_state, protection, state
+from tpmsim.model.general import Answer, Command, Refusal
+from tpmsim.model.history import Accepted, PowerCycle
+from tpmsim.model.parameters import Parameters, Request
+from tpmsim.model.policy_state import Entity
+from tpmsim.standard import aes, frames, handle_kinds, nv, objects, policy, sessions
+from tpmsim.standard.commands import CC, Fact
+from tpmsim.standard.frames import DECRYPT, ENCRYPT, Entry, RH_ENDORSEMENT, RH_LOCKOUT, RH_NULL
+from tpmsim.standard.frames import RH_OWNER, RH_PLATFORM, RS_PW, TRANSIENT, number, sized
+from tpmsim.standard.objects import Attribute
+from tpmsim.standard.reading import Fields, Short
+from tpmsim.standard.sessions import DIGEST_BYTES, digest_bytes, trimmed
+
+# How many bytes TPM2_GetRandom gives.
+RANDOM_AT_ONCE = 32
+
+# How many sessions there may be, and the least size of a nonce.
+SESSIONS = 16
+LEAST_NONCE = 16
+
+# The device is manufactured with the bytes 00 to ff: the seeds of these, and then their proofs.
+WITH_SEEDS = RH_OWNER, RH_ENDORSEMENT, RH_PLATFORM, RH_NULL
+MANUFACTURED = bytes(range(256))
+
+# What the handle of a session of each kind begins with; the rest of it is its place.
+HANDLE_KINDS = {
+    frames.SE_HMAC: frames.HMAC_SESSION,
+    frames.SE_POLICY: frames.POLICY_SESSION,
+    frames.SE_TRIAL: frames.POLICY_SESSION,
+}
+PLACE_BITS = 0xFF_FFFF
+
+# What a command is answered that is refused memory, MEMORY, and how its trace names that.
+STARVED, MEMORY_CHECK = frames.refusal(0x904), "M"
+
+
+@dataclass
+class Session:
+    """A session, with what it was bound to: the Name, the authorization value, and what wrong
+    values of it counted at, all of them at the start. `cipher` is AES, XOR or ALG_NULL; the masks
+    of XOR are by the session's own hash algorithm. `policy` is what a policy or a trial session was
+    told.
+    """
+
+    kind: int
+    algorithm: int
+    cipher: int
+    nonce_tpm: bytes
+    key: bytes
+    bind: bytes
+    bind_auth: bytes
+    bind_protection: str | None
+    policy: policy_state.State
+
+    @property
+    def is_trial(self) -> bool:
+        return self.kind == frames.SE_TRIAL
+
+
+@dataclass(frozen=True)
+class Row:
+    """What is reported of a command: its code, or 0 where a check of the header refuses it; and the
+    name of the check, or `ok`.
+    """
+
+    code: int
+    check: str
+
+    @classmethod
+    def of(cls, buffer: bytes, check: str) -> Row:
+        is_known = check not in general.HEADER_CHECKS
+        return cls(int.from_bytes(buffer[6:10], "big") if is_known else 0, check)
+
+
+@dataclass(frozen=True)
+class Outcome:
+    """What comes of a command: `refused` names the response code, or is None for a success."""
+
+    response: bytes
+    row: Row
+    refused: str | None = None
+
+
+class Model(
+    pcrs.Commands,
+    policy_commands.Commands,
+    object_commands.Commands,
+    nv_commands.Commands,
+    persistent.Commands,
+    protection.Commands,
+    state.Commands,
+    capability.Commands,
+):
+    """The PCRs in both banks and how often a value was written, the hierarchies' authorization
+    values, seeds and proofs, dictionary attack protection, the NV indices, the objects, transient
+    and persistent ones, the sessions, the times, and what was saved for the next start. `tell` is
+    called with each event that is accepted. It is manufactured with 256 bytes, and encrypts by a
+    cipher that may be another one than that of the book.
+    """
+
+    def __init__(
+        self, manufactured: bytes = MANUFACTURED, block_cipher: aes.BlockCipher = aes.encrypt_block
+    ) -> None:
+        self.block_cipher = block_cipher
+        self.auth_values = {}
+        self.disable_clear = False
+        self.lockout = protection.Lockout()
+        self.clock = self.reset_count = self.restart_count = 0
+        self.saved, self.saved_banks = state.Saved.NONE, {}
+        self.objects, self.indices, self.largest_counter = {}, {}, 0
+        seeds_and_proofs = state.secrets(manufactured, 2 * len(WITH_SEEDS))
+        self.seeds = dict(zip(WITH_SEEDS, seeds_and_proofs))
+        self.proofs = dict(zip(WITH_SEEDS, seeds_and_proofs[len(WITH_SEEDS) :]))
+        self.power_cycle()
+
+    def power_cycle(self) -> None:
+        self.tell(history.PowerCycle())
+        self.started = False
+        self.banks = pcrs.starting_banks()
+        self.update_counter = 0
+        self.objects = {
+            handle: it for handle, it in self.objects.items() if persistent.is_persistent(handle)
+        }
+        self.sessions = {}
+        self.time = 0
+        self.lockout.power_cycle()
+
+    def execute(
+        self,
+        buffer: bytes,
+        locality: int,
+        random: bytes,
+        elapsed: int = 0,
+        is_starved: bool = False,
+    ) -> Outcome:
+        """What comes of a command, so many milliseconds after the one before. One that is starved is
+        refused the memory that it needs, and nothing but the time changes.
+        """
+        self.tick(elapsed)
+        if is_starved:
+            return Outcome(STARVED, Row.of(buffer, MEMORY_CHECK), "MEMORY")
+        try:
+            command = general.decode(
+                buffer, self.started, self.sessions, self.objects, self.indices
+            )
+            self.authorize(command, locality)
+            plain, shown = self.plain_parameters(command), self.shown(command)
+            parameters = Parameters(plain)
+            request = Request(command.handles, parameters, locality, random)
+            answer = ROWS[command.code](self, request)
+        except Refusal as refusal:
+            self.lockout.count(refusal.touched)
+            response = frames.refusal(frames.code_of(refusal.name))
+            return Outcome(response, Row.of(buffer, refusal.check), refusal.name)
+        if not command.code.has(Fact.KEEPS_SAVED):
+            self.saved = state.Saved.NONE
+        self.tell(self.accepted(command, shown, plain, answer, random))
+        return Outcome(self.success(command, answer, random), Row(command.code, "ok"))
+
+    @staticmethod
+    def tell(event: Accepted | PowerCycle) -> None:
+        """Nobody listens at first."""
+
+    def accepted(
+        self,
+        command: Command,
+        shown: tuple[list[bytes], list[str | None]],
+        plain: bytes,
+        answer: Answer,
+        random: bytes,
+    ) -> Accepted:
+        """What is told of a command, once its row has acted: the Names are those before it."""
+        uses = [
+            history.Use(
+                entry.handle, bool(entry.attributes & frames.CONTINUE_SESSION), handle is not None
+            )
+            for _, entry, handle in command.places()
+        ]
+        answered = int.from_bytes(answer.handle, "big") if answer.handle else None
+        loaded = None
+        if answered is not None and command.code == CC.Load:
+            loaded = self.objects[answered].sensitive.auth_value
+        return history.Accepted(
+            *(command.code, command.handles, *shown, uses, plain),
+            *(random, answer.drawn, answered, loaded),
+        )
+
+    # Entities.
+
+    def name(self, handle: int) -> bytes:
+        if handle in self.objects:
+            return self.objects[handle].name
+        if handle in self.indices:
+            return self.indices[handle].public.name
+        return sessions.name_of(handle)
+
+    def shown(self, command: Command) -> tuple[list[bytes], list[str | None]]:
+        """The Names of its handles, and how what they name is protected."""
+        return self.names(command), [self.protection(it) for it in command.handles]
+
+    def names(self, command: Command) -> list[bytes]:
+        return [self.name(it) for it in command.handles]
+
+    def auth_value(self, handle: int | None) -> bytes:
+        """That of a PCR and of TPM_RH_NULL is empty, and so is that of no entity."""
+        if handle in self.objects:
+            return self.objects[handle].sensitive.auth_value
+        if handle in self.indices:
+            return self.indices[handle].auth_value
+        return b"" if handle is None else self.auth_values.get(handle, b"")
+
+    def protection(self, handle: int) -> str | None:
+        """What wrong authorization values count at, if at anything."""
+        if handle == RH_LOCKOUT:
+            return protection.LOCKOUT_AUTH
+        is_protected = False
+        if handle in self.objects:
+            is_protected = not self.objects[handle].public.has(Attribute.NO_DA)
+        if handle in self.indices:
+            is_protected = not self.indices[handle].public.has(nv.Attribute.NO_DA)
+        return protection.TRIES if is_protected else None
+
+    def takes_auth_value(self, handle: int, code: CC) -> bool:
+        """Whether it can be authorized without a policy, for a command."""
+        if handle in self.objects:
+            return self.objects[handle].public.has(Attribute.USER_WITH_AUTH)
+        if handle in self.indices:
+            return nv_commands.takes_auth_value(self.indices[handle].public, code)
+        return True
+
+    def policy_entity(self, handle: int, code: CC) -> Entity | None:
+        """An entity that a policy can authorize for a command: an object or an index that has one.
+        Of an index the attributes too have to allow it.
+        """
+        public: objects.Public | nv.Public
+        if handle in self.objects:
+            public = self.objects[handle].public
+        elif handle not in self.indices:
+            return None
+        else:
+            public = index = self.indices[handle].public
+            if not nv_commands.takes_policy(index, code):
+                return None
+        if not public.auth_policy:
+            return None
+        return policy_state.Entity(public.name_algorithm, public.auth_policy)
+
+    def written(self, handle: int) -> bool | None:
+        """Whether an NV index is written; None of all else."""
+        if handle not in self.indices:
+            return None
+        return self.indices[handle].public.has(nv.Attribute.WRITTEN)
+
+    # Authorization.
+
+    def is_bound(self, session: Session, handle: int) -> bool:
+        """A binding holds while Name and authorization value are those of the start."""
+        now = self.name(handle), self.auth_value(handle)
+        return (session.bind, session.bind_auth) == now
+
+    def uses_auth_value(self, entry: Entry, handle: int | None) -> bool:
+        """Whether the authorization value of the handle is the password, or in the hmac's key."""
+        if handle is None:
+            return False
+        if entry.handle == RS_PW:
+            return True
+        if handle_kinds.is_policy(entry.handle):
+            return entry.demand is not None
+        return not self.is_bound(self.sessions[entry.handle], handle)
+
+    def key(self, entry: Entry, handle: int | None) -> bytes:
+        """The key of an entry's hmac, the handle being what it authorizes, if anything."""
+        uses = self.uses_auth_value(entry, handle)
+        return self.sessions[entry.handle].key + (self.auth_value(handle) if uses else b"")
+
+    def encryption_key(self, session: Session, handle: int | None) -> bytes:
+        """That of parameters has the authorization value whether the session is bound or not."""
+        return session.key + self.auth_value(handle)
+
+    def touched(self, entry: Entry, handle: int | None) -> str | None:
+        """What an entry is a try at, if it is wrong: at a protected value that is the password or
+        in the key, and else at the one that the session's key was made of.
+        """
+        if handle is not None and self.uses_auth_value(entry, handle) and self.protection(handle):
+            return self.protection(handle)
+        session = self.sessions.get(entry.handle)
+        return session.bind_protection if session else None
+
+    def nonces_of_others(self, command: Command, place: int, handle: int | None) -> list[bytes]:
+        """The nonces of the sessions that decrypt and encrypt, for the first entry alone."""
+        if place != 1 or handle is None:
+            return []
+        places, entries = list[int](), command.entries or []
+        for attribute in (DECRYPT, ENCRYPT):
+            found = command.with_attribute(attribute)
+            if found and found[0] != 1 and found[0] not in places:
+                places.append(found[0])
+        return [self.sessions[entries[it - 1].handle].nonce_tpm for it in places]
+
+    def accepts(self, command: Command, place: int, entry: Entry, handle: int | None) -> bool:
+        if entry.handle == RS_PW or entry.demand == policy.PASSWORD:
+            return trimmed(entry.hmac) == self.auth_value(handle)
+        session = self.sessions[entry.handle]
+        key = self.key(entry, handle)
+        if not key and not entry.hmac:
+            return True
+        wanted = sessions.entry_hmac(
+            session.algorithm,
+            key,
+            sessions.command_hash(
+                session.algorithm, command.code, self.names(command), command.parameters
+            ),
+            entry.nonce,
+            session.nonce_tpm,
+            self.nonces_of_others(command, place, handle),
+            entry.attributes,
+        )
+        return entry.hmac == wanted
+
+    def check_policy(
+        self, command: Command, place: int, entry: Entry, handle: int, locality: int
+    ) -> None:
+        """What refuses a policy session that is to authorize a handle."""
+        session = self.sessions[entry.handle]
+        cp_hash = sessions.command_hash(
+            session.algorithm, command.code, self.names(command), command.parameters
+        )
+        use = policy_state.Use(
+            *(command.code, command.code.has(Fact.ADMIN), cp_hash, self.written(handle)),
+            *(self.update_counter, locality),
+        )
+        policy_state.check_use(session, self.policy_entity(handle, command.code), use, place)
+        entry.demand = session.policy.demand
+
+    def authorize(self, command: Command, locality: int) -> None:
+        for place, entry, handle in command.places():
+            check = "G10" if handle is None else "G9"
+            if handle is not None and handle_kinds.is_policy(entry.handle):
+                self.check_policy(command, place, entry, handle, locality)
+            elif handle is not None and not self.takes_auth_value(handle, command.code):
+                raise Refusal("AUTH_UNAVAILABLE", check)
+            touched = self.touched(entry, handle)
+            if self.lockout.refuses(touched):
+                raise Refusal("LOCKOUT", check)
+            if not self.accepts(command, place, entry, handle):
+                name = "AUTH_FAIL" if touched else "BAD_AUTH"
+                raise Refusal(f"{name}/s{place}", check, touched)
+
+    def plain_parameters(self, command: Command) -> bytes:
+        """The parameters, with the bytes of the first one decrypted where a session asks for it."""
+        found = command.with_attribute(DECRYPT)
+        if not found:
+            return command.parameters
+        _, entry, handle = found
+        try:
+            Fields(command.parameters).sized()
+        except Short:
+            raise Refusal("INSUFFICIENT/p1", "G10") from None
+        session = self.sessions[entry.handle]
+        key = self.encryption_key(session, handle)
+        return sessions.on_first_buffer(
+            lambda data: sessions.decrypted(
+                *(session.cipher, session.algorithm, key, entry.nonce, session.nonce_tpm, data),
+                self.block_cipher,
+            ),
+            command.parameters,
+        )
+
+    # Responses. The effect has come before.
+
+    def success(self, command: Command, answer: Answer, random: bytes) -> bytes:
+        if command.entries is None:
+            return frames.success(answer.parameters, handle=answer.handle)
+        self.draw_nonces(command, random[answer.drawn :])
+        parameters = self.answered_parameters(command, answer.parameters)
+        entries = [
+            self.entry_answer(command, parameters, entry, handle)
+            for _, entry, handle in command.places()
+        ]
+        for _, entry, handle in command.places():
+            self.end_use(entry, handle)
+        return frames.success(parameters, entries, answer.handle)
+
+    def end_use(self, entry: Entry, handle: int | None) -> None:
+        """A session ends, or goes on: what it was told of a policy counts for one authorization."""
+        if entry.handle == RS_PW:
+            return
+        if not entry.attributes & frames.CONTINUE_SESSION:
+            del self.sessions[entry.handle]
+        elif handle is not None:
+            session = self.sessions[entry.handle]
+            session.policy = policy_state.starting_state(session.algorithm)
+
+    def draw_nonces(self, command: Command, random: bytes) -> None:
+        """A new nonce of its size for each session, in the order of the entries."""
+        for _, entry, _ in command.places():
+            if entry.handle != RS_PW:
+                session = self.sessions[entry.handle]
+                size = len(session.nonce_tpm)
+                session.nonce_tpm, random = random[:size], random[size:]
+
+    def answered_parameters(self, command: Command, parameters: bytes) -> bytes:
+        found = command.with_attribute(ENCRYPT)
+        if not found:
+            return parameters
+        _, entry, handle = found
+        session = self.sessions[entry.handle]
+        key = self.encryption_key(session, handle)
+        return sessions.on_first_buffer(
+            lambda data: sessions.encrypted(
+                *(session.cipher, session.algorithm, key, session.nonce_tpm, entry.nonce, data),
+                self.block_cipher,
+            ),
+            parameters,
+        )
+
+    def entry_answer(
+        self, command: Command, parameters: bytes, entry: Entry, handle: int | None
+    ) -> bytes:
+        if entry.handle == RS_PW:
+            return frames.entry_answer()
+        session = self.sessions[entry.handle]
+        hmac = b""
+        # An empty hmac was accepted by an empty key, and is answered by another; so is a password.
+        if entry.hmac and entry.demand != policy.PASSWORD:
+            hmac = sessions.entry_hmac(
+                session.algorithm,
+                self.key(entry, handle),
+                sessions.response_hash(session.algorithm, command.code, parameters),
+                session.nonce_tpm,
+                entry.nonce,
+                [],
+                entry.attributes,
+            )
+        return frames.entry_answer(session.nonce_tpm, entry.attributes, hmac)
+
+    # The commands: their parameters, their own checks, and then what changes.
+
+    def get_random(self, request: Request) -> Answer:
+        count = min(request.parameters.next().number(2), RANDOM_AT_ONCE)
+        request.parameters.end()
+        return Answer(sized(request.random[:count]), drawn=count)
+
+    def hierarchy_change_auth(self, request: Request) -> Answer:
+        new = request.parameters.next().sized(DIGEST_BYTES)
+        request.parameters.end()
+        self.auth_values[request.handles[0]] = trimmed(new)
+        return Answer()
+
+    def flush_context(self, request: Request) -> Answer:
+        handle = request.parameters.next().number(4)
+        request.parameters.end()
+        kind = handle_kinds.first_byte(handle)
+        if kind not in (frames.HMAC_SESSION, frames.POLICY_SESSION, frames.TRANSIENT):
+            raise Refusal("VALUE/p1", "A1")
+        held = self.objects.keys() if kind == TRANSIENT else self.sessions.keys()
+        if handle not in held:
+            raise Refusal("HANDLE/p1", "A2")
+        self.objects.pop(handle, None)
+        self.sessions.pop(handle, None)
+        return Answer()
+
+    def start_auth_session(self, request: Request) -> Answer:
+        nonce_caller = request.parameters.next().sized(DIGEST_BYTES)
+        salt = request.parameters.next().sized(DIGEST_BYTES)
+        kind = request.parameters.next().one_of(1, HANDLE_KINDS, "VALUE")
+        cipher, mask_algorithm = request.parameters.next().symmetric()
+        algorithm = request.parameters.next().hash()
+        request.parameters.end()
+
+        size = len(nonce_caller)
+        if not LEAST_NONCE <= size <= digest_bytes(algorithm):
+            raise Refusal("SIZE/p1", "A1")
+        if salt:
+            raise Refusal("VALUE/p2", "A2")
+        if mask_algorithm not in (None, algorithm):
+            raise Refusal("HASH/p4", "A3")
+        taken = [it & PLACE_BITS for it in self.sessions]
+        free = [it for it in range(SESSIONS) if it not in taken]
+        if not free:
+            raise Refusal("SESSION_MEMORY", "A4")
+
+        _, bind = request.handles
+        nonce_tpm, key, bind_auth = request.random[:size], b"", self.auth_value(bind)
+        if bind != RH_NULL:
+            key = sessions.session_key(algorithm, bind_auth, nonce_tpm, nonce_caller)
+        handle = HANDLE_KINDS[kind] << 24 | free[0]
+        told = policy_state.starting_state(algorithm)
+        self.sessions[handle] = Session(
+            kind,
+            algorithm,
+            cipher,
+            nonce_tpm,
+            key,
+            self.name(bind),
+            bind_auth,
+            self.protection(bind),
+            told,
+        )
+        return Answer(sized(nonce_tpm), number(handle, 4), drawn=size)
+
+
+# Each command is the method of its name.
+ROWS: dict[CC, Callable] = {it: getattr(Model, it.method_name) for it in CC}

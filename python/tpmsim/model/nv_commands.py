@@ -1,0 +1,341 @@
+"""NV indices: what may be asked of them, what they hold, and the commands that define and use them.
+
+TPM 2.0 Library, Part 1, section 37; Part 2, section 13; Part 3, section 31. What of these sections
+is left to each TPM, or is narrower here, is that of docs/table.
+"""
+
+from __future__ import annotations
+
+from dataclasses import dataclass
+
+from tpmsim.model.general import Answer, Refusal
+from tpmsim.model.held import Held
+from tpmsim.model.parameters import Parameters, Request
+from tpmsim.standard.commands import CC, Fact
+from tpmsim.standard.frames import NV, RH_OWNER, RH_PLATFORM, number, sized
+from tpmsim.standard.handle_kinds import first_byte
+from tpmsim.standard.nv import Attribute, NAMED, NUMBER_BYTES, Public, READS, Type, WRITES
+from tpmsim.standard.sessions import DIGEST_BYTES, digest, digest_bytes, trimmed
+
+# How many indices there may be, how many bytes they may have in all, and one alone.
+INDICES, ALL_BYTES, INDEX_BYTES = 64, 16_384, 2048
+
+# The most bytes of a buffer that is written, extended by or read at once.
+BUFFER_BYTES = 1024
+
+# The largest value of a counter.
+LARGEST = 2**64 - 1
+
+
+# What an index cannot be defined with: what only happens to it later, and what is not served.
+NOT_DEFINED = (
+    Attribute.WRITTEN
+    | Attribute.READLOCKED
+    | Attribute.WRITELOCKED
+    | Attribute.POLICY_DELETE
+    | Attribute.GLOBALLOCK
+    | Attribute.ORDERLY
+)
+
+
+@dataclass
+class Index:
+    """An index that is defined. It has no data until it is written."""
+
+    public: Public
+    auth_value: bytes
+    data: bytes = b""
+
+    def mark(self, attribute: Attribute) -> None:
+        self.public = self.public.but(added=attribute)
+
+    def write(self, data: bytes) -> None:
+        self.data = data
+        self.mark(Attribute.WRITTEN)
+
+
+# Definition.
+
+
+def read_public(fields: Parameters) -> Public:
+    index = fields.number(4)
+    if first_byte(index) != NV:
+        raise fields.refusal("VALUE")
+    name_algorithm = fields.hash()
+    attributes = fields.number(4)
+    if attributes & ~NAMED:
+        raise fields.refusal("RESERVED_BITS")
+    auth_policy = fields.sized(DIGEST_BYTES)
+    return Public(index, name_algorithm, attributes, auth_policy, fields.number(2))
+
+
+def has_wrong_attributes(public: Public, hierarchy: int) -> bool:
+    if public.kind not in list(Type) or public.has(NOT_DEFINED):
+        return True
+    if not public.has(WRITES) or not public.has(READS):
+        return True
+    # A counter never goes back, and so is not cleared.
+    if public.kind == Type.COUNTER and public.has(Attribute.CLEAR_STCLEAR):
+        return True
+    return public.has(Attribute.PLATFORMCREATE) != (hierarchy == RH_PLATFORM)
+
+
+def has_wrong_size(public: Public) -> bool:
+    if public.kind == Type.ORDINARY:
+        return public.data_size > INDEX_BYTES
+    if public.kind == Type.EXTEND:
+        return public.data_size != digest_bytes(public.name_algorithm)
+    return public.data_size != NUMBER_BYTES
+
+
+def check_definition(
+    public: Public, auth_value: bytes, hierarchy: int, indices: dict[int, Index]
+) -> None:
+    """What an index that is to be defined has to be, beside those that there are."""
+    if len(auth_value) > digest_bytes(public.name_algorithm):
+        raise Refusal("SIZE/p1", "A1")
+    if len(public.auth_policy) not in (0, digest_bytes(public.name_algorithm)):
+        raise Refusal("SIZE/p2", "A2")
+    if has_wrong_attributes(public, hierarchy):
+        raise Refusal("ATTRIBUTES/p2", "A3")
+    if has_wrong_size(public):
+        raise Refusal("SIZE/p2", "A4")
+    if public.index in indices:
+        raise Refusal("NV_DEFINED", "A5")
+    # The bytes of an index are counted whether it is written or not.
+    taken = sum(it.public.data_size for it in indices.values())
+    if len(indices) == INDICES or taken + public.data_size > ALL_BYTES:
+        raise Refusal("NV_SPACE", "A6")
+
+
+# Authorization by an index itself: what its attributes allow of a command. They are those of the
+# index that authorizes, whichever one the command then asks for.
+
+
+def takes_auth_value(public: Public, code: CC) -> bool:
+    if code == CC.NV_ChangeAuth:
+        return False
+    return public.has(Attribute.AUTHREAD if code.has(Fact.READS_NV) else Attribute.AUTHWRITE)
+
+
+def takes_policy(public: Public, code: CC) -> bool:
+    if code == CC.NV_ChangeAuth:
+        return True
+    return public.has(Attribute.POLICYREAD if code.has(Fact.READS_NV) else Attribute.POLICYWRITE)
+
+
+# Use.
+
+
+def check_asker(public: Public, asker: int, by_owner: Attribute, by_platform: Attribute) -> None:
+    """Whether a hierarchy may ask for an index; an index may ask for itself alone."""
+    if asker == RH_OWNER:
+        may = public.has(by_owner)
+    elif asker == RH_PLATFORM:
+        may = public.has(by_platform)
+    else:
+        may = asker == public.index
+    if not may:
+        raise Refusal("NV_AUTHORIZATION", "A1")
+
+
+def check_writer(public: Public, asker: int) -> None:
+    check_asker(public, asker, Attribute.OWNERWRITE, Attribute.PPWRITE)
+
+
+def check_reader(public: Public, asker: int) -> None:
+    check_asker(public, asker, Attribute.OWNERREAD, Attribute.PPREAD)
+
+
+def check_writing(public: Public, asker: int, kind: Type) -> None:
+    """Before every change of an index that is to be of some type."""
+    check_writer(public, asker)
+    if public.has(Attribute.WRITELOCKED):
+        raise Refusal("NV_LOCKED", "A2")
+    if public.kind != kind:
+        raise Refusal("ATTRIBUTES/h2", "A3")
+
+
+def check_reading(public: Public, asker: int) -> None:
+    check_reader(public, asker)
+    if public.has(Attribute.READLOCKED):
+        raise Refusal("NV_LOCKED", "A2")
+    if not public.has(Attribute.WRITTEN):
+        raise Refusal("NV_UNINITIALIZED", "A3")
+
+
+def check_range(public: Public, offset: int, size: int, check: str) -> None:
+    if offset + size > public.data_size:
+        raise Refusal("NV_RANGE", check)
+
+
+def start_up(indices: dict[int, Index]) -> None:
+    """What TPM2_Startup(CLEAR) makes of the indices."""
+    for index in indices.values():
+        if index.public.has(Attribute.CLEAR_STCLEAR):
+            index.data = b""
+            index.public = index.public.but(cleared=Attribute.WRITTEN)
+        index.public = index.public.but(cleared=Attribute.READLOCKED)
+        # What WRITEDEFINE locks stays locked, where there is something in it.
+        if not (index.public.has(Attribute.WRITEDEFINE) and index.public.has(Attribute.WRITTEN)):
+            index.public = index.public.but(cleared=Attribute.WRITELOCKED)
+
+
+# The operations of TPM2_PolicyNV, each on the bytes of the index and the operand.
+
+
+def signed(data: bytes) -> int:
+    return int.from_bytes(data, "big", signed=True)
+
+
+def unsigned(data: bytes) -> int:
+    return int.from_bytes(data, "big")
+
+
+OPERATIONS = (
+    lambda held, operand: held == operand,
+    lambda held, operand: held != operand,
+    lambda held, operand: signed(held) > signed(operand),
+    lambda held, operand: unsigned(held) > unsigned(operand),
+    lambda held, operand: signed(held) < signed(operand),
+    lambda held, operand: unsigned(held) < unsigned(operand),
+    lambda held, operand: signed(held) >= signed(operand),
+    lambda held, operand: unsigned(held) >= unsigned(operand),
+    lambda held, operand: signed(held) <= signed(operand),
+    lambda held, operand: unsigned(held) <= unsigned(operand),
+    lambda held, operand: unsigned(held) & unsigned(operand) == unsigned(operand),
+    lambda held, operand: unsigned(held) & unsigned(operand) == 0,
+)
+
+
+def read_policy_nv(parameters: Parameters) -> tuple[bytes, int, int]:
+    """The operand, the offset and the number of the operation."""
+    operand = parameters.next().sized(DIGEST_BYTES)
+    offset = parameters.next().number(2)
+    return operand, offset, parameters.next().one_of(2, range(len(OPERATIONS)), "VALUE")
+
+
+def check_comparison(index: Index, asker: int, operand: bytes, offset: int, operation: int) -> None:
+    check_reading(index.public, asker)
+    check_range(index.public, offset, len(operand), "A4")
+    held = index.data[offset : offset + len(operand)]
+    if not OPERATIONS[operation](held, operand):
+        raise Refusal("POLICY", "A5")
+
+
+class Commands(Held):
+    """The commands on indices, of a device that has `indices` and the `largest_counter` ever."""
+
+    def nv_define_space(self, request: Request) -> Answer:
+        auth_value = trimmed(request.parameters.next().sized(DIGEST_BYTES))
+        public = request.parameters.next().structure(read_public)
+        request.parameters.end()
+
+        check_definition(public, auth_value, request.handles[0], self.indices)
+        self.indices[public.index] = Index(public, auth_value)
+        return Answer()
+
+    def nv_undefine_space(self, request: Request) -> Answer:
+        request.parameters.end()
+        hierarchy, handle = request.handles
+        if hierarchy == RH_OWNER and self.indices[handle].public.has(Attribute.PLATFORMCREATE):
+            raise Refusal("NV_AUTHORIZATION", "A1")
+        del self.indices[handle]
+        return Answer()
+
+    def nv_read_public(self, request: Request) -> Answer:
+        request.parameters.end()
+        public = self.indices[request.handles[0]].public
+        return Answer(sized(public.text) + sized(public.name))
+
+    def nv_write(self, request: Request) -> Answer:
+        data = request.parameters.next().sized(BUFFER_BYTES)
+        offset = request.parameters.next().number(2)
+        request.parameters.end()
+
+        asker, handle = request.handles
+        index = self.indices[handle]
+        size = index.public.data_size
+        check_writing(index.public, asker, Type.ORDINARY)
+        check_range(index.public, offset, len(data), "A4")
+        if index.public.has(Attribute.WRITEALL) and len(data) != size:
+            raise Refusal("NV_RANGE", "A4")
+        # What the first write leaves out is all ones.
+        old = index.data if index.public.has(Attribute.WRITTEN) else b"\xff" * size
+        index.write(old[:offset] + data + old[offset + len(data) :])
+        return Answer()
+
+    def nv_increment(self, request: Request) -> Answer:
+        request.parameters.end()
+        asker, handle = request.handles
+        index = self.indices[handle]
+        check_writing(index.public, asker, Type.COUNTER)
+        # So a counter that is undefined and defined again does not go back.
+        old = self.largest_counter
+        if index.public.has(Attribute.WRITTEN):
+            old = unsigned(index.data)
+        if old == LARGEST:
+            raise Refusal("NV_RANGE", "A4")
+        self.largest_counter = max(self.largest_counter, old + 1)
+        index.write(number(old + 1, NUMBER_BYTES))
+        return Answer()
+
+    def nv_set_bits(self, request: Request) -> Answer:
+        bits = request.parameters.next().number(NUMBER_BYTES)
+        request.parameters.end()
+        asker, handle = request.handles
+        index = self.indices[handle]
+        check_writing(index.public, asker, Type.BITS)
+        index.write(number(unsigned(index.data) | bits, NUMBER_BYTES))
+        return Answer()
+
+    def nv_extend(self, request: Request) -> Answer:
+        data = request.parameters.next().sized(BUFFER_BYTES)
+        request.parameters.end()
+        asker, handle = request.handles
+        index = self.indices[handle]
+        check_writing(index.public, asker, Type.EXTEND)
+        old = index.data or bytes(index.public.data_size)
+        index.write(digest(index.public.name_algorithm, old + data))
+        return Answer()
+
+    def nv_read(self, request: Request) -> Answer:
+        size = request.parameters.next().number(2)
+        offset = request.parameters.next().number(2)
+        request.parameters.end()
+        asker, handle = request.handles
+        index = self.indices[handle]
+        check_reading(index.public, asker)
+        if size > BUFFER_BYTES:
+            raise Refusal("VALUE/p1", "A4")
+        check_range(index.public, offset, size, "A5")
+        return Answer(sized(index.data[offset : offset + size]))
+
+    def nv_write_lock(self, request: Request) -> Answer:
+        request.parameters.end()
+        asker, handle = request.handles
+        index = self.indices[handle]
+        check_writer(index.public, asker)
+        if not index.public.has(Attribute.WRITEDEFINE | Attribute.WRITE_STCLEAR):
+            raise Refusal("ATTRIBUTES/h2", "A2")
+        index.mark(Attribute.WRITELOCKED)
+        return Answer()
+
+    def nv_read_lock(self, request: Request) -> Answer:
+        request.parameters.end()
+        asker, handle = request.handles
+        index = self.indices[handle]
+        check_reader(index.public, asker)
+        if not index.public.has(Attribute.READ_STCLEAR):
+            raise Refusal("ATTRIBUTES/h2", "A2")
+        index.mark(Attribute.READLOCKED)
+        return Answer()
+
+    def nv_change_auth(self, request: Request) -> Answer:
+        new = trimmed(request.parameters.next().sized(DIGEST_BYTES))
+        request.parameters.end()
+        index = self.indices[request.handles[0]]
+        if len(new) > digest_bytes(index.public.name_algorithm):
+            raise Refusal("SIZE/p1", "A1")
+        index.auth_value = new
+        return Answer()

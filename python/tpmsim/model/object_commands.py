@@ -1,0 +1,135 @@
+"""The commands of objects (TPM 2.0 Library, Part 3, sections 12, 15 and 24)."""
+
+from __future__ import annotations
+
+from dataclasses import replace
+
+from tpmsim.model import object_rules
+from tpmsim.model.general import Answer, Refusal
+from tpmsim.model.held import Held
+from tpmsim.model.object_rules import Object, Template
+from tpmsim.model.parameters import Request
+from tpmsim.standard import aes
+from tpmsim.standard.frames import ALG_NULL, KEYEDHASH, TRANSIENT, number, sized
+from tpmsim.standard.objects import Attribute, Public
+from tpmsim.standard.sessions import HASHES, digest, mac, trimmed
+
+# How many transient objects there may be, and how many bytes TPM2_HMAC takes.
+OBJECTS = 8
+HMAC_BYTES = 1024
+
+
+class Commands(Held):
+    """The commands, of a device that has `objects`, the PCRs, and the hierarchies' `seeds` and
+    `proofs`.
+    """
+
+    def free_object(self, check: str) -> int:
+        """The lowest number that is free, as a transient object's handle."""
+        places = [TRANSIENT << 24 | it for it in range(OBJECTS)]
+        free = [it for it in places if it not in self.objects]
+        if not free:
+            raise Refusal("OBJECT_MEMORY", check)
+        return free[0]
+
+    def parent(self, handle: int) -> Object:
+        parent = self.objects[handle]
+        if not parent.public.is_parent:
+            raise Refusal("TYPE/h1", "A1")
+        return parent
+
+    def creation(
+        self,
+        template: Template,
+        public: Public,
+        parent: Object | None,
+        hierarchy: int,
+        locality: int,
+    ) -> bytes:
+        """What both commands answer of a creation: the public area, the creation data, their hash,
+        and the ticket.
+        """
+        values = self.values(template.pcrs)
+        data = object_rules.creation_data(template, parent, hierarchy, values, locality)
+        data_hash = digest(public.name_algorithm, data)
+        proof = self.proofs[hierarchy]
+        made_here = object_rules.creation_ticket(hierarchy, proof, public.name, data_hash)
+        return sized(public.text) + sized(data) + sized(data_hash) + made_here
+
+    def create_primary(self, request: Request) -> Answer:
+        template = object_rules.read_template(request.parameters)
+        request.parameters.end()
+
+        object_rules.check_public(template.public, parent=None)
+        object_rules.check_sensitive(template, parent=None)
+        handle = self.free_object("A7")
+
+        (hierarchy,) = request.handles
+        primary = object_rules.primary(template, hierarchy, self.seeds[hierarchy])
+        self.objects[handle] = primary
+        creation = self.creation(template, primary.public, None, hierarchy, request.locality)
+        return Answer(creation + sized(primary.name), number(handle, 4))
+
+    def create(self, request: Request) -> Answer:
+        template = object_rules.read_template(request.parameters)
+        request.parameters.end()
+
+        parent = self.parent(request.handles[0])
+        object_rules.check_public(template.public, parent)
+        object_rules.check_sensitive(template, parent)
+
+        public, sensitive, drawn = object_rules.created(template, request.random)
+        iv = request.random[drawn : drawn + aes.BLOCK]
+        private = object_rules.wrapped(parent, public.name, sensitive, iv, self.block_cipher)
+        creation = self.creation(template, public, parent, parent.hierarchy, request.locality)
+        return Answer(sized(private) + creation, drawn=drawn + aes.BLOCK)
+
+    def load(self, request: Request) -> Answer:
+        private = request.parameters.next().sized(object_rules.PRIVATE_BYTES)
+        public = request.parameters.next().structure(object_rules.read_public)
+        request.parameters.end()
+
+        parent = self.parent(request.handles[0])
+        object_rules.check_public(public, parent)
+        sensitive = object_rules.unwrapped(parent, public, private, self.block_cipher)
+        handle = self.free_object("A6")
+
+        sensitive = replace(sensitive, auth_value=trimmed(sensitive.auth_value))
+        self.objects[handle] = object_rules.loaded(
+            public, sensitive, parent.hierarchy, parent.qualified_name
+        )
+        return Answer(sized(public.name), number(handle, 4))
+
+    def read_public(self, request: Request) -> Answer:
+        request.parameters.end()
+        asked = self.objects[request.handles[0]]
+        return Answer(sized(asked.public.text) + sized(asked.name) + sized(asked.qualified_name))
+
+    def unseal(self, request: Request) -> Answer:
+        request.parameters.end()
+        sealed = self.objects[request.handles[0]]
+        if sealed.public.kind != KEYEDHASH:
+            raise Refusal("TYPE/h1", "A1")
+        if sealed.public.has(Attribute.SIGN):
+            raise Refusal("ATTRIBUTES/h1", "A2")
+        return Answer(sized(sealed.sensitive.data))
+
+    def hmac(self, request: Request) -> Answer:
+        data = request.parameters.next().sized(HMAC_BYTES)
+        asked = request.parameters.next().one_of(2, (ALG_NULL, *HASHES), "HASH")
+        request.parameters.end()
+
+        key = self.objects[request.handles[0]]
+        scheme = key.public.scheme
+        if key.public.kind != KEYEDHASH:
+            raise Refusal("TYPE/h1", "A1")
+        if key.public.has(Attribute.RESTRICTED):
+            raise Refusal("ATTRIBUTES/h1", "A2")
+        if not key.public.has(Attribute.SIGN):
+            raise Refusal("KEY/h1", "A3")
+        # The scheme's hash algorithm is the key's; with scheme NULL its user names one.
+        chosen = {scheme, asked} - {ALG_NULL}
+        if len(chosen) != 1:
+            raise Refusal("VALUE/p2", "A4")
+        (algorithm,) = chosen
+        return Answer(sized(mac(algorithm, key.sensitive.data, data)))

@@ -1,0 +1,311 @@
+"""Objects: what may be asked of them, what they are made of, and how a parent protects them.
+
+TPM 2.0 Library, Part 1, sections 16 (Names), 22 (protected storage), 25 to 27 (attributes, areas
+and creation of objects); Part 2, section 12. A primary object has no parent: where one is asked
+for, `parent` is None.
+"""
+
+from __future__ import annotations
+
+from dataclasses import dataclass, replace
+
+from tpmsim.model.general import Refusal
+from tpmsim.model.parameters import Parameters
+from tpmsim.standard import aes, frames
+from tpmsim.standard.frames import ALG_NULL, KEYEDHASH, SHA256, SYMCIPHER, number, sized
+from tpmsim.standard.objects import Attribute, NAMED, Public
+from tpmsim.standard.reading import Fields, Short
+from tpmsim.standard.sessions import DIGEST_BYTES, digest, digest_bytes, kdfa, mac, trimmed
+
+AES_KEY_BYTES = 16
+
+# The most bytes of a key or of what is sealed, of a Name, and of a private area.
+DATA_BYTES = 128
+NAME_BYTES = 34
+PRIVATE_BYTES = 256
+
+# How many checks a public area has, before those of a sensitive one.
+PUBLIC_CHECKS = 3
+
+
+@dataclass(frozen=True)
+class Sensitive:
+    """TPMT_SENSITIVE: `data` is a key, or what is sealed."""
+
+    kind: int
+    auth_value: bytes
+    seed_value: bytes
+    data: bytes
+
+    @property
+    def text(self) -> bytes:
+        buffers = self.auth_value, self.seed_value, self.data
+        return number(self.kind, 2) + b"".join(map(sized, buffers))
+
+
+@dataclass(frozen=True)
+class Object:
+    """An object that is loaded, in the hierarchy of its primary object."""
+
+    public: Public
+    sensitive: Sensitive
+    hierarchy: int
+    qualified_name: bytes
+
+    @property
+    def name(self) -> bytes:
+        return self.public.name
+
+
+def loaded(
+    public: Public, sensitive: Sensitive, hierarchy: int, parent_qualified_name: bytes
+) -> Object:
+    """Its qualified name is of all the Names above it, and by its own hash algorithm."""
+    algorithm = public.name_algorithm
+    qualified = digest(algorithm, parent_qualified_name + public.name)
+    return Object(public, sensitive, hierarchy, number(algorithm, 2) + qualified)
+
+
+# Templates, as they are read.
+
+
+@dataclass(frozen=True)
+class Template:
+    """What TPM2_CreatePrimary and TPM2_Create are asked for; `pcrs` are the PCRs to be noted."""
+
+    user_auth: bytes
+    data: bytes
+    public: Public
+    outside_info: bytes
+    pcrs: list
+
+    @property
+    def sensitive_text(self) -> bytes:
+        return sized(self.user_auth) + sized(self.data)
+
+
+def read_sensitive_create(fields: Parameters) -> tuple[bytes, bytes]:
+    return fields.sized(DIGEST_BYTES), fields.sized(DATA_BYTES)
+
+
+def read_scheme(fields: Parameters) -> int:
+    if fields.one_of(2, (ALG_NULL, frames.ALG_HMAC), "SCHEME") == ALG_NULL:
+        return ALG_NULL
+    return fields.hash()
+
+
+def read_public(fields: Parameters) -> Public:
+    kind = fields.one_of(2, (KEYEDHASH, SYMCIPHER), "TYPE")
+    name_algorithm = fields.hash()
+    attributes = fields.number(4)
+    if attributes & ~NAMED:
+        raise fields.refusal("RESERVED_BITS")
+    auth_policy = fields.sized(DIGEST_BYTES)
+    scheme = ALG_NULL
+    if kind == KEYEDHASH:
+        scheme = read_scheme(fields)
+    else:
+        fields.cipher()
+    unique = fields.sized(DIGEST_BYTES)
+    return Public(kind, name_algorithm, attributes, auth_policy, scheme, unique)
+
+
+def read_template(parameters: Parameters) -> Template:
+    user_auth, data = parameters.next().structure(read_sensitive_create)
+    public = parameters.next().structure(read_public)
+    outside_info = parameters.next().sized(NAME_BYTES)
+    return Template(user_auth, data, public, outside_info, parameters.next().selection())
+
+
+# Templates, as they are checked.
+
+
+def has_wrong_attributes(public: Public, parent: Object | None) -> bool:
+    if public.has(Attribute.FIXED_TPM) and public.has(Attribute.ENCRYPTED_DUPLICATION):
+        return True
+    # fixedTPM says that no ancestor can be duplicated, and so it comes from the parent.
+    if parent is not None and not parent.public.has(Attribute.FIXED_TPM):
+        if public.has(Attribute.FIXED_TPM):
+            return True
+    elif public.has(Attribute.FIXED_TPM) != public.has(Attribute.FIXED_PARENT):
+        return True
+    signs, decrypts = public.has(Attribute.SIGN), public.has(Attribute.DECRYPT)
+    if public.has(Attribute.RESTRICTED) and signs == decrypts:
+        return True
+    if public.kind == KEYEDHASH:
+        return decrypts
+    return not (signs or decrypts) or public.has(Attribute.RESTRICTED) and signs
+
+
+def has_wrong_scheme(public: Public) -> bool:
+    if public.kind != KEYEDHASH:
+        return False
+    if public.scheme == ALG_NULL:
+        return public.has(Attribute.RESTRICTED)
+    return not public.has(Attribute.SIGN)
+
+
+def checks_before(parent: Object | None) -> int:
+    """How many checks come before those of a template: whether the parent is one."""
+    return 0 if parent is None else 1
+
+
+def check_public(public: Public, parent: Object | None) -> None:
+    """What the public area of an object that is created or loaded has to be."""
+    before = checks_before(parent)
+    if len(public.auth_policy) not in (0, digest_bytes(public.name_algorithm)):
+        raise Refusal("SIZE/p2", f"A{before + 1}")
+    if has_wrong_attributes(public, parent):
+        raise Refusal("ATTRIBUTES/p2", f"A{before + 2}")
+    if has_wrong_scheme(public):
+        raise Refusal("SCHEME/p2", f"A{before + 3}")
+
+
+def check_sensitive(template: Template, parent: Object | None) -> None:
+    """What is asked of the sensitive area of an object that is created."""
+    before = checks_before(parent) + PUBLIC_CHECKS
+    public, is_given = template.public, bool(template.data)
+    if len(trimmed(template.user_auth)) > digest_bytes(public.name_algorithm):
+        raise Refusal("SIZE/p1", f"A{before + 1}")
+    generates = public.has(Attribute.SENSITIVE_DATA_ORIGIN)
+    is_sealed = public.kind == KEYEDHASH and not public.has(Attribute.SIGN)
+    if generates == is_given or generates and is_sealed:
+        raise Refusal("ATTRIBUTES/p2", f"A{before + 2}")
+    if public.kind == SYMCIPHER and is_given and len(template.data) != AES_KEY_BYTES:
+        raise Refusal("SIZE/p1", f"A{before + 3}")
+
+
+# Creation.
+
+
+def key_bytes(template: Template) -> int:
+    """How many bytes of a key are generated: none where the data are given."""
+    public = template.public
+    if template.data:
+        return 0
+    if public.kind == SYMCIPHER:
+        return AES_KEY_BYTES
+    is_null = public.scheme == ALG_NULL
+    return digest_bytes(public.name_algorithm if is_null else public.scheme)
+
+
+def made(template: Template, key: bytes, seed_value: bytes) -> tuple[Public, Sensitive]:
+    """The two areas of an object that is created. What is unique in the public one binds it to the
+    sensitive one; what the template had in its place does not stay.
+    """
+    public = template.public
+    data = template.data or key
+    unique = digest(public.name_algorithm, seed_value + data)
+    sensitive = Sensitive(public.kind, trimmed(template.user_auth), seed_value, data)
+    return replace(public, unique=unique), sensitive
+
+
+def primary(template: Template, hierarchy: int, seed: bytes) -> Object:
+    """The primary object that a template and a hierarchy's seed have: always the same."""
+    algorithm = template.public.name_algorithm
+    size = digest_bytes(algorithm)
+    given = kdfa(
+        algorithm,
+        seed,
+        b"PRIMARY",
+        digest(algorithm, template.public.text),
+        digest(algorithm, template.sensitive_text),
+        size + key_bytes(template),
+    )
+    public, sensitive = made(template, key=given[size:], seed_value=given[:size])
+    return loaded(public, sensitive, hierarchy, number(hierarchy, 4))
+
+
+def created(template: Template, random: bytes) -> tuple[Public, Sensitive, int]:
+    """The areas of an ordinary object, and how many random bytes its key and its seed took."""
+    key = random[: key_bytes(template)]
+    size = len(key) + digest_bytes(template.public.name_algorithm)
+    return *made(template, key, seed_value=random[len(key) : size]), size
+
+
+def creation_data(
+    template: Template, parent: Object | None, hierarchy: int, values: bytes, locality: int
+) -> bytes:
+    """TPMS_CREATION_DATA (Part 2, section 15.1), of the PCRs' values at that time."""
+    if parent is None:
+        of_parent = number(ALG_NULL, 2) + 2 * sized(number(hierarchy, 4))
+    else:
+        of_parent = number(parent.public.name_algorithm, 2)
+        of_parent += sized(parent.name) + sized(parent.qualified_name)
+    return (
+        frames.selection(*template.pcrs)
+        + sized(digest(template.public.name_algorithm, values))
+        + number(1 << locality, 1)
+        + of_parent
+        + sized(template.outside_info)
+    )
+
+
+def creation_ticket(hierarchy: int, proof: bytes, name: bytes, creation_hash: bytes) -> bytes:
+    """It shows this device alone that it created an object of this Name (Part 2, 10.7.3)."""
+    text = number(frames.ST_CREATION, 2) + name + creation_hash
+    return frames.ticket(frames.ST_CREATION, hierarchy, mac(SHA256, proof, text))
+
+
+# Private areas: an HMAC, the first block of the cipher, and what is encrypted (Part 1, 22.4).
+
+
+def encrypting_key(parent: Object, name: bytes) -> bytes:
+    """A key for each object, as its Name is in it."""
+    algorithm, seed = parent.public.name_algorithm, parent.sensitive.seed_value
+    return kdfa(algorithm, seed, b"STORAGE", name, b"", AES_KEY_BYTES)
+
+
+def integrity(parent: Object, protected: bytes, name: bytes) -> bytes:
+    algorithm, seed = parent.public.name_algorithm, parent.sensitive.seed_value
+    key = kdfa(algorithm, seed, b"INTEGRITY", b"", b"", digest_bytes(algorithm))
+    return mac(algorithm, key, protected + name)
+
+
+def wrapped(
+    parent: Object,
+    name: bytes,
+    sensitive: Sensitive,
+    iv: bytes,
+    block_cipher: aes.BlockCipher = aes.encrypt_block,
+) -> bytes:
+    key = encrypting_key(parent, name)
+    text = aes.cfb_encrypt(key, iv, sized(sensitive.text), block_cipher)
+    protected = sized(iv) + text
+    return sized(integrity(parent, protected, name)) + protected
+
+
+def read_sensitive(fields: Parameters) -> Sensitive:
+    return Sensitive(
+        fields.number(2),
+        fields.sized(DIGEST_BYTES),
+        fields.sized(DIGEST_BYTES),
+        fields.sized(DATA_BYTES),
+    )
+
+
+def unwrapped(
+    parent: Object,
+    public: Public,
+    private: bytes,
+    block_cipher: aes.BlockCipher = aes.encrypt_block,
+) -> Sensitive:
+    """The sensitive area of a private one that the parent made, for this public area."""
+    name, wrong = public.name, Refusal("INTEGRITY/p1", "A5")
+    fields = Fields(private)
+    try:
+        given = fields.sized()
+        if given != integrity(parent, fields.data, name):
+            raise wrong
+        iv = fields.sized()
+        if len(iv) != aes.BLOCK:
+            raise wrong
+        text = aes.cfb_decrypt(encrypting_key(parent, name), iv, fields.data, block_cipher)
+        parameters = Parameters(text)
+        sensitive = parameters.structure(read_sensitive)
+        parameters.end()
+    except (Short, Refusal):
+        raise wrong from None
+    if sensitive.kind != public.kind:
+        raise wrong
+    return sensitive

@@ -1,0 +1,116 @@
+"""A command's parameters, and the fields of structures in them, as the device reads them."""
+
+from __future__ import annotations
+
+from dataclasses import dataclass
+from typing import Callable, Iterable, TypeVar
+
+from tpmsim.model.general import Refusal
+from tpmsim.standard import frames
+from tpmsim.standard.handle_kinds import PCRS
+from tpmsim.standard.reading import Fields, Short
+from tpmsim.standard.sessions import DIGEST_BYTES, HASHES
+
+T = TypeVar("T")
+
+# The most banks of a selection.
+MOST_BANKS = 16
+
+
+class Parameters:
+    """A command's parameters, read in order; a fault is at the place of the one that is read.
+
+    The fields of a structure that has a size of its own are read so, too: `short` is the code
+    where there are too few bytes.
+    """
+
+    def __init__(self, data: bytes, place: int = 0, short: str = "INSUFFICIENT") -> None:
+        self.fields, self.place, self.short = Fields(data), place, short
+
+    def next(self) -> Parameters:
+        self.place += 1
+        return self
+
+    def refusal(self, code: str) -> Refusal:
+        return Refusal(f"{code}/p{self.place}", "G11")
+
+    def take(self, count: int) -> bytes:
+        try:
+            return self.fields.take(count)
+        except Short:
+            raise self.refusal(self.short) from None
+
+    def number(self, size: int) -> int:
+        return int.from_bytes(self.take(size), "big")
+
+    def one_of(self, size: int, allowed: Iterable[int], code: str) -> int:
+        value = self.number(size)
+        if value not in allowed:
+            raise self.refusal(code)
+        return value
+
+    def sized(self, most: int) -> bytes:
+        size = self.number(2)
+        if size > most:
+            raise self.refusal("SIZE")
+        return self.take(size)
+
+    def structure(self, read: Callable[[Parameters], T]) -> T:
+        """What `read` makes of a sized buffer, which it has to fill."""
+        fields = Parameters(self.take(self.number(2)), self.place, "SIZE")
+        value = read(fields)
+        if fields.fields.data:
+            raise self.refusal("SIZE")
+        return value
+
+    def hash(self) -> int:
+        return self.one_of(2, HASHES, "HASH")
+
+    def count(self, most: int) -> int:
+        count = self.number(4)
+        if count > most:
+            raise self.refusal("SIZE")
+        return count
+
+    def selection(self) -> list[tuple[int, list[int]]]:
+        """The banks of a selection of PCRs, each with its hash algorithm and the PCRs' numbers."""
+        banks = []
+        for _ in range(self.count(MOST_BANKS)):
+            algorithm = self.hash()
+            self.one_of(1, (3,), "VALUE")
+            bits = int.from_bytes(self.take(3), "little")
+            banks.append((algorithm, [pcr for pcr in PCRS if bits >> pcr & 1]))
+        return banks
+
+    def sized_list(self, least: int, most: int) -> list[bytes]:
+        count = self.count(most)
+        if count < least:
+            raise self.refusal("SIZE")
+        return [self.sized(DIGEST_BYTES) for _ in range(count)]
+
+    def cipher(self, allowed: Iterable[int] = (frames.AES,)) -> int:
+        """The algorithm of a cipher; that of AES has a key of 128 bits, and the mode CFB."""
+        algorithm = self.one_of(2, allowed, "SYMMETRIC")
+        if algorithm == frames.AES:
+            self.one_of(2, (frames.AES_KEY_BITS,), "VALUE")
+            self.one_of(2, (frames.CFB,), "MODE")
+        return algorithm
+
+    def symmetric(self) -> tuple[int, int | None]:
+        """The cipher of a session, which may be none, and with XOR the hash of its masks."""
+        algorithm = self.cipher((frames.AES, frames.XOR, frames.ALG_NULL))
+        return algorithm, self.hash() if algorithm == frames.XOR else None
+
+    def end(self) -> None:
+        if self.fields.data:
+            raise Refusal("SIZE", "G11")
+
+
+@dataclass(frozen=True)
+class Request:
+    """What a command asks for, its parameters in plain; where it comes from; and random bytes."""
+
+    handles: list[int]
+    parameters: Parameters
+    locality: int
+    random: bytes

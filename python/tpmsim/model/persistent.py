@@ -1,0 +1,69 @@
+"""TPM2_EvictControl: objects that outlive power cycles (TPM 2.0 Library, Part 3, section 28.5)."""
+
+from __future__ import annotations
+
+from tpmsim.model.general import Answer, Refusal
+from tpmsim.model.held import Held
+from tpmsim.model.object_rules import Object
+from tpmsim.model.parameters import Request
+from tpmsim.standard.frames import PERSISTENT, RH_ENDORSEMENT, RH_OWNER, RH_PLATFORM
+from tpmsim.standard.handle_kinds import first_byte
+from tpmsim.standard.objects import Attribute
+
+# How many there may be, and the first handle of those that are the platform's.
+PERSISTENT_OBJECTS = 16
+FIRST_OF_PLATFORM = 0x8180_0000
+
+
+def is_persistent(handle: int) -> bool:
+    return first_byte(handle) == PERSISTENT
+
+
+def check_hierarchy(asker: int, held: Object, removes: bool) -> None:
+    """The owner has what is the owner's or the endorsement hierarchy's. The platform keeps what is
+    its own, and removes what it likes.
+    """
+    if asker == RH_PLATFORM:
+        allowed = removes or held.hierarchy == RH_PLATFORM
+    else:
+        allowed = held.hierarchy in (RH_OWNER, RH_ENDORSEMENT)
+    if not allowed:
+        raise Refusal("HIERARCHY/h2", "A1")
+
+
+def check_range(asker: int, handle: int, removes: bool) -> None:
+    """The lower half of the handles is the owner's, the upper half the platform's."""
+    is_upper = handle >= FIRST_OF_PLATFORM
+    if asker == RH_OWNER and is_upper or asker == RH_PLATFORM and not removes and not is_upper:
+        raise Refusal("RANGE/p1", "A3")
+
+
+class Commands(Held):
+    """The command, of a device that has `objects`, transient and persistent ones."""
+
+    def evict_control(self, request: Request) -> Answer:
+        wanted = request.parameters.next().number(4)
+        if not is_persistent(wanted):
+            raise request.parameters.refusal("VALUE")
+        request.parameters.end()
+
+        asker, handle = request.handles
+        held, removes = self.objects[handle], is_persistent(handle)
+        check_hierarchy(asker, held, removes)
+        if held.public.has(Attribute.ST_CLEAR):
+            raise Refusal("ATTRIBUTES/h2", "A2")
+        check_range(asker, wanted, removes)
+        if removes:
+            if handle != wanted:
+                raise Refusal("HANDLE/h2", "A4")
+            del self.objects[handle]
+        else:
+            self.check_place(wanted)
+            self.objects[wanted] = held
+        return Answer()
+
+    def check_place(self, handle: int) -> None:
+        if handle in self.objects:
+            raise Refusal("NV_DEFINED", "A5")
+        if len([it for it in self.objects if is_persistent(it)]) == PERSISTENT_OBJECTS:
+            raise Refusal("NV_SPACE", "A6")

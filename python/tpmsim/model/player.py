@@ -1,0 +1,108 @@
+"""Scripts: what `tpmsim run --trace` prints of one, line by line, and how it ends. A line may be
+anything; expected.py reads the scripts of tests/, which have comments that say what must come.
+"""
+
+from __future__ import annotations
+
+import re
+from typing import Iterable
+
+from tpmsim.model.machine import Model
+from tpmsim.standard import lines
+
+LINE_BYTES, LINES = 65_536, 1_048_576
+RANDOM_BYTES = 256
+LAST_LOCALITY, MOST_MILLISECONDS = 4, 2**32 - 1
+
+DECIMAL, HEX = re.compile(rb"0*([0-9]{1,19})"), re.compile(rb"(?:[0-9A-Fa-f]{2})*")
+
+
+class BadLine(Exception):
+    """A line that is none of a script's."""
+
+
+def found(form: re.Pattern[bytes], text: bytes) -> re.Match[bytes]:
+    match = form.fullmatch(text)
+    if not match:
+        raise BadLine
+    return match
+
+
+def decimal(text: bytes, most: int) -> int:
+    value = int(found(DECIMAL, text)[1])
+    if value > most:
+        raise BadLine
+    return value
+
+
+def hex_bytes(text: bytes) -> bytes:
+    return bytes.fromhex(found(HEX, text)[0].decode("ascii"))
+
+
+class Player:
+    """A device, and what the lines so far said of the commands to come. `starved` has the numbers of
+    the commands, from 1, that are refused memory.
+    """
+
+    def __init__(self, device: Model | None = None, starved: Iterable[int] = ()) -> None:
+        self.device, self.locality = device or Model(), 0
+        self.random, self.elapsed = bytes(RANDOM_BYTES), 0
+        self.starved, self.commands = starved, 0
+
+    def play(self, line: bytes) -> list[str]:
+        """What is printed of a line."""
+        word, space, argument = line.partition(b" ")
+        if len(line) > LINE_BYTES:
+            raise BadLine
+        if not line or line.startswith(b"#"):
+            return []
+        if word == b"cmd":
+            return self.executed(hex_bytes(argument))
+        if line == b"power":
+            self.device.power_cycle()
+            return ["power"]
+        if not space:
+            raise BadLine
+        if word == b"do":
+            return self.executed(self.assembled(argument))
+        return self.told(word, argument)
+
+    def told(self, word: bytes, argument: bytes) -> list[str]:
+        """A line that executes nothing."""
+        if word == b"loc":
+            self.locality = decimal(argument, LAST_LOCALITY)
+        elif word == b"wait":
+            self.elapsed += decimal(argument, MOST_MILLISECONDS - self.elapsed)
+        elif word == b"entropy" and 1 <= len(hex_bytes(argument)) <= RANDOM_BYTES:
+            self.random = (hex_bytes(argument) * RANDOM_BYTES)[:RANDOM_BYTES]
+        else:
+            raise BadLine
+        return []
+
+    @staticmethod
+    def assembled(argument: bytes) -> bytes:
+        try:
+            return lines.assemble(argument)
+        except lines.Fault:
+            raise BadLine from None
+
+    def executed(self, buffer: bytes) -> list[str]:
+        self.commands += 1
+        is_starved = self.commands in self.starved
+        outcome = self.device.execute(buffer, self.locality, self.random, self.elapsed, is_starved)
+        elapsed, self.elapsed = self.elapsed, 0
+        return [lines.traced(outcome, self.locality, elapsed), outcome.response.hex()]
+
+
+def played(text: bytes) -> tuple[list[tuple[int, str]], str]:
+    """What is printed of a script: each line with the number of the script's line that it comes of;
+    and what is said on standard error, which is nothing where the script ends well.
+    """
+    player, printed = Player(), []
+    script = text.removesuffix(b"\n").split(b"\n") if text else []
+    for number, line in enumerate(script[:LINES], 1):
+        try:
+            printed += [(number, it) for it in player.play(line)]
+        except BadLine:
+            return printed, f"tpmsim: script line {number}"
+    return printed, "tpmsim: file" if len(script) > LINES else ""

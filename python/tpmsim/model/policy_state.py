@@ -1,0 +1,85 @@
+"""Policies: what a session was told, and what each assertion makes of its digest.
+
+The equations are those of the TPM 2.0 Library, Part 1, section 19.7 and Part 3, section 23. `old`
+is the digest before an assertion; a policy session and a trial session have the same.
+"""
+
+from __future__ import annotations
+
+from dataclasses import dataclass
+
+from typing import TYPE_CHECKING
+
+from tpmsim.model.general import Refusal
+from tpmsim.standard.policy import ALL_LOCALITIES
+from tpmsim.standard.sessions import digest_bytes
+
+if TYPE_CHECKING:
+    from tpmsim.model.machine import Session
+
+
+@dataclass
+class State:
+    """A policy as far as it was told: its digest, and what a use of it will be held against. What
+    is None was not told.
+    """
+
+    digest: bytes
+    update_counter: int | None = None
+    code: int | None = None
+    cp_hash: bytes | None = None
+    nv_written: bool | None = None
+    localities: int = ALL_LOCALITIES
+    demand: str | None = None
+
+
+def starting_state(algorithm: int) -> State:
+    return State(bytes(digest_bytes(algorithm)))
+
+
+# A policy that authorizes.
+
+
+@dataclass(frozen=True)
+class Use:
+    """What a policy is held against as it authorizes a command: the command, the device, and
+    whether the entity is written, which is None where that is no NV index.
+    """
+
+    code: int
+    is_admin: bool
+    cp_hash: bytes
+    written: bool | None
+    update_counter: int
+    locality: int
+
+
+@dataclass(frozen=True)
+class Entity:
+    """An entity that a policy can authorize."""
+
+    name_algorithm: int
+    auth_policy: bytes
+
+
+def check_use(session: Session, entity: Entity | None, use: Use, place: int) -> None:
+    """What refuses the entry of a place, before its hmac is looked at. `entity` is None where no
+    policy can authorize it.
+    """
+    told = session.policy
+    if session.is_trial:
+        raise Refusal(f"ATTRIBUTES/s{place}", "G9")
+    if entity is None:
+        raise Refusal("AUTH_UNAVAILABLE", "G9")
+    if told.update_counter not in (None, use.update_counter):
+        raise Refusal("PCR_CHANGED", "G9")
+    if told.code not in (None, use.code):
+        raise Refusal(f"POLICY_CC/s{place}", "G9")
+    if use.is_admin and told.code is None or told.cp_hash not in (None, use.cp_hash):
+        raise Refusal(f"POLICY_FAIL/s{place}", "G9")
+    if told.nv_written not in (None, use.written):
+        raise Refusal(f"POLICY_FAIL/s{place}", "G9")
+    if not told.localities >> use.locality & 1:
+        raise Refusal("LOCALITY", "G9")
+    if (session.algorithm, told.digest) != (entity.name_algorithm, entity.auth_policy):
+        raise Refusal(f"POLICY_FAIL/s{place}", "G9")

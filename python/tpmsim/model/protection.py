@@ -1,0 +1,104 @@
+"""Dictionary attack protection: wrong tries at protected authorization values, which are counted
+and forgiven, and the commands that say how (TPM 2.0 Library, Part 1, section 19.8).
+
+lockoutAuth, the value of TPM_RH_LOCKOUT, is protected in a way of its own: one wrong try closes it.
+"""
+
+from __future__ import annotations
+
+from dataclasses import dataclass
+
+from tpmsim.model.general import Answer
+from tpmsim.model.held import Held
+from tpmsim.model.parameters import Request
+
+# What a wrong try counts at: at all protected objects and NV indices together, or at lockoutAuth.
+TRIES, LOCKOUT_AUTH = "tries", "lockoutAuth"
+
+MILLISECONDS = 1000
+
+
+@dataclass
+class Lockout:
+    """`failed_tries` are those that are not forgiven. recovery_time and lockout_recovery are in
+    seconds; the two times, in milliseconds, are those since a try was counted or forgiven, and
+    since lockoutAuth was closed.
+    """
+
+    failed_tries: int = 0
+    max_tries: int = 3
+    recovery_time: int = 1000
+    lockout_recovery: int = 1000
+    is_closed: bool = False
+    forgiving_time: int = 0
+    closed_time: int = 0
+
+    def power_cycle(self) -> None:
+        """Nothing but the times starts over."""
+        self.forgiving_time = self.closed_time = 0
+
+    def tick(self, elapsed: int) -> None:
+        """Milliseconds pass."""
+        self.forgive(elapsed)
+        self.closed_time += elapsed
+        recovery = MILLISECONDS * self.lockout_recovery
+        if recovery and self.closed_time >= recovery:
+            self.is_closed = False
+        if not self.is_closed or not recovery:
+            self.closed_time = 0
+
+    def forgive(self, elapsed: int) -> None:
+        """A try for each whole recovery time; what is left of the time counts on."""
+        period = MILLISECONDS * self.recovery_time
+        if not self.failed_tries or not period:
+            self.forgiving_time = 0
+            return
+        forgiven, self.forgiving_time = divmod(self.forgiving_time + elapsed, period)
+        self.failed_tries = max(0, self.failed_tries - forgiven)
+        if not self.failed_tries:
+            self.forgiving_time = 0
+
+    def is_locked(self) -> bool:
+        """With recovery_time 0 the protection is off; else, with max_tries 0, nothing is open."""
+        return self.recovery_time != 0 and self.failed_tries >= self.max_tries
+
+    def refuses(self, touched: str | None) -> bool:
+        """Whether an entry that touches protected values, or lockoutAuth, is not looked at."""
+        if touched == TRIES:
+            return self.is_locked()
+        return touched == LOCKOUT_AUTH and self.is_closed
+
+    def count(self, touched: str | None) -> None:
+        """A wrong try that was looked at."""
+        if touched == TRIES and self.recovery_time:
+            self.failed_tries += 1
+            self.forgiving_time = 0
+        if touched == LOCKOUT_AUTH:
+            self.is_closed = True
+            self.closed_time = 0
+
+    def open(self) -> None:
+        self.is_closed = False
+
+    def reset(self) -> None:
+        self.failed_tries = 0
+
+    def set_parameters(self, max_tries: int, recovery_time: int, lockout_recovery: int) -> None:
+        self.max_tries, self.recovery_time = max_tries, recovery_time
+        self.lockout_recovery = lockout_recovery
+        self.forgiving_time = self.closed_time = 0
+
+
+class Commands(Held):
+    """The commands on the protection, of a device that has a `lockout`."""
+
+    def dictionary_attack_lock_reset(self, request: Request) -> Answer:
+        request.parameters.end()
+        self.lockout.reset()
+        return Answer()
+
+    def dictionary_attack_parameters(self, request: Request) -> Answer:
+        new = [request.parameters.next().number(4) for _ in range(3)]
+        request.parameters.end()
+        self.lockout.set_parameters(*new)
+        return Answer()

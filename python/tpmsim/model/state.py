@@ -1,0 +1,141 @@
+"""What the device keeps from one start to the next: a saved state, the clock and the counts of
+starts, and the commands that start, shut down, and clear (TPM 2.0 Library, Part 1, sections 12, 36
+and 14; Part 3, sections 9, 10, 24 and 29).
+"""
+
+from __future__ import annotations
+
+import enum
+
+from tpmsim.model import nv_commands
+from tpmsim.model.general import Answer, Refusal
+from tpmsim.model.held import Held
+from tpmsim.model.parameters import Request
+from tpmsim.standard import nv
+from tpmsim.standard.frames import RH_ENDORSEMENT, RH_LOCKOUT, RH_NULL, RH_OWNER, RH_PLATFORM
+from tpmsim.standard.frames import number
+
+CLEAR, STATE = 0, 1
+
+# The PCRs that TPM2_Shutdown(STATE) saves.
+SAVED_PCRS = 16
+
+# Times and counts stop here.
+LAST_TIME, LAST_COUNT = 2**64 - 1, 2**32 - 1
+
+SECRET_BYTES = 32
+
+
+class Saved(enum.IntEnum):
+    """What TPM2_Shutdown saved."""
+
+    NONE = 0
+    CLEAR = 1
+    STATE = 2
+
+
+def secrets(random: bytes, count: int) -> list[bytes]:
+    """Seeds and proofs, as they are drawn one after the other."""
+    return [random[at : at + SECRET_BYTES] for at in range(0, SECRET_BYTES * count, SECRET_BYTES)]
+
+
+class Commands(Held):
+    """The commands of a start and of an end, of a device that has `saved` and `saved_banks`, the
+    `clock` and the `time` since the power cycle, and the counts of resets and restarts.
+    """
+
+    # Time.
+
+    def tick(self, elapsed: int) -> None:
+        self.time = min(self.time + elapsed, LAST_TIME)
+        self.clock = min(self.clock + elapsed, LAST_TIME)
+        self.lockout.tick(elapsed)
+
+    def read_clock(self, request: Request) -> Answer:
+        request.parameters.end()
+        times = number(self.time, 8) + number(self.clock, 8)
+        counts = number(self.reset_count, 4) + number(self.restart_count, 4)
+        # The clock never goes back, and so is safe.
+        return Answer(times + counts + b"\x01")
+
+    # A start, which is a reset, or a restart or a resume of what was saved.
+
+    def startup(self, request: Request) -> Answer:
+        kind = request.parameters.next().one_of(2, (CLEAR, STATE), "VALUE")
+        request.parameters.end()
+        was_saved = self.saved
+        if kind == STATE and was_saved != Saved.STATE:
+            raise Refusal("VALUE/p1", "A1")
+
+        self.started, self.saved = True, Saved.NONE
+        self.update_counter = 0
+        if kind == STATE:
+            self.restore_pcrs()
+        else:
+            self.auth_values.pop(RH_PLATFORM, None)
+            nv_commands.start_up(self.indices)
+        if was_saved == Saved.STATE:
+            self.restart_count = min(self.restart_count + 1, LAST_COUNT)
+            return Answer()
+        self.reset(request.random)
+        return Answer(drawn=2 * SECRET_BYTES)
+
+    def restore_pcrs(self) -> None:
+        for algorithm, values in self.saved_banks.items():
+            self.banks[algorithm][:SAVED_PCRS] = values
+
+    def reset(self, random: bytes) -> None:
+        self.reset_count = min(self.reset_count + 1, LAST_COUNT)
+        self.restart_count = 0
+        self.seeds[RH_NULL], self.proofs[RH_NULL] = secrets(random, 2)
+        # That is how long lockoutAuth stays closed where no time is given for it.
+        if not self.lockout.lockout_recovery:
+            self.lockout.open()
+
+    def shutdown(self, request: Request) -> Answer:
+        kind = request.parameters.next().one_of(2, (CLEAR, STATE), "VALUE")
+        request.parameters.end()
+        self.saved = Saved.STATE if kind == STATE else Saved.CLEAR
+        self.saved_banks = {alg: bank[:SAVED_PCRS] for alg, bank in self.banks.items()}
+        return Answer()
+
+    def self_test(self, request: Request) -> Answer:
+        request.parameters.next().one_of(1, (0, 1), "VALUE")
+        request.parameters.end()
+        return Answer()
+
+    # TPM2_Clear takes away what belongs to the owner of the computer.
+
+    def clear(self, request: Request) -> Answer:
+        request.parameters.end()
+        if self.disable_clear:
+            raise Refusal("DISABLED", "A1")
+
+        (self.seeds[RH_OWNER], self.proofs[RH_OWNER], self.proofs[RH_ENDORSEMENT]) = secrets(
+            request.random, 3
+        )
+        owners = RH_OWNER, RH_ENDORSEMENT
+        self.objects = {
+            handle: it for handle, it in self.objects.items() if it.hierarchy not in owners
+        }
+        self.indices = {
+            handle: it
+            for handle, it in self.indices.items()
+            if it.public.has(nv.Attribute.PLATFORMCREATE)
+        }
+        for hierarchy in (*owners, RH_LOCKOUT):
+            self.auth_values.pop(hierarchy, None)
+        self.lockout.open()
+        self.lockout.reset()
+        self.clock = self.reset_count = self.restart_count = 0
+        self.update_counter += 1
+        return Answer(drawn=3 * SECRET_BYTES)
+
+    def clear_control(self, request: Request) -> Answer:
+        disables = request.parameters.next().one_of(1, (0, 1), "VALUE")
+        request.parameters.end()
+        # Only the platform takes it back.
+        if request.handles[0] == RH_LOCKOUT and not disables:
+            raise Refusal("AUTH_FAIL", "A1")
+        self.disable_clear = bool(disables)
+        return Answer()

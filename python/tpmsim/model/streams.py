@@ -1,0 +1,191 @@
+"""Devices on a socket: what `tpmsim serve` answers to the bytes of connections, in runs one after
+another on one image. What happens is said in lines:
+
+    new HEX        the image is taken away; the next run makes a device of these random bytes
+    image HEX      these bytes are put in its place
+    run N          a run from locality N, on the image
+    connection N   a connection, which sends its bytes in pieces of N
+    send HEX       some of its bytes
+    dry            for no further command of this run there are random bytes
+"""
+
+from __future__ import annotations
+
+import hashlib
+from typing import Iterable, Iterator
+
+from tpmsim.model.image import Fault, image, open_image
+from tpmsim.model.machine import Model, Outcome
+from tpmsim.standard import frames
+from tpmsim.standard.commands import CC
+from tpmsim.standard.frames import COMMAND_BYTES, HEADER_BYTES
+
+RANDOM_BYTES = 256
+
+# Where commandSize ends.
+SIZE_END = 6
+
+# TPM2_ReadClock answers the host's time, which is left out of what is compared.
+CLOCK_ANSWER_BYTES, TIMES = 35, slice(10, 26)
+
+
+def repeated(random: bytes) -> bytes:
+    return (random * RANDOM_BYTES)[:RANDOM_BYTES]
+
+
+def random_of(buffer: bytes) -> bytes:
+    """The random bytes of a command: they hang on its bytes alone, so that they stay where other
+    commands are left out.
+    """
+    return repeated(hashlib.sha256(buffer).digest()[:7])
+
+
+def without_times(buffer: bytes, response: bytes) -> bytes:
+    """A response as it is compared."""
+    is_clock = buffer[6:10] == frames.number(CC.ReadClock, 4)
+    if is_clock and len(response) == CLOCK_ANSWER_BYTES:
+        return response[: TIMES.start] + bytes(16) + response[TIMES.stop :]
+    return response
+
+
+def without_clock(device: Model) -> bytes:
+    """An image as it is compared."""
+    device.clock = 0
+    return image(device)
+
+
+class Connection:
+    """The bytes that are sent, in pieces of a size; those that are left of them; and the commands
+    that are cut from them, each with the number of the line that completes it and its response.
+    """
+
+    def __init__(self, piece: int) -> None:
+        self.piece, self.sent, self.left, self.has_ended = piece, b"", b"", False
+        self.answered: list[tuple[int, bytes, bytes]] = []
+
+    def send(self, data: bytes) -> Iterator[bytes]:
+        """The commands that are whole with these bytes. A size that no command has is one too, of
+        the bytes up to it, and the last one.
+        """
+        self.sent += data
+        self.left += data
+        while not self.has_ended and len(self.left) >= SIZE_END:
+            size = int.from_bytes(self.left[2:SIZE_END], "big")
+            if not HEADER_BYTES <= size <= COMMAND_BYTES:
+                size, self.has_ended = SIZE_END, True
+            if len(self.left) < size:
+                return
+            buffer, self.left = self.left[:size], self.left[size:]
+            yield buffer
+
+
+def image_told(text: bytes | None) -> str:
+    """What a file holds, as it is compared: no image, or one of a version, or what is none."""
+    if text is None:
+        return "no image"
+    try:
+        return f"image {text[:6].hex()}: {without_clock(open_image(text)).hex()}"
+    except Fault as fault:
+        return f"image {fault}"
+
+
+class Run:
+    """A run: the number of its line, its locality, its image, and whether that is given by a line
+    and not by the run before; what is in its file of random bytes, its connections, what is said on
+    standard error, and what is told of the image that it leaves. It is over where random bytes are
+    missing, or the image is none.
+    """
+
+    def __init__(
+        self, number: int, locality: int, image_before: bytes | None, is_given: bool
+    ) -> None:
+        self.number, self.locality = number, locality
+        self.image_before, self.is_given = image_before, is_given
+        self.random, self.connections = b"", list[Connection]()
+        self.image_told: str | None = None
+        self.is_dry, self.error = False, ""
+
+    @property
+    def is_over(self) -> bool:
+        return bool(self.error)
+
+
+class Served:
+    """The device in its runs, as the lines say, and what is in the file of its image. A line in a
+    wrong place does nothing.
+    """
+
+    def __init__(self) -> None:
+        self.device, self.runs = Model(), list[Run]()
+        self.run: Run | None = None
+        self.image: bytes | None = None
+        self.made_of, self.is_given = bytes(RANDOM_BYTES), False
+
+    def play(self, number: int, line: str) -> list[tuple[bytes, Outcome]]:
+        """A line, by its number. Gives the commands that it executes, each with its outcome."""
+        word, _, argument = line.partition(" ")
+        if word in ("new", "image"):
+            self.end()
+            self.take(word, bytes.fromhex(argument))
+        elif word == "run":
+            self.end()
+            self.begin(number, int(argument))
+        elif self.run is None or self.run.is_over:
+            pass
+        elif word == "connection":
+            self.run.connections.append(Connection(int(argument)))
+        elif word == "dry":
+            self.run.is_dry = True
+        elif word == "send" and self.run.connections:
+            return list(self.executed(self.run, number, bytes.fromhex(argument)))
+        return []
+
+    def take(self, word: str, data: bytes) -> None:
+        self.is_given = word == "image"
+        if self.is_given:
+            self.image = data
+        else:
+            self.image, self.made_of = None, repeated(data)
+
+    def begin(self, number: int, locality: int) -> None:
+        """Where there is no image, a device is made. Behind a run it is the same, without power."""
+        self.run = Run(number, locality, self.image, self.is_given)
+        self.runs.append(self.run)
+        if self.image is None:
+            self.device, self.run.random = Model(self.made_of), self.made_of
+        elif not self.is_given:
+            self.device.power_cycle()
+        else:
+            try:
+                self.device = open_image(self.image)
+            except Fault as fault:
+                self.run.error = f"tpmsim: image {fault}"
+
+    def end(self) -> None:
+        """A run saves its device where it had a connection."""
+        if self.run:
+            if self.run.connections:
+                self.image, self.is_given = without_clock(self.device), False
+            self.run.image_told = image_told(self.image)
+        self.run = None
+
+    def executed(self, run: Run, number: int, data: bytes) -> Iterator[tuple[bytes, Outcome]]:
+        connection = run.connections[-1]
+        for buffer in connection.send(data):
+            if run.is_dry:
+                run.error = "tpmsim: entropy"
+                return
+            random = random_of(buffer)
+            run.random += random
+            outcome = self.device.execute(buffer, run.locality, random)
+            connection.answered.append((number, buffer, outcome.response))
+            yield buffer, outcome
+
+
+def played(script: Iterable[str]) -> list[Run]:
+    """The runs that lines say."""
+    served = Served()
+    for number, line in enumerate(script, 1):
+        served.play(number, line)
+    served.end()
+    return served.runs

@@ -1,0 +1,1 @@
+"""Policies in words, and their digests."""

@@ -1,0 +1,147 @@
+"""The words of an assertion in a policy's file: what they say, or why they say nothing."""
+
+from dataclasses import dataclass
+from typing import Callable
+
+from tpmsim.policies.written import OPERATIONS, PolicyAuthValue, PolicyCommandCode, PolicyCpHash
+from tpmsim.policies.written import PolicyLocality, PolicyNv, PolicyNvWritten, PolicyPassword
+from tpmsim.policies.written import PolicyPcr, PolicySecret
+from tpmsim.standard import handle_kinds
+from tpmsim.standard.commands import CC
+from tpmsim.standard.frames import SHA1, SHA256, number
+from tpmsim.standard.handle_kinds import HIERARCHIES
+from tpmsim.standard.lines import HANDLE_NAMES, Wrong, bytes_of, number_up_to, spelled_selection
+from tpmsim.standard.sessions import DIGEST_BYTES, digest_bytes, name_of
+
+LOCALITIES = {b"0", b"1", b"2", b"3", b"4"}
+
+# How the Name of an object or an index begins, and how long it is.
+HASHED_NAMES = {number(it, 2): 2 + digest_bytes(it) for it in (SHA1, SHA256)}
+
+
+class Unsaid(Exception):
+    """Why words say no assertion, in words."""
+
+
+def shown(word):
+    """A word in quotation marks, whatever its bytes are."""
+    plain = "".join(chr(it) if 0x20 < it < 0x7F else "?" for it in word)
+    return f'"{plain}"'
+
+
+# What each word says; one that says nothing is Wrong.
+
+
+def is_hashed_name(name):
+    return HASHED_NAMES.get(name[:2]) == len(name)
+
+
+def read_index_name(word):
+    name = bytes_of(word)
+    if not is_hashed_name(name):
+        raise Wrong
+    return name
+
+
+def read_name(word):
+    """The Name of what TPM2_PolicySecret may name: of a hierarchy or a PCR it is the handle."""
+    if word in HANDLE_NAMES:
+        name = name_of(HANDLE_NAMES[word])
+    else:
+        name = bytes_of(word)
+    is_handle = name in [name_of(it) for it in (*HIERARCHIES, *handle_kinds.PCRS)]
+    if not is_handle and not is_hashed_name(name):
+        raise Wrong
+    return name
+
+
+def read_buffer(word):
+    data = bytes_of(word)
+    if len(data) > DIGEST_BYTES:
+        raise Wrong
+    return data
+
+
+def read_digest(word):
+    found = bytes_of(word)
+    if len(found) not in (digest_bytes(SHA1), digest_bytes(SHA256)):
+        raise Wrong
+    return found
+
+
+def read_code(word):
+    name = word.decode("latin-1")
+    if name in CC.__members__:
+        return int(CC[name])
+    return number_up_to(2**32 - 1, word)
+
+
+def read_localities(word):
+    """Their numbers, and not the bits of a `do` line."""
+    allowed = set(word.split(b","))
+    if not allowed <= LOCALITIES:
+        raise Wrong
+    return sum(1 << int(it) for it in allowed)
+
+
+def read_operation(word):
+    name = word.decode("latin-1")
+    if name not in OPERATIONS:
+        raise Wrong
+    return OPERATIONS.index(name)
+
+
+@dataclass(frozen=True)
+class Word:
+    """A word behind an assertion's name: what it is, and how it is read."""
+
+    name: str
+    read: Callable
+
+
+SELECTION = Word("a selection of PCRs", spelled_selection)
+DIGEST = Word("a digest of 20 or 32 bytes in hex", read_digest)
+CODE = Word("a command", read_code)
+LOCALITY_LIST = Word("a list of localities from 0 to 4", read_localities)
+IS_WRITTEN = Word("0 or 1", lambda word: bool(number_up_to(1, word)))
+NAME = Word("a Name", read_name)
+INDEX_NAME = Word("the Name of an NV index", read_index_name)
+REFERENCE = Word("a policyRef of at most 32 bytes in hex", read_buffer)
+OPERAND = Word("an operand of at most 32 bytes in hex", read_buffer)
+OFFSET = Word("an offset up to 65535", lambda word: number_up_to(2**16 - 1, word))
+OPERATION = Word("a comparison", read_operation)
+
+# The assertions by their names, each with the words behind it.
+FORMS = {
+    b"PolicyPCR": (PolicyPcr, (SELECTION, DIGEST)),
+    b"PolicyAuthValue": (PolicyAuthValue, ()),
+    b"PolicyPassword": (PolicyPassword, ()),
+    b"PolicyCommandCode": (PolicyCommandCode, (CODE,)),
+    b"PolicyLocality": (PolicyLocality, (LOCALITY_LIST,)),
+    b"PolicyCpHash": (PolicyCpHash, (DIGEST,)),
+    b"PolicyNvWritten": (PolicyNvWritten, (IS_WRITTEN,)),
+    b"PolicySecret": (PolicySecret, (NAME, REFERENCE)),
+    b"PolicyNV": (PolicyNv, (INDEX_NAME, OPERAND, OFFSET, OPERATION)),
+}
+
+
+def read_word(word, given):
+    try:
+        return word.read(given)
+    except Wrong:
+        raise Unsaid(f"{shown(given)} is not {word.name}") from None
+
+
+def read_assertion(text):
+    """What the words of a line say. They have one form each."""
+    name, *given = text.split(b" ")
+    if name not in FORMS:
+        raise Unsaid(f"{shown(name)} is no assertion")
+    kind, words = FORMS[name]
+    if len(given) != len(words):
+        wanted = ", then ".join(it.name for it in words) or "nothing"
+        raise Unsaid(f"behind {name.decode('ascii')} stands {wanted}")
+    said = kind(*map(read_word, words, given))
+    if said.words.encode("ascii") != text:
+        raise Unsaid(f'this is written "{said.words}"')
+    return said

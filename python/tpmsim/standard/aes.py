@@ -1,0 +1,97 @@
+"""AES-128 (FIPS 197) and its cipher feedback mode with whole blocks (SP 800-38A, 6.3), by the book.
+
+aes_tables.py has the cipher by tables, which is quicker. Either is given to who encrypts.
+"""
+
+from typing import Callable
+
+BLOCK = 16
+ROUNDS = 10
+
+# The cipher of a block, by a key; both have 16 bytes.
+BlockCipher = Callable[[bytes, bytes], bytes]
+
+
+def times(a: int, b: int) -> int:
+    """The product in GF(2^8) modulo x^8 + x^4 + x^3 + x + 1."""
+    product = 0
+    for bit in range(8):
+        if b >> bit & 1:
+            product ^= a << bit
+    for bit in range(14, 7, -1):
+        if product >> bit & 1:
+            product ^= 0x11B << (bit - 8)
+    return product
+
+
+def substitute(byte: int) -> int:
+    """The inverse (0 for 0), and then the affine map."""
+    inverse = next((it for it in range(256) if times(byte, it) == 1), 0)
+    turned = [inverse << n | inverse >> (8 - n) for n in range(5)]
+    return (turned[0] ^ turned[1] ^ turned[2] ^ turned[3] ^ turned[4] ^ 0x63) & 0xFF
+
+
+S_BOX = [substitute(byte) for byte in range(256)]
+
+
+def xor(left: bytes, right: bytes) -> bytes:
+    """As many bytes as the shorter has."""
+    return bytes(a ^ b for a, b in zip(left, right))
+
+
+def round_keys(key: bytes) -> list[bytes]:
+    """The eleven keys of the rounds, of four words each."""
+    words, constant = [key[at : at + 4] for at in range(0, BLOCK, 4)], 1
+    while len(words) < 4 * (ROUNDS + 1):
+        word = words[-1]
+        if len(words) % 4 == 0:
+            word = bytes(S_BOX[byte] for byte in word[1:] + word[:1])
+            word = xor(word, bytes([constant, 0, 0, 0]))
+            constant = times(constant, 2)
+        words.append(xor(words[-4], word))
+    return [b"".join(words[at : at + 4]) for at in range(0, len(words), 4)]
+
+
+def shift_rows(state: bytes) -> bytes:
+    """Byte r + 4c is row r, column c; row r turns by r."""
+    return bytes(state[(at + 4 * (at % 4)) % BLOCK] for at in range(BLOCK))
+
+
+def mix_columns(state: bytes) -> bytes:
+    mixed = []
+    for column in (state[at : at + 4] for at in range(0, BLOCK, 4)):
+        for row in range(4):
+            a, b, c, d = column[row:] + column[:row]
+            mixed.append(times(a, 2) ^ times(b, 3) ^ c ^ d)
+    return bytes(mixed)
+
+
+def encrypt_block(key: bytes, block: bytes) -> bytes:
+    first, *middle, last = round_keys(key)
+    state = xor(block, first)
+    for round_key in middle:
+        state = shift_rows(bytes(S_BOX[byte] for byte in state))
+        state = xor(mix_columns(state), round_key)
+    return xor(shift_rows(bytes(S_BOX[byte] for byte in state)), last)
+
+
+def cfb_encrypt(
+    key: bytes, iv: bytes, text: bytes, block_cipher: BlockCipher = encrypt_block
+) -> bytes:
+    """Each block of the text is masked by the cipher of the block before it."""
+    done, before = b"", iv
+    for at in range(0, len(text), BLOCK):
+        before = xor(text[at : at + BLOCK], block_cipher(key, before))
+        done += before
+    return done
+
+
+def cfb_decrypt(
+    key: bytes, iv: bytes, text: bytes, block_cipher: BlockCipher = encrypt_block
+) -> bytes:
+    done, before = b"", iv
+    for at in range(0, len(text), BLOCK):
+        block = text[at : at + BLOCK]
+        done += xor(block, block_cipher(key, before))
+        before = block
+    return done

@@ -1,0 +1,323 @@
+"""Frames of TPM 2.0 commands and responses, byte by byte (TPM 2.0 Library, Part 1, section 18)."""
+
+from __future__ import annotations
+
+from dataclasses import dataclass
+from typing import Iterable
+
+# PCRs of banks: the hash algorithm of each, and the numbers.
+Banks = Iterable[tuple[int, Iterable[int]]]
+
+NO_SESSIONS, SESSIONS, BAD_TAG_ANSWER = 0x8001, 0x8002, 0x00C4
+
+RH_OWNER, RH_NULL, RS_PW = 0x4000_0001, 0x4000_0007, 0x4000_0009
+RH_LOCKOUT, RH_ENDORSEMENT, RH_PLATFORM = 0x4000_000A, 0x4000_000B, 0x4000_000C
+
+# The first byte of a handle that is not permanent says what it is.
+NV, HMAC_SESSION, POLICY_SESSION, TRANSIENT, PERSISTENT = 0x01, 0x02, 0x03, 0x80, 0x81
+
+SHA1, AES, XOR, SHA256, ALG_NULL, CFB = 0x0004, 0x0006, 0x000A, 0x000B, 0x0010, 0x0043
+AES_KEY_BITS = 128
+
+# The types of objects, and the scheme of a KEYEDHASH that makes HMACs (Part 2, section 6.3).
+KEYEDHASH, SYMCIPHER, ALG_HMAC = 0x0008, 0x0025, 0x0005
+
+# What a session is for, and attributes of its entries (Part 2, section 8.4).
+SE_HMAC, SE_POLICY, SE_TRIAL = 0x00, 0x01, 0x03
+CONTINUE_SESSION, AUDIT_EXCLUSIVE, AUDIT_RESET = 0x01, 0x02, 0x04
+RESERVED, DECRYPT, ENCRYPT, AUDIT = 0x18, 0x20, 0x40, 0x80
+
+# The response codes of docs/table (Part 2, section 6.6.3), without their places; MEMORY, which no
+# script can ask for, is left out.
+CODES = {
+    "BAD_TAG": 0x01E,
+    "ATTRIBUTES": 0x082,
+    "HASH": 0x083,
+    "VALUE": 0x084,
+    "HIERARCHY": 0x085,
+    "MODE": 0x089,
+    "TYPE": 0x08A,
+    "HANDLE": 0x08B,
+    "RANGE": 0x08D,
+    "AUTH_FAIL": 0x08E,
+    "NONCE": 0x08F,
+    "SCHEME": 0x092,
+    "SIZE": 0x095,
+    "SYMMETRIC": 0x096,
+    "INSUFFICIENT": 0x09A,
+    "KEY": 0x09C,
+    "POLICY_FAIL": 0x09D,
+    "INTEGRITY": 0x09F,
+    "RESERVED_BITS": 0x0A1,
+    "BAD_AUTH": 0x0A2,
+    "POLICY_CC": 0x0A4,
+    "INITIALIZE": 0x100,
+    "FAILURE": 0x101,
+    "DISABLED": 0x120,
+    "AUTH_MISSING": 0x125,
+    "POLICY": 0x126,
+    "PCR_CHANGED": 0x128,
+    "AUTH_UNAVAILABLE": 0x12F,
+    "COMMAND_SIZE": 0x142,
+    "COMMAND_CODE": 0x143,
+    "AUTHSIZE": 0x144,
+    "AUTH_CONTEXT": 0x145,
+    "NV_RANGE": 0x146,
+    "NV_LOCKED": 0x148,
+    "NV_AUTHORIZATION": 0x149,
+    "NV_UNINITIALIZED": 0x14A,
+    "NV_SPACE": 0x14B,
+    "NV_DEFINED": 0x14C,
+    "CPHASH": 0x151,
+    "OBJECT_MEMORY": 0x902,
+    "SESSION_MEMORY": 0x903,
+    "LOCALITY": 0x907,
+    "REFERENCE_H0": 0x910,
+    "REFERENCE_H1": 0x911,
+    "REFERENCE_H2": 0x912,
+    "REFERENCE_S0": 0x918,
+    "REFERENCE_S1": 0x919,
+    "REFERENCE_S2": 0x91A,
+    "LOCKOUT": 0x921,
+}
+
+# What the first of a kind of places adds to a code, before 0x100 for its number (section 6.6.2).
+PLACES = {"h": 0, "p": 0x040, "s": 0x800}
+
+
+def number(value: int, size: int) -> bytes:
+    """A number of so many bytes, the highest first."""
+    return value.to_bytes(size, "big")
+
+
+def sized(data: bytes) -> bytes:
+    """A buffer behind its size in two bytes."""
+    return number(len(data), 2) + data
+
+
+# Commands.
+
+# The header of a command, the longest command, and the most entries of one.
+HEADER_BYTES, COMMAND_BYTES, MOST_ENTRIES = 10, 4096, 3
+
+
+@dataclass
+class Entry:
+    """An entry of an authorization area. `demand` is what a policy asks of it as it authorizes."""
+
+    handle: int
+    nonce: bytes
+    attributes: int
+    hmac: bytes
+    demand: str | None = None
+
+
+def command(code: int, body: bytes, tag: int = NO_SESSIONS, size: int | None = None) -> bytes:
+    """A command; commandSize is right where no other is given."""
+    length = 10 + len(body) if size is None else size
+    return number(tag, 2) + number(length, 4) + number(code, 4) + body
+
+
+def entry(
+    session: int = RS_PW, nonce: bytes = b"", attributes: int = CONTINUE_SESSION, hmac: bytes = b""
+) -> bytes:
+    """An entry of an authorization area; with nothing given, the empty password."""
+    return number(session, 4) + sized(nonce) + number(attributes, 1) + sized(hmac)
+
+
+def area(*entries: bytes, size: int | None = None) -> bytes:
+    """An authorization area; authorizationSize is right where no other is given."""
+    text = b"".join(entries)
+    return number(len(text) if size is None else size, 4) + text
+
+
+def on_handles(
+    code: int, handles: Iterable[int], parameters: bytes = b"", entries: list[bytes] | None = None
+) -> bytes:
+    """A command with handles, and the entries that authorize the first, or the empty password."""
+    text = b"".join(number(it, 4) for it in handles)
+    text += area(*([entry()] if entries is None else entries))
+    return command(code, text + parameters, SESSIONS)
+
+
+def on_handle(
+    code: int, handle: int, parameters: bytes = b"", entries: list[bytes] | None = None
+) -> bytes:
+    """A command with one handle."""
+    return on_handles(code, [handle], parameters, entries)
+
+
+def symmetric(aes: bool = False, xor: int | None = None) -> bytes:
+    """What a session encrypts by: AES-128 in mode CFB, masks that a hash algorithm makes, or
+    nothing.
+    """
+    if xor is not None:
+        return number(XOR, 2) + number(xor, 2)
+    if not aes:
+        return number(ALG_NULL, 2)
+    return number(AES, 2) + number(AES_KEY_BITS, 2) + number(CFB, 2)
+
+
+def start_auth_session(
+    nonce: bytes,
+    bind: int = RH_NULL,
+    algorithm: int = SHA256,
+    aes: bool = False,
+    tpm_key: int = RH_NULL,
+    salt: bytes = b"",
+    kind: int = SE_HMAC,
+    xor: int | None = None,
+) -> tuple[list[int], bytes]:
+    """The handles of TPM2_StartAuthSession and its parameters."""
+    parameters = sized(nonce) + sized(salt) + number(kind, 1)
+    return [tpm_key, bind], parameters + symmetric(aes, xor) + number(algorithm, 2)
+
+
+def selection(*banks: tuple[int, Iterable[int]]) -> bytes:
+    """A selection of PCRs: for each bank its hash algorithm and the numbers of its PCRs."""
+    text = number(len(banks), 4)
+    for algorithm, pcrs in banks:
+        bits = sum(1 << pcr for pcr in set(pcrs))
+        text += number(algorithm, 2) + b"\x03" + bits.to_bytes(3, "little")
+    return text
+
+
+def digests(*values: tuple[int, bytes]) -> bytes:
+    """A list of digests, each behind its hash algorithm."""
+    return number(len(values), 4) + b"".join(number(alg, 2) + digest for alg, digest in values)
+
+
+def sized_list(*values: bytes, count: int | None = None) -> bytes:
+    """A list of sized buffers; its count is right where no other is given."""
+    return number(len(values) if count is None else count, 4) + b"".join(map(sized, values))
+
+
+def policy_secret(
+    nonce_tpm: bytes = b"", cp_hash: bytes = b"", policy_ref: bytes = b"", expiration: int = 0
+) -> bytes:
+    """The parameters of TPM2_PolicySecret."""
+    return sized(nonce_tpm) + sized(cp_hash) + sized(policy_ref) + number(expiration, 4)
+
+
+def attack_parameters(max_tries: int, recovery_time: int, lockout_recovery: int) -> bytes:
+    """The parameters of TPM2_DictionaryAttackParameters."""
+    return b"".join(number(it, 4) for it in (max_tries, recovery_time, lockout_recovery))
+
+
+def policy_nv(operand: bytes = b"", offset: int = 0, operation: int = 0) -> bytes:
+    """The parameters of TPM2_PolicyNV."""
+    return sized(operand) + number(offset, 2) + number(operation, 2)
+
+
+def nv_public_area(
+    index: int, name_algorithm: int, attributes: int, auth_policy: bytes, data_size: int
+) -> bytes:
+    """A TPMS_NV_PUBLIC."""
+    head = number(index, 4) + number(name_algorithm, 2) + number(attributes, 4)
+    return head + sized(auth_policy) + number(data_size, 2)
+
+
+def nv_define_space(public: bytes, auth: bytes = b"") -> bytes:
+    """The parameters of TPM2_NV_DefineSpace, of a public area's text."""
+    return sized(auth) + sized(public)
+
+
+def nv_write(data: bytes, offset: int = 0) -> bytes:
+    """The parameters of TPM2_NV_Write."""
+    return sized(data) + number(offset, 2)
+
+
+def nv_read(size: int, offset: int = 0) -> bytes:
+    """The parameters of TPM2_NV_Read."""
+    return number(size, 2) + number(offset, 2)
+
+
+def sensitive_create(user_auth: bytes = b"", data: bytes = b"") -> bytes:
+    """A TPM2B_SENSITIVE_CREATE: what an object is to have as its authorization value, and what is
+    to be sealed, or used as its key.
+    """
+    return sized(sized(user_auth) + sized(data))
+
+
+def scheme(algorithm: int) -> bytes:
+    """How a KEYEDHASH makes HMACs: by a hash algorithm, or by one that its user names."""
+    if algorithm == ALG_NULL:
+        return number(ALG_NULL, 2)
+    return number(ALG_HMAC, 2) + number(algorithm, 2)
+
+
+def public_area(
+    kind: int,
+    name_algorithm: int,
+    attributes: int,
+    auth_policy: bytes,
+    details: bytes,
+    unique: bytes,
+) -> bytes:
+    """A TPMT_PUBLIC; its details are a KEYEDHASH's scheme, or the cipher of a SYMCIPHER."""
+    head = number(kind, 2) + number(name_algorithm, 2) + number(attributes, 4)
+    return head + sized(auth_policy) + details + sized(unique)
+
+
+def creation(sensitive: bytes, public: bytes, outside_info: bytes = b"", pcrs: Banks = ()) -> bytes:
+    """The parameters of TPM2_CreatePrimary and TPM2_Create, of which the first two have their
+    sizes already.
+    """
+    return sensitive + public + sized(outside_info) + selection(*pcrs)
+
+
+# What a ticket is for: that an object was created so, and that an assertion was made (Part 2,
+# section 6.9).
+ST_CREATION, ST_AUTH_SECRET = 0x8021, 0x8023
+
+
+def ticket(tag: int, hierarchy: int, digest: bytes) -> bytes:
+    return number(tag, 2) + number(hierarchy, 4) + sized(digest)
+
+
+# The ticket of an assertion that does not expire: of TPM_RH_NULL, and with an empty digest.
+NULL_TICKET = ticket(ST_AUTH_SECRET, RH_NULL, b"")
+
+
+# Responses.
+
+
+def refusal(code: int) -> bytes:
+    """Ten bytes: the tag, the size and the code."""
+    tag = BAD_TAG_ANSWER if code == CODES["BAD_TAG"] else NO_SESSIONS
+    return number(tag, 2) + number(10, 4) + number(code, 4)
+
+
+def success(answer: bytes, entries: list[bytes] | None = None, handle: bytes = b"") -> bytes:
+    """A success, of the handle that is answered, if any, the parameters, and with sessions the
+    answers to the entries."""
+    if entries is None:
+        tag, body = NO_SESSIONS, handle + answer
+    else:
+        tag, body = SESSIONS, handle + number(len(answer), 4) + answer + b"".join(entries)
+    return number(tag, 2) + number(10 + len(body), 4) + number(0, 4) + body
+
+
+def entry_answer(
+    nonce: bytes = b"", attributes: int = CONTINUE_SESSION, hmac: bytes = b""
+) -> bytes:
+    """What answers an entry; with nothing given, a password."""
+    return sized(nonce) + number(attributes, 1) + sized(hmac)
+
+
+def spelled_code(code: int) -> tuple[str, str]:
+    """The name of a code and its place, as HASH and p1; each is empty where there is none."""
+    place = ""
+    if code & 0x080 and code >> 8:
+        kind = "p" if code & PLACES["p"] else "s" if code & PLACES["s"] else "h"
+        place = f"{kind}{(code - PLACES[kind]) >> 8 & 0xF}"
+        code = code & 0x0BF
+    names = {value: name for name, value in CODES.items()}
+    return names.get(code, ""), place
+
+
+def code_of(name: str) -> int:
+    """The number of a code such as HASH/p1: the code's, and what its place adds."""
+    code, slash, place = name.partition("/")
+    added = PLACES[place[0]] + 0x100 * int(place[1:]) if slash else 0
+    return CODES[code] + added

@@ -1,0 +1,103 @@
+"""The public areas of NV indices (TPM 2.0 Library, Part 2, section 13)."""
+
+from __future__ import annotations
+
+import enum
+from dataclasses import dataclass, replace
+
+from tpmsim.standard import frames
+from tpmsim.standard.frames import number
+from tpmsim.standard.reading import Fields
+from tpmsim.standard.sessions import digest
+
+# The size of a counter and of bits.
+NUMBER_BYTES = 8
+
+
+class Attribute(enum.IntFlag):
+    """TPMA_NV (Part 2, section 13.4), but for the type."""
+
+    PPWRITE = 1 << 0
+    OWNERWRITE = 1 << 1
+    AUTHWRITE = 1 << 2
+    POLICYWRITE = 1 << 3
+    POLICY_DELETE = 1 << 10
+    WRITELOCKED = 1 << 11
+    WRITEALL = 1 << 12
+    WRITEDEFINE = 1 << 13
+    WRITE_STCLEAR = 1 << 14
+    GLOBALLOCK = 1 << 15
+    PPREAD = 1 << 16
+    OWNERREAD = 1 << 17
+    AUTHREAD = 1 << 18
+    POLICYREAD = 1 << 19
+    NO_DA = 1 << 25
+    ORDERLY = 1 << 26
+    CLEAR_STCLEAR = 1 << 27
+    READLOCKED = 1 << 28
+    WRITTEN = 1 << 29
+    PLATFORMCREATE = 1 << 30
+    READ_STCLEAR = 1 << 31
+
+
+class Type(enum.IntEnum):
+    """What an index is (TPM_NT), in bits 4 to 7 of its attributes."""
+
+    ORDINARY = 0
+    COUNTER = 1
+    BITS = 2
+    EXTEND = 4
+
+
+TYPE_SHIFT, TYPE_MASK = 4, 0xF
+NAMED = sum(Attribute) | TYPE_MASK << TYPE_SHIFT
+
+WRITES = Attribute.PPWRITE | Attribute.OWNERWRITE | Attribute.AUTHWRITE | Attribute.POLICYWRITE
+READS = Attribute.PPREAD | Attribute.OWNERREAD | Attribute.AUTHREAD | Attribute.POLICYREAD
+
+
+def of_type(kind: int) -> int:
+    """The bits of the attributes that say what an index is."""
+    return kind << TYPE_SHIFT
+
+
+@dataclass(frozen=True)
+class Public:
+    """TPMS_NV_PUBLIC. Its attributes change with what is done with the index, and the Name too."""
+
+    index: int
+    name_algorithm: int
+    attributes: int
+    auth_policy: bytes = b""
+    data_size: int = NUMBER_BYTES
+
+    def has(self, attribute: Attribute) -> bool:
+        return bool(self.attributes & attribute)
+
+    @property
+    def kind(self) -> int:
+        """The number of its type, which is not that of a `Type` in every one that is asked for."""
+        return self.attributes >> TYPE_SHIFT & TYPE_MASK
+
+    @property
+    def text(self) -> bytes:
+        return frames.nv_public_area(
+            self.index, self.name_algorithm, self.attributes, self.auth_policy, self.data_size
+        )
+
+    @property
+    def name(self) -> bytes:
+        return number(self.name_algorithm, 2) + digest(self.name_algorithm, self.text)
+
+    @classmethod
+    def read(cls, text: bytes) -> "Public":
+        """The area that a text is; ValueError where bytes are left, Short where they lack."""
+        fields = Fields(text)
+        head = fields.number(4), fields.number(2), fields.number(4)
+        public = cls(*head, fields.sized(), fields.number(2))
+        if fields.data:
+            raise ValueError("bytes are left behind a public area")
+        return public
+
+    def but(self, added: int = 0, cleared: int = 0) -> Public:
+        return replace(self, attributes=self.attributes & ~cleared | added)

@@ -1,0 +1,82 @@
+"""The public areas of objects (TPM 2.0 Library, Part 2, sections 8.3 and 12.2)."""
+
+import enum
+from dataclasses import dataclass
+
+from tpmsim.standard import frames
+from tpmsim.standard.frames import ALG_NULL, KEYEDHASH, SYMCIPHER, number
+from tpmsim.standard.reading import Fields
+from tpmsim.standard.sessions import digest
+
+
+class Attribute(enum.IntFlag):
+    """TPMA_OBJECT (Part 2, section 8.3)."""
+
+    FIXED_TPM = 1 << 1
+    ST_CLEAR = 1 << 2
+    FIXED_PARENT = 1 << 4
+    SENSITIVE_DATA_ORIGIN = 1 << 5
+    USER_WITH_AUTH = 1 << 6
+    ADMIN_WITH_POLICY = 1 << 7
+    NO_DA = 1 << 10
+    ENCRYPTED_DUPLICATION = 1 << 11
+    RESTRICTED = 1 << 16
+    DECRYPT = 1 << 17
+    SIGN = 1 << 18
+
+
+NAMED = sum(Attribute)
+
+
+@dataclass(frozen=True)
+class Public:
+    """TPMT_PUBLIC. A KEYEDHASH has a scheme, which is a hash algorithm to make HMACs by, or NULL;
+    the cipher of a SYMCIPHER is always AES-128 in mode CFB.
+    """
+
+    kind: int
+    name_algorithm: int
+    attributes: int
+    auth_policy: bytes = b""
+    scheme: int = ALG_NULL
+    unique: bytes = b""
+
+    def has(self, attribute: Attribute) -> bool:
+        return bool(self.attributes & attribute)
+
+    @property
+    def text(self) -> bytes:
+        if self.kind == KEYEDHASH:
+            details = frames.scheme(self.scheme)
+        else:
+            details = frames.symmetric(aes=True)
+        return frames.public_area(
+            self.kind, self.name_algorithm, self.attributes, self.auth_policy, details, self.unique
+        )
+
+    @property
+    def name(self) -> bytes:
+        text_digest = digest(self.name_algorithm, self.text)
+        return number(self.name_algorithm, 2) + text_digest
+
+    @classmethod
+    def read(cls, text: bytes) -> "Public":
+        """The area that a text is; ValueError where bytes are left, Short where they lack."""
+        fields = Fields(text)
+        kind, name_algorithm, attributes = fields.number(2), fields.number(2), fields.number(4)
+        auth_policy, scheme = fields.sized(), ALG_NULL
+        if kind == SYMCIPHER:
+            fields.take(len(frames.symmetric(aes=True)))
+        elif fields.number(2) != ALG_NULL:
+            scheme = fields.number(2)
+        public = cls(kind, name_algorithm, attributes, auth_policy, scheme, fields.sized())
+        if fields.data:
+            raise ValueError("bytes are left behind a public area")
+        return public
+
+    @property
+    def is_parent(self) -> bool:
+        """Whether it is that of a storage parent: a restricted decryption key."""
+        wanted = Attribute.RESTRICTED | Attribute.DECRYPT
+        asked = wanted | Attribute.SIGN
+        return self.kind == SYMCIPHER and self.attributes & asked == wanted

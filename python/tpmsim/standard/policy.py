@@ -1,0 +1,60 @@
+"""The digest of a policy, behind each assertion (TPM 2.0 Library, Part 3, section 23)."""
+
+from tpmsim.standard.commands import CC
+from tpmsim.standard.frames import number
+from tpmsim.standard.sessions import digest, digest_bytes
+
+# A bit for each of the localities 0 to 4.
+ALL_LOCALITIES = 0x1F
+
+# What a policy asks of the entry that it authorizes by, beside itself.
+PASSWORD, AUTH_VALUE = "password", "authorization value"
+
+# How many digests TPM2_PolicyOR takes.
+LEAST_BRANCHES, MOST_BRANCHES = 2, 8
+
+
+def after_pcr(algorithm: int, old: bytes, selection: bytes, values_digest: bytes) -> bytes:
+    """`selection` is the text of the selection, as it is sent."""
+    return digest(algorithm, old + number(CC.PolicyPCR, 4) + selection + values_digest)
+
+
+def after_or(algorithm: int, branches: list[bytes]) -> bytes:
+    """What was before is one of the branches, and no more in the digest."""
+    zeros = bytes(digest_bytes(algorithm))
+    return digest(algorithm, zeros + number(CC.PolicyOR, 4) + b"".join(branches))
+
+
+def after_auth_value(algorithm: int, old: bytes) -> bytes:
+    """TPM2_PolicyPassword makes the same digest."""
+    return digest(algorithm, old + number(CC.PolicyAuthValue, 4))
+
+
+def after_command_code(algorithm: int, old: bytes, code: int) -> bytes:
+    return digest(algorithm, old + number(CC.PolicyCommandCode, 4) + number(code, 4))
+
+
+def after_cp_hash(algorithm: int, old: bytes, cp_hash: bytes) -> bytes:
+    return digest(algorithm, old + number(CC.PolicyCpHash, 4) + cp_hash)
+
+
+def after_nv_written(algorithm: int, old: bytes, is_written: bool) -> bytes:
+    return digest(algorithm, old + number(CC.PolicyNvWritten, 4) + number(is_written, 1))
+
+
+def after_locality(algorithm: int, old: bytes, localities: int) -> bytes:
+    return digest(algorithm, old + number(CC.PolicyLocality, 4) + number(localities, 1))
+
+
+def after_secret(algorithm: int, old: bytes, name: bytes, policy_ref: bytes) -> bytes:
+    """Of the Name of authHandle. Two hashes, also where policyRef is empty."""
+    named = digest(algorithm, old + number(CC.PolicySecret, 4) + name)
+    return digest(algorithm, named + policy_ref)
+
+
+def after_nv(algorithm: int, old: bytes, arguments: bytes, name: bytes) -> bytes:
+    """`arguments` are the operand, the offset and the operation, as they are compared; the Name is
+    that of the index.
+    """
+    compared = digest(algorithm, arguments)
+    return digest(algorithm, old + number(CC.PolicyNV, 4) + compared + name)

@@ -1,0 +1,131 @@
+"""What both ends of a session compute, over whole texts (TPM 2.0 Library, Part 1)."""
+
+import hashlib
+import hmac
+from typing import Any, Callable, Iterable
+
+from tpmsim.standard import aes
+from tpmsim.standard.commands import CC
+from tpmsim.standard.frames import SHA1, SHA256, XOR, number
+
+HASHES = {SHA1: hashlib.sha1, SHA256: hashlib.sha256}
+HASH_WORDS = {SHA1: "sha1", SHA256: "sha256"}
+
+# The most bytes of a digest, a nonce and an authorization value.
+DIGEST_BYTES = 32
+
+SUCCESS = 0
+
+
+def digest_bytes(algorithm: int) -> int:
+    return HASHES[algorithm]().digest_size
+
+
+def digest(algorithm: int, text: bytes) -> bytes:
+    return HASHES[algorithm](text).digest()
+
+
+def mac(algorithm: int, key: bytes, text: bytes) -> bytes:
+    return hmac.new(key, text, HASHES[algorithm]).digest()
+
+
+def trimmed(auth_value: bytes) -> bytes:
+    """An authorization value counts without its trailing zeros (19.6.4.3)."""
+    return auth_value.rstrip(b"\0")
+
+
+def name_of(handle: int) -> bytes:
+    """The Name of what is neither an object nor an NV index is its handle (section 16)."""
+    return number(handle, 4)
+
+
+def kdfa(algorithm: int, key: bytes, label: bytes, newer: bytes, older: bytes, size: int) -> bytes:
+    """SP 800-108 in counter mode, as the TPM uses it (11.4.9): the first bytes of its blocks."""
+    given, count = b"", 0
+    while len(given) < size:
+        count += 1
+        text = number(count, 4) + label + b"\0" + newer + older + number(8 * size, 4)
+        given += mac(algorithm, key, text)
+    return given[:size]
+
+
+def session_key(algorithm: int, auth_value: bytes, nonce_tpm: bytes, nonce_caller: bytes) -> bytes:
+    """The key of a bound session, from what its entity's authorization value was (19.6.8)."""
+    size = digest_bytes(algorithm)
+    return kdfa(algorithm, auth_value, b"ATH", nonce_tpm, nonce_caller, size)
+
+
+def command_hash(algorithm: int, code: CC, names: Iterable[bytes], parameters: bytes) -> bytes:
+    """cpHash (18.7), of the Names of the handles, and of the parameters as they are sent, the first
+    one encrypted where it is.
+    """
+    return digest(algorithm, number(code, 4) + b"".join(names) + parameters)
+
+
+def response_hash(algorithm: int, code: CC, parameters: bytes) -> bytes:
+    """rpHash (18.8): the parameters are those that are answered, encrypted or not."""
+    return digest(algorithm, number(SUCCESS, 4) + number(code, 4) + parameters)
+
+
+def entry_hmac(
+    algorithm: int,
+    key: bytes,
+    parameters: bytes,
+    newer: bytes,
+    older: bytes,
+    others: list[bytes],
+    attributes: int,
+) -> bytes:
+    """The hmac of an entry (19.6.5), from the hash of its command's or response's parameters.
+
+    `others` are the nonces of the sessions that decrypt and encrypt, in this order: in a command's
+    first entry, where it authorizes a handle, and of sessions that are not its own.
+    """
+    text = parameters + newer + older + b"".join(others) + number(attributes, 1)
+    return mac(algorithm, key, text)
+
+
+def masked(algorithm: int, key: bytes, newer: bytes, older: bytes, data: bytes) -> bytes:
+    """Data with a mask of their size on them, or taken off again (section 21.2)."""
+    return aes.xor(data, kdfa(algorithm, key, b"XOR", newer, older, len(data)))
+
+
+def key_and_block(algorithm: int, key: bytes, newer: bytes, older: bytes) -> tuple[bytes, bytes]:
+    """The AES key and the first block of parameter encryption (section 21.3)."""
+    both = kdfa(algorithm, key, b"CFB", newer, older, 2 * aes.BLOCK)
+    return both[: aes.BLOCK], both[aes.BLOCK :]
+
+
+def encrypted(
+    cipher: int,
+    algorithm: int,
+    key: bytes,
+    newer: bytes,
+    older: bytes,
+    data: bytes,
+    block_cipher: aes.BlockCipher = aes.encrypt_block,
+) -> bytes:
+    """By a session's cipher, which is XOR or AES; `block_cipher` is the AES that is used."""
+    if cipher == XOR:
+        return masked(algorithm, key, newer, older, data)
+    return aes.cfb_encrypt(*key_and_block(algorithm, key, newer, older), data, block_cipher)
+
+
+def decrypted(
+    cipher: int,
+    algorithm: int,
+    key: bytes,
+    newer: bytes,
+    older: bytes,
+    data: bytes,
+    block_cipher: aes.BlockCipher = aes.encrypt_block,
+) -> bytes:
+    if cipher == XOR:
+        return masked(algorithm, key, newer, older, data)
+    return aes.cfb_decrypt(*key_and_block(algorithm, key, newer, older), data, block_cipher)
+
+
+def on_first_buffer(change: Callable[..., Any], parameters: bytes) -> bytes:
+    """Parameters whose first is a sized buffer, with its bytes changed, and not its size."""
+    size = int.from_bytes(parameters[:2], "big")
+    return parameters[:2] + change(parameters[2 : 2 + size]) + parameters[2 + size :]

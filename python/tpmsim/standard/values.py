@@ -1,0 +1,179 @@
+"""What a parameter is in Python, by its kind: a number, bytes, or a structure below."""
+
+from dataclasses import dataclass
+from typing import Any, Callable, NamedTuple, Protocol
+
+from tpmsim.standard import frames
+from tpmsim.standard.commands import CC, Kind, Parameter
+from tpmsim.standard.frames import AES, ALG_NULL, XOR, number, sized
+from tpmsim.standard.reading import Fields
+from tpmsim.standard.sessions import digest_bytes
+
+# The bytes of a set of PCRs, the first eight in the first one.
+SELECT_BYTES = 3
+
+
+class Bank(NamedTuple):
+    """PCRs of a bank: the hash algorithm, and their numbers."""
+
+    algorithm: int
+    pcrs: tuple[int, ...]
+
+
+class Digest(NamedTuple):
+    """A digest with its hash algorithm."""
+
+    algorithm: int
+    digest: bytes
+
+
+@dataclass(frozen=True)
+class Cipher:
+    """What a session encrypts by: AES, XOR with the hash algorithm of its masks, or ALG_NULL."""
+
+    algorithm: int = ALG_NULL
+    mask_algorithm: int | None = None
+
+
+@dataclass(frozen=True)
+class Ticket:
+    tag: int
+    hierarchy: int
+    digest: bytes
+
+
+@dataclass(frozen=True)
+class Time:
+    """The milliseconds since the power came on and those that the device ever ran, and how often it
+    was reset and restarted.
+    """
+
+    time: int
+    clock: int
+    resets: int
+    restarts: int
+    is_safe: bool
+
+
+@dataclass(frozen=True)
+class Capability:
+    """What TPM2_GetCapability answers: the capability, and its elements as they are sent."""
+
+    capability: int
+    data: bytes
+
+
+class HasText(Protocol):
+    """A structure that fills a sized buffer, such as a public area."""
+
+    @property
+    def text(self) -> bytes:
+        ...
+
+
+class Values(NamedTuple):
+    """How a value of a kind is written, and how it is read."""
+
+    write: Callable[[Any], bytes]
+    read: Callable[[Fields], Any]
+
+
+def numbers(size: int) -> Values:
+    return Values(lambda value: number(value, size), lambda fields: fields.number(size))
+
+
+def write_buffer(value: bytes | HasText) -> bytes:
+    return sized(value if isinstance(value, bytes) else value.text)
+
+
+def read_list(read: Callable[[Fields], Any]) -> Callable[[Fields], list[Any]]:
+    """A list that has its count in front."""
+    return lambda fields: [read(fields) for _ in range(fields.number(4))]
+
+
+def read_bank(fields: Fields) -> Bank:
+    algorithm = fields.number(2)
+    bits = int.from_bytes(fields.take(fields.number(1)), "little")
+    return Bank(algorithm, tuple(it for it in range(bits.bit_length()) if bits >> it & 1))
+
+
+def read_digest(fields: Fields) -> Digest:
+    algorithm = fields.number(2)
+    return Digest(algorithm, fields.take(digest_bytes(algorithm)))
+
+
+def write_cipher(value: Cipher) -> bytes:
+    return frames.symmetric(value.algorithm == AES, value.mask_algorithm)
+
+
+def read_cipher(fields: Fields) -> Cipher:
+    algorithm = fields.number(2)
+    if algorithm == AES:
+        fields.take(4)
+    return Cipher(algorithm, fields.number(2) if algorithm == XOR else None)
+
+
+def read_ticket(fields: Fields) -> Ticket:
+    return Ticket(fields.number(2), fields.number(4), fields.sized())
+
+
+def write_ticket(value: Ticket) -> bytes:
+    return frames.ticket(value.tag, value.hierarchy, value.digest)
+
+
+def read_time(fields: Fields) -> Time:
+    times = fields.number(8), fields.number(8)
+    return Time(*times, fields.number(4), fields.number(4), bool(fields.number(1)))
+
+
+def answered_alone(value: Any) -> bytes:
+    raise TypeError("it is answered alone")
+
+
+VALUES: dict[Kind, Values] = {
+    Kind.U8: numbers(1),
+    Kind.U16: numbers(2),
+    Kind.U32: numbers(4),
+    Kind.BITS8: numbers(1),
+    Kind.BITS64: numbers(8),
+    Kind.CODE: numbers(4),
+    Kind.HANDLE: numbers(4),
+    Kind.HASH: numbers(2),
+    Kind.BUFFER: Values(write_buffer, lambda fields: fields.sized()),
+    Kind.BUFFERS: Values(
+        lambda value: frames.sized_list(*value), read_list(lambda fields: fields.sized())
+    ),
+    Kind.SELECTION: Values(lambda value: frames.selection(*value), read_list(read_bank)),
+    Kind.DIGESTS: Values(lambda value: frames.digests(*value), read_list(read_digest)),
+    Kind.CIPHER: Values(write_cipher, read_cipher),
+    Kind.TICKET: Values(write_ticket, read_ticket),
+    Kind.TIME: Values(answered_alone, read_time),
+    Kind.CAPABILITY: Values(
+        answered_alone, lambda fields: Capability(fields.number(4), fields.take(len(fields.data)))
+    ),
+}
+
+
+def write_in_order(code: CC, *values: Any) -> bytes:
+    """The parameters of a command, one value each, in the order of Part 3."""
+    pairs = zip(code.parameters, values, strict=True)
+    return b"".join(VALUES[it.kind].write(value) for it, value in pairs)
+
+
+def write_all(code: CC, values: dict[str, Any]) -> bytes:
+    """The parameters of a command, each by its name in Part 3; TypeError where one is missing, or
+    is none of its parameters.
+    """
+    names = [it.name for it in code.parameters]
+    if set(values) != set(names):
+        raise TypeError(f"{code.name} takes {', '.join(names) or 'no parameters'}")
+    return write_in_order(code, *(values[it] for it in names))
+
+
+def read_all(parameters: tuple[Parameter, ...], text: bytes) -> dict[str, Any]:
+    """Parameters by their names; ValueError where bytes are left, Short where there are too few."""
+    fields = Fields(text)
+    found = {it.name: VALUES[it.kind].read(fields) for it in parameters}
+    if fields.data:
+        raise ValueError(f"{len(fields.data)} bytes are left behind the parameters")
+    return found

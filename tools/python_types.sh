@@ -1,0 +1,23 @@
+#!/bin/sh
+# Checks the package under python/: its types by mypy, its names by pyflakes, its form by black, and
+# its unit tests by pytest, with its plugin. It is no part of the gate, and needs Debian's packages
+# mypy, pyflakes3, black and python3-pytest. The status is 1 where one of them finds something.
+set -u
+
+top=$(CDPATH='' cd "$(dirname "$0")/.." && pwd -P) || exit 1
+cd "$top/python" || exit 1
+for tool in mypy pyflakes3 black pytest-3; do
+    command -v "$tool" >/dev/null || { echo "there is no $tool" >&2; exit 77; }
+done
+work=$(mktemp -d) || exit 1
+trap 'rm -rf "$work"' EXIT
+PYTHONPATH=$top/python
+PYTHONDONTWRITEBYTECODE=1
+export PYTHONPATH PYTHONDONTWRITEBYTECODE
+status=0
+mypy --cache-dir "$work/mypy" || status=1
+pyflakes3 tpmsim tests "$top/tests/outside" "$top/tests/common" "$top/tests/library" \
+    "$top/bench" || status=1
+/usr/bin/black --quiet --check . || status=1
+pytest-3 -q -p no:cacheprovider -p tpmsim.pytest_plugin tests || status=1
+exit "$status"
