@@ -3,8 +3,9 @@
 LC_ALL=C
 # shellcheck disable=SC2154 # a test names its folder before it reads this file
 PYTHONPATH=${tests%/*}/python:$tests/outside/scripts
-PYTHONDONTWRITEBYTECODE=1
-export LC_ALL PYTHONPATH PYTHONDONTWRITEBYTECODE
+export LC_ALL PYTHONPATH
+# What Python compiles, tools/scripts.sh has in a folder for all tests; else it is not kept.
+[ -n "${PYTHONPYCACHEPREFIX:-}" ] || export PYTHONDONTWRITEBYTECODE=1
 
 [ "$#" -eq 1 ] || { echo "usage: sh $0 PROGRAM" >&2; exit 2; }
 room=$(mktemp -d) || exit 1
