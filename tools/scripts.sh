@@ -72,8 +72,8 @@ for name do
     shift
     found=
     # shellcheck disable=SC2086 # a name may be a pattern
-    for test in "$top/tests/"$name.tpm "$top/tests/"*/$name.tpm "$top/tests/"$name.sh \
-        "$top/tests/"*/$name.sh "$top/examples/"$name.tpm; do
+    for test in "$top/tests/"$name.sh "$top/tests/"*/$name.sh "$top/tests/"$name.tpm \
+        "$top/tests/"*/$name.tpm "$top/examples/"$name.tpm; do
         if is_test "$test"; then
             set -- "$@" "$test"
             found=yes

@@ -433,7 +433,7 @@ def with_answer(code: CC, kind: Kind) -> dict:
 
 
 def with_fact(code: CC, fact: Fact) -> dict:
-    return {"facts": code.facts ^ fact}
+    return {"facts": tuple({*code.facts} ^ {fact})}
 
 
 @dataclass(frozen=True)

@@ -3,6 +3,7 @@
 aes_tables.py has the cipher by tables, which is quicker. Either is given to who encrypts.
 """
 
+import operator
 from typing import Callable
 
 BLOCK = 16
@@ -44,7 +45,7 @@ S_BOX = bytes(substitute(INVERSES.get(byte, 0)) for byte in range(256))
 
 def xor(left: bytes, right: bytes) -> bytes:
     """As many bytes as the shorter has."""
-    return bytes(a ^ b for a, b in zip(left, right))
+    return bytes(map(operator.xor, left, right))
 
 
 def round_keys(key: bytes) -> list[bytes]:

@@ -50,7 +50,7 @@ class Writer(random.Random):
     def __init__(self, seed):
         super().__init__(seed)
         self.device, self.locality = Model(), 0
-        self.lines, self.played = [f"# Random script {seed}."], []
+        self.events, self.played = [f"# Random script {seed}."], []
         self.made, self.digests = [], [b""]
 
     # Choices.
@@ -517,6 +517,11 @@ class Writer(random.Random):
 
     # Sending.
 
+    @property
+    def lines(self):
+        """Those of the script so far, of which the buffers' are found here."""
+        return [line(it) if isinstance(it, bytes) else it for it in self.events]
+
     def code(self):
         """Of a command that is served. Where it is locked, mostly soon of one that unlocks."""
         if self.device.lockout.is_locked() and self.happens(0.1):
@@ -569,10 +574,10 @@ class Writer(random.Random):
         if self.happens(0.2 if is_saved else 0.003):
             self.device.power_cycle()
             self.played.append(POWER)
-            self.lines.append("power")
+            self.events.append("power")
         if self.happens(0.02):
             self.locality = self.randrange(5)
-            self.lines.append(f"loc {self.locality}")
+            self.events.append(f"loc {self.locality}")
         if not self.device.started and not self.happens(0.1):
             buffer = self.startup()
         else:
@@ -582,8 +587,8 @@ class Writer(random.Random):
         elapsed = 0
         if self.happens(0.1) or self.device.lockout.is_closed and self.happens(0.2):
             elapsed = self.choice((*WAITS, self.randrange(2**32)))
-            self.lines.append(f"wait {elapsed}")
-        self.lines += [f"entropy {seed.hex()}", line(buffer)]
+            self.events.append(f"wait {elapsed}")
+        self.events += [f"entropy {seed.hex()}", buffer]
         outcome = self.device.execute(buffer, self.locality, drawn, elapsed)
         self.played.append(Played(outcome, self.locality, elapsed))
         self.note(buffer, outcome.response, outcome.refused)
