@@ -126,7 +126,7 @@ BENDS |= {
 
 def first_lines():
     """Of each command the first line of assemble.lines, where each has one."""
-    lines_of = (TESTS / "assemble.lines").read_bytes().split(b"\n# ")[0].splitlines()[1:]
+    lines_of = (TESTS / "lines/assemble.lines").read_bytes().split(b"\n# ")[0].splitlines()[1:]
     return sorted(line for line in lines_of if line)
 
 

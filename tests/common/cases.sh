@@ -2,7 +2,7 @@
 # a line what came of it. A test is given the program's path, and reads this file first.
 LC_ALL=C
 # shellcheck disable=SC2154 # a test names its folder before it reads this file
-PYTHONPATH=${tests%/*}/python:$tests/outside/scripts
+PYTHONPATH=${tests%/*}/python:${tests%/*}
 export LC_ALL PYTHONPATH
 # What Python compiles, tools/scripts.sh has in a folder for all tests; else it is not kept.
 [ -n "${PYTHONPYCACHEPREFIX:-}" ] || export PYTHONDONTWRITEBYTECODE=1
@@ -27,6 +27,13 @@ needs() {
     for tool do
         command -v "$tool" >"$room/found" || skip "there is no $tool"
     done
+}
+
+# script NAME: the path of a script of tests/.
+script() {
+    name_of_script=$1
+    set -- "$tests"/*/"$name_of_script.tpm"
+    echo "$1"
 }
 
 # TPM2_Startup(CLEAR), which is answered SUCCESS (80010000000a00000000), and INITIALIZE

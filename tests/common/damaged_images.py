@@ -16,14 +16,14 @@ import pathlib
 import socket
 import sys
 
-import client
+from tests.common import client
 
 from tpmsim.model import image
 from tpmsim.model.machine import Model
 from tpmsim.standard import lines
-import image_bodies
-import image_versions
-from bent_bodies import Bender
+from tests.images import image_bodies
+from tests.images import image_versions
+from tests.images.bent_bodies import Bender
 
 STATUS_OF_FAULT, FAULT = 4, "tpmsim: image "
 EXTEND = "PCR_Extend {} pw:- sha1:a9993e364706816aba3e25717850c26c9cd0d89d"

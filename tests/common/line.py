@@ -9,13 +9,13 @@ ten; and as the commands of bent scripts are many, for each twentieth `cmd` line
 """
 
 import collections
-import pathlib
 import subprocess
 import sys
 
 from tpmsim.standard import lines
 
-TOP = pathlib.Path(__file__).resolve().parents[2]
+import places
+
 PROGRAM = sys.argv[1]
 NO_LINE = 2, b"", b"tpmsim: line NoLine\n"
 EACH = 20
@@ -24,9 +24,8 @@ FIRST, STEP = 25, 10
 
 def arguments(word):
     """What stands behind this word in the scripts, each once."""
-    scripts = [*TOP.glob("tests/**/*.tpm"), *TOP.glob("examples/*.tpm")]
     found = {}
-    for script in sorted(scripts, key=lambda it: it.name):
+    for script in places.scripts():
         for line in script.read_bytes().splitlines():
             front, _, behind = line.partition(b" ")
             if front == word:

@@ -286,10 +286,7 @@ def read_sensitive(fields: Parameters) -> Sensitive:
 
 
 def unwrapped(
-    parent: Object,
-    public: Public,
-    private: bytes,
-    block_cipher: aes.BlockCipher = encrypt_block,
+    parent: Object, public: Public, private: bytes, block_cipher: aes.BlockCipher = encrypt_block
 ) -> Sensitive:
     """The sensitive area of a private one that the parent made, for this public area."""
     name, wrong = public.name, Refusal("INTEGRITY/p1", "A5")
