@@ -12,8 +12,8 @@ import sys
 
 from tpmsim.caller import Use
 from tpmsim.standard import RH_OWNER
-from script_caller import ScriptCaller
-from script import Script
+from tpmsim.caller.script_caller import ScriptCaller
+from tpmsim.caller.script import Script
 
 script = Script("bench", "")
 caller = ScriptCaller(script)

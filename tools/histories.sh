@@ -20,4 +20,4 @@ if [ $# -lt 1 ] || [ $# -gt 2 ] || ! is_number "$1" || ! is_number "${2:-1}"; th
     exit 2
 fi
 top=$(CDPATH='' cd "$(dirname "$0")/.." && pwd -P) || exit 1
-exec "$top/tools/python.sh" "$top/tests/outside/scripts/histories.py" "$@"
+exec "$top/tools/python.sh" "$top/tests/at_random/histories.py" "$@"

@@ -131,7 +131,12 @@ class Pcrs:
         return digest(algorithm, b"".join(values))
 
 
-# Authorization values: the one that was set last for each handle.
+# Authorization values: the one that was set last for each handle. These are always there, and have
+# none at first.
+
+WITHOUT_VALUES = dict.fromkeys(
+    (RH_OWNER, RH_ENDORSEMENT, RH_PLATFORM, RH_LOCKOUT, RH_NULL, *PCRS), b""
+)
 
 
 @dataclass
@@ -383,16 +388,19 @@ class History:
 
     def pcr_differences(self, device: Model) -> Iterator[str]:
         for bank, values in device.banks.items():
-            for pcr, value in enumerate(values):
-                if value != self.pcrs.values[bank, pcr]:
-                    yield f"PCR {pcr} of bank {bank:04x}"
+            told = [self.pcrs.values[bank, pcr] for pcr in range(len(values))]
+            if values != told:
+                differ = (pcr for pcr, value in enumerate(values) if value != told[pcr])
+                yield from (f"PCR {pcr} of bank {bank:04x}" for pcr in differ)
         if device.update_counter != self.pcrs.updates:
             yield "the count of updates"
 
     def auth_differences(self, device: Model) -> Iterator[str]:
-        hierarchies = RH_OWNER, RH_ENDORSEMENT, RH_PLATFORM, RH_LOCKOUT, RH_NULL, *PCRS
-        for handle in (*hierarchies, *device.objects, *device.indices):
-            if device.auth_value(handle) != self.auth_values.of(handle):
+        held = WITHOUT_VALUES | device.auth_values
+        held |= {handle: it.sensitive.auth_value for handle, it in device.objects.items()}
+        held |= {handle: it.auth_value for handle, it in device.indices.items()}
+        for handle, auth_value in held.items():
+            if auth_value != self.auth_values.of(handle):
                 yield f"the authorization value of {handle:08x}"
 
     def counter_differences(self, device: Model) -> Iterator[str]:

@@ -14,7 +14,7 @@ from tpmsim.standard.sessions import digest
 NUMBER_BYTES = 8
 
 
-class Attribute(enum.IntFlag):
+class Attribute(enum.IntEnum):
     """TPMA_NV (Part 2, section 13.4), but for the type."""
 
     PPWRITE = 1 << 0

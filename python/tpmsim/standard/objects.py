@@ -9,7 +9,7 @@ from tpmsim.standard.reading import Fields
 from tpmsim.standard.sessions import digest
 
 
-class Attribute(enum.IntFlag):
+class Attribute(enum.IntEnum):
     """TPMA_OBJECT (Part 2, section 8.3)."""
 
     FIXED_TPM = 1 << 1

@@ -5,6 +5,7 @@ import hmac
 from typing import Any, Callable, Iterable
 
 from tpmsim.standard import aes
+from tpmsim.standard.aes_tables import encrypt_block
 from tpmsim.standard.commands import CC
 from tpmsim.standard.frames import SHA1, SHA256, XOR, number
 
@@ -103,7 +104,7 @@ def encrypted(
     newer: bytes,
     older: bytes,
     data: bytes,
-    block_cipher: aes.BlockCipher = aes.encrypt_block,
+    block_cipher: aes.BlockCipher = encrypt_block,
 ) -> bytes:
     """By a session's cipher, which is XOR or AES; `block_cipher` is the AES that is used."""
     if cipher == XOR:
@@ -118,7 +119,7 @@ def decrypted(
     newer: bytes,
     older: bytes,
     data: bytes,
-    block_cipher: aes.BlockCipher = aes.encrypt_block,
+    block_cipher: aes.BlockCipher = encrypt_block,
 ) -> bytes:
     if cipher == XOR:
         return masked(algorithm, key, newer, older, data)
