@@ -14,7 +14,7 @@ from tpmsim.caller import WrongResponse, area, counter, digest_of, flipped, hmac
 from tpmsim.caller import storage_key, wrong
 from tpmsim.device import Answered, ChildDevice, Device, DeviceEnded, ModelDevice, ServedDevice
 from tpmsim.device import Unsupported
-from tpmsim.device.told import program_found
+from tpmsim.device.child import program_found
 from tpmsim.model.player import played
 from tpmsim.standard import AES, CC, RH_OWNER, RH_PLATFORM, SHA1, SHA256, XOR, mac
 from tpmsim.standard.objects import Attribute
@@ -220,8 +220,7 @@ class Devices(unittest.TestCase):
             device.save()
         device = self.enterContext(ChildDevice())
         with self.assertRaisesRegex(DeviceEnded, "status 2: tpmsim: script line"):
-            device.locality = 5
-            device.execute(b"")
+            device.execute(bytes(40_000))
 
     def test_served(self):
         path = self.folder / "socket"
