@@ -168,12 +168,6 @@ class LibraryDevice(Device):
         self.keep()
 
     def save(self) -> bytes:
-        """The image of what the device keeps without power.
-
-        >>> with LibraryDevice() as device:
-        ...     device.save()[:4]
-        b'TPMI'
-        """
         size = self.library.tpmsim_save(self.handle, self.room, RESPONSE_BYTES)
         if size <= RESPONSE_BYTES:
             return ctypes.string_at(self.room, size)
@@ -182,11 +176,6 @@ class LibraryDevice(Device):
         return room.raw
 
     def close(self) -> None:
-        """Frees the device; its file has its clock then.
-
-        >>> device = LibraryDevice()
-        >>> device.close()
-        """
         if self.file:
             self.file.close(self.save())
             self.file = None

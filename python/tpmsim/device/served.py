@@ -6,7 +6,7 @@ from tpmsim.device.base import Answered, DeviceEnded, Executed, Transport, check
 from tpmsim.device.sockets import Connection
 from tpmsim.standard.frames import number
 
-RESPONSE_BYTES = 4096
+RESPONSE_BYTES, RETRY, MOST_TIMES = 4096, number(0x922, 4), 5
 
 
 class OtherDevice(Transport):
@@ -15,8 +15,13 @@ class OtherDevice(Transport):
     at: int | None = None
 
     def execute(self, buffer: bytes) -> Answered:
-        """TimeoutError where there is no answer in time."""
-        response = self.exchange(buffer)
+        """TimeoutError where there is no answer in time. A command that the device asks for once
+        more (TPM_RC_RETRY) is sent once more, as every driver does.
+        """
+        for _ in range(MOST_TIMES):
+            response = self.exchange(buffer)
+            if response[6:10] != RETRY:
+                break
         self.events.append(Executed(buffer, response, self.at))
         return Answered(response)
 

@@ -1,6 +1,5 @@
 """A device behind swtpm's protocol: commands on a data channel, all else on a control channel."""
 
-import pathlib
 import shutil
 import subprocess
 import tempfile
@@ -10,7 +9,9 @@ from typing import Self
 from tpmsim.device.base import DeviceEnded, checked_locality
 from tpmsim.device.served import OtherDevice
 from tpmsim.device.sockets import Address, Connection
-from tpmsim.standard.frames import number
+from tpmsim.standard import frames, handle_kinds
+from tpmsim.standard.commands import CC
+from tpmsim.standard.frames import RH_PLATFORM, SHA1, SHA256, number
 
 # Requests of the control channel (swtpm's tpm_ioctl.h).
 INIT, SET_LOCALITY, GET_BLOB, SET_BLOB, STOP = 2, 5, 12, 13, 14
@@ -18,6 +19,12 @@ INIT, SET_LOCALITY, GET_BLOB, SET_BLOB, STOP = 2, 5, 12, 13, 14
 # The parts of the state: what is permanent, what is volatile, and what a shutdown saved.
 BLOBS = PERMANENT, VOLATILE, SAVED = 1, 2, 3
 NO_BLOB = 0x800
+
+# What the device here has not: the command that chooses the banks of PCRs, and two of them.
+PCR_ALLOCATE, SHA384, SHA512 = 0x12B, 0x000C, 0x000D
+STARTUP_CLEAR, SHUTDOWN_CLEAR = (
+    frames.command(it, number(0, 2)) for it in (CC.Startup, CC.Shutdown)
+)
 
 
 class SwtpmDevice(OtherDevice):
@@ -113,20 +120,40 @@ class StartedSwtpm(SwtpmDevice):
             raise FileNotFoundError(f"there is no {program}")
         self.folder = tempfile.TemporaryDirectory()
         data, control = (f"{self.folder.name}/{it}" for it in ("data", "control"))
-        words = f"socket --tpm2 --flags not-need-init --tpmstate dir={self.folder.name}".split()
+        words = f"socket --tpm2 --terminate --tpmstate dir={self.folder.name}".split()
+        words += ["--flags", "not-need-init"]
         words += ["--server", f"type=unixio,path={data}", "--ctrl", f"type=unixio,path={control}"]
-        self.process = subprocess.Popen([program, *words], stderr=subprocess.PIPE)
+        nothing = subprocess.DEVNULL
+        self.process = subprocess.Popen([program, *words], stdout=nothing, stderr=nothing)
         until = time.monotonic() + seconds
-        while not (pathlib.Path(data).exists() and pathlib.Path(control).exists()):
+        while not self.is_connected(data, control, seconds):
             if self.process.poll() is not None or time.monotonic() > until:
                 self.end()
                 raise DeviceEnded(f"{program} does not begin to serve")
             time.sleep(0.001)
-        super().__init__(data, control, seconds)
+        self.allocate()
+
+    def is_connected(self, data: str, control: str, seconds: float) -> bool:
+        try:
+            super().__init__(data, control, seconds)
+        except (FileNotFoundError, ConnectionRefusedError):
+            return False
+        return True
+
+    def allocate(self) -> None:
+        """Leaves it the banks that a device here has, of SHA-1 and SHA-256, and no starts so far."""
+        banks = *((it, handle_kinds.PCRS) for it in (SHA1, SHA256)), (SHA384, ()), (SHA512, ())
+        allocating = frames.on_handle(PCR_ALLOCATE, RH_PLATFORM, frames.selection(*banks))
+        clearing = frames.on_handle(CC.Clear, RH_PLATFORM)
+        for buffer in (STARTUP_CLEAR, clearing, allocating, SHUTDOWN_CLEAR):
+            if any(self.exchange(buffer)[6:10]):
+                raise DeviceEnded("the banks of PCRs cannot be chosen")
+        self.power_cycle()
+        self.events.clear()
 
     def end(self) -> None:
         self.process.terminate()
-        self.process.communicate()
+        self.process.wait()
         self.folder.cleanup()
 
     def close(self) -> None:
