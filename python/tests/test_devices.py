@@ -6,8 +6,6 @@ import io
 import os
 import pathlib
 import shutil
-import signal
-import socket
 import subprocess
 import sys
 import tempfile
@@ -21,6 +19,7 @@ from tpmsim.device import ServedDevice, SimulatorDevice, StartedSwtpm, Unsupport
 from tpmsim.device.child import program_found
 from tpmsim.model.player import played
 from tpmsim.standard import RH_OWNER
+from programs import running, simulator
 from twenty import TwentyTests
 
 SEED = b"seed"
@@ -75,17 +74,6 @@ class InProcess(Told, unittest.TestCase):
         return LibraryDevice(seed=SEED, manufactured=bytes(range(256)))
 
 
-@contextlib.contextmanager
-def running(*words, ready):
-    """A program, as soon as it is ready; it is ended by SIGTERM, and that it ends well is checked."""
-    with subprocess.Popen(words, stdout=subprocess.PIPE, text=True) as process:
-        try:
-            yield ready(process)
-        finally:
-            process.terminate()
-            process.wait(60)
-
-
 class OverSocket(TwentyTests, unittest.TestCase):
     lacks = dict.fromkeys(
         ("test_power_cycle", "test_lock_until_the_next_start", "test_saved_pcrs"), NO_POWER
@@ -108,16 +96,6 @@ class OverSocket(TwentyTests, unittest.TestCase):
 
         words = words.split() + ["--locality", "0", "--connections", "1"]
         return ServedDevice(self.enterContext(running(program_found(), *words, ready=ready)))
-
-
-def simulator(*words):
-    """A server of Microsoft's protocol, and its address."""
-
-    def ready(process):
-        host, port = process.stdout.readline().split()
-        return host, int(port)
-
-    return running(sys.executable, "-m", "tpmsim.simulator", "--port", "0", *words, ready=ready)
 
 
 class OverSimulator(TwentyTests, unittest.TestCase):
@@ -151,6 +129,9 @@ class OverSwtpm(TwentyTests, unittest.TestCase):
     test_snapshot = differs(TwentyTests.test_snapshot)
     test_wrong_hmac_of_a_response = differs(TwentyTests.test_wrong_hmac_of_a_response)
 
+    # TPM2_PCR_Event answers digests of all banks there, also of those without PCRs.
+    test_fields = differs(TwentyTests.test_fields)
+
     # A session whose binding a command undoes is answered there as if it were bound.
     test_indices = differs(TwentyTests.test_indices)
     test_wrong_hmac = differs(TwentyTests.test_wrong_hmac)
@@ -172,6 +153,17 @@ class Devices(unittest.TestCase):
             with self.assertRaises(Refused):
                 tpm.device = device
                 tpm.send(tpm.change_auth(RH_OWNER, b"", b""))
+
+    def test_image_of_one_device(self):
+        """A file is one device's at a time, and what is no image stays as it is."""
+        path = self.folder / "image"
+        with Device(path), self.assertRaises((FileExistsError, DeviceEnded)):
+            Device(path).execute(b"")
+        path.write_bytes(b"TPMI")
+        for device in LibraryDevice, Device:
+            self.assertRaises(BadImage, device, path)
+        self.assertRaises(BadImage, Device.open, path.read_bytes() + bytes(60))
+        self.assertEqual(path.read_bytes(), b"TPMI")
 
     def test_written_script(self):
         device = ModelDevice(seed=SEED)

@@ -145,8 +145,8 @@ class Server:
                 await writer.drain()
         except Over as over:
             writer.write(over.args[0])
-        except (asyncio.IncompleteReadError, ConnectionError):
-            pass  # the client is gone
+        except (asyncio.IncompleteReadError, ConnectionError, asyncio.CancelledError):
+            pass  # the client is gone, or the server ends
         except DeviceEnded as fault:
             self.stop(str(fault))
         finally:
