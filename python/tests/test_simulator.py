@@ -130,11 +130,11 @@ class Simulator(unittest.TestCase):
     @unittest.skipUnless(shutil.which("tpm2_getrandom"), "there is no tpm2_getrandom")
     def test_tools(self):
         where = "mssim:host=%s,port=%d" % self.address
-        for words in ("tpm2_startup -c", "tpm2_getrandom --force 8"):
+        for words in ("tpm2_startup -c", "tpm2_getrandom -f --hex 8"):
             tool = [*words.split(), "-T", where]
             done = subprocess.run(tool, capture_output=True, timeout=60)
             self.assertEqual(done.returncode, 0, done.stderr)
-        self.assertEqual(len(done.stdout), 8)
+        self.assertEqual(len(done.stdout), 16)
 
 
 class Words(unittest.TestCase):
