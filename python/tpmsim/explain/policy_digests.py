@@ -49,22 +49,36 @@ def digest_of(steps: Sequence[Step], algorithm: int) -> bytes:
 def from_earlier(use: Use, steps: Sequence[Step], earlier: Made, found: Reason) -> str:
     """What is otherwise than when a session came to the wanted digest."""
     found.add("wanted digest", f"that of a session after line {earlier.line}")
+    algorithm = use.session.algorithm
     for own, its in zip(steps, earlier.steps):
-        if own.words != its.words:
-            found.add(f"told in line {its.line}", its.words, WANTED)
-            found.add(f"told in line {own.line}", own.words, HAD)
-            return "Which assertion differs stands below."
-        if own.selected is not None and own.given != its.given:
-            return "The PCRs differ: " + moved(use, own, earlier.banks, found)
-        if own.given != its.given and own.handle is not None:
-            return name_words(use, own, its.given, found)
+        if not is_like(own, its, algorithm):
+            return step_words(use, own, its, earlier, found)
     if len(steps) < len(earlier.steps):
         missing = earlier.steps[len(steps)]
         found.add(f"told in line {missing.line}", missing.words, WANTED)
         found.add("told after that", "nothing", HAD)
+        found.slips.append("assertion missing")
         return f"{missing.code.name} is missing."
     more = steps[len(earlier.steps) :]
+    found.slips.append("assertion too many")
     return f"It was told more: {listed(f'{it.code.name} in line {it.line}' for it in more)}."
+
+
+def is_like(own: Step, its: Step, algorithm: int) -> bool:
+    """Whether two assertions make the same digest of any one."""
+    old = bytes(digest_bytes(algorithm))
+    return own.after(algorithm, old) == its.after(algorithm, old)
+
+
+def step_words(use: Use, own: Step, its: Step, earlier: Made, found: Reason) -> str:
+    """How two assertions differ."""
+    if own.selected is not None and own.selected == its.selected:
+        return "The PCRs differ: " + moved(use, own, earlier.banks, found)
+    if own.handle is not None and is_like(own.but(its.given), its, use.session.algorithm):
+        return name_words(use, own, its.given, found)
+    found.add(f"told in line {its.line}", its.words, WANTED)
+    found.add(f"told in line {own.line}", own.words, HAD)
+    return "Which assertion differs stands below."
 
 
 def moved(use: Use, step: Step, then: Banks, found: Reason) -> str:
