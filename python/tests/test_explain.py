@@ -480,7 +480,7 @@ class Logs(unittest.TestCase):
             self.assertEqual(cut[-1].differences[0].words, "the answers end before it")
 
 
-# Scripts that are longer than this are left to tests/explained.sh.
+# Longer scripts are left out here, as they take half a minute; they are bent and cut commands.
 MOST_BYTES = 40_000
 
 

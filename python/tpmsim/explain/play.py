@@ -26,7 +26,8 @@ class Event:
     """An event of a log: the number of its line; its scene, whose buffer is empty at a power cycle;
     what came of it; why it was refused; what else is told of it; and where the log's answers differ,
     of which there are so many. Of an event that is looked at as a whole `entries` has what the HMACs
-    are of, by their places, and `answered` the answered parameters in plain.
+    are of, by their places, and `answered` the answered parameters in plain. `text` is the line, and
+    `comments` has the paragraphs of comments before it.
     """
 
     line: int
@@ -39,6 +40,8 @@ class Event:
     entries: list[tuple[int, list[Fact]]] = field(default_factory=list)
     answered: bytes | None = None
     answers: int = 0
+    text: str = ""
+    comments: list[str] = field(default_factory=list)
 
     @property
     def is_power(self) -> bool:
@@ -63,7 +66,9 @@ class Stage(Player):
 
 
 class Play:
-    """A device that plays the lines of a log. `bad_line` is the number of the line that is none."""
+    """A device that plays the lines of a log. `bad_line` is the number of the line that is none.
+    `watch` is called with each event at once, while the device is as it left it.
+    """
 
     def __init__(
         self,
@@ -87,6 +92,8 @@ class Play:
         self.scene: Scene | None = None
         self.names: list[bytes] = []
         self.line = 0
+        self.comments = list[str]()
+        self.watch: Callable[[Event], None] = lambda event: None
         self.accepted_notes: list[Reason] = []
         self.entries: list[tuple[int, list[Fact]]] = []
         self.answered: bytes | None = None
@@ -102,11 +109,15 @@ class Play:
             if given:
                 self.given(given[1].decode("ascii"), is_before=b":" in text.split(b" ")[1])
                 continue
+            if text.startswith(b"#") or not text:
+                self.comment(text[1:].decode("latin-1").strip())
+                continue
             before, self.event = self.event, None
             try:
                 self.stage_line(text)
             except BadLine:
                 self.bad_line = self.line
+            self.note(text)
             if self.event is None:
                 self.event = before
             elif before is not None:
@@ -117,6 +128,23 @@ class Play:
             yield self.event
         if len(lines) > LINES:
             self.bad_line = LINES + 1
+
+    def comment(self, words: str) -> None:
+        """A line of a comment, or an empty line, which ends a paragraph."""
+        if words and self.comments:
+            self.comments[-1] = f"{self.comments[-1]} {words}".strip()
+        elif words:
+            self.comments.append(words)
+        elif self.comments and self.comments[-1]:
+            self.comments.append("")
+
+    def note(self, text: bytes) -> None:
+        """The line of an event, and the comments before it."""
+        if self.event is not None:
+            self.event.text = text.decode("latin-1")
+            self.event.comments = [it for it in self.comments if it]
+            self.comments = []
+            self.watch(self.event)
 
     def stage_line(self, text: bytes) -> None:
         if text == b"power":
