@@ -121,10 +121,10 @@ def random_bytes(scene: Scene, outcome: Outcome) -> Iterator[Reason]:
         )
         if begun is None or session is None or not session.nonce_tpm:
             continue
-        past = [it.line for it in begun.nonces if it.value == session.nonce_tpm]
-        if past:
+        line = begun.own_nonces.get(session.nonce_tpm)
+        if line is not None:
             words = (
-                f"The new nonceTPM of entry {place} is that of line {past[-1]} again, as the random bytes "
+                f"The new nonceTPM of entry {place} is that of line {line} again, as the random bytes "
                 "are the same: a command that was sent with it can be sent again."
             )
             yield note("nonces", "nonceTPM comes again", words)

@@ -5,6 +5,7 @@ from __future__ import annotations
 from tpmsim.explain import own_nv
 from tpmsim.explain.assertions import values_digest
 from tpmsim.explain.look import Check, Look
+from tpmsim.explain.policies import moved_words
 from tpmsim.explain.words import OPERATIONS, algorithm_words, bytes_words, command_words, listed
 from tpmsim.explain.words import localities_words
 from tpmsim.model.nv_commands import signed, unsigned
@@ -29,7 +30,7 @@ def pcr_changed(look: Look) -> None:
     begun = look.scene.past.sessions.get(look.handles[0])
     lines = [it.line for it in begun.told if it.code == CC.PolicyPCR] if begun else []
     moved = look.scene.past.moved_since(lines[-1] if lines else 0)
-    said = listed(it.words for it in moved) if moved else "no command of this log"
+    said = moved_words(moved) if moved else "no command of this log"
     where = recorded_at(look, CC.PolicyPCR)
     look.say(f"Since the session's first PolicyPCR{where} PCRs have moved: by {said}.")
     look.compare(str(told), str(now), "update counter")

@@ -41,7 +41,7 @@ def escaped(value: Any) -> str:
     return re.sub("[<>&]", lambda it: ESCAPES[it[0]], spelled)
 
 
-def filled(name: str, value: Any) -> str:
+def filled(name: str, value: dict[str, Any]) -> str:
     """The page with its data. Each mark is put in once, so that no value is looked at for marks."""
     parts = {
         "NAME": html.escape(name),
@@ -51,4 +51,5 @@ def filled(name: str, value: Any) -> str:
         "DATA": escaped(value),
     }
     frame = (FILES / "page.html").read_text("utf-8")
-    return MARK.sub(lambda it: parts[it[1]], frame)
+    page: str = MARK.sub(lambda it: parts[it[1]], frame)
+    return page

@@ -188,7 +188,7 @@ class PageData:
 
 def short_words(words: str) -> str:
     """A command's words behind its name, with long hex cut."""
-    shown = []
+    shown = list[str]()
     is_pcr = words.startswith("PCR_")
     for token in words.split(" ")[1:]:
         if is_pcr and not shown and PCR_HANDLE.fullmatch(token):

@@ -37,8 +37,8 @@ def state_of(model: Model, past: Past) -> State:
         for field, text in of_index(model.indices[handle]):
             found["NV indices", f"{handle:08x}", field] = text
     for handle in (RH_OWNER, RH_ENDORSEMENT, RH_PLATFORM, RH_LOCKOUT):
-        value = bytes_words(model.auth_value(handle))
-        found["Hierarchies", handle_words(handle), "authValue"] = value
+        said = bytes_words(model.auth_value(handle))
+        found["Hierarchies", handle_words(handle), "authValue"] = said
     found["Hierarchies", "Clear", "disabled"] = "yes" if model.disable_clear else "no"
     for field, text in of_device(model):
         found["Tries and clock", "", field] = text
@@ -111,5 +111,3 @@ def of_device(model: Model) -> Iterator[tuple[str, str]]:
     yield "restartCount", str(model.restart_count)
     yield "Time", seconds_words(model.time)
     yield "Clock", seconds_words(model.clock)
-
-

@@ -45,6 +45,12 @@ class Begun:
     last_attributes: int | None = None
     last_nonce: bytes | None = None
     caller_nonces: dict[bytes, int] = field(default_factory=dict)
+    own_nonces: dict[bytes, int] = field(default_factory=dict)
+
+    def take(self, line: int) -> None:
+        """The session's nonce is a new one."""
+        self.nonces.append(Since(line, self.session.nonce_tpm))
+        self.own_nonces.setdefault(self.session.nonce_tpm, line)
 
 
 @dataclass(frozen=True)
@@ -111,7 +117,7 @@ class Past:
             session = self.model.sessions[answered]
             untrimmed = self.untrimmed.get(bind, b"")
             self.sessions[answered] = Begun(session, line, nonce, bind, untrimmed)
-            self.sessions[answered].nonces.append(Since(line, session.nonce_tpm))
+            self.sessions[answered].take(line)
         self.note_value(command, plain, answered)
         self.note_entries(line, command)
         if name.startswith("Policy") and command.code != CC.PolicyGetDigest:
@@ -138,7 +144,7 @@ class Past:
                 continue
             begun.last_attributes, begun.last_nonce = entry.attributes, entry.nonce
             if entry.handle in self.model.sessions:
-                begun.nonces.append(Since(line, begun.session.nonce_tpm))
+                begun.take(line)
             else:
                 del self.sessions[entry.handle]
 

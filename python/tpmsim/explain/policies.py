@@ -2,13 +2,17 @@
 
 from __future__ import annotations
 
-from tpmsim.explain import entries, policy_digests
+from tpmsim.explain import means, policy_digests
 from tpmsim.explain.ingredients import Use
+from tpmsim.explain.past import Moved
 from tpmsim.explain.reason import HAD, Reason, WANTED
 from tpmsim.explain.words import algorithm_words, command_words, handle_words, listed
 from tpmsim.explain.words import localities_words
 from tpmsim.standard.commands import CC, Fact
 from tpmsim.standard.sessions import command_hash
+
+# How many commands that wrote PCRs are named.
+MOST_MOVED = 4
 
 
 def reason(use: Use) -> Reason:
@@ -30,7 +34,7 @@ def kind(use: Use, found: Reason) -> bool:
 
 def entity(use: Use, found: Reason) -> bool:
     assert use.handle is not None
-    found.words = entries.policy_lacks(use)
+    found.words = means.policy_lacks(use)
     return use.scene.model.policy_entity(use.handle, use.code) is None
 
 
@@ -40,11 +44,17 @@ def pcrs(use: Use, found: Reason) -> bool:
         return False
     line = told_at(use, CC.PolicyPCR)
     moved = use.scene.past.moved_since(line)
-    said = listed(it.words for it in moved) if moved else "a power cycle"
+    said = moved_words(moved) if moved else "a power cycle"
     found.words = f"After PolicyPCR in line {line} PCRs have moved: by {said}."
     found.add("update counter recorded", str(told), WANTED)
     found.add("update counter now", str(now), HAD)
     return True
+
+
+def moved_words(moved: list[Moved]) -> str:
+    """The first commands that wrote PCRs, and how many there were."""
+    more = [f"{len(moved) - MOST_MOVED:,} more"] if len(moved) > MOST_MOVED else []
+    return listed([*(it.words for it in moved[:MOST_MOVED]), *more])
 
 
 def told_at(use: Use, code: CC) -> int:

@@ -26,6 +26,9 @@ MOST_PADDED = 128
 # How many old nonces are tried together with another slip.
 PAIRED = 3
 
+# How many old nonces of a session are tried, beside its first one.
+MOST_NONCES = 100
+
 
 @dataclass(frozen=True)
 class Slip:
@@ -54,9 +57,12 @@ def found(use: Use) -> list[Slip]:
         words = f"the same command was accepted in line {line}, and its nonceTPM is past since then"
         return [Slip("sent again", words, "", lambda it: it)]
     those = slips(use)
-    for one in [*those, *attributes(use), *zeros(use)]:
+    for one in [*those, *zeros(use)]:
         if matches(given, one.change(right)):
             return [one]
+    attributes = other_attributes(use, right)
+    if attributes is not None:
+        return [attributes]
     pairs = [it for it in those if it.is_paired]
     for first in pairs:
         changed = first.change(right)
@@ -99,7 +105,7 @@ def nonces(use: Use) -> Iterator[Slip]:
     begun = use.begun
     if begun is None:
         return
-    for at, past in enumerate(reversed(begun.nonces[:-1])):
+    for at, past in enumerate(reversed([begun.nonces[0], *begun.nonces[:-1][-MOST_NONCES:]])):
         words = (
             f"nonceTPM was that of line {past.line}; the latest is that of line "
             f"{begun.nonces[-1].line}"
@@ -345,14 +351,17 @@ def hashes(use: Use) -> Iterator[Slip]:
 # Attributes.
 
 
-def attributes(use: Use) -> Iterator[Slip]:
-    """Any others than those that were sent; of those before the name says so."""
+def other_attributes(use: Use, right: Ingredients) -> Slip | None:
+    """Any others than those that were sent; of those before the words say so."""
     last = use.begun.last_attributes if use.begun else None
-    sent = attribute_words(use.entry.attributes)
     for value in range(0x100):
-        of_before = ", which are those of the entry before" if value == last else ""
-        words = f"the attributes were {attribute_words(value)}{of_before}; sent were {sent}"
-        yield Slip("other attributes", words, "attributes", attributes_are(value))
+        change = attributes_are(value)
+        if matches(use.entry.hmac, change(right)):
+            of_before = ", which are those of the entry before" if value == last else ""
+            sent = attribute_words(use.entry.attributes)
+            words = f"the attributes were {attribute_words(value)}{of_before}; sent were {sent}"
+            return Slip("other attributes", words, "attributes", change)
+    return None
 
 
 def attributes_are(value: int) -> Change:

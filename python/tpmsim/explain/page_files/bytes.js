@@ -14,8 +14,8 @@ function bytesShown(record, plain, wrongAt) {
   const fields = fieldsOf(record);
   const owner = new Array(hex.length / 2).fill(-1);
   fields.forEach((field, number) => {
-    if (field.group) return;
-    for (let at = field.at; at < field.at + field.size; at += 1) owner[at] = number;
+    const size = field.group ? field.front : field.size;
+    for (let at = field.at; at < field.at + size; at += 1) owner[at] = number;
   });
   const wrong = wrongAt >= 0 && wrongAt < owner.length ? owner[wrongAt] : -1;
   const both = make("div", { class: "both" });
