@@ -51,5 +51,4 @@ def filled(name: str, value: dict[str, Any]) -> str:
         "DATA": escaped(value),
     }
     frame = (FILES / "page.html").read_text("utf-8")
-    page: str = MARK.sub(lambda it: parts[it[1]], frame)
-    return page
+    return MARK.sub(lambda it: str(parts[it[1]]), frame)

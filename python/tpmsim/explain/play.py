@@ -9,7 +9,7 @@ from typing import Callable, Iterator
 from tpmsim.explain import accepted, entries, ingredients, why
 from tpmsim.explain.answers import Answers, Difference
 from tpmsim.explain.past import Past
-from tpmsim.explain.reason import Fact, HAD, Reason, WANTED
+from tpmsim.explain.reason import Fact, Reason, WANTED
 from tpmsim.explain.scene import Scene
 from tpmsim.model.general import Command
 from tpmsim.model.image import open_image
@@ -223,6 +223,5 @@ def entry_facts(scene: Scene) -> Iterator[tuple[int, list[Fact]]]:
         use = ingredients.use_of(scene, place)
         if use is not None and entry.hmac and entry.demand != policy.PASSWORD:
             found = ingredients.facts(use)
-            found.append(Fact("HMAC wanted", use.right().hmac.hex(), WANTED))
-            found.append(Fact("HMAC given", entry.hmac.hex(), HAD))
+            found.append(Fact("HMAC", use.right().hmac.hex(), WANTED))
             yield place, found

@@ -49,13 +49,13 @@ function table(hex, fields, wrong, plain) {
     const classes = `of-${field.sort}${number === wrong ? " wrong" : ""}`;
     const name = make("td", {}, field.name);
     name.style.paddingLeft = `${10 + 14 * field.depth}px`;
-    const said = [field.meaning];
+    const said = [value ? make("span", { class: "val" }, cut(value)) : null, make("span", { class: "dim" }, field.meaning)];
     if (plain && !field.group && field.at === plain[0]) {
       const bytes = plain[1].slice(2 * field.front, 2 * field.size);
-      said.push(make("span", { class: "changed" }, `decrypted: ${bytes || "empty"}`));
+      said.push(make("span", { class: "changed val" }, `decrypted ${bytes || "empty"}`));
     }
     body.append(
-      make("tr", { class: classes, "data-f": number }, name, make("td", { class: "val" }, cut(value)), make("td", {}, said)),
+      make("tr", { class: classes, "data-f": number }, name, make("td", {}, said)),
     );
   });
   return make("table", {}, body);

@@ -61,11 +61,11 @@ function changesShown(number) {
   if (!list.length) return section("What it changed", make("p", { class: "dim" }, "Nothing."));
   const shown = make("dl");
   for (const { key, before, after } of list.slice(0, 80)) {
-    const [group, of, name] = key;
-    shown.append(make("dt", {}, `${of ? `${of} ` : ""}${group === "Tries and clock" ? name : name}`));
+    const [, of, name] = key;
+    shown.append(make("dt", {}, of ? `${of} ${name}` : name));
     const value = make("dd", {});
     if (before !== null) value.append(make("span", { class: "dim" }, before), " \u2192 ");
-    value.append(after === null ? make("span", { class: "dim" }, "gone") : make("span", { class: before === null ? "changed" : "changed" }, after));
+    value.append(after === null ? make("span", { class: "dim" }, "gone") : make("span", { class: "changed" }, after));
     shown.append(value);
   }
   if (list.length > 80) shown.append(make("dt", {}, `${list.length - 80} more`), make("dd", {}, ""));

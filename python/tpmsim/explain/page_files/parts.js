@@ -12,7 +12,7 @@ function make(tag, options, ...children) {
   return element;
 }
 
-const section = (title, ...children) => [make("h3", {}, title), ...children];
+const section = (title, ...children) => [make("h3", {}, title), ...children.flat()];
 
 function link(words, action, title) {
   return make("button", { class: "link", type: "button", title, onclick: action }, words);
