@@ -1,5 +1,5 @@
-/* The random bytes that commands may draw: fresh ones of the system, or, for runs that repeat, those
- * that were told. */
+/* The random bytes that commands may draw: fresh ones of the system, or, for runs that repeat,
+ * those that were told. */
 #ifndef DRAWS_H
 #define DRAWS_H
 #include <stdbool.h>
@@ -18,8 +18,8 @@ struct draws {
     pid_t process;
 };
 
-/* Begins with bytes that were told, 1 to 256 of them, repeated to 256; or, where there are none, with
- * those of the system. */
+/* Begins with bytes that were told, 1 to 256 of them, repeated to 256; or, where there are none,
+ * with those of the system. */
 void draws_begin(struct draws *draws, const uint8_t *told, size_t size);
 
 /* Puts fresh bytes into the place of those that were drawn. False where the system gives none. */

@@ -140,7 +140,8 @@ bool folder_lock(struct folder *folder, struct reason *reason) {
         struct stat status;
         if (folder->lock < 0 && !open_lock(folder, reason)) return false;
         while (flock(folder->lock, LOCK_EX) != 0)
-            if (errno != EINTR) return refuse(reason, folder->path, LOCK, "cannot be locked", errno);
+            if (errno != EINTR)
+                return refuse(reason, folder->path, LOCK, "cannot be locked", errno);
         int there = folder_look(folder, LOCK, &status, reason);
         if (there == 1 && is_identity(folder->lock_identity, &status)) return true;
         close_lock(folder);
@@ -150,7 +151,7 @@ bool folder_lock(struct folder *folder, struct reason *reason) {
 }
 
 void folder_unlock(struct folder *folder) {
-    if (folder->lock >= 0) flock(folder->lock, LOCK_UN);
+    if (folder->lock >= 0 && flock(folder->lock, LOCK_UN) != 0) close_lock(folder);
 }
 
 /* Forces the folder that this one stands in. */

@@ -28,12 +28,14 @@ static bool refuse_kept(const struct kept *kept, const char *said, struct reason
 }
 
 static bool tell_now(const struct kept *kept, uint64_t *now_ms, struct reason *reason) {
-    return host_now(now_ms) || refuse_kept(kept, "is not told the host's time", reason);
+    return host_now(now_ms) ||
+           refuse_kept(kept, "needs the host's clock, which cannot be read or is before 1970",
+                       reason);
 }
 
 static bool renew(struct kept *kept, struct reason *reason) {
     return draws_renew(&kept->draws) ||
-           refuse_kept(kept, "is given no random bytes by the system", reason);
+           refuse_kept(kept, "needs random bytes, and the system gives none", reason);
 }
 
 /* Begins the journal: in its file, or, for a device in memory, nowhere. */

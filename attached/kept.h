@@ -24,7 +24,7 @@ enum kept_force { KEPT_FORCE_POWER, KEPT_FORCE_NEVER, KEPT_FORCE_ALWAYS };
 struct kept_options {
     /* The folder; NULL: the device is in memory, and ends with kept_close. */
     const char *folder;
-    /* The file of the image that a new device is opened from; NULL: a new device is manufactured. */
+    /* The file of the image that a new device is opened from; NULL: it is manufactured. */
     const char *image;
     /* For runs that repeat: 1 to 256 bytes that stand for random ones, repeated to 256, in each
      * command. A size of 0: bytes of the system. */

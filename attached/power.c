@@ -1,4 +1,5 @@
-/* tpmsim-power DIR: takes power away from the device that is kept in a folder, and gives it back. */
+/* tpmsim-power DIR: takes power away from the device that is kept in a folder, and gives it
+ * back. */
 #include "kept.h"
 #include <stdio.h>
 

@@ -90,7 +90,8 @@ static bool read_words(struct words *words, struct reason *reason) {
 
 bool words_read(struct words *words, const char *text, struct reason *reason) {
     *words = (struct words){.text = strdup(text ? text : "")};
-    if (!words->text) return refuse(reason, "the module", NULL, "wants memory that is not there", 0);
+    if (!words->text)
+        return refuse(reason, "the module", NULL, "wants memory that is not there", 0);
     if (!*words->text || read_words(words, reason)) return true;
     words_free(words);
     return false;

@@ -4,8 +4,8 @@
 #
 #   tools/attached.sh FOLDER
 #
-# The library is dist/libtpmsim.a, or the archive that TPMSIM_ARCHIVE names; its header stands beside
-# it. Needs a C compiler, Debian's binutils, and the header of Debian's libtss2-dev.
+# The library is dist/libtpmsim.a, or the archive that TPMSIM_ARCHIVE names; its header stands
+# beside it. Needs a C compiler, Debian's binutils, and the header of Debian's libtss2-dev.
 set -u
 LC_ALL=C
 export LC_ALL

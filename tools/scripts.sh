@@ -3,15 +3,17 @@
 # programs that `rt ci` leaves and with the one in dist/, and compares what comes of them with the
 # files beside them. Then it runs the scripts that are to end well with tpmsim_lists, which keeps
 # the device's state in lists and not in fixed places, for the same bytes over both keeps; and the
-# shell tests of that program; and those of the library, over the one in dist/. Where nothing was
-# built here, what is in dist/ is run alone; that takes a minute, and needs no `rt`.
+# shell tests of that program; and those of the library and of what is attached by it, over the one
+# in dist/. Where nothing was built here, what is in dist/ is run alone; that takes a minute, and
+# needs no `rt`.
 #
 #   tools/scripts.sh                   all of them
 #   tools/scripts.sh pcr_extend files  these
 #
 # NAME.tpm is run as `PROGRAM run NAME.tpm`, or as `tpmsim_lists <NAME.tpm`, and NAME.sh as `sh
 # NAME.sh PROGRAM`. A shell test whose name begins with lists_ is run with tpmsim_lists alone, one
-# whose name begins with library_ with dist/libtpmsim.a, and all others with the other programs.
+# whose name begins with library_ or attached_ with dist/libtpmsim.a, and all others with the other
+# programs.
 # NAME.out is what standard output must be, NAME.err what standard error must be (no file: empty),
 # and NAME.status the exit status (no file: 0). Where there is a NAME.trace, NAME.tpm is run as
 # `PROGRAM run --trace NAME.tpm` too, which is a further test, and NAME.trace is what standard
@@ -169,7 +171,7 @@ for program in "$out/tpmsim" "$out/tpmsim.by-rattle" "$top/dist/tpmsim"; do
     programs=$((programs + 1))
     for test do
         case $test in
-        */lists_*.sh | */library_*.sh) continue ;;
+        */lists_*.sh | */library_*.sh | */attached_*.sh) continue ;;
         esac
         check "$test" "$program" "${test%.*}.out"
         case $test in
@@ -210,8 +212,8 @@ missing_library() {
 why=$(missing_library)
 for test do
     case $test,$why in
-    */library_*.sh,) check "$test" "$library" "${test%.*}.out" ;;
-    */library_*.sh,*) skip "${test#"$top/"}" "$why" ;;
+    */library_*.sh, | */attached_*.sh,) check "$test" "$library" "${test%.*}.out" ;;
+    */library_*.sh,* | */attached_*.sh,*) skip "${test#"$top/"}" "$why" ;;
     esac
 done
 

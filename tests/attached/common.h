@@ -1,10 +1,13 @@
 /* What the callers of the kept device share. */
 #ifndef COMMON_H
 #define COMMON_H
+#define _GNU_SOURCE
 #include "kept.h"
+#include <fcntl.h>
 #include <stdio.h>
 #include <stdlib.h>
 #include <string.h>
+#include <unistd.h>
 
 enum { RESPONSE_BYTES = 4096, DIGEST_BYTES = 32 };
 
@@ -109,10 +112,12 @@ static inline const char *path_in(const char *folder, const char *name, char roo
     return room;
 }
 
-/* Writes a file anew, in place. */
+/* Gives a file these bytes and no others, in place. */
 static inline void put_bytes(const char *path, const uint8_t *bytes, size_t size) {
-    FILE *file = fopen(path, "wb");
-    must(file && fwrite(bytes, 1, size, file) == size && fclose(file) == 0, "a file is not written");
+    int file = open(path, O_WRONLY | O_CREAT, 0600);
+    must(file >= 0 && pwrite(file, bytes, size, 0) == (ssize_t)size &&
+             ftruncate(file, (off_t)size) == 0 && close(file) == 0,
+         "a file is not written");
 }
 
 #endif
