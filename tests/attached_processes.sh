@@ -6,5 +6,5 @@ tests=$(cd "$(dirname "$0")" && pwd -P)
 needs python3
 
 attach_both processes
-extended 8010 >"$room/values"
+extended 9000 >"$room/values"
 both processes "$room/values"

@@ -175,6 +175,36 @@ static void try_all(const struct trial *trial, enum fault kind, const struct val
            told && borne ? "; borne:" : borne ? "borne:" : "", names);
 }
 
+/* Says how often the disk is forced by what a device does. */
+static void tell_forced(const char *label) {
+    printf("; %s %u and %u", label, forced, forced_data);
+    forced = forced_data = 0;
+}
+
+/* How often each word has files forced whole, and how often their bytes alone. */
+static void count_forced(void) {
+    static const char *const labels[] = {"power", "never", "always"};
+    for (enum kept_force force = KEPT_FORCE_POWER; force <= KEPT_FORCE_ALWAYS; force++) {
+        struct kept_options options = {.folder = FOLDER, .force = force};
+        struct reason reason;
+        remove_state();
+        forced = forced_data = 0;
+        struct kept *kept = kept_open(&options, &reason);
+        must(kept != NULL, "no device is there");
+        printf("force=%s", labels[force]);
+        tell_forced("a new state");
+        start(kept);
+        extend(kept);
+        tell_forced("two commands");
+        must(kept_power(kept, &reason), "the power cycle failed");
+        tell_forced("a power cycle");
+        kept_close(kept);
+        kept_close(kept_open(&options, &reason));
+        tell_forced("an opening");
+        putchar('\n');
+    }
+}
+
 int main(int count, char **words) {
     must(count == 3, "usage: calls VALUES IMAGE");
     struct values values = values_of(words[1]);
@@ -182,6 +212,7 @@ int main(int count, char **words) {
     uint8_t *image = bytes_of(words[2], &size);
     put_bytes("image", image, size);
     free(image);
+    count_forced();
     make_state();
     for (size_t i = 0; i < sizeof TRIALS / sizeof *TRIALS; i++)
         for (enum fault kind = FAILS; kind <= HAS_NO_MEMORY; kind++)

@@ -18,6 +18,9 @@ static enum fault fault;
 static unsigned counted, number;
 static const char *name_of_it;
 
+/* How often files and folders were forced to the disk, whole or without their times. */
+static unsigned forced, forced_data;
+
 /* Whether this call is one of a kind that is counted, and the one of the number. */
 static bool is_the_one(const char *name, bool is_counted) {
     if (fault == NO_FAULT || !is_counted || ++counted != number) return false;
@@ -69,8 +72,6 @@ WRAPPED(int, fstatat, (int folder, const char *path, struct stat *status, int fl
         (folder, path, status, flags), false)
 WRAPPED(int, flock, (int file, int operation), (file, operation), operation == LOCK_EX)
 WRAPPED(int, ftruncate, (int file, off_t size), (file, size), true)
-WRAPPED(int, fsync, (int file), (file), false)
-WRAPPED(int, fdatasync, (int file), (file), false)
 WRAPPED(int, unlinkat, (int folder, const char *path, int flags), (folder, path, flags), false)
 WRAPPED(int, renameat, (int folder, const char *path, int into, const char *name),
         (folder, path, into, name), false)
@@ -101,6 +102,20 @@ int __wrap_openat(int folder, const char *path, int flags, ...) {
     mode_t mode = flags & O_CREAT ? va_arg(words, mode_t) : 0;
     va_end(words);
     return fails("openat", false) ? -1 : __real_openat(folder, path, flags, mode);
+}
+
+int __real_fsync(int file);
+int __wrap_fsync(int file);
+int __wrap_fsync(int file) {
+    forced++;
+    return fails("fsync", false) ? -1 : __real_fsync(file);
+}
+
+int __real_fdatasync(int file);
+int __wrap_fdatasync(int file);
+int __wrap_fdatasync(int file) {
+    forced_data++;
+    return fails("fdatasync", false) ? -1 : __real_fdatasync(file);
 }
 
 /* The user is another one than whose the files are. */

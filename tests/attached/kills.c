@@ -16,6 +16,18 @@ static void extend_on(int told) {
     }
 }
 
+/* Cycles the power without an end, and writes a byte for each cycle. */
+static void cycle_on(int told) {
+    struct kept *kept = opened(FOLDER);
+    struct reason reason;
+    for (;;) {
+        must(kept_power(kept, &reason), "a power cycle failed");
+        start(kept);
+        extend(kept);
+        if (write(told, "x", 1) != 1) _exit(1);
+    }
+}
+
 /* How many bytes a pipe has, until its writer has ended. */
 static long drain(int file) {
     char room[4096];
@@ -24,9 +36,9 @@ static long drain(int file) {
     return all;
 }
 
-/* Kills a process some microseconds after it began, or after its first answer, and tells how many
- * extends were answered. */
-static long killed_after(unsigned microseconds, bool answers) {
+/* Kills a process some microseconds after it began, or after it told something for the first time,
+ * and tells how often it did. */
+static long killed_after(void (*run)(int told), unsigned microseconds, bool answers) {
     int ends[2], status;
     char first;
     must(pipe(ends) == 0, "there is no pipe");
@@ -34,7 +46,7 @@ static long killed_after(unsigned microseconds, bool answers) {
     must(child >= 0, "there is no process");
     if (child == 0) {
         close(ends[0]);
-        extend_on(ends[1]);
+        run(ends[1]);
     }
     close(ends[1]);
     if (answers) must(read(ends[0], &first, 1) == 1, "a process did not answer");
@@ -53,6 +65,22 @@ static void begin_anew(struct kept *kept) {
     start(kept);
 }
 
+/* Kills processes that cycle the power: there is a whole journal behind each, whose device awaits its
+ * startup, or was started and extended no more than once. */
+static void kill_cycles(struct kept *kept, const struct values *values, int rounds) {
+    uint8_t response[RESPONSE_BYTES];
+    for (int i = 0; i < rounds; i++) {
+        killed_after(cycle_on, (unsigned)(rand() % 2000), true);
+        answered_by(kept, STARTUP, sizeof STARTUP, response);
+        long there = extends_of(kept, values);
+        must(there == 0 || there == 1, "a device of two power cycles is there");
+        struct kept *other = opened(FOLDER);
+        must(extends_of(other, values) == there, "another device is there");
+        kept_close(other);
+    }
+    printf("killed %d times at power cycles\n", rounds);
+}
+
 int main(int count, char **words) {
     must(count == 3, "usage: kills VALUES COUNT");
     struct values values = values_of(words[1]);
@@ -62,7 +90,7 @@ int main(int count, char **words) {
     long before = 0, answered = 0, lost = 0, ahead = 0;
     srand(1);
     for (int i = 0; i < rounds; i++) {
-        long told = killed_after((unsigned)(rand() % 4000), i % 2);
+        long told = killed_after(extend_on, (unsigned)(rand() % 4000), i % 2);
         long there = extends_of(kept, &values);
         must(there >= 0, "the PCR has a value of no count of extends");
         if (there < before + told) lost++;
@@ -74,10 +102,11 @@ int main(int count, char **words) {
         begin_anew(kept);
         before = 0;
     }
-    kept_close(kept);
-    free(values.bytes);
     printf("killed %d times, answers lost: %ld\n", rounds, lost);
     must(answered >= rounds / 2, "too few commands were answered");
+    kill_cycles(kept, &values, rounds / 3);
+    kept_close(kept);
+    free(values.bytes);
     fprintf(stderr, "%ld answered, %ld more were done than answered\n", answered, ahead);
     return lost != 0;
 }

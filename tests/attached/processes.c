@@ -81,16 +81,14 @@ static void use_after_fork(struct kept *kept, const struct values *values) {
     close(ends[1]);
 }
 
-/* A lock that is removed under a process that holds the device. */
+/* A lock that is removed under a process that holds the device, before another one takes the device
+ * up: both go on at once. */
 static void lose_the_lock(struct kept *kept, const struct values *values) {
     must(unlink("state/lock") == 0, "there was no lock");
-    struct kept *other = opened(FOLDER);
-    extend(other);
-    extend(kept);
-    extend(other);
-    printf("a lock that was removed: %ld and ", extends_of(kept, values));
-    printf("%ld extends\n", extends_of(other, values));
-    kept_close(other);
+    pid_t child = begun(extend_often);
+    for (int i = 0; i < EXTENDS; i++) extend(kept);
+    must_end_well(child);
+    printf("a lock that was removed: %ld extends\n", extends_of(kept, values));
 }
 
 int main(int count, char **words) {
