@@ -10,5 +10,11 @@ TPMSIM_ARCHIVE=$archive sh "$tests/../tools/attached.sh" "$room/made" || exit 1
 attach client client -ldl
 # shellcheck disable=SC2086 # they are words
 attach sanitized_client client $sanitizers -ldl
-module=$room/made/libtss2-tcti-tpmsim.so.0
-both client "$module"
+# shellcheck disable=SC2086 # they are words
+attach sanitized_module tcti $sanitizers -shared -fPIC
+
+mkdir plain sanitized
+(cd plain && "$room/client" "$room/made/libtss2-tcti-tpmsim.so.0") 2>&1
+(cd sanitized && "$room/sanitized_client" "$room/sanitized_module") >"$room/sanitized_output" 2>&1
+(cd plain && rm -r state && "$room/client" "$room/made/libtss2-tcti-tpmsim.so.0") 2>&1 |
+    cmp - "$room/sanitized_output" && echo 'the same beside sanitizers'

@@ -1,6 +1,6 @@
 /* Each call of the system by which a kept device reaches its files, the clock and random bytes
- * fails in turn; each moves half of its bytes, or is interrupted; and each request for memory is refused.
- * The argument is the file of the values of the PCR. */
+ * fails in turn; each moves half of its bytes, or is interrupted; and each request for memory is
+ * refused. The arguments are the file of the values of the PCR, and an image. */
 #include "calls.h"
 #include <dirent.h>
 

@@ -124,6 +124,55 @@ static void rearrange(const struct text *whole, size_t first, size_t second, siz
     free(other.bytes);
 }
 
+/* Damages each byte of the last record while the device is open, and has not executed that record:
+ * the next command is refused, and the file is as it was. With the byte as it was the device goes
+ * on. */
+static void turn_while_open(const struct text *whole, size_t before_last,
+                            const struct values *values) {
+    struct text turned = {malloc(whole->size), whole->size};
+    must(turned.bytes != NULL, "there is no memory");
+    put_bytes(JOURNAL, whole->bytes, before_last);
+    struct kept *kept = opened(FOLDER);
+    for (size_t at = before_last; at < whole->size; at++) {
+        uint8_t response[RESPONSE_BYTES];
+        tpmsim_answered answered;
+        struct reason reason;
+        memcpy(turned.bytes, whole->bytes, whole->size);
+        turned.bytes[at] ^= 1;
+        put_bytes(JOURNAL, turned.bytes, turned.size);
+        must(!kept_execute(kept, GET_RANDOM, sizeof GET_RANDOM, 0, response, &answered, &reason),
+             "a command behind a damaged record is answered");
+        must_be(&turned, "a damaged journal was changed");
+        put_bytes(JOURNAL, whole->bytes, before_last);
+        must(extends_of(kept, values) == EXTENDS, "the device does not go on");
+    }
+    kept_close(kept);
+    free(turned.bytes);
+    puts("each byte of a record turned while the device is open: refused, and it goes on with the "
+         "record as it was");
+}
+
+/* Shortens the journal under an open device. */
+static void shorten_while_open(const struct text *whole, size_t before_last,
+                               const struct values *values) {
+    uint8_t response[RESPONSE_BYTES];
+    tpmsim_answered answered;
+    struct reason reason;
+    put_bytes(JOURNAL, whole->bytes, whole->size);
+    struct kept *kept = opened(FOLDER);
+    put_bytes(JOURNAL, whole->bytes, before_last);
+    must(!kept_execute(kept, GET_RANDOM, sizeof GET_RANDOM, 0, response, &answered, &reason),
+         "a command is answered though its device's journal is another");
+    printf("shortened while the device is open: %s\n", reason.text);
+    must(extends_of(kept, values) == EXTENDS, "the device is not that of the journal");
+    must(unlink(JOURNAL) == 0, "there is no journal");
+    must(!kept_execute(kept, GET_RANDOM, sizeof GET_RANDOM, 0, response, &answered, &reason),
+         "a command is answered without a journal");
+    printf("removed while the device is open: %s\n", reason.text);
+    must(access(JOURNAL, F_OK) != 0, "a journal is made");
+    kept_close(kept);
+}
+
 /* The size of the journal. */
 static size_t size_now(void) {
     struct text text = text_of();
@@ -147,6 +196,8 @@ int main(int count, char **words) {
     turn(&whole);
     cut(&whole, head, sizes[EXTENDS], &values);
     rearrange(&whole, sizes[0], sizes[1], sizes[2]);
+    turn_while_open(&whole, sizes[EXTENDS], &values);
+    shorten_while_open(&whole, sizes[EXTENDS], &values);
     put_bytes(JOURNAL, whole.bytes, whole.size);
     kept = opened(FOLDER);
     must(extends_of(kept, &values) == EXTENDS + 1, "the journal as it was does not open");

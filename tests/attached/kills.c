@@ -65,8 +65,8 @@ static void begin_anew(struct kept *kept) {
     start(kept);
 }
 
-/* Kills processes that cycle the power: there is a whole journal behind each, whose device awaits its
- * startup, or was started and extended no more than once. */
+/* Kills processes that cycle the power: there is a whole journal behind each, whose device awaits
+ * its startup, or was started and extended no more than once. */
 static void kill_cycles(struct kept *kept, const struct values *values, int rounds) {
     uint8_t response[RESPONSE_BYTES];
     for (int i = 0; i < rounds; i++) {

@@ -7,11 +7,12 @@ needs cc nm
 nm --defined-only "$archive" 2>/dev/null | grep -q ' tpmsim_journal_open$' ||
     skip 'the archive has no calls for journals'
 
-# attach CALLER SOURCE WORDS..: compiles a caller in C with all parts of the kept device, for which
-# each warning is an error.
+# attach CALLER SOURCE WORDS..: compiles a caller in C, or a main source of attached/, with all
+# parts of the kept device, for which each warning is an error.
 attach() {
     caller=$room/$1
     source=$callers/$2.c
+    [ -f "$source" ] || source=$attached/$2.c
     shift 2
     for part in "$attached"/*.c; do
         case $part in
