@@ -3,8 +3,9 @@
 # programs that `rt ci` leaves and with the one in dist/, and compares what comes of them with the
 # files beside them. Then it runs the scripts that are to end well with tpmsim_lists, which keeps
 # the device's state in lists and not in fixed places, for the same bytes over both keeps; and the
-# shell tests of that program; and those of the library, over the one in dist/. Where nothing was
-# built here, what is in dist/ is run alone; that takes half a minute, and needs no `rt`.
+# shell tests of that program; and those of the library and of what is attached by it, over the one
+# in dist/. Where nothing was built here, what is in dist/ is run alone; that takes half a minute,
+# and needs no `rt`.
 #
 #   tools/scripts.sh                   all of them
 #   tools/scripts.sh pcr_extend files  these
@@ -13,7 +14,8 @@
 #
 # NAME.tpm is run as `PROGRAM run NAME.tpm`, or as `tpmsim_lists <NAME.tpm`, and NAME.sh as `sh
 # NAME.sh PROGRAM`. A shell test whose name begins with lists_ is run with tpmsim_lists alone, one
-# whose name begins with library_ with dist/libtpmsim.a, and all others with the other programs.
+# whose name begins with library_, attached_ or swtpm_ with dist/libtpmsim.a, and all others with the
+# other programs.
 # NAME.out is what standard output must be, NAME.err what standard error must be (no file: empty),
 # and NAME.status the exit status (no file: 0). Where there is a NAME.trace, NAME.tpm is run as
 # `PROGRAM run --trace NAME.tpm` too, which is a further test, and NAME.trace is what standard
@@ -82,6 +84,14 @@ for name do
     [ -n "$found" ] || say "FAILED: $name: there is no such test"
 done
 
+# is_of_library TEST: whether it is a test of the library, or of what is attached by it.
+is_of_library() {
+    case $1 in
+    */library_*.sh | */attached_*.sh | */swtpm_*.sh) true ;;
+    *) false ;;
+    esac
+}
+
 # Whether the program in dist/ is of the sources as they stand.
 shipped_is_of_sources() (
     cd "$top" && . tools/proved.sh && is_proved sources "$(sources_checksum)"
@@ -105,8 +115,9 @@ for program in "$out/tpmsim" "$out/tpmsim.by-rattle" "$top/dist/tpmsim"; do
     programs=$((programs + 1))
     for test do
         case $test in
-        */lists_*.sh | */library_*.sh) continue ;;
+        */lists_*.sh) continue ;;
         esac
+        ! is_of_library "$test" || continue
         check "$test" "$program" "${test%.*}.out"
         case $test in
         *.tpm) [ ! -f "${test%.*}.trace" ] || check "$test" "$program" "${test%.*}.trace" --trace ;;
@@ -151,10 +162,12 @@ missing_library() {
 
 why=$(missing_library)
 for test do
-    case $test,$why in
-    */library_*.sh,) check "$test" "$library" "${test%.*}.out" ;;
-    */library_*.sh,*) skip "${test#"$top/"}" "$why" ;;
-    esac
+    is_of_library "$test" || continue
+    if [ -z "$why" ]; then
+        check "$test" "$library" "${test%.*}.out"
+    else
+        skip "${test#"$top/"}" "$why"
+    fi
 done
 
 # Shows what is told of the next tests, as far as it is.
