@@ -1,20 +1,21 @@
 #!/bin/sh
-# Boots Linux guests with QEMU on a device behind tools/swtpm_front.py: SeaBIOS and OVMF, each with
-# tpm-tis and tpm-crb. The PCRs that firmware and kernel leave must be those under swtpm. The guest
+# Boots Linux guests with QEMU on a tpmsim under swtpm: SeaBIOS and OVMF, each with tpm-tis and tpm-crb.
+# The PCRs that firmware and kernel leave must be those under swtpm with its own libtpms. The guest
 # extends a PCR, seals data to it, sleeps and wakes (S3), reboots and opens them; so does one in
-# another run of QEMU. Then the record of all that is played again. Not part of the gate: it takes
-# ten minutes. It installs nothing, and leaves nothing but its folder, where it is told one.
+# another run of QEMU. Then a guest is saved as it runs, with its TPM, and goes on in another QEMU. Not
+# part of the gate: it takes minutes. It installs nothing, and leaves nothing but its folder, where it is
+# told one.
 #
 #   tools/guest.sh [FOLDER] [FIRMWARE DEVICE]   all four, or one, as seabios tpm-tis
 #
-# Needs Debian's qemu-system-x86, ovmf, swtpm, busybox-static, tpm2-tools, and a kernel with the TPM's
-# drivers built in: the file that $KERNEL names, or Debian's cloud kernel, which is fetched by apt-get.
-# The program is that of $TPMSIM, or the proved one. QEMU emulates the processor, unless $ACCELERATOR is
-# kvm.
+# Needs Debian's qemu-system-x86, ovmf, swtpm, libtpms-dev, busybox-static, tpm2-tools, socat, and a
+# kernel with the TPM's drivers built in: the file that $KERNEL names, or Debian's cloud kernel, which is
+# fetched by apt-get. The folder of tools/attached_swtpm.sh is that of $ATTACHED, or it is made. QEMU
+# emulates the processor, unless $ACCELERATOR is kvm.
 set -u
 
 tools=$(CDPATH='' cd "$(dirname "$0")" && pwd -P)
-for needed in qemu-system-x86_64 swtpm busybox tpm2 python3; do
+for needed in qemu-system-x86_64 swtpm busybox tpm2 socat; do
     command -v "$needed" >/dev/null || {
         echo "$0: $needed is not there; the head of this file says what is needed" >&2
         exit 2
@@ -68,17 +69,14 @@ make_guest() {
     (cd "$root" && find . | busybox cpio -o -H newc 2>/dev/null | gzip -1) >"$folder/initramfs"
 }
 
-# begin_tpm swtpm|front NAME: the TPM of a guest, on the state of that name.
+# begin_tpm swtpm|tpmsim NAME: the TPM of a guest, on the state of that name.
 begin_tpm() {
     rm -f "$run/ctrl"
     mkdir -p "$folder/$2"
-    if [ "$1" = swtpm ]; then
-        swtpm socket --tpm2 --tpmstate "dir=$folder/$2" --ctrl "type=unixio,path=$run/ctrl" &
-    else
-        "$tools/swtpm_front.py" socket --tpm2 --tpmstate "dir=$folder/$2" --complete \
-            --ctrl "type=unixio,path=$run/ctrl" --log "file=$run/log,level=20" \
-            --record "$run/boot.tpm" &
-    fi
+    program=swtpm
+    [ "$1" = swtpm ] || program=$attached/tpmsim-swtpm
+    "$program" socket --tpm2 --tpmstate "dir=$folder/$2" --ctrl "type=unixio,path=$run/ctrl" \
+        --log "file=$run/log,level=1" &
     tpm=$!
     until [ -S "$run/ctrl" ]; do
         kill -0 "$tpm" || { fail "$run: no TPM"; return 1; }
@@ -140,7 +138,7 @@ combination() {
     device=$2
     name=$1-$2
     boot "$name-swtpm" swtpm "$name-swtpm-state" guest=pcrs
-    boot "$name-pcrs" front "$name-pcrs-state" guest=pcrs
+    boot "$name-pcrs" tpmsim "$name-pcrs-state" guest=pcrs
     measured "$name-swtpm" >"$folder/wanted"
     measured "$name-pcrs" >"$folder/given"
     if [ -s "$folder/wanted" ] && cmp -s "$folder/wanted" "$folder/given"; then
@@ -149,19 +147,14 @@ combination() {
         fail "$name: the PCRs are not those under swtpm"
         diff "$folder/wanted" "$folder/given"
     fi
-    boot "$name-first" front "$name-state" 'guest=work sleep'
+    boot "$name-first" tpmsim "$name-state" 'guest=work sleep'
     check "$name-first" 2 21
-    boot "$name-again" front "$name-state" guest=work
+    boot "$name-again" tpmsim "$name-state" guest=work
     check "$name-again" 1 5
-    for run in "$name-pcrs" "$name-first" "$name-again"; do
-        if replayed=$("$tools/swtpm_front.py" replay "$folder/$run/boot.tpm" 2>&1); then
-            ok "$run: played again, $replayed"
-        else
-            fail "$run: played again, $replayed"
-        fi
-    done
 }
 
+attached=${ATTACHED:-$folder/attached}
+[ -n "${ATTACHED:-}" ] || "$tools/attached_swtpm.sh" "$attached" || exit 1
 make_guest
 if [ "$#" -eq 3 ]; then
     combinations="$2 $3"
