@@ -94,6 +94,14 @@ do Startup 0
 END
 mv other/permall . && rmdir other
 
+label 'random bytes, which come once'
+for run in 1 2; do
+    printf 'on\nhead 80010000000c000001440000\ncmd 80010000000c0000017b0008\ncmd 80010000000c0000017b0008\n' |
+        "$room/caller" "$room/swtpm/libtpms.so.0"
+done >random
+grep -c '^80010000001400000000' random
+sort -u random | grep -c '^80010000001400000000'
+
 label 'localities'
 for locality in 0 1 2 3 4 5 255 none; do
     caller <<END
