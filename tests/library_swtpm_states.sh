@@ -109,6 +109,8 @@ head -c 1000 volatile >volatilestate
 printf 'on\nvalidate 1\nvalidate 2\n' | caller
 sed '$d' volatile >volatilestate
 printf 'on\n' | caller
+{ sed '$d' volatile | head -c -30 && echo '# the end'; } >volatilestate
+printf 'on\nvalidate 2\n' | caller
 sed '/^wait/s/[0-9]*$/7/' volatile >volatilestate
 printf 'on\n' | caller
 cmp permall before && echo 'what was kept is as it was'

@@ -5,6 +5,7 @@
 #include "journal.h"
 #include "permanent.h"
 #include "randomness.h"
+#include "record.h"
 #include "report.h"
 
 #include <string.h>
@@ -34,7 +35,7 @@ bool begin_journal(void) {
     journal_grew(size);
     begin_host_clock(now);
     is_recorded = true;
-    return true;
+    return begin_record(journal_text(), size);
 }
 
 bool take_up_journal(const uint8_t *text, size_t size) {
@@ -50,7 +51,7 @@ bool take_up_journal(const uint8_t *text, size_t size) {
     memcpy(room, text, size);
     journal_grew(size);
     is_recorded = true;
-    return true;
+    return begin_record(text, size);
 }
 
 /* Opens the device again as it was before a command whose record is not in the journal. */
@@ -61,6 +62,14 @@ static void undo(void) {
     if (told == TPMSIM_DONE && taken == journal_size()) return;
     report("the device cannot be as it was before the command, and is off");
     free_device();
+}
+
+/* Has the record written, and the permanent state where that changed; both or none. */
+static bool is_written(const uint8_t *record, size_t size) {
+    if (!write_record(record, size)) return false;
+    if (is_permanent(&device) || store_permanent(&device)) return true;
+    take_record_back();
+    return false;
 }
 
 /* Where the next record goes. A journal that has no more room is given up, and the device goes on. */
@@ -78,16 +87,17 @@ bool execute(const uint8_t *buffer, size_t size, uint8_t locality, struct respon
     const uint8_t *random = random_bytes();
     if (random == NULL) return false;
     tpmsim_answered answered;
+    uint8_t *record = record_room();
     size_t record_size = 0;
     uint8_t told =
         tpmsim_journal_execute(&device, buffer, size, locality, host_clock(), completing, random,
-                               response->bytes, &answered, record_room(), &record_size);
+                               response->bytes, &answered, record, &record_size);
     if (told != TPMSIM_DONE) {
         report("a command is not executed: %s", words_of_told(told));
         return false;
     }
     random_bytes_were_drawn(answered.drawn);
-    if (!is_permanent(&device) && !store_permanent(&device)) {
+    if (!is_written(record, record_size)) {
         undo();
         return false;
     }
@@ -98,6 +108,7 @@ bool execute(const uint8_t *buffer, size_t size, uint8_t locality, struct respon
 
 void free_device(void) {
     tpmsim_free(&device);
+    end_record();
     forget_journal();
     is_recorded = false;
 }

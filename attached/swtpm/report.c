@@ -36,7 +36,6 @@ void report(const char *format, ...) {
     va_end(words);
     if (rest < 0) return;
     size_t size = strlen(line);
-    if (size == sizeof line - 1) size--;
     line[size] = '\n';
     int before = errno;
     write_all(log_descriptor < 0 ? STDERR_FILENO : log_descriptor, line, size + 1);
