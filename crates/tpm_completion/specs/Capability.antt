@@ -59,14 +59,15 @@ object_shown r c place = if (object_held c place).waits == 0 then object_element
 abbrev pub objects_shown : Record → Completion → List Element
 objects_shown r c = flat_map (object_shown r c) (numbers_below object_limit)
 
--- whether the session in a place is saved
-abbrev pub is_saved : Completion → ℕ → Bool
-is_saved c place = not (session_context c place == 0)
+-- whether a session with this context, or none (0), is saved (true), or loaded (false)
+abbrev pub is_in_state : (saved : Bool) → (context : ℕ) → Bool
+is_in_state true context = not (context == 0)
+is_in_state false context = context == 0
 
--- the sessions that are loaded (false), or saved (true)
-unfoldable pub session_shown : Record → Completion → Bool → ℕ → List Element
+-- the sessions that are saved (true), or loaded (false)
+unfoldable pub session_shown : Record → Completion → (saved : Bool) → ℕ → List Element
 session_shown r c saved place =
-    if not (session_context c place == 0) == saved then session_element r place else []
+    if is_in_state saved (session_context c place) then session_element r place else []
 
 abbrev pub sessions_shown : Record → Completion → Bool → List Element
 sessions_shown r c saved = flat_map (session_shown r c saved) (numbers_below session_limit)

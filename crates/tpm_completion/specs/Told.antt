@@ -1,5 +1,5 @@
 -- What a function tells that has an answer or none.
-use Rattle.std.specs.Prelude.{◌≡◌, Bool, true, false, List, ℕ, Option, Some, None, Unit}
+use Rattle.std.specs.Prelude.{◌≡◌, Bool, true, false, List, ℕ, Option, Some, None}
 
 -- It told that there is an answer, and wrote that; or that there is none.
 abbrev pub Tells : Option (List ℕ) → (told : Bool) → (text : List ℕ) → Type 0

@@ -1,8 +1,8 @@
 //! TPM2_GetCapability: algorithms, properties, commands, and the handles of objects and sessions.
 
-ghost use Rattle.std.specs.Prelude.{◌≡◌, ◌≤◌, ◌<◌, ◌+◌, ◌++◌, [], Some, MatchOption, length, map, true, false};
+ghost use Rattle.std.specs.Prelude.{◌≡◌, ◌≤◌, ◌<◌, ◌+◌, ◌/◌, ◌^◌, ◌++◌, ◌∷◌, [], length};
 ghost use Rattle.tpm_types.specs.Limits.{object_limit, session_limit};
-ghost use Rattle.tpm_completion.specs.Capability.{algorithm_elements, asked_at, capability_told, command_elements, handles_told, object_shown, objects_shown, own_before, property_elements, session_shown, sessions_shown, told_of};
+ghost use Rattle.tpm_completion.specs.Capability.{algorithm_elements, asked_at, capability_told, command_elements, handles_told, is_in_state, object_shown, objects_shown, own_before, property_elements, session_shown, sessions_shown, told_of};
 ghost use Rattle.tpm_actions_capability.specs.Elements.{command_attributes, command_element};
 ghost use Rattle.tpm_completion.specs.Told.{Tells};
 
@@ -149,7 +149,7 @@ fn object<K: Keep>(layer: &Completion, keep: &K, place: u32, elements: &mut Elem
 }
 
 /// Lists the transient objects that do not wait.
-#[tactic(auto, using(crate::proofs::Listing::one_more))]
+#[tactic(auto, using(tpm_actions_capability::proofs::Listing::one_more))]
 fn objects<K: Keep>(layer: &Completion, keep: &K, elements: &mut Elements)
     requires { elements.old.items ≡ [] }
     ensures { elements.new.items ≡ objects_shown (K.record_of keep.now) layer.now }
@@ -159,7 +159,14 @@ fn objects<K: Keep>(layer: &Completion, keep: &K, elements: &mut Elements)
     }
 }
 
-/// Lists the session in a place, if there is one, and it is saved or is not.
+/// Whether a session with this context, or none, is saved, or is loaded.
+fn is_in_state(saved: bool, context: u64) -> bool
+    ensures { result ≡ is_in_state saved context }
+{
+    if saved { context != 0 } else { context == 0 }
+}
+
+/// Lists the session in a place, if there is one, and it is saved or is loaded.
 #[tactic(auto, unfolding(crate::specs::Capability::session_shown))]
 fn session<K: Keep>(
     layer: &Completion,
@@ -174,7 +181,7 @@ fn session<K: Keep>(
         ≡ elements.old.items ++ session_shown (K.record_of keep.now) layer.now saved place }
     ensures few { length elements.new.items ≤ length elements.old.items + 1 }
 {
-    if (layer.session(place as usize) != 0) != saved {
+    if !is_in_state(saved, layer.session(place as usize)) {
         return;
     }
     if let Some(session) = keep.sessions().in_place(place as usize) {
@@ -184,7 +191,7 @@ fn session<K: Keep>(
 }
 
 /// Lists the sessions that are saved, or those that are loaded.
-#[tactic(auto, using(crate::proofs::Listing::one_more))]
+#[tactic(auto, using(tpm_actions_capability::proofs::Listing::one_more))]
 fn sessions<K: Keep>(layer: &Completion, keep: &K, saved: bool, elements: &mut Elements)
     requires { elements.old.items ≡ [] }
     ensures { elements.new.items ≡ sessions_shown (K.record_of keep.now) layer.now saved }

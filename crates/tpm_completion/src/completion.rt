@@ -77,6 +77,7 @@ impl Completion {
     }
 
     /// What is left of an object's context in this state of the device.
+    #[tactic(auto, unfolding(crate::specs::Completion::object_kept))]
     fn object_kept<K: Keep>(&self, keep: &K, place: usize) -> Held
         requires { place < object_limit }
         ensures { result ≡ object_kept (K.record_of keep.now) self.now place }
@@ -95,6 +96,7 @@ impl Completion {
     }
 
     /// What is left of a session's context in this state of the device.
+    #[tactic(auto, unfolding(crate::specs::Completion::session_kept))]
     fn session_kept<K: Keep>(&self, keep: &K, place: usize) -> u64
         requires { place < session_limit }
         ensures { result ≡ session_kept (K.record_of keep.now) self.now place }
@@ -107,6 +109,7 @@ impl Completion {
     }
 
     /// Forgets the contexts of objects and sessions that are gone.
+    #[tactic(auto, unfolding(crate::specs::Completion::forgotten))]
     pub(crate) fn forget<K: Keep>(&mut self, keep: &K)
         ensures { self.new ≡ forgotten (K.record_of keep.now) self.old }
     {
