@@ -80,8 +80,11 @@ own_before command.FlushContext = element 0x161 0x1000_0161 ∷ element 0x162 0x
 own_before _ = []
 
 -- the commands that are served, with the layer's own in their places
+unfoldable pub commands_by : CommandCode → List Element
+commands_by code = own_before code ++ command_element code ∷ []
+
 abbrev pub command_elements : List Element
-command_elements = flat_map (λ code. own_before code ++ command_element code ∷ []) all_codes
+command_elements = flat_map commands_by all_codes
 
 -- ---- properties
 

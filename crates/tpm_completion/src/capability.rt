@@ -1,9 +1,12 @@
 //! TPM2_GetCapability: algorithms, properties, commands, and the handles of objects and sessions.
 
-ghost use Rattle.std.specs.Prelude.{◌≡◌, ◌≤◌, ◌<◌, ◌+◌, ◌/◌, ◌^◌, ◌++◌, ◌∷◌, [], length};
+ghost use Rattle.std.specs.Prelude.{◌≡◌, ◌≤◌, ◌<◌, ◌+◌, ◌*◌, ◌/◌, ◌^◌, ◌++◌, ◌∷◌, [], length};
 ghost use Rattle.tpm_types.specs.Limits.{object_limit, session_limit};
-ghost use Rattle.tpm_completion.specs.Capability.{algorithm_elements, asked_at, capability_told, command_elements, handles_told, is_in_state, object_shown, objects_shown, own_before, property_elements, session_shown, sessions_shown, told_of};
+ghost use Rattle.tpm_completion.specs.Capability.{algorithm_elements, asked_at, capability_told, command_elements, commands_by, handles_told, is_in_state, object_shown, objects_shown, property_elements, session_shown, sessions_shown, told_of};
 ghost use Rattle.tpm_actions_capability.specs.Elements.{command_attributes, command_element};
+ghost use Rattle.std.specs.List.{flat_map};
+ghost use Rattle.tpm_completion.specs.Listing.{listing};
+ghost use Rattle.tpm_completion.specs.declared.listing.Form.TheVariants as form;
 ghost use Rattle.tpm_completion.specs.Told.{Tells};
 
 use crate::answer::is_refusal;
@@ -21,6 +24,11 @@ use tpm_types_command::CommandCode;
 
 /// The text of what is listed.
 pub type Listing = Sink<LISTING_LIMIT>;
+
+/// Room for three elements for each command of the device.
+const COMMANDS_ROOM: usize = 160;
+
+type Commands = ArrayVec<Element, COMMANDS_ROOM>;
 
 /// The parameters of TPM2_GetCapability.
 #[derive(Clone, Copy, Debug, PartialEq, Eq)]
@@ -105,10 +113,11 @@ fn command(code: CommandCode) -> Element
 }
 
 /// Lists the layer's own commands that stand before this one, and this one.
-fn list_command(code: CommandCode, elements: &mut Elements)
-    requires { length elements.old.items + 3 ≤ 64 }
-    ensures { elements.new.items
-        ≡ elements.old.items ++ (own_before code ++ (command_element code ∷ [])) }
+#[tactic(auto, unfolding(crate::specs::Capability::commands_by))]
+fn list_command(code: CommandCode, elements: &mut Commands)
+    requires { length elements.old.items + 3 ≤ COMMANDS_ROOM }
+    ensures added { elements.new.items ≡ elements.old.items ++ commands_by code }
+    ensures few { length elements.new.items ≤ length elements.old.items + 3 }
 {
     match code {
         CommandCode::PolicyNv => elements.push(element(0x146, 0x146)),
@@ -121,14 +130,24 @@ fn list_command(code: CommandCode, elements: &mut Elements)
     elements.push(command(code));
 }
 
+/// Lists these commands, and the layer's own before each of them.
+#[tactic(auto, using(crate::proofs::Commands::commands_more))]
+fn list_commands(codes: &[CommandCode], elements: &mut Commands)
+    requires empty { elements.old.items ≡ [] }
+    requires few { 3 * length codes.now ≤ COMMANDS_ROOM }
+    ensures { elements.new.items ≡ flat_map commands_by codes.now }
+{
+    for code in codes {
+        list_command(*code, elements);
+    }
+}
+
 /// Lists all commands.
-fn commands(elements: &mut Elements)
+fn commands(elements: &mut Commands)
     requires { elements.old.items ≡ [] }
     ensures { elements.new.items ≡ command_elements }
 {
-    for code in CommandCode::ALL {
-        list_command(*code, elements);
-    }
+    list_commands(CommandCode::ALL, elements);
 }
 
 /// Lists the transient object in a place, if it is there and does not wait.
@@ -233,26 +252,38 @@ fn tell_handles<K: Keep>(
     true
 }
 
+fn tell_commands(asked: Asked, text: &mut Listing)
+    requires { text.old ≡ [] }
+    ensures { text.new ≡ listing form.Value 2 asked.property asked.count command_elements }
+{
+    let mut elements = ArrayVec::new();
+    commands(&mut elements);
+    let from = asked.property;
+    list(elements.as_slice(), Form::Value, 2, from, asked.count, text);
+}
+
+fn tell_properties<K: Keep>(keep: &K, asked: Asked, text: &mut Listing)
+    requires { text.old ≡ [] }
+    ensures { text.new ≡ listing form.Property 6 asked.property asked.count
+        (property_elements (K.record_of keep.now).fixed.lockout) }
+{
+    let mut elements = ArrayVec::new();
+    properties(&keep.fixed().lockout, &mut elements);
+    let from = asked.property;
+    list(elements.as_slice(), Form::Property, 6, from, asked.count, text);
+}
+
 /// Writes what is listed of a capability that the device told, if the layer has it.
 fn tell_told<K: Keep>(layer: &Completion, keep: &K, asked: Asked, text: &mut Listing) -> bool
     requires { text.old ≡ [] }
     ensures { Tells (told_of (K.record_of keep.now) layer.now asked) result text.new }
 {
-    let mut elements = ArrayVec::new();
-    let form = match asked.capability {
+    match asked.capability {
         1 => return tell_handles(layer, keep, asked, text),
-        2 => {
-            commands(&mut elements);
-            Form::Value
-        }
-        6 => {
-            properties(&keep.fixed().lockout, &mut elements);
-            Form::Property
-        }
+        2 => tell_commands(asked, text),
+        6 => tell_properties(keep, asked, text),
         _ => return false,
-    };
-    let (capability, from) = (asked.capability, asked.property);
-    list(elements.as_slice(), form, capability, from, asked.count, text);
+    }
     true
 }
 

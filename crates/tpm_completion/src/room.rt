@@ -82,7 +82,10 @@ impl Completion {
     /// Of the object in a place, and one that waits or none, the one that waits longer.
     #[tactic(auto, unfolding(crate::specs::Room::longer))]
     fn longer(&self, best: Waiting, place: usize) -> Waiting
-        ensures { result ≡ longer self.now best place }
+        requires place { place < object_limit }
+        requires best { best.place < object_limit }
+        ensures longer { result ≡ longer self.now best place }
+        ensures small { result.place < object_limit }
     {
         let since = self.object(place).waits;
         if since != 0 && (best.since == 0 || since < best.since) {
@@ -93,6 +96,7 @@ impl Completion {
     }
 
     /// The object that waits longest.
+    #[tactic(auto, using(crate::proofs::Waiting::longest_more))]
     fn longest(&self) -> Waiting
         ensures longest { result ≡ longest self.now }
         ensures place { result.place < object_limit }
