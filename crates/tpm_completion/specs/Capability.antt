@@ -39,15 +39,15 @@ element number told = record { number = number; told = told }
 
 abbrev pub algorithm_elements : List Element
 algorithm_elements =
-    element 0x04 0x004      -- SHA-1
-    ∷ element 0x05 0x104    -- HMAC
-    ∷ element 0x06 0x002    -- AES
-    ∷ element 0x08 0x30c    -- KEYEDHASH
-    ∷ element 0x0a 0x006    -- XOR
-    ∷ element 0x0b 0x004    -- SHA-256
-    ∷ element 0x22 0x404    -- KDF1_SP800_108
-    ∷ element 0x25 0x008    -- SYMCIPHER
-    ∷ element 0x43 0x202    -- CFB
+    element 0x04 0x004  -- SHA-1
+    ∷ element 0x05 0x104  -- HMAC
+    ∷ element 0x06 0x002  -- AES
+    ∷ element 0x08 0x30c  -- KEYEDHASH
+    ∷ element 0x0a 0x006  -- XOR
+    ∷ element 0x0b 0x004  -- SHA-256
+    ∷ element 0x22 0x404  -- KDF1_SP800_108
+    ∷ element 0x25 0x008  -- SYMCIPHER
+    ∷ element 0x43 0x202  -- CFB
     ∷ []
 
 -- ---- handles
@@ -91,7 +91,7 @@ command_elements = flat_map commands_by all_codes
 -- the device's six properties, with the layer's: the manufacturer ("TSIM"), the version of the
 -- firmware, the PCRs, the longest command, response and digest, the commands (with three of the
 -- layer's own), and the most bytes that TPM2_NV_Read and TPM2_NV_Write take
-abbrev pub property_elements : LockoutState → List Element
+unfoldable pub property_elements : LockoutState → List Element
 property_elements lockout =
     element 0x100 0x322e_3000
     ∷ element 0x105 0x5453_494d
@@ -115,11 +115,11 @@ property_elements lockout =
 abbrev pub handles_told : Record → Completion → Asked → (kind : ℕ) → Option (List ℕ)
 handles_told r c asked kind =
     if kind == 0x80 then
-        Some (listing form.Value 1 asked.property asked.count (objects_shown r c))
+    Some (listing form.Value 1 asked.property asked.count (objects_shown r c))
     else (if kind == 0x02 then
-        Some (listing form.Value 1 (asked.property % 2 ^ 24) asked.count (sessions_shown r c false))
+    Some (listing form.Value 1 (asked.property % 2 ^ 24) asked.count (sessions_shown r c false))
     else (if kind == 0x03 then
-        Some (listing form.Value 1 (asked.property % 2 ^ 24) asked.count (sessions_shown r c true))
+    Some (listing form.Value 1 (asked.property % 2 ^ 24) asked.count (sessions_shown r c true))
     else None))
 
 -- what the layer lists of a capability that the device told, if it is one of its own
@@ -127,10 +127,10 @@ abbrev pub told_of : Record → Completion → Asked → Option (List ℕ)
 told_of r c asked =
     if asked.capability == 1 then handles_told r c asked (asked.property / 2 ^ 24)
     else (if asked.capability == 2 then
-        Some (listing form.Value 2 asked.property asked.count command_elements)
+    Some (listing form.Value 2 asked.property asked.count command_elements)
     else (if asked.capability == 6 then
-        Some (listing form.Property 6 asked.property asked.count
-        (property_elements r.fixed.lockout))
+    Some (listing form.Property 6 asked.property asked.count
+    (property_elements r.fixed.lockout))
     else None))
 
 -- what stands behind the header of the answer to TPM2_GetCapability, if the layer has one: where
@@ -141,5 +141,5 @@ unfoldable pub capability_told : Record → Completion → Asked → (was_told :
 capability_told r c asked was_told response =
     if was_told then told_of r c asked
     else (if asked.capability == 0 && is_refusal 0x1c4 response then
-        Some (listing form.Algorithm 0 asked.property asked.count algorithm_elements)
+    Some (listing form.Algorithm 0 asked.property asked.count algorithm_elements)
     else None)

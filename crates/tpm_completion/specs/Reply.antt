@@ -44,7 +44,7 @@ served r c command response =
     if command.code == 0x146 then stirred c command.parameters response
     else (if command.code == 0x161 then loaded r c command.parameters
     else (if command.code == 0x162 then
-        save_asked r c response (number_at w32 command.parameters)
+    save_asked r c response (number_at w32 command.parameters)
     else stands c response))
 
 -- the answer to TPM2_GetCapability: what the layer lists, or the device's
@@ -66,7 +66,7 @@ command_reply r c command response was_told =
     if not r.fixed.started then stands c response
     else (if is_refusal 0x143 response then served r c command response
     else (if command.code == 0x17a then
-        capability_asked r c response was_told (asked_at command.parameters)
+    capability_asked r c response was_told (asked_at command.parameters)
     else stands c response))
 
 -- a command of TPM 1.2 (tag 00C1), which the device refused with BAD_TAG (1E) and its tag (00C4), is
@@ -75,7 +75,7 @@ command_reply r c command response was_told =
 unfoldable pub probed : Completion → (buffer response : List ℕ) → Reply
 probed c buffer response =
     if (tag_of buffer == 0xc1) && bytes_eq response (framed 0xc4 0x1e []) then
-        record { response = refusal 0x84; after = c }
+    record { response = refusal 0x84; after = c }
     else stands c response
 
 -- the answer to a buffer, to which the device gave this response; `was_told` says whether it was a

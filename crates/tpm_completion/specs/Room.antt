@@ -29,8 +29,8 @@ has_context c place = not ((object_held c place).context == 0)
 abbrev pub flush_of : Completion → Result (ℕ × List ℕ) Short → Option ℕ
 flush_of c (Ok handle) =
     if (length handle.1 == 0) && (is_transient (numbered handle.0)
-        && (has_context c (place_named (numbered handle.0)) && nat_lt c.count (2 ^ 64 - 1))) then
-        Some (place_named (numbered handle.0))
+    && (has_context c (place_named (numbered handle.0)) && nat_lt c.count (2 ^ 64 - 1))) then
+    Some (place_named (numbered handle.0))
     else None
 flush_of c (Err e) = None
 
@@ -68,7 +68,7 @@ unfoldable pub longer : Completion → Waiting → (place : ℕ) → Waiting
 longer c best place =
     let waits : ℕ = (object_held c place).waits in
     if not (waits == 0) && ((best.since == 0) || nat_lt waits best.since) then
-        record { place = place; since = waits }
+    record { place = place; since = waits }
     else best
 
 -- the object that waits longest

@@ -76,7 +76,7 @@ session_numbered r c handle None = refused c 0x12e
 abbrev pub session_saved : Record → Completion → Handle → (context : ℕ) → Reply
 session_saved r c handle context =
     if is_some (session_at r.sessions handle) && (context == 0) then
-        session_numbered r c handle (next_number c)
+    session_numbered r c handle (next_number c)
     else refused c 0x910
 
 -- TPM2_ContextSave of a handle: VALUE for handle 1 (184) where it is neither an object's nor a
@@ -85,7 +85,7 @@ unfoldable pub saved : Record → Completion → Handle → Reply
 saved r c handle =
     if is_transient handle then object_saved r c handle (object_held c (place_named handle))
     else (if is_session handle then
-        session_saved r c handle (session_context c (place_named handle))
+    session_saved r c handle (session_context c (place_named handle))
     else refused c 0x184)
 
 -- ---- TPM2_ContextLoad
@@ -99,19 +99,19 @@ handle_given c handle =
 abbrev pub object_loaded : Record → Completion → Token → Reply
 object_loaded r c token =
     if is_some (object_at r.objects token.handle)
-        && (not (token.context == 0)
-        && (token.context == (object_held c (place_named token.handle)).context)) then
-        handle_given (with_object c (place_named token.handle)
-            (record { context = token.context; waits = 0 })) token.handle
+    && (not (token.context == 0)
+    && (token.context == (object_held c (place_named token.handle)).context)) then
+    handle_given (with_object c (place_named token.handle)
+    (record { context = token.context; waits = 0 })) token.handle
     else refused c 0x1cb
 
 -- the session of a context is loaded once
 abbrev pub session_loaded : Record → Completion → Token → Reply
 session_loaded r c token =
     if is_some (session_at r.sessions token.handle)
-        && (not (token.context == 0)
-        && (token.context == session_context c (place_named token.handle))) then
-        handle_given (with_session c (place_named token.handle) 0) token.handle
+    && (not (token.context == 0)
+    && (token.context == session_context c (place_named token.handle))) then
+    handle_given (with_session c (place_named token.handle) 0) token.handle
     else refused c 0x1cb
 
 abbrev pub token_loaded : Record → Completion → Token → Reply

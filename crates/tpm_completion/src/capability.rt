@@ -1,6 +1,6 @@
 //! TPM2_GetCapability: algorithms, properties, commands, and the handles of objects and sessions.
 
-ghost use Rattle.std.specs.Prelude.{◌≡◌, ◌≤◌, ◌<◌, ◌+◌, ◌*◌, ◌/◌, ◌^◌, ◌++◌, ◌∷◌, [], length};
+ghost use Rattle.std.specs.Prelude.{◌≡◌, ◌≤◌, ◌<◌, ◌+◌, ◌*◌, ◌/◌, ◌%◌, ◌^◌, ◌++◌, ◌∷◌, [], length};
 ghost use Rattle.tpm_types.specs.Limits.{object_limit, session_limit};
 ghost use Rattle.tpm_completion.specs.Capability.{algorithm_elements, asked_at, capability_told, command_elements, commands_by, handles_told, is_in_state, object_shown, objects_shown, property_elements, session_shown, sessions_shown, told_of};
 ghost use Rattle.tpm_actions_capability.specs.Elements.{command_attributes, command_element};
@@ -81,6 +81,7 @@ fn algorithms(elements: &mut Elements)
 }
 
 /// Lists the properties.
+#[tactic(auto, unfolding(crate::specs::Capability::property_elements))]
 fn properties(lockout: &Lockout, elements: &mut Elements)
     requires { elements.old.items ≡ [] }
     ensures { elements.new.items ≡ property_elements lockout.now }
@@ -187,13 +188,7 @@ fn is_in_state(saved: bool, context: u64) -> bool
 
 /// Lists the session in a place, if there is one, and it is saved or is loaded.
 #[tactic(auto, unfolding(crate::specs::Capability::session_shown))]
-fn session<K: Keep>(
-    layer: &Completion,
-    keep: &K,
-    saved: bool,
-    place: u32,
-    elements: &mut Elements,
-)
+fn session<K: Keep>(layer: &Completion, keep: &K, saved: bool, place: u32, elements: &mut Elements)
     requires place { place < session_limit }
     requires room { length elements.old.items < 64 }
     ensures added { elements.new.items
@@ -220,35 +215,46 @@ fn sessions<K: Keep>(layer: &Completion, keep: &K, saved: bool, elements: &mut E
     }
 }
 
-/// Writes the handles of objects or sessions, if it is these that are asked for.
-fn tell_handles<K: Keep>(
+fn tell_objects<K: Keep>(layer: &Completion, keep: &K, asked: Asked, text: &mut Listing)
+    requires { text.old ≡ [] }
+    ensures { text.new ≡ listing form.Value 1 asked.property asked.count
+        (objects_shown (K.record_of keep.now) layer.now) }
+{
+    let mut elements = ArrayVec::new();
+    objects(layer, keep, &mut elements);
+    let from = asked.property;
+    list(elements.as_slice(), Form::Value, 1, from, asked.count, text);
+}
+
+fn tell_sessions<K: Keep>(
     layer: &Completion,
     keep: &K,
     asked: Asked,
+    saved: bool,
     text: &mut Listing,
-) -> bool
+)
+    requires { text.old ≡ [] }
+    ensures { text.new ≡ listing form.Value 1 (asked.property % 2 ^ 24) asked.count
+        (sessions_shown (K.record_of keep.now) layer.now saved) }
+{
+    let mut elements = ArrayVec::new();
+    sessions(layer, keep, saved, &mut elements);
+    let from = asked.property % (1 << 24);
+    list(elements.as_slice(), Form::Value, 1, from, asked.count, text);
+}
+
+/// Writes the handles of objects or sessions, if it is these that are asked for.
+fn tell_handles<K: Keep>(layer: &Completion, keep: &K, asked: Asked, text: &mut Listing) -> bool
     requires { text.old ≡ [] }
     ensures { Tells (handles_told (K.record_of keep.now) layer.now asked (asked.property / 2 ^ 24))
         result text.new }
 {
-    let mut elements = ArrayVec::new();
-    let place = asked.property % (1 << 24);
-    let from = match asked.property >> 24 {
-        0x80 => {
-            objects(layer, keep, &mut elements);
-            asked.property
-        }
-        0x02 => {
-            sessions(layer, keep, false, &mut elements);
-            place
-        }
-        0x03 => {
-            sessions(layer, keep, true, &mut elements);
-            place
-        }
+    match asked.property >> 24 {
+        0x80 => tell_objects(layer, keep, asked, text),
+        0x02 => tell_sessions(layer, keep, asked, false, text),
+        0x03 => tell_sessions(layer, keep, asked, true, text),
         _ => return false,
-    };
-    list(elements.as_slice(), Form::Value, 1, from, asked.count, text);
+    }
     true
 }
 
@@ -270,7 +276,14 @@ fn tell_properties<K: Keep>(keep: &K, asked: Asked, text: &mut Listing)
     let mut elements = ArrayVec::new();
     properties(&keep.fixed().lockout, &mut elements);
     let from = asked.property;
-    list(elements.as_slice(), Form::Property, 6, from, asked.count, text);
+    list(
+        elements.as_slice(),
+        Form::Property,
+        6,
+        from,
+        asked.count,
+        text,
+    );
 }
 
 /// Writes what is listed of a capability that the device told, if the layer has it.
@@ -311,6 +324,13 @@ pub fn tell<K: Keep>(
     let mut elements = ArrayVec::new();
     algorithms(&mut elements);
     let from = asked.property;
-    list(elements.as_slice(), Form::Algorithm, 0, from, asked.count, text);
+    list(
+        elements.as_slice(),
+        Form::Algorithm,
+        0,
+        from,
+        asked.count,
+        text,
+    );
     true
 }

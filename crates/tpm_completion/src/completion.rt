@@ -111,7 +111,8 @@ impl Completion {
     /// Forgets the contexts of objects and sessions that are gone.
     #[tactic(auto, unfolding(crate::specs::Completion::forgotten))]
     pub(crate) fn forget<K: Keep>(&mut self, keep: &K)
-        ensures { self.new ≡ forgotten (K.record_of keep.now) self.old }
+        ensures forgotten { self.new ≡ forgotten (K.record_of keep.now) self.old }
+        ensures count { self.new.count ≡ self.old.count }
     {
         let old = *self;
         let objects = [

@@ -9,6 +9,7 @@ use tpm_types::Handle;
 
 /// How many bytes a token's blob has, and its whole context.
 pub const TOKEN_SIZE: usize = 20;
+
 pub const CONTEXT_SIZE: usize = 38;
 
 /// What a context names: its number, and the handle of its object or session.

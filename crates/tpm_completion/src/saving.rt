@@ -93,13 +93,7 @@ impl Completion {
     }
 
     /// Saves the session of a handle.
-    fn save_session<K: Keep>(
-        &mut self,
-        keep: &K,
-        handle: Handle,
-        context: u64,
-        text: &mut Response,
-    )
+    fn save_session<K: Keep>(&mut self, keep: &K, handle: Handle, context: u64, text: &mut Response)
         ensures { record { response = text.new.items; after = self.new }
             ≡ session_saved (K.record_of keep.now) self.old handle context }
     {
