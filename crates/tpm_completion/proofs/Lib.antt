@@ -1,3 +1,4 @@
 pub mod Commands
 pub mod Telling
 pub mod Waiting
+pub mod Exactly

@@ -1,6 +1,7 @@
 pub mod Answer
 pub mod Capability
 pub mod Command
+pub mod Completed
 pub mod Completion
 pub mod Context
 pub mod Execution

@@ -5,6 +5,7 @@ ghost use Rattle.tpm_types.specs.Limits.{object_limit};
 ghost use Rattle.tpm_types.specs.Locality.{locality_number};
 ghost use Rattle.tpm_step.specs.Events.{Given, plain_event};
 ghost use Rattle.tpm_machine.specs.State.{state_of};
+ghost use Rattle.tpm_completion.specs.Completed.{completed};
 ghost use Rattle.tpm_completion.specs.Execution.{AsksFirst, Behind, Completes, GivesUp, Notes, Passes, given_up_behind, no_random, seen_of};
 
 use crate::completion::Completion;
@@ -19,6 +20,31 @@ use tpm_types::Locality;
 /// event. The outcome's row is always the device's own, and `drawn` of the machine is of the last
 /// event that it executed.
 pub fn execute<K: Keep>(
+    machine: &mut Machine<K>,
+    layer: &mut Completion,
+    completes: bool,
+    event: &Event,
+    outcome: &mut Outcome,
+)
+    ensures off { completes ≡ false → Passes K.can_refuse layer.old
+        (state_of K.record_of machine.old) (plain_event event.now)
+        (seen_of K.record_of machine.new layer.new outcome.new) }
+    ensures on { completes ≡ true → Completes K.can_refuse layer.old
+        (state_of K.record_of machine.old) (plain_event event.now)
+        (seen_of K.record_of machine.new layer.new outcome.new) }
+
+    // Where no memory can be refused, all of it is a function of the layer, the record and the
+    // event.
+    ensures exactly { K.can_refuse ≡ false
+        → seen_of K.record_of machine.new layer.new outcome.new
+        ≡ completed completes layer.old (state_of K.record_of machine.old)
+        (plain_event event.now) }
+{
+    complete_if(machine, layer, completes, event, outcome);
+}
+
+/// Executes one event, with the layer or without it.
+fn complete_if<K: Keep>(
     machine: &mut Machine<K>,
     layer: &mut Completion,
     completes: bool,
