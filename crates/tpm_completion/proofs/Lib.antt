@@ -2,3 +2,4 @@ pub mod Commands
 pub mod Telling
 pub mod Waiting
 pub mod Exactly
+pub mod DeviceFirst

@@ -4,6 +4,7 @@ pub mod Command
 pub mod Completed
 pub mod Completion
 pub mod Context
+pub mod DeviceFirst
 pub mod Execution
 pub mod Listing
 pub mod Reply

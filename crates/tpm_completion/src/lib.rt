@@ -18,6 +18,7 @@ mod command;
 pub mod completion;
 mod context;
 pub mod execution;
+pub mod laws;
 mod listing;
 mod reply;
 mod room;
