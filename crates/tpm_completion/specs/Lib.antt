@@ -1,0 +1,16 @@
+pub mod Answer
+pub mod Capability
+pub mod Command
+pub mod Completed
+pub mod Completion
+pub mod Context
+pub mod DeviceFirst
+pub mod Execution
+pub mod Listing
+pub mod Reply
+pub mod Room
+pub mod Saving
+pub mod Told
+pub use Rattle.tpm_machine.specs.Drawn
+pub use Rattle.tpm_machine.specs.State
+pub use Rattle.tpm_history.specs.Follows
