@@ -182,7 +182,7 @@ show() {
 # The shell tests begin first, which take longest.
 touch "$work/long" "$work/short"
 cat "$work/long" "$work/short" |
-    xargs -P "$jobs" -n 1 sh "$top/tools/lib/one_test.sh" "$work" |
+    xargs -r -P "$jobs" -n 1 sh "$top/tools/lib/one_test.sh" "$work" |
     {
         show
         while read -r _; do show; done
