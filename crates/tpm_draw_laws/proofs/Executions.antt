@@ -7,12 +7,12 @@ use Rattle.tpm_record.specs.Record.{Record}
 use Rattle.tpm_record.specs.Tick.{ticked}
 use Rattle.tpm_machine.specs.Drawn.{drawn_by, drawn_by_command}
 use Rattle.tpm_step.specs.Entries.{DrawsFew}
-use Rattle.tpm_step.specs.Events.{Given}
+use Rattle.tpm_step.specs.Events.{Cycled, Given, PlainEvent}
 use Rattle.tpm_step.specs.Execution.{Executes}
 use Rattle.tpm_step.specs.Safe.{IsModest}
 use Rattle.tpm_step.specs.Step.{Accepted, Stepped, accepted, step_where, stepped_of}
 use Rattle.tpm_step.specs.declared.refused_command.RefusedCommand.{RefusedCommand}
-use Rattle.tpm_draw_laws.specs.Bytes.{AgreeOnDrawn, zeros_behind}
+use Rattle.tpm_draw_laws.specs.Bytes.{AgreeOnDrawn, replayed, zeros_behind}
 use Rattle.tpm_draw_laws.proofs.Fronts.{front_kept}
 use Rattle.tpm_draw_laws.proofs.Steps.{AcceptedAlike, accepted_alike, drawn_alike, fronts, nonces_alike, where_alike, with_other}
 
@@ -90,8 +90,17 @@ module _ (r : Record) (buffer : List ℕ) (locality elapsed : ℕ) (random : Lis
         front_kept drawn random (replicate (256 - drawn) 0) few,
       )
 
-  pub replays : Executes false r (Given buffer locality elapsed (zeros_behind told random)) x
-  replays = executes_alike r buffer locality elapsed random (zeros_behind told random) zeros_agree false x done
+  command_replays : Executes false r (Given buffer locality elapsed (zeros_behind told random)) x
+  command_replays = executes_alike r buffer locality elapsed random (zeros_behind told random) zeros_agree false x done
 
-  pub replay_draws : drawn_by r (Given buffer locality elapsed (zeros_behind told random)) x.row.check ≡ told
-  replay_draws = draws_alike r buffer locality elapsed random (zeros_behind told random) zeros_agree x.row.check
+  command_draws : drawn_by r (Given buffer locality elapsed (zeros_behind told random)) x.row.check ≡ told
+  command_draws = draws_alike r buffer locality elapsed random (zeros_behind told random) zeros_agree x.row.check
+
+pub replays : (r : Record) (event : PlainEvent) (x : Stepped) → Executes false r event x → Executes false r (replayed r event x.row.check) x
+replays r (Given buffer locality elapsed random) x done = command_replays r buffer locality elapsed random x done
+replays r Cycled x done = done
+
+pub replay_draws : (r : Record) (event : PlainEvent) (x : Stepped) → Executes false r event x
+    → drawn_by r (replayed r event x.row.check) x.row.check ≡ drawn_by r event x.row.check
+replay_draws r (Given buffer locality elapsed random) x done = command_draws r buffer locality elapsed random x done
+replay_draws r Cycled x done = refl

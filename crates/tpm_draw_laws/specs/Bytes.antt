@@ -4,7 +4,7 @@ use Rattle.tpm_actions_base.specs.Request.{Request}
 use Rattle.tpm_actions_base.specs.Rows.{Success}
 use Rattle.tpm_machine.specs.Drawn.{drawn_by}
 use Rattle.tpm_record.specs.Record.{Record}
-use Rattle.tpm_step.specs.Events.{Given}
+use Rattle.tpm_step.specs.Events.{Cycled, Given, PlainEvent}
 use Rattle.tpm_types.specs.declared.refused.Refused.{Refused}
 
 -- the request of a command with other random bytes
@@ -28,3 +28,11 @@ AgreeOnDrawn r buffer locality elapsed random other =
 -- 256 random bytes, of which the first are those that were drawn of these, and the others are 0
 abbrev pub zeros_behind : (drawn : ℕ) → (random : List ℕ) → List ℕ
 zeros_behind drawn random = take drawn random ++ replicate (256 - drawn) 0
+
+-- an event with the random bytes that it drew, as is told by the check that it reported, and zeros
+-- behind them; power has no random bytes
+abbrev pub replayed : Record → PlainEvent → (check : ℕ) → PlainEvent
+replayed r (Given buffer locality elapsed random) check =
+    let drawn = drawn_by r (Given buffer locality elapsed random) check in
+    Given buffer locality elapsed (zeros_behind drawn random)
+replayed r Cycled check = Cycled

@@ -1,18 +1,18 @@
 #![tactic(auto)]
 
 //! What a command does depends on its random bytes only through those that it draws, from their
-//! front: any others may stand behind them. So who writes down the bytes that a command drew has
-//! all that it needs to execute it again.
+//! front: any others may stand behind them. Who writes down the bytes that a command drew can execute
+//! it again.
 //!
 //! Each law is the contract of a function that does nothing. The laws are about the definitions of
 //! tpm_step; how many bytes an event draws is said in tpm_machine.
 
 ghost use Rattle.std.specs.Prelude.{◌≡◌, ℕ, Bool, false, IfOk, List, Ok, take};
 ghost use Rattle.tpm_actions_base.specs.Request.{Request};
-ghost use Rattle.tpm_draw_laws.specs.Bytes.{ActsAlike, AgreeOnDrawn, with_random, zeros_behind};
+ghost use Rattle.tpm_draw_laws.specs.Bytes.{ActsAlike, AgreeOnDrawn, replayed, with_random};
 ghost use Rattle.tpm_machine.specs.Drawn.{drawn_by};
 ghost use Rattle.tpm_record.specs.Record.{Record};
-ghost use Rattle.tpm_step.specs.Events.{Given};
+ghost use Rattle.tpm_step.specs.Events.{Given, PlainEvent};
 ghost use Rattle.tpm_step.specs.Execution.{Executes};
 ghost use Rattle.tpm_step.specs.Step.{Stepped, step_where};
 ghost use Rattle.tpm_step.specs.Table.{row_of};
@@ -27,8 +27,8 @@ pub fn row_laws()
         → ActsAlike q.random other (row_of r c q) (row_of r c (with_random q other)) }
 {}
 
-/// No byte that is drawn may be left out of that: where TPM2_GetRandom acts with other random bytes
-/// as with its own, all those that it draws are the same.
+/// Each byte that a command draws can count: where TPM2_GetRandom acts with other random bytes as
+/// with its own, all those that it draws are the same.
 #[inline(always)]
 #[tactic(auto, using(crate::proofs::Needed::bytes_needed))]
 pub fn needed_byte_laws()
@@ -64,18 +64,14 @@ pub fn execution_laws()
         → Executes can r (Given buffer locality elapsed other) x }
 {}
 
-/// A command that was executed is executed again, with the same outcome, by the bytes that it drew
-/// and zeros behind them; and it draws as many again.
+/// An event that was executed is executed again, with the same outcome, by the random bytes that it
+/// drew and zeros behind them; and it draws as many again.
 #[inline(always)]
-#[tactic(auto, using(crate::proofs::Executions::replay_draws))]
+#[tactic(auto, using(crate::proofs::Executions::replays, crate::proofs::Executions::replay_draws))]
 pub fn replay_laws()
-    ensures executes { (r : Record) (buffer : List ℕ) (locality elapsed : ℕ) (random : List ℕ)
-        (x : Stepped) → Executes false r (Given buffer locality elapsed random) x
-        → Executes false r (Given buffer locality elapsed
-        (zeros_behind (drawn_by r (Given buffer locality elapsed random) x.row.check) random)) x }
-    ensures drawn { (r : Record) (buffer : List ℕ) (locality elapsed : ℕ) (random : List ℕ)
-        (x : Stepped) → Executes false r (Given buffer locality elapsed random) x
-        → drawn_by r (Given buffer locality elapsed
-        (zeros_behind (drawn_by r (Given buffer locality elapsed random) x.row.check) random))
-        x.row.check ≡ drawn_by r (Given buffer locality elapsed random) x.row.check }
+    ensures executes { (r : Record) (event : PlainEvent) (x : Stepped)
+        → Executes false r event x → Executes false r (replayed r event x.row.check) x }
+    ensures drawn { (r : Record) (event : PlainEvent) (x : Stepped) → Executes false r event x
+        → drawn_by r (replayed r event x.row.check) x.row.check
+        ≡ drawn_by r event x.row.check }
 {}
