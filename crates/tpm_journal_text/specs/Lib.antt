@@ -1,0 +1,5 @@
+pub mod Sum
+pub mod Marked
+pub mod Entry
+pub mod Head
+pub mod Journal
