@@ -1,10 +1,14 @@
 -- Pieces of a text, by their places.
 use Rattle.std.proofs.Common.{◌≡◌, ◌≢◌, ℕ, ◌*◌, ◌+◌, List, [], ◌∷◌, ◌++◌, length, take, drop, Result, Ok, Err, IsErr, refl, ap, sym, ◌∙◌, append_assoc, arith}
-use Rattle.std.specs.Prelude.{MatchResult}
+use Rattle.std.specs.Prelude.{MatchResult, true, nat_eq}
+use Rattle.std.specs.Cmp.Lexicographic.{pointwise}
+use Rattle.std.specs.Int.{w64, to_be_bytes}
+use Rattle.std.proofs.lemmas.Bool.{eq-eqb}
 use Rattle.std.proofs.lemmas.List.{take_at, drop_at, take-append-drop}
-use Rattle.hex.specs.Hex.{decode_of, encode_lower}
-use Rattle.hex.proofs.HexLemmas.{decode_of-encode_lower}
+use Rattle.hex.specs.Hex.{decode_of, encode_lower, lower_digits}
+use Rattle.hex.proofs.HexLemmas.{decode_of-encode_lower, length-encode_with}
 use Rattle.tpm_bytes.specs.Reading.{AreBytes}
+use Rattle.tpm_journal_text.specs.Marked.{marked_line}
 use Rattle.tpm_hex.specs.declared.NotHex.{NotHex}
 
 -- a piece stands at its place in a text, however this goes on
@@ -22,3 +26,28 @@ pub digits_read : (digits bytes new : List ℕ) (result : Result (Unit {0}) NotH
     → MatchResult (decode_of digits) (λ read. (result ≡ Ok tt) × (new ≡ read)) (λ fault. IsErr result)
     → digits ≡ encode_lower bytes → AreBytes bytes → (result ≡ Ok tt) × (new ≡ bytes)
 digits_read digits bytes new result read e are = rw (e, decode_of-encode_lower bytes are) at read
+
+-- ---- a line in which bytes stand with their sum
+
+line_parts : (word bytes : List ℕ) (sum : ℕ) → marked_line word bytes sum
+    ≡ word ++ encode_lower bytes ++ (32 ∷ [] ++ (encode_lower (to_be_bytes w64 sum) ++ 10 ∷ []))
+line_parts word bytes sum =
+    append_assoc (word ++ encode_lower bytes ++ 32 ∷ []) (encode_lower (to_be_bytes w64 sum)) (10 ∷ [])
+    ∙ append_assoc (word ++ encode_lower bytes) (32 ∷ []) (encode_lower (to_be_bytes w64 sum) ++ 10 ∷ [])
+
+-- the digits of the bytes stand at their place
+pub line_digits : (word bytes text : List ℕ) (sum size count : ℕ) → length bytes ≡ count
+    → take size text ≡ marked_line word bytes sum → take (2 * count) (drop (length word) text) ≡ encode_lower bytes
+line_digits word bytes text sum size count many there =
+    piece_in word (encode_lower bytes) (32 ∷ [] ++ (encode_lower (to_be_bytes w64 sum) ++ 10 ∷ [])) text size
+    (length word) (2 * count) (there ∙ line_parts word bytes sum) refl
+    (length-encode_with lower_digits bytes ∙ ap (λ (n : ℕ). 2 * n) many)
+
+-- ---- texts that are compared
+
+all_equal : (text : List ℕ) → pointwise nat_eq text text ≡ true
+all_equal [] = refl
+all_equal (byte ∷ text) = rw (eq-eqb byte byte refl, all_equal text) refl
+
+pub same_is_equal : (text other : List ℕ) → text ≡ other → pointwise nat_eq text other ≡ true
+same_is_equal text other e = rw (← e) (all_equal text)

@@ -1,7 +1,9 @@
 -- The head of a journal: the host's clock as power came on, and the image of the device then.
-use Rattle.std.specs.Prelude.{ℕ, ◌+◌, ◌*◌, List, [], ◌∷◌, ◌++◌, codes, length}
+use Rattle.std.specs.Prelude.{◌≡◌, ℕ, ◌+◌, ◌*◌, ◌≤◌, ◌<◌, ◌^◌, List, [], ◌∷◌, ◌++◌, codes, length, take}
 use Rattle.std.specs.Int.{w32, w64, to_be_bytes}
 use Rattle.hex.specs.Hex.{encode_lower}
+use Rattle.tpm_bytes.specs.Reading.{AreBytes}
+use Rattle.tpm_journal_text.specs.declared.head.Head.{Head}
 use Rattle.tpm_journal_text.specs.Marked.{marked_line, marked_size}
 use Rattle.tpm_journal_text.specs.Sum.{offset_basis, sum_from, sum_of}
 
@@ -27,3 +29,20 @@ head_text clock image =
 -- how many bytes the head with an image of so many bytes has
 abbrev pub head_size : (count : ℕ) → ℕ
 head_size count = marked_size head_word 20 + (3 + 2 * count)
+
+-- the most bytes of an image that has a head
+abbrev pub image_limit : ℕ
+image_limit = 28672
+
+-- What has a head.
+pub record HasHead (clock : ℕ) (image : List ℕ) : Type 0 where
+  pub clock : clock < 2 ^ 64
+  pub image : length image ≤ image_limit
+  pub bytes : AreBytes image
+
+-- A head stands at the front of a text: this clock, this image, so many bytes, and the sum after it.
+pub record IsHeadOf (text : List ℕ) (head : Head) : Type 0 where
+  pub has : HasHead head.clock head.image.now
+  pub size : head.size ≤ length text
+  pub text : take head.size text ≡ head_text head.clock head.image.now
+  pub sum : head.sum ≡ head_sum head.clock head.image.now

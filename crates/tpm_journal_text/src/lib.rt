@@ -7,11 +7,13 @@
 //! alone.
 
 pub mod entry;
+pub mod head;
 mod marked;
 mod put;
 pub mod reading;
 pub mod sum;
 
 pub use entry::{ENTRY_LIMIT, ENTRY_ROOM, Entry};
-pub use reading::{Next, Scratch};
+pub use head::{HEAD_ROOM, Head, IMAGE_ROOM, head_size, write_head};
+pub use reading::{BYTES_ROOM, Next, read_entry};
 pub use sum::{sum_from, sum_of};

@@ -1,0 +1,18 @@
+-- Where the parts of an entry stand in its mark and in its text.
+use Rattle.std.specs.Prelude.{◌≡◌, ℕ, ◌+◌, ◌*◌, List, drop, length, max, slice_index, take}
+use Rattle.std.specs.Int.{w32, w64, from_be_bytes}
+use Rattle.hex.specs.Hex.{encode_lower}
+use Rattle.tpm_journal_text.specs.Entry.{IsEntry, PlainEntry, buffer_size, drawn_size, flag}
+
+-- The parts of an entry stand in a mark and in a text, each at its place.
+pub record Stands (e : PlainEntry) (mark text : List ℕ) : Type 0 where
+  pub is : IsEntry e
+  pub elapsed : from_be_bytes w32 (take 4 mark) ≡ e.elapsed
+  pub locality : slice_index mark 4 ≡ e.locality
+  pub completes : slice_index mark 5 ≡ flag e.completes
+  pub drawn_size : drawn_size mark ≡ length e.drawn
+  pub buffer_size : buffer_size mark ≡ length e.buffer
+  pub answered : from_be_bytes w64 (take 8 (drop 18 mark)) ≡ e.answered
+  pub drawn : take (2 * length e.drawn) (drop 102 text) ≡ encode_lower e.drawn
+  pub buffer : take (2 * length e.buffer) (drop (102 + 2 * max 1 (length e.drawn) + 5) text)
+      ≡ encode_lower e.buffer
