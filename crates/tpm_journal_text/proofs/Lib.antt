@@ -1,2 +1,6 @@
 pub mod Sums
 pub mod Pieces
+pub mod Standing
+pub mod Bytes
+pub mod Damage
+pub mod HeadStanding

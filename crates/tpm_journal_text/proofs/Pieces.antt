@@ -1,5 +1,5 @@
 -- Pieces of a text, by their places.
-use Rattle.std.proofs.Common.{◌≡◌, ◌≢◌, ℕ, ◌*◌, ◌+◌, List, [], ◌∷◌, ◌++◌, length, take, drop, Result, Ok, Err, IsErr, refl, ap, sym, ◌∙◌, append_assoc, arith}
+use Rattle.std.proofs.Common.{◌≡◌, ◌≢◌, ℕ, ◌*◌, ◌+◌, List, [], ◌∷◌, ◌++◌, length, take, drop, Result, Ok, Err, IsErr, refl, ap, sym, ◌∙◌, append_assoc, arith, length-append, take_all}
 use Rattle.std.specs.Prelude.{MatchResult, true, nat_eq}
 use Rattle.std.specs.Cmp.Lexicographic.{pointwise}
 use Rattle.std.specs.Int.{w64, to_be_bytes}
@@ -8,6 +8,8 @@ use Rattle.std.proofs.lemmas.List.{take_at, drop_at, take-append-drop}
 use Rattle.hex.specs.Hex.{decode_of, encode_lower, lower_digits}
 use Rattle.hex.proofs.HexLemmas.{decode_of-encode_lower, length-encode_with}
 use Rattle.tpm_bytes.specs.Reading.{AreBytes}
+use Rattle.tpm_bytes.proofs.Fields.{ok_is}
+use Rattle.hex.specs.declared.error.FromHexError.{FromHexError}
 use Rattle.tpm_journal_text.specs.Marked.{marked_line}
 use Rattle.tpm_hex.specs.declared.NotHex.{NotHex}
 
@@ -29,8 +31,9 @@ digits_read digits bytes new result read e are = rw (e, decode_of-encode_lower b
 
 -- ---- a line in which bytes stand with their sum
 
-line_parts : (word bytes : List ℕ) (sum : ℕ) → marked_line word bytes sum
+pub line_parts : (word bytes : List ℕ) (sum : ℕ) → marked_line word bytes sum
     ≡ word ++ encode_lower bytes ++ (32 ∷ [] ++ (encode_lower (to_be_bytes w64 sum) ++ 10 ∷ []))
+unfolding marked_line
 line_parts word bytes sum =
     append_assoc (word ++ encode_lower bytes ++ 32 ∷ []) (encode_lower (to_be_bytes w64 sum)) (10 ∷ [])
     ∙ append_assoc (word ++ encode_lower bytes) (32 ∷ []) (encode_lower (to_be_bytes w64 sum) ++ 10 ∷ [])
@@ -51,3 +54,35 @@ all_equal (byte ∷ text) = rw (eq-eqb byte byte refl, all_equal text) refl
 
 pub same_is_equal : (text other : List ℕ) → text ≡ other → pointwise nat_eq text other ≡ true
 same_is_equal text other e = rw (← e) (all_equal text)
+
+-- a text that stands at the front of another, however it goes on
+pub front_of : (front rest text : List ℕ) (size : ℕ) → length front ≡ size → text ≡ front ++ rest → take size text ≡ front
+front_of front rest text size many e = ap (take size) e ∙ take_at front rest size many
+
+pub line_length : (word bytes : List ℕ) (sum count : ℕ) → length bytes ≡ count
+    → length (marked_line word bytes sum) ≡ length word + 2 * count + 18
+unfolding marked_line
+line_length word bytes sum count many =
+    let head = length-append word (encode_lower bytes) in
+    let a = length-append (word ++ encode_lower bytes) (32 ∷ []) in
+    let b = length-append (word ++ encode_lower bytes ++ 32 ∷ []) (encode_lower (to_be_bytes w64 sum)) in
+    let c = length-append (word ++ encode_lower bytes ++ 32 ∷ [] ++ encode_lower (to_be_bytes w64 sum)) (10 ∷ []) in
+    let d = length-encode_with lower_digits bytes in
+    let e = length-encode_with lower_digits (to_be_bytes w64 sum) in
+    omega (arith, head, a, b, c, d, e, many)
+
+-- bytes whose hex is one are one
+pub hex_same : (bytes others : List ℕ) → AreBytes bytes → AreBytes others → encode_lower bytes ≡ encode_lower others → bytes ≡ others
+hex_same bytes others are others_are e =
+    ok_is {E = FromHexError} bytes others (sym (decode_of-encode_lower bytes are) ∙ ap decode_of e ∙ decode_of-encode_lower others others_are)
+
+-- bytes that stand in one line are one
+pub line_same : (word bytes others : List ℕ) (sum other_sum : ℕ) → AreBytes bytes → AreBytes others → length bytes ≡ length others
+    → marked_line word bytes sum ≡ marked_line word others other_sum → bytes ≡ others
+line_same word bytes others sum other_sum are others_are many e =
+    let size = length word + 2 * length others + 18 in
+    let text = marked_line word bytes sum in
+    let whole : take size text ≡ text = take_all size text (omega (arith, line_length word bytes sum (length others) many)) in
+    hex_same bytes others are others_are
+    (sym (line_digits word bytes text sum size (length others) many whole)
+    ∙ line_digits word others text other_sum size (length others) refl (whole ∙ e))

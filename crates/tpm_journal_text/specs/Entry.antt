@@ -99,12 +99,12 @@ shown [] = 0 ∷ []
 shown (byte ∷ bytes) = byte ∷ bytes
 
 -- the lines of a script that set when and from where the command of an entry comes
-abbrev pub setting_lines : PlainEntry → List ℕ
+unfoldable pub setting_lines : PlainEntry → List ℕ
 setting_lines e =
     codes "wait " ++ ten_digits e.elapsed ++ codes "\nloc " ++ (48 + e.locality) ∷ [] ++ 10 ∷ []
 
 -- the lines of a script that give a command its random bytes and execute it
-abbrev pub executing_lines : PlainEntry → List ℕ
+unfoldable pub executing_lines : PlainEntry → List ℕ
 executing_lines e =
     codes "entropy " ++ encode_lower (shown e.drawn) ++ codes "\ncmd " ++ encode_lower e.buffer ++ 10 ∷ []
 
@@ -114,7 +114,7 @@ lines_size drawn buffer = 36 + (2 * max 1 drawn + 2 * buffer)
 
 -- the text of an entry, after what this sum is of: the line of its mark, and the four lines of a
 -- script that execute its command
-abbrev pub entry_text : (sum : ℕ) → PlainEntry → List ℕ
+unfoldable pub entry_text : (sum : ℕ) → PlainEntry → List ℕ
 entry_text sum e = mark_line sum (mark_of e) ++ setting_lines e ++ executing_lines e
 
 -- how many bytes the text of an entry has whose mark is this

@@ -21,7 +21,7 @@ abbrev pub head_sum : (clock : ℕ) → (image : List ℕ) → ℕ
 head_sum clock image = sum_from offset_basis (head_mark clock image)
 
 -- the text of a head: the line of its mark, and the image in hex in a line that does nothing
-abbrev pub head_text : (clock : ℕ) → (image : List ℕ) → List ℕ
+unfoldable pub head_text : (clock : ℕ) → (image : List ℕ) → List ℕ
 head_text clock image =
     marked_line head_word (head_mark clock image) (head_sum clock image)
     ++ codes "# " ++ encode_lower image ++ 10 ∷ []
@@ -36,13 +36,13 @@ image_limit = 28672
 
 -- What has a head.
 pub record HasHead (clock : ℕ) (image : List ℕ) : Type 0 where
-  pub clock : clock < 2 ^ 64
-  pub image : length image ≤ image_limit
-  pub bytes : AreBytes image
+  pub in_time : clock < 2 ^ 64
+  pub small : length image ≤ image_limit
+  pub are_bytes : AreBytes image
 
 -- A head stands at the front of a text: this clock, this image, so many bytes, and the sum after it.
 pub record IsHeadOf (text : List ℕ) (head : Head) : Type 0 where
   pub has : HasHead head.clock head.image.now
-  pub size : head.size ≤ length text
-  pub text : take head.size text ≡ head_text head.clock head.image.now
-  pub sum : head.sum ≡ head_sum head.clock head.image.now
+  pub whole : head.size ≤ length text
+  pub is : take head.size text ≡ head_text head.clock head.image.now
+  pub after : head.sum ≡ head_sum head.clock head.image.now

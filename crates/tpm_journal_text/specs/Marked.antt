@@ -4,7 +4,7 @@ use Rattle.std.specs.Int.{w64, to_be_bytes}
 use Rattle.hex.specs.Hex.{encode_lower}
 
 -- a word, then bytes in hex, then a sum in hex
-abbrev pub marked_line : (word bytes : List ℕ) → (sum : ℕ) → List ℕ
+unfoldable pub marked_line : (word bytes : List ℕ) → (sum : ℕ) → List ℕ
 marked_line word bytes sum =
     word ++ encode_lower bytes ++ 32 ∷ [] ++ encode_lower (to_be_bytes w64 sum) ++ 10 ∷ []
 

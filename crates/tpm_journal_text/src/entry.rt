@@ -82,6 +82,7 @@ impl<'a> Entry<'a> {
 
     /// Puts the lines that set when and from where the command comes at a place of a room, and gives
     /// the place behind them.
+    #[tactic(auto, unfolding(crate::specs::Entry::setting_lines))]
     fn put_setting(&self, room: &mut [u8], place: usize) -> usize
         requires entry { IsEntry (plain_entry self.now) }
         requires room { place + 22 ≤ length room.old }
@@ -107,6 +108,7 @@ impl<'a> Entry<'a> {
 
     /// Puts the lines that give the command its random bytes and execute it at a place of a room,
     /// and gives the place behind them.
+    #[tactic(auto, unfolding(crate::specs::Entry::executing_lines))]
     fn put_executing(&self, room: &mut [u8], place: usize) -> usize
         requires entry { IsEntry (plain_entry self.now) }
         requires room { place + 14 + 2 * max 1 (length self.now.drawn.now)
@@ -126,6 +128,7 @@ impl<'a> Entry<'a> {
 
     /// Writes the text of the entry to the front of a room, and gives how many bytes it has. The sum
     /// goes on over the entry.
+    #[tactic(auto, unfolding(crate::specs::Entry::entry_text))]
     pub fn write(&self, sum: &mut u64, room: &mut [u8]) -> usize
         requires entry { IsEntry (plain_entry self.now) }
         requires room { entry_room ≤ length room.old }

@@ -8,6 +8,7 @@
 
 pub mod entry;
 pub mod head;
+pub mod head_reading;
 mod marked;
 mod put;
 pub mod reading;
@@ -15,5 +16,6 @@ pub mod sum;
 
 pub use entry::{ENTRY_LIMIT, ENTRY_ROOM, Entry};
 pub use head::{HEAD_ROOM, Head, IMAGE_ROOM, head_size, write_head};
+pub use head_reading::read_head;
 pub use reading::{BYTES_ROOM, Next, read_entry};
 pub use sum::{sum_from, sum_of};

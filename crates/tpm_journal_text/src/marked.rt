@@ -21,6 +21,7 @@ pub(crate) const fn marked_size(word: usize, count: usize) -> usize
 }
 
 /// Puts the line of bytes and a sum at a place of a room, and gives the place behind it.
+#[tactic(auto, unfolding(crate::specs::Marked::marked_line))]
 pub(crate) fn put_marked_line(
     room: &mut [u8],
     place: usize,
@@ -53,6 +54,7 @@ pub(crate) fn read_marked_line(text: &[u8], word: &[u8], sum: u64, bytes: &mut [
         → AreBytes others → take (marked_size word.now (length bytes.old)) text.now
         ≡ marked_line word.now others (sum_from sum others) → ⊥) }
     ensures size { length bytes.new ≡ length bytes.old }
+    ensures bytes { AreBytes bytes.new }
 {
     let (_, back) = text.split_at(word.len());
     let (digits, _) = back.split_at(2 * bytes.len());

@@ -48,7 +48,7 @@ fn u16_at(mark: &[u8; MARK_SIZE], place: usize) -> usize
 }
 
 /// Reads bytes in hex at a place of a text; none where no hex stands there.
-fn read_hex<'a>(text: &[u8], place: usize, room: &'a mut [u8]) -> Option<&'a [u8]>
+pub(crate) fn read_hex<'a>(text: &[u8], place: usize, room: &'a mut [u8]) -> Option<&'a [u8]>
     requires { place + 2 * length room.old ≤ length text.now }
     ensures size { IfSome result (λ read. length read.now ≡ length room.old) }
     ensures bytes { IfSome result (λ read. AreBytes read.now) }
@@ -117,7 +117,7 @@ fn entry_behind<'a>(
 }
 
 /// Whether a text begins with this one.
-fn begins_with(text: &[u8], front: &[u8]) -> bool
+pub(crate) fn begins_with(text: &[u8], front: &[u8]) -> bool
     ensures yes { result ≡ true → (length front.now ≤ length text.now)
         × (take (length front.now) text.now ≡ front.now) }
     ensures no { (rest : List ℕ) → text.now ≡ front.now ++ rest → result ≡ true }
@@ -143,9 +143,9 @@ pub fn read_entry<'a>(
         return Next::CutOff;
     }
     let mut mark = [0; MARK_SIZE];
-    if read_marked_line(text, ENTRY_WORD, sum, &mut mark).is_none() {
+    let Some(_) = read_marked_line(text, ENTRY_WORD, sum, &mut mark) else {
         return Next::Damaged;
-    }
+    };
     if text.len() < size_told(&mark) {
         return Next::CutOff;
     }
