@@ -1,5 +1,5 @@
 -- A text that is opened as a journal.
-use Rattle.std.specs.Prelude.{◌≡◌, ◌≤◌, ℕ, Bool, List, ◌++◌, drop, length, take, Result, Ok, Err, Option, Some, None}
+use Rattle.std.specs.Prelude.{◌≡◌, ◌+◌, ℕ, Bool, List, ◌++◌, drop, length, take, Result, Ok, Err, Option, Some, None}
 use Rattle.tpm_image.specs.Image.{image_of}
 use Rattle.tpm_image.specs.NonVolatile.{NonVolatile, powered_on}
 use Rattle.tpm_image.specs.declared.fault.ImageFault.{ImageFault}
@@ -18,7 +18,7 @@ use Rattle.tpm_journal.specs.declared.opening.Opened.{Opened}
 -- A text begins with the head of this clock and this image, and then goes on so.
 pub record BeginsWith (text : List ℕ) (clock : ℕ) (image rest : List ℕ) : Type 0 where
   pub has : HasHead clock image
-  pub text : text ≡ head_text clock image ++ rest
+  pub is : text ≡ head_text clock image ++ rest
 
 -- A text is a journal: a head, whose image is that of what a device kept; and from that device, as
 -- power comes on, the entries behind the head were executed, until less than an entry is left.

@@ -9,7 +9,7 @@ ghost use Rattle.tpm_image.specs.declared.version.Version.TheVariants.{Two};
 ghost use Rattle.tpm_journal.specs.Command.{command_at, elapsed_of, entry_of, given};
 ghost use Rattle.tpm_journal.specs.State.{journal_after, journal_begun};
 ghost use Rattle.tpm_journal_text.specs.Entry.{entry_text};
-ghost use Rattle.tpm_journal_text.specs.Head.{head_text};
+ghost use Rattle.tpm_journal_text.specs.Head.{head_text, image_limit};
 ghost use Rattle.tpm_machine.specs.State.{state_of};
 ghost use Rattle.tpm_record.specs.Cycle.{cycled};
 ghost use Rattle.tpm_step.specs.Events.{Cycled};
@@ -17,6 +17,7 @@ ghost use Rattle.tpm_step.specs.Execution.{Executes};
 ghost use Rattle.tpm_step.specs.Step.{outcome_step};
 ghost use Rattle.tpm_types.specs.Locality.{locality_number};
 
+use tpm_image::laws::image_laws;
 use tpm_image::save_into;
 use tpm_journal_text::{ENTRY_LIMIT, ENTRY_ROOM, Entry, IMAGE_ROOM, head_size, sum_of, write_head};
 use tpm_machine::Machine;
@@ -60,7 +61,7 @@ impl Journal {
         ensures no_journal { length room.old < result → self.new ≡ self.old }
     {
         let mut image = [0; IMAGE_ROOM];
-        let count = save_into(machine, &mut image);
+        let count = save(machine, &mut image);
         let size = head_size(count);
         if size > room.len() {
             return size;
@@ -130,7 +131,21 @@ impl Journal {
     }
 }
 
+/// Writes the image of a device to the front of a room, and gives how many bytes it has.
+fn save<K: Keep>(machine: &Machine<K>, room: &mut [u8; IMAGE_ROOM]) -> usize
+    ensures size { result
+        ≡ length (image_text Two (kept_of (state_of K.record_of machine.now))) }
+    ensures small { result ≤ image_limit }
+    ensures image { take result room.new
+        ≡ image_text Two (kept_of (state_of K.record_of machine.now)) }
+{
+    image_laws();
+    machine.keep();
+    save_into(machine, room)
+}
+
 /// The front of a buffer that an entry has.
+#[tactic(auto, using(std::proofs::lemmas::List::take_all))]
 fn cut(buffer: &[u8]) -> &[u8]
     ensures { result.now ≡ take 4097 buffer.now }
 {

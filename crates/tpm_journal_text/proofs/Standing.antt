@@ -129,3 +129,10 @@ line_stands sum e text rest t =
     front_of line (setting_lines e ++ executing_lines e ++ rest) text 72 (mark_line_many sum (mark_of e) (mark_many e))
     (t ∙ append_assoc (line ++ setting_lines e) (executing_lines e) rest ∙ append_assoc line (setting_lines e) (executing_lines e ++ rest)
     ∙ ap (λ (l : List ℕ). line ++ l) (sym (append_assoc (setting_lines e) (executing_lines e) rest)))
+
+-- the text of an entry is not empty
+pub entry_text_some : (sum : ℕ) (e : PlainEntry) → 0 < length (entry_text sum e)
+unfolding entry_text
+entry_text_some sum e =
+    let line = mark_line sum (mark_of e) in
+    omega (arith, mark_line_many sum (mark_of e) (mark_many e), length-append line (setting_lines e), length-append (line ++ setting_lines e) (executing_lines e))

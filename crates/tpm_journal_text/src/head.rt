@@ -36,9 +36,12 @@ pub struct Head<'a> {
 }
 
 /// How many bytes the head with an image of so many bytes has.
+#[tactic(auto, using(crate::proofs::HeadStanding::head_text_many))]
 pub fn head_size(count: usize) -> usize
     requires { count ≤ image_limit }
-    ensures { result ≡ text_size count }
+    ensures value { result ≡ text_size count }
+    ensures text { (clock : ℕ) (image : List ℕ) → length image ≡ count
+        → length (head_text clock image) ≡ result }
 {
     MARK_LINE_SIZE + 3 + 2 * count
 }
