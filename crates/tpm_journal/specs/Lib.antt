@@ -1,5 +1,6 @@
 pub mod Command
 pub mod State
+pub mod Living
 pub mod Replay
 pub mod Opening
 pub use Rattle.tpm_journal_text.specs.Sum

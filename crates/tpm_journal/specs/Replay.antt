@@ -93,3 +93,14 @@ Does can before old text deed.CutOff after new =
     IsCutOff before.sum text × (after ≡ before) × (new ≡ old)
 Does can before old text deed.Damaged after new =
     IsDamaged before.sum text × (after ≡ before) × (new ≡ old)
+
+-- ---- followed whole
+
+-- A text of these entries was followed to its end: all of them were executed, and led to this record.
+pub record IsFollowedWhole (before : Journal) (entries : List PlainEntry) (final : Record)
+    (followed : Followed) (after : Journal) (new : Record) : Type 0
+  where
+    pub whole : followed.fault ≡ None
+    pub taken : followed.taken ≡ length (entries_text before.sum entries)
+    pub leads : new ≡ final
+    pub journal : after ≡ journal_after_all before entries

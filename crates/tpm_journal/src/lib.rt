@@ -10,6 +10,7 @@
 
 pub mod following;
 pub mod journal;
+pub mod laws;
 pub mod opening;
 
 pub use following::{FollowFault, Followed};

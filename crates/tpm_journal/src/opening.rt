@@ -1,7 +1,7 @@
 //! A device is opened from a journal.
 
-ghost use Rattle.std.specs.Prelude.{◌≡◌, false, replicate, IfOk};
-ghost use Rattle.tpm_journal.specs.Opening.{IsJournal};
+ghost use Rattle.std.specs.Prelude.{◌≡◌, false, replicate};
+ghost use Rattle.tpm_journal.specs.Opening.{OpensJournal};
 ghost use Rattle.tpm_machine.specs.State.{state_of};
 ghost use Rattle.tpm_record.specs.Record.{manufactured};
 
@@ -41,8 +41,7 @@ pub fn open<K: Keep>(
 ) -> Result<Opened, OpenFault>
     requires new { state_of K.record_of machine.old ≡ manufactured (replicate 256 0) }
     requires never_refused { K.can_refuse ≡ false }
-    ensures { IfOk result (λ opened. IsJournal false text.now opened.taken opened.journal
-        (state_of K.record_of machine.new)) }
+    ensures { OpensJournal text.now result (state_of K.record_of machine.new) }
 {
     let mut image = [0; IMAGE_ROOM];
     let mut room = [0; HEAD_ROOM];

@@ -12,7 +12,7 @@ use Rattle.tpm_journal_text.specs.Marked.{marked_line}
 use Rattle.tpm_journal_text.specs.Places.{HeadStands}
 use Rattle.tpm_journal_text.specs.Sum.{offset_basis, sum_from, sum_of}
 use Rattle.tpm_journal_text.proofs.Bytes.{all_small}
-use Rattle.tpm_journal_text.proofs.Pieces.{front_of, line_length, line_same}
+use Rattle.tpm_journal_text.proofs.Pieces.{front_of, hex_same, line_length, line_same}
 
 pub head_mark_many : (clock : ℕ) (image : List ℕ) → length (head_mark clock image) ≡ 20
 unfolding head_mark
@@ -82,3 +82,19 @@ head_stands clock image mark text rest has many are line t =
           (take_at (encode_lower image) (10 ∷ [] ++ rest) (2 * length image) (length-encode_with lower_digits image));
       long = omega (arith, ap length t, length-append (head_text clock image) rest, head_text_many clock image);
     }
+
+-- heads that stand at one front are one
+pub same_head : (clock other : ℕ) (image bytes x y : List ℕ) → HasHead clock image → HasHead other bytes
+    → head_text clock image ++ x ≡ head_text other bytes ++ y → (clock ≡ other) × (image ≡ bytes)
+same_head clock other image bytes x y has others same =
+    let text = head_text clock image ++ x in
+    let mark = head_mark clock image in
+    let line = head_line_stands clock image text x refl in
+    let a = head_stands clock image mark text x has (head_mark_many clock image) (head_mark_bytes clock image) line refl in
+    let b = head_stands other bytes mark text y others (head_mark_many clock image) (head_mark_bytes clock image) line same in
+    let many : length image ≡ length bytes = sym a.count_told ∙ b.count_told in
+    (
+      sym a.clock_told ∙ b.clock_told,
+      hex_same image bytes has.are_bytes others.are_bytes
+      (sym a.image_told ∙ ap (λ (n : ℕ). take (2 * n) (drop 79 text)) many ∙ b.image_told),
+    )

@@ -4,3 +4,4 @@ pub mod Standing
 pub mod Bytes
 pub mod Damage
 pub mod HeadStanding
+pub mod Parsing

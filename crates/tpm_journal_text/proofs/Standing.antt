@@ -6,7 +6,7 @@ use Rattle.std.proofs.lemmas.List.{take_at, drop_at}
 use Rattle.std.proofs.lemmas.Nat.{from_be_bytes-to_be_bytes_2, from_be_bytes-to_be_bytes_4, from_be_bytes-to_be_bytes_8}
 use Rattle.hex.specs.Hex.{encode_lower, encode_with, lower_digits}
 use Rattle.hex.proofs.HexLemmas.{length-encode_with}
-use Rattle.tpm_journal_text.specs.Entry.{IsEntry, PlainEntry, buffer_size, drawn_size, entry_text, executing_lines, flag, mark_line, mark_of, setting_lines, shown, ten_digits}
+use Rattle.tpm_journal_text.specs.Entry.{IsEntry, PlainEntry, buffer_size, drawn_size, entry_size, entry_text, executing_lines, flag, mark_line, mark_of, setting_lines, shown, ten_digits}
 use Rattle.tpm_journal_text.specs.Sum.{sum_from, sum_of}
 use Rattle.tpm_bytes.specs.Reading.{AreBytes}
 use Rattle.tpm_journal_text.proofs.Bytes.{all_small}
@@ -35,11 +35,11 @@ flag_told : (e : PlainEntry) → slice_index (mark_of e) 5 ≡ flag e.completes
 unfolding mark_of
 flag_told e = grind (arith)
 
-drawn_told : (e : PlainEntry) → IsEntry e → drawn_size (mark_of e) ≡ length e.drawn
+pub drawn_told : (e : PlainEntry) → IsEntry e → drawn_size (mark_of e) ≡ length e.drawn
 unfolding mark_of
 drawn_told e is = from_be_bytes-to_be_bytes_2 (length e.drawn) (omega (arith, is.drawn))
 
-buffer_told : (e : PlainEntry) → IsEntry e → buffer_size (mark_of e) ≡ length e.buffer
+pub buffer_told : (e : PlainEntry) → IsEntry e → buffer_size (mark_of e) ≡ length e.buffer
 unfolding mark_of
 buffer_told e is = from_be_bytes-to_be_bytes_2 (length e.buffer) (omega (arith, is.buffer))
 
@@ -136,3 +136,26 @@ unfolding entry_text
 entry_text_some sum e =
     let line = mark_line sum (mark_of e) in
     omega (arith, mark_line_many sum (mark_of e) (mark_many e), length-append line (setting_lines e), length-append (line ++ setting_lines e) (executing_lines e))
+
+executing_many : (e : PlainEntry) → length (executing_lines e) ≡ 14 + 2 * max 1 (length e.drawn) + 2 * length e.buffer
+unfolding executing_lines
+executing_many e =
+    let word = codes "entropy " in
+    let drawn = encode_lower (shown e.drawn) in
+    let middle = codes "\ncmd " in
+    let buffer = encode_lower e.buffer in
+    let a = length-append word drawn in
+    let b = length-append (word ++ drawn) middle in
+    let c = length-append (word ++ drawn ++ middle) buffer in
+    let d = length-append (word ++ drawn ++ middle ++ buffer) (10 ∷ []) in
+    omega (arith, a, b, c, d, length-encode_with lower_digits (shown e.drawn), length-encode_with lower_digits e.buffer, shown_many e.drawn)
+
+pub entry_text_many : (sum : ℕ) (e : PlainEntry) → IsEntry e → length (entry_text sum e) ≡ entry_size (mark_of e)
+unfolding entry_text
+entry_text_many sum e is =
+    let line = mark_line sum (mark_of e) in
+    let a = mark_line_many sum (mark_of e) (mark_many e) in
+    let b = length-append line (setting_lines e) in
+    let c = length-append (line ++ setting_lines e) (executing_lines e) in
+    let drawn : max 1 (drawn_size (mark_of e)) ≡ max 1 (length e.drawn) = ap (max 1) (drawn_told e is) in
+    omega (arith, a, b, c, setting_many e, executing_many e, drawn, buffer_told e is)
