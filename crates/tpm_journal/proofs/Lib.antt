@@ -1,0 +1,4 @@
+pub mod Repeating
+pub mod ReadHeads
+pub mod Again
+pub mod Histories
