@@ -8,7 +8,7 @@ ghost use Rattle.tpm_history.specs.History.{History};
 ghost use Rattle.tpm_image.specs.Image.{image_text};
 ghost use Rattle.tpm_image.specs.NonVolatile.{kept_of};
 ghost use Rattle.tpm_image.specs.declared.version.Version.TheVariants.{Two};
-ghost use Rattle.tpm_journal.specs.Living.{Answers, IgnoresUndrawn, Lives};
+ghost use Rattle.tpm_journal.specs.Living.{Answers, Lives};
 ghost use Rattle.tpm_journal.specs.Opening.{BeginsWith, IsOpenedAgain, OpensJournal};
 ghost use Rattle.tpm_journal.specs.Replay.{IsFollowedWhole, Repeats, Replays};
 ghost use Rattle.tpm_journal.specs.declared.following.FollowFault.{FollowFault};
@@ -23,12 +23,12 @@ ghost use Rattle.tpm_record.specs.Cycle.{cycled};
 ghost use Rattle.tpm_record.specs.IsRecord.{IsRecord};
 ghost use Rattle.tpm_record.specs.Record.{Record};
 
-/// The entries of a live device are answered again as they say, and lead to its record, where random
-/// bytes that were not drawn have no influence. The function does nothing.
+/// The entries of a live device are answered again as they say, and lead to its record: random bytes
+/// that a command did not draw have no influence. The function does nothing.
 #[inline(always)]
-#[tactic(auto, using(crate::proofs::Again::lives_again))]
+#[tactic(auto, using(crate::proofs::Ignoring::lives_alike))]
 pub fn living_laws()
-    ensures { IgnoresUndrawn → (old : Record) (entries : List PlainEntry) (new : Record)
+    ensures { (old : Record) (entries : List PlainEntry) (new : Record)
         → Lives old entries new → Answers old entries new }
 {}
 

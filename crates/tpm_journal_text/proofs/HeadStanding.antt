@@ -71,8 +71,8 @@ pub head_stands : (clock : ℕ) (image mark text rest : List ℕ) → HasHead cl
     → HeadStands clock image mark text
 head_stands clock image mark text rest has many are line t =
     let same : mark ≡ head_mark clock image =
-        line_same head_word mark (head_mark clock image) (sum_from offset_basis mark) (head_sum clock image) are (head_mark_bytes clock image)
-        (many ∙ sym (head_mark_many clock image)) (sym line ∙ head_line_stands clock image text rest t) in
+    line_same head_word mark (head_mark clock image) (sum_from offset_basis mark) (head_sum clock image) are (head_mark_bytes clock image)
+    (many ∙ sym (head_mark_many clock image)) (sym line ∙ head_line_stands clock image text rest t) in
     record {
       has = has;
       clock_told = ap (λ (l : List ℕ). from_be_bytes w64 (take 8 l)) same ∙ clock_is clock image has;
@@ -92,9 +92,8 @@ same_head clock other image bytes x y has others same =
     let line = head_line_stands clock image text x refl in
     let a = head_stands clock image mark text x has (head_mark_many clock image) (head_mark_bytes clock image) line refl in
     let b = head_stands other bytes mark text y others (head_mark_many clock image) (head_mark_bytes clock image) line same in
-    let many : length image ≡ length bytes = sym a.count_told ∙ b.count_told in
-    (
+    let many : length image ≡ length bytes = sym a.count_told ∙ b.count_told in (
       sym a.clock_told ∙ b.clock_told,
       hex_same image bytes has.are_bytes others.are_bytes
-      (sym a.image_told ∙ ap (λ (n : ℕ). take (2 * n) (drop 79 text)) many ∙ b.image_told),
+          (sym a.image_told ∙ ap (λ (n : ℕ). take (2 * n) (drop 79 text)) many ∙ b.image_told),
     )

@@ -98,14 +98,14 @@ stands sum e mark text rest is m t =
     let after_drawn = codes "\ncmd " ++ (encode_lower e.buffer ++ (10 ∷ [] ++ rest)) in
     let drawn = encode_lower (shown e.drawn) in
     let place : length (before_drawn sum e ++ drawn ++ codes "\ncmd ") ≡ 102 + 2 * max 1 (length e.drawn) + 5 =
-        let a = length-append (before_drawn sum e ++ drawn) (codes "\ncmd ") in
-        let b = length-append (before_drawn sum e) drawn in
-        let c = length-encode_with lower_digits (shown e.drawn) in
-        omega (arith, a, b, c, before_many sum e, shown_many e.drawn) in
+    let a = length-append (before_drawn sum e ++ drawn) (codes "\ncmd ") in
+    let b = length-append (before_drawn sum e) drawn in
+    let c = length-encode_with lower_digits (shown e.drawn) in
+    omega (arith, a, b, c, before_many sum e, shown_many e.drawn) in
     let split : text ≡ before_drawn sum e ++ (drawn ++ after_drawn) = t ∙ parts sum e rest in
     let further : text ≡ (before_drawn sum e ++ drawn ++ codes "\ncmd ") ++ (encode_lower e.buffer ++ (10 ∷ [] ++ rest)) =
-        split ∙ sym (append_assoc (before_drawn sum e) drawn after_drawn)
-        ∙ sym (append_assoc (before_drawn sum e ++ drawn) (codes "\ncmd ") (encode_lower e.buffer ++ (10 ∷ [] ++ rest))) in
+    split ∙ sym (append_assoc (before_drawn sum e) drawn after_drawn)
+    ∙ sym (append_assoc (before_drawn sum e ++ drawn) (codes "\ncmd ") (encode_lower e.buffer ++ (10 ∷ [] ++ rest))) in
     record {
       is = is;
       elapsed = ap (λ (l : List ℕ). from_be_bytes w32 (take 4 l)) m ∙ elapsed_told e is;
