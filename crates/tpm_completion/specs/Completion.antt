@@ -1,6 +1,6 @@
 -- What the completing layer remembers of the objects and sessions of a device. TPM 2.0 Library,
 -- Part 1, section 30 (context management).
-use Rattle.std.specs.Prelude.{ℕ, List, get_or, is_some, map, replicate, if◌then◌else◌}
+use Rattle.std.specs.Prelude.{ℕ, get_or, is_some, map, replicate, if◌then◌else◌}
 use Rattle.tpm_bytes.specs.Numbers.{numbers_below}
 use Rattle.tpm_containers.specs.Slots.{at_place}
 use Rattle.tpm_types.specs.Limits.{object_limit, session_limit}

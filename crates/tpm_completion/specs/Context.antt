@@ -1,7 +1,7 @@
 -- The context of an object or a session: a token that names its place in the device. TPM 2.0
 -- Library, Part 2, section 14 (TPMS_CONTEXT: sequence, savedHandle, hierarchy, contextBlob), and
 -- Part 1, section 30 (context management).
-use Rattle.std.specs.Prelude.{ℕ, ◌==◌, not, List, [], ◌∷◌, ◌++◌, if◌then◌else◌, Result, Ok, Err}
+use Rattle.std.specs.Prelude.{ℕ, not, List, [], ◌∷◌, ◌++◌, if◌then◌else◌, Result, Ok}
 use Rattle.std.specs.Int.{w32, w64, to_be_bytes}
 use Rattle.std.specs.Str.{bytes_eq}
 use Rattle.tpm_bytes.specs.Reading.{◌>>=◌, bytes_at, number_at, refused_if, too_short}

@@ -1,12 +1,11 @@
 -- TPM2_ContextSave and TPM2_ContextLoad by tokens. TPM 2.0 Library, Part 3, sections 28.2 and 28.3.
-use Rattle.std.specs.Prelude.{ℕ, ◌+◌, ◌-◌, ◌^◌, ◌==◌, ◌&&◌, nat_lt, not, Bool, List, is_some, length, if◌then◌else◌, Option, Some, None, Result, Ok, Err, slice_set}
+use Rattle.std.specs.Prelude.{ℕ, ◌+◌, ◌-◌, ◌^◌, ◌==◌, ◌&&◌, nat_lt, not, List, is_some, if◌then◌else◌, Option, Some, None, Result, Ok, Err, slice_set}
 use Rattle.std.specs.Int.{w32, to_be_bytes}
-use Rattle.tpm_bytes.specs.Reading.{number_at}
 use Rattle.tpm_bytes.specs.declared.cursor.Short.{Short}
 use Rattle.tpm_containers.specs.Numbered.{place_of}
 use Rattle.tpm_session.specs.Sessions.{session_at}
 use Rattle.tpm_types.specs.declared.handle.Handle.{Handle}
-use Rattle.tpm_types.specs.Handle.{is_session, is_transient, numbered}
+use Rattle.tpm_types.specs.Handle.{is_session, is_transient}
 use Rattle.tpm_record.specs.Objects.{object_at}
 use Rattle.tpm_record.specs.Record.{Record}
 use Rattle.tpm_completion.specs.Answer.{refusal, success}
