@@ -13,9 +13,10 @@ use Rattle.tpm_completion.specs.declared.completion.Held.{Held}
 abbrev pub no_context : Held
 no_context = record { context = 0; waits = 0 }
 
--- at first no context was given
-abbrev pub new_completion : Completion
-new_completion = record {
+-- at a start no context was given
+abbrev pub new_completion : (start : ℕ) → Completion
+new_completion start = record {
+  start = start;
   count = 0;
   objects = replicate object_limit no_context;
   sessions = replicate session_limit 0;

@@ -54,12 +54,12 @@ impl Completion {
     }
 
     /// Answers with the context of this number.
-    fn give_context<K: Keep>(&self, keep: &K, handle: Handle, context: u64, text: &mut Response)
+    fn give_context(&self, handle: Handle, context: u64, text: &mut Response)
         ensures { record { response = text.new.items; after = self.now }
-            ≡ context_given (K.record_of keep.now) self.now handle context }
+            ≡ context_given self.now handle context }
     {
         let token = Token { context, handle };
-        answer(SUCCESS, context_text(keep, token).as_slice(), text);
+        answer(SUCCESS, context_text(self.start, token).as_slice(), text);
     }
 
     /// Refuses with this code.
@@ -78,7 +78,7 @@ impl Completion {
             return self.refuse(REFERENCE_H0, text);
         }
         if held.context != 0 {
-            return self.give_context(keep, handle, held.context, text);
+            return self.give_context(handle, held.context, text);
         }
         match self.next_number() {
             Some(number) => {
@@ -90,7 +90,7 @@ impl Completion {
                         waits: 0,
                     },
                 );
-                self.give_context(keep, handle, number, text);
+                self.give_context(handle, number, text);
             }
             None => self.refuse(TOO_MANY_CONTEXTS, text),
         }
@@ -108,7 +108,7 @@ impl Completion {
             Some(number) => {
                 self.count = number;
                 self.set_session(place_named(handle), number);
-                self.give_context(keep, handle, number, text);
+                self.give_context(handle, number, text);
             }
             None => self.refuse(TOO_MANY_CONTEXTS, text),
         }
@@ -192,7 +192,7 @@ impl Completion {
         ensures { record { response = text.new.items; after = self.new }
             ≡ loaded (K.record_of keep.now) self.old context.now }
     {
-        match read_token(keep, context) {
+        match read_token(self.start, context) {
             Ok(token) => self.load_token(keep, token, text),
             Err(_) => self.refuse(INTEGRITY_OF_PARAMETER_1, text),
         }

@@ -68,7 +68,7 @@ const FIRST_SESSION: &[u8] = b"\x80\x01\0\0\0\x17\0\0\0\0\0\0\0\0\x01\0\0\0\x01\
 const LOADED_SESSION: &[u8] = b"\x80\x01\0\0\0\x0e\0\0\0\0\x02\0\0\0";
 
 const CONTEXT: &[u8] =
-    b"\x80\x01\0\0\0\x30\0\0\0\0\0\0\0\0\0\0\0\x01\x02\0\0\0\x40\0\0\x07\0\x14tpmsim 1\0\0\0\x01\0\0\0\0\x02\0\0\0";
+    b"\x80\x01\0\0\0\x30\0\0\0\0\0\0\0\0\0\0\0\x01\x02\0\0\0\x40\0\0\x07\0\x14tpmsim 1\0\0\0\0\0\0\0\0\x02\0\0\0";
 
 #[test]
 fn a_session_is_saved(rt: HostRuntime) -> Result<(), Fail> {
