@@ -1,5 +1,5 @@
 -- Where the device's response stands.
-use Rattle.std.proofs.Common.{◌≡◌, ℕ, ◌/◌, ◌^◌, nat_eq, ◌&&◌, ◌||◌, not, Bool, true, false, if◌then◌else◌, List, [], Option, Some, None, Result, Ok, Err, refl, ap, sym, ◌∙◌}
+use Rattle.std.proofs.Common.{◌≡◌, ℕ, ◌/◌, ◌^◌, ◌&&◌, ◌||◌, not, Bool, true, false, if◌then◌else◌, List, [], Option, None, Result, Ok, Err, refl, ap, sym, ◌∙◌}
 use Rattle.std.proofs.lemmas.Bool.{false≢true}
 use Rattle.std.specs.Prelude.{◌==◌}
 use Rattle.std.specs.Str.{bytes_eq}
@@ -9,7 +9,7 @@ use Rattle.tpm_step.specs.Answer.{framed}
 use Rattle.tpm_completion.specs.Answer.{is_refusal}
 use Rattle.tpm_completion.specs.Capability.{asked_at, capability_told, handles_told, told_of}
 use Rattle.tpm_completion.specs.Command.{Command, plain_command, tag_of}
-use Rattle.tpm_completion.specs.DeviceFirst.{DeviceFirst, asks_command, asks_list, asks_parameters, has_list, is_gap}
+use Rattle.tpm_completion.specs.DeviceFirst.{DeviceFirst, asks_command, asks_parameters, has_list, is_gap}
 use Rattle.tpm_completion.specs.Reply.{capability_asked, command_reply, listed, probed, reply, reply_by, served, stands}
 use Rattle.tpm_completion.specs.Saving.{Reply}
 use Rattle.tpm_completion.specs.declared.capability.Asked.{Asked}

@@ -7,7 +7,7 @@ use Rattle.tpm_step.specs.Events.{PlainEvent, Given, Cycled}
 use Rattle.tpm_step.specs.Step.{Stepped, step}
 use Rattle.tpm_completion.specs.Completed.{again_behind, behind, completed, completed_by, completed_with, done_behind, gave_up_behind, noted_behind, passed}
 use Rattle.tpm_completion.specs.Completion.{forgotten}
-use Rattle.tpm_completion.specs.Execution.{AsksFirst, Behind, Completes, CompletesBy, GivesUp, Notes, Passes, Seen, given_up_behind, no_random}
+use Rattle.tpm_completion.specs.Execution.{Behind, Completes, CompletesBy, GivesUp, Notes, Passes, Seen, given_up_behind, no_random}
 use Rattle.tpm_completion.specs.Room.{flush_asked, flush_text}
 use Rattle.tpm_completion.specs.declared.completion.Completion.{Completion}
 

@@ -1,6 +1,6 @@
 -- The object that waits longest, of the places so far and the next.
 use Rattle.tpm_bytes.specs.Numbers.{numbers_below}
-use Rattle.std.proofs.Common.{arith, ◌≡◌, ℕ, suc, ◌+◌, List, [], ◌∷◌, ◌++◌, refl, ap, sym, ◌∙◌}
+use Rattle.std.proofs.Common.{arith, ◌≡◌, ℕ, suc, ◌+◌, [], ◌∷◌, ap, sym, ◌∙◌}
 use Rattle.std.proofs.lemmas.Grind.{fold-append}
 use Rattle.std.specs.List.{fold}
 use Rattle.tpm_completion.specs.Room.{longer, none_waits}

@@ -1,7 +1,7 @@
 -- What the completing layer lists of each capability, in ascending order. TPM 2.0 Library, Part 2,
 -- sections 6.3 (TPM_ALG_ID), 6.12 (TPM_CAP), 6.13 (TPM_PT), 8.2 (TPMA_ALGORITHM) and 8.9 (TPMA_CC),
 -- and Part 3, section 30.2 (TPM2_GetCapability).
-use Rattle.std.specs.Prelude.{true, false, ℕ, ◌+◌, ◌/◌, ◌%◌, ◌^◌, ◌==◌, ◌&&◌, not, Bool, List, [], ◌∷◌, ◌++◌, length, if◌then◌else◌, Option, Some, None, Result, Ok, Err}
+use Rattle.std.specs.Prelude.{true, false, ℕ, ◌+◌, ◌/◌, ◌%◌, ◌^◌, ◌==◌, ◌&&◌, not, Bool, List, [], ◌∷◌, ◌++◌, length, if◌then◌else◌, Option, Some, None, Result, Ok}
 use Rattle.std.specs.Int.{w32}
 use Rattle.std.specs.List.{flat_map}
 use Rattle.tpm_bytes.specs.Numbers.{numbers_below}

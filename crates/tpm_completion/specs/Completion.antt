@@ -1,6 +1,6 @@
 -- What the completing layer remembers of the objects and sessions of a device. TPM 2.0 Library,
 -- Part 1, section 30 (context management).
-use Rattle.std.specs.Prelude.{ℕ, List, get_or, is_some, map, replicate, if◌then◌else◌}
+use Rattle.std.specs.Prelude.{ℕ, get_or, is_some, map, replicate, if◌then◌else◌}
 use Rattle.tpm_bytes.specs.Numbers.{numbers_below}
 use Rattle.tpm_containers.specs.Slots.{at_place}
 use Rattle.tpm_types.specs.Limits.{object_limit, session_limit}
@@ -13,9 +13,10 @@ use Rattle.tpm_completion.specs.declared.completion.Held.{Held}
 abbrev pub no_context : Held
 no_context = record { context = 0; waits = 0 }
 
--- at first no context was given
-abbrev pub new_completion : Completion
-new_completion = record {
+-- at a start no context was given
+abbrev pub new_completion : (start : ℕ) → Completion
+new_completion start = record {
+  start = start;
   count = 0;
   objects = replicate object_limit no_context;
   sessions = replicate session_limit 0;

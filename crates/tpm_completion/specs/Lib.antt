@@ -14,3 +14,6 @@ pub mod Told
 pub use Rattle.tpm_machine.specs.Drawn
 pub use Rattle.tpm_machine.specs.State
 pub use Rattle.tpm_history.specs.Follows
+pub use Rattle.tpm_step.specs.Events
+pub use Rattle.tpm_step.specs.Step
+pub use Rattle.tpm_record.specs.Record

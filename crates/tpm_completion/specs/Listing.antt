@@ -1,6 +1,6 @@
 -- How a capability's list is answered. TPM 2.0 Library, Part 3, section 30.2, and Part 2, sections
 -- 10.8 (TPMS_ALG_PROPERTY, TPMS_TAGGED_PROPERTY) and 10.10 (TPMS_CAPABILITY_DATA).
-use Rattle.std.specs.Prelude.{ℕ, ◌%◌, ◌^◌, nat_lt, min, List, ◌∷◌, ◌++◌, filter, take, if◌then◌else◌}
+use Rattle.std.specs.Prelude.{ℕ, ◌%◌, ◌^◌, nat_lt, List, ◌∷◌, ◌++◌, filter, take, if◌then◌else◌}
 use Rattle.std.specs.Int.{w16, w32, to_be_bytes}
 use Rattle.std.specs.List.{flat_map}
 use Rattle.tpm_actions_capability.specs.Element.{found_count, is_from, told_count}

@@ -1,12 +1,11 @@
 -- TPM2_ContextSave and TPM2_ContextLoad by tokens. TPM 2.0 Library, Part 3, sections 28.2 and 28.3.
-use Rattle.std.specs.Prelude.{ℕ, ◌+◌, ◌-◌, ◌^◌, ◌==◌, ◌&&◌, nat_lt, not, Bool, List, is_some, length, if◌then◌else◌, Option, Some, None, Result, Ok, Err, slice_set}
+use Rattle.std.specs.Prelude.{ℕ, ◌+◌, ◌-◌, ◌^◌, ◌==◌, ◌&&◌, nat_lt, not, List, is_some, if◌then◌else◌, Option, Some, None, Result, Ok, Err, slice_set}
 use Rattle.std.specs.Int.{w32, to_be_bytes}
-use Rattle.tpm_bytes.specs.Reading.{number_at}
 use Rattle.tpm_bytes.specs.declared.cursor.Short.{Short}
 use Rattle.tpm_containers.specs.Numbered.{place_of}
 use Rattle.tpm_session.specs.Sessions.{session_at}
 use Rattle.tpm_types.specs.declared.handle.Handle.{Handle}
-use Rattle.tpm_types.specs.Handle.{is_session, is_transient, numbered}
+use Rattle.tpm_types.specs.Handle.{is_session, is_transient}
 use Rattle.tpm_record.specs.Objects.{object_at}
 use Rattle.tpm_record.specs.Record.{Record}
 use Rattle.tpm_completion.specs.Answer.{refusal, success}
@@ -40,9 +39,9 @@ abbrev pub counted : Completion → (number : ℕ) → Completion
 counted c number = record c { count = number }
 
 -- the answer where a context was given: the context
-abbrev pub context_given : Record → Completion → Handle → (context : ℕ) → Reply
-context_given r c handle context = record {
-  response = success (context_text r (record { context = context; handle = handle }));
+abbrev pub context_given : Completion → Handle → (context : ℕ) → Reply
+context_given c handle context = record {
+  response = success (context_text c.start (record { context = context; handle = handle }));
   after = c;
 }
 
@@ -52,31 +51,31 @@ refused c code = record { response = refusal code; after = c }
 
 -- an object that is saved again has the context that it had; TOO_MANY_CONTEXTS (12E) where no
 -- number is left
-abbrev pub object_numbered : Record → Completion → Handle → Option ℕ → Reply
-object_numbered r c handle (Some number) =
-    context_given r
+abbrev pub object_numbered : Completion → Handle → Option ℕ → Reply
+object_numbered c handle (Some number) =
+    context_given
     (with_object (counted c number) (place_named handle) (record { context = number; waits = 0 }))
     handle number
-object_numbered r c handle None = refused c 0x12e
+object_numbered c handle None = refused c 0x12e
 
 -- an object that is there and does not wait is saved; else its handle names nothing: REFERENCE_H0
 abbrev pub object_saved : Record → Completion → Handle → Held → Reply
 object_saved r c handle held =
     if not (is_some (object_at r.objects handle) && (held.waits == 0)) then refused c 0x910
-    else (if held.context == 0 then object_numbered r c handle (next_number c)
-    else context_given r c handle held.context)
+    else (if held.context == 0 then object_numbered c handle (next_number c)
+    else context_given c handle held.context)
 
 -- a session is saved with a new context each time, and is loaded no more
-abbrev pub session_numbered : Record → Completion → Handle → Option ℕ → Reply
-session_numbered r c handle (Some number) =
-    context_given r (with_session (counted c number) (place_named handle) number) handle number
-session_numbered r c handle None = refused c 0x12e
+abbrev pub session_numbered : Completion → Handle → Option ℕ → Reply
+session_numbered c handle (Some number) =
+    context_given (with_session (counted c number) (place_named handle) number) handle number
+session_numbered c handle None = refused c 0x12e
 
 -- a session that is loaded is saved; one that is saved already is named by no handle: REFERENCE_H0
 abbrev pub session_saved : Record → Completion → Handle → (context : ℕ) → Reply
 session_saved r c handle context =
     if is_some (session_at r.sessions handle) && (context == 0) then
-    session_numbered r c handle (next_number c)
+    session_numbered c handle (next_number c)
     else refused c 0x910
 
 -- TPM2_ContextSave of a handle: VALUE for handle 1 (184) where it is neither an object's nor a
@@ -120,11 +119,11 @@ token_loaded r c token =
     else (if is_session token.handle then session_loaded r c token else refused c 0x1cb)
 
 -- TPM2_ContextLoad of these bytes. INTEGRITY for parameter 1 (1DF): they are no context of this
--- device since it started; HANDLE for parameter 1 (1CB): what they name is not there, is another
+-- layer since its start; HANDLE for parameter 1 (1CB): what they name is not there, is another
 -- object or session, or a session that was loaded since
 abbrev pub loaded_by : Record → Completion → Result Token Short → Reply
 loaded_by r c (Ok token) = token_loaded r c token
 loaded_by r c (Err e) = refused c 0x1df
 
 unfoldable pub loaded : Record → Completion → List ℕ → Reply
-loaded r c context = loaded_by r c (token_at r context)
+loaded r c context = loaded_by r c (token_at c.start context)

@@ -10,6 +10,7 @@ ghost use Rattle.tpm_completion.specs.declared.listing.Form.TheVariants as form;
 ghost use Rattle.tpm_completion.specs.Told.{Tells};
 
 use crate::answer::is_refusal;
+use crate::codes::VALUE_OF_PARAMETER_1;
 use crate::completion::Completion;
 use crate::listing::{Elements, Form, LISTING_LIMIT, list};
 use arrayvec::ArrayVec;
@@ -318,7 +319,7 @@ pub fn tell<K: Keep>(
     if was_told {
         return tell_told(layer, keep, asked, text);
     }
-    if asked.capability != 0 || !is_refusal(0x1c4, response) {
+    if asked.capability != 0 || !is_refusal(VALUE_OF_PARAMETER_1, response) {
         return false;
     }
     let mut elements = ArrayVec::new();

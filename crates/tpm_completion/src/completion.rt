@@ -20,6 +20,9 @@ pub struct Held {
 /// The state of the layer. Contexts and flushes are counted together, from 1 on.
 #[derive(Clone, Copy, Debug, PartialEq, Eq)]
 pub struct Completion {
+    /// A number of who uses the layer, by which the contexts of one start are told from those of
+    /// another.
+    pub start: u64,
     pub count: u64,
     /// By the places of the transient objects.
     pub objects: [Held; 8],
@@ -37,11 +40,13 @@ impl Held {
 }
 
 impl Completion {
-    /// No context was given yet.
-    pub fn new() -> Completion
-        ensures { result ≡ new_completion }
+    /// No context was given yet. A number that is another one at each start, as the host's clock,
+    /// lets no context of an earlier start be loaded.
+    pub fn of_start(start: u64) -> Completion
+        ensures { result ≡ new_completion start }
     {
         Completion {
+            start,
             count: 0,
             objects: [Held {
                 context: 0,
@@ -49,6 +54,13 @@ impl Completion {
             }; 8],
             sessions: [0; 16],
         }
+    }
+
+    /// The layer of a start with the number 0.
+    pub fn new() -> Completion
+        ensures { result ≡ new_completion 0 }
+    {
+        Completion::of_start(0)
     }
 
     /// What is remembered of the object in a place.

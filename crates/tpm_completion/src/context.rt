@@ -4,7 +4,6 @@ ghost use Rattle.std.specs.Prelude.{◌≡◌, length};
 ghost use Rattle.tpm_completion.specs.Context.{context_text, mark, saved_handle, token_at, token_text};
 
 use tpm_bytes::{Cursor, Short, Sink, is_equal};
-use tpm_record::Keep;
 use tpm_types::Handle;
 
 /// How many bytes a token's blob has, and its whole context.
@@ -29,26 +28,24 @@ fn saved_handle(handle: Handle) -> u32
     }
 }
 
-fn token_text<K: Keep>(keep: &K, handle: Handle) -> Sink<TOKEN_SIZE>
-    ensures text { result ≡ token_text (K.record_of keep.now) handle }
+fn token_text(start: u64, handle: Handle) -> Sink<TOKEN_SIZE>
+    ensures text { result ≡ token_text start handle }
     ensures size { length result ≡ TOKEN_SIZE }
 {
-    let fixed = keep.fixed();
     let mut text = Sink::new();
     text.append(&[0x74, 0x70, 0x6d, 0x73, 0x69, 0x6d, 0x20, 0x31]);
-    text.append_u32(fixed.reset_count);
-    text.append_u32(fixed.restart_count);
+    text.append_u64(start);
     text.append_u32(handle.number);
     text
 }
 
 /// The context of a token.
 #[tactic(auto, unfolding(crate::specs::Context::context_text))]
-pub fn context_text<K: Keep>(keep: &K, token: Token) -> Sink<CONTEXT_SIZE>
-    ensures text { result ≡ context_text (K.record_of keep.now) token }
+pub fn context_text(start: u64, token: Token) -> Sink<CONTEXT_SIZE>
+    ensures text { result ≡ context_text start token }
     ensures size { length result ≡ CONTEXT_SIZE }
 {
-    let blob = token_text(keep, token.handle);
+    let blob = token_text(start, token.handle);
     let mut text = Sink::new();
     text.append_u64(token.context);
     text.append_u32(saved_handle(token.handle));
@@ -59,8 +56,8 @@ pub fn context_text<K: Keep>(keep: &K, token: Token) -> Sink<CONTEXT_SIZE>
 
 /// The token of a context's bytes.
 #[tactic(auto, unfolding(crate::specs::Context::token_at))]
-pub fn read_token<K: Keep>(keep: &K, bytes: &[u8]) -> Result<Token, Short>
-    ensures { result ≡ token_at (K.record_of keep.now) bytes.now }
+pub fn read_token(start: u64, bytes: &[u8]) -> Result<Token, Short>
+    ensures { result ≡ token_at start bytes.now }
 {
     let mut text = Cursor::new(bytes);
     let context = text.u64()?;
@@ -69,7 +66,7 @@ pub fn read_token<K: Keep>(keep: &K, bytes: &[u8]) -> Result<Token, Short>
         number: text.u32()?,
     };
     let token = Token { context, handle };
-    if !is_equal(bytes, context_text(keep, token).as_slice()) {
+    if !is_equal(bytes, context_text(start, token).as_slice()) {
         return Err(Short);
     }
     Ok(token)

@@ -7,5 +7,4 @@ ghost use Rattle.tpm_completion.specs.DeviceFirst.{DeviceFirst};
 #[tactic(auto, using(crate::proofs::DeviceFirst::device_first))]
 pub fn device_first()
     ensures { DeviceFirst }
-{
-}
+{}

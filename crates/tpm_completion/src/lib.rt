@@ -14,6 +14,7 @@
 
 mod answer;
 mod capability;
+mod codes;
 mod command;
 pub mod completion;
 mod context;

@@ -10,6 +10,9 @@ ghost use Rattle.tpm_bytes.specs.Reading.{number_at};
 
 use crate::answer::{answer, is_refusal};
 use crate::capability::{Asked, tell};
+use crate::codes::{
+    COMMAND_CODE, CONTEXT_LOAD, CONTEXT_SAVE, GET_CAPABILITY, STIR_RANDOM, SUCCESS, VALUE,
+};
 use crate::command::{PlainCommand, tag_of};
 use crate::completion::Completion;
 use tpm_bytes::{Cursor, Sink, is_equal};
@@ -36,7 +39,7 @@ fn probe(layer: &Completion, buffer: &[u8], text: &mut Response)
 {
     let bad_tag = [0x00, 0xc4, 0, 0, 0, 10, 0, 0, 0, 0x1e];
     if tag_of(buffer) == 0xc1 && is_equal(text.as_slice(), &bad_tag) {
-        answer(0x84, &[], text);
+        answer(VALUE, &[], text);
     }
 }
 
@@ -47,7 +50,7 @@ impl Completion {
             ≡ stirred self.now parameters.now text.old.items }
     {
         if is_stirred(parameters) {
-            answer(0, &[], text);
+            answer(SUCCESS, &[], text);
         }
     }
 
@@ -72,9 +75,9 @@ impl Completion {
             ≡ served (K.record_of keep.now) self.old (command_of command.now) text.old.items }
     {
         match command.code {
-            0x146 => self.stir(command.parameters, text),
-            0x161 => self.load(keep, command.parameters, text),
-            0x162 => self.ask_save(keep, command.parameters, text),
+            STIR_RANDOM => self.stir(command.parameters, text),
+            CONTEXT_LOAD => self.load(keep, command.parameters, text),
+            CONTEXT_SAVE => self.ask_save(keep, command.parameters, text),
             _ => {}
         }
     }
@@ -96,7 +99,7 @@ impl Completion {
         };
         let mut listing = Sink::new();
         if tell(self, keep, asked, was_told, text.as_slice(), &mut listing) {
-            answer(0, listing.as_slice(), text);
+            answer(SUCCESS, listing.as_slice(), text);
         }
     }
 
@@ -116,9 +119,9 @@ impl Completion {
         if !keep.fixed().started {
             return;
         }
-        if is_refusal(0x143, text.as_slice()) {
+        if is_refusal(COMMAND_CODE, text.as_slice()) {
             self.serve(keep, command, text);
-        } else if command.code == 0x17a {
+        } else if command.code == GET_CAPABILITY {
             self.ask_capability(keep, command.parameters, was_told, text);
         }
     }

@@ -7,6 +7,9 @@ ghost use Rattle.tpm_types.specs.Limits.{object_limit};
 ghost use Rattle.tpm_completion.specs.Room.{flush_asked, flush_of, flush_text, given_up, longer, longest, none_waits, noted, wants_room};
 
 use crate::answer::{answer, is_refusal};
+use crate::codes::{
+    CREATE_PRIMARY, FLUSH_CONTEXT, HANDLE_OF_PARAMETER_1, LOAD, OBJECT_MEMORY, SUCCESS,
+};
 use crate::command::PlainCommand;
 use crate::completion::{Completion, Held};
 use tpm_bytes::Cursor;
@@ -51,7 +54,7 @@ impl Completion {
         ensures counts { IfSome result (λ place. self.now.count < 2 ^ 64 - 1) }
     {
         match PlainCommand::read(buffer) {
-            Ok(command) if command.code == 0x165 => self.flush_of(command.parameters),
+            Ok(command) if command.code == FLUSH_CONTEXT => self.flush_of(command.parameters),
             _ => None,
         }
     }
@@ -64,7 +67,7 @@ impl Completion {
     {
         let held = self.object(place);
         if held.waits != 0 {
-            answer(0x1cb, &[], text);
+            answer(HANDLE_OF_PARAMETER_1, &[], text);
             return;
         }
         self.count += 1;
@@ -76,7 +79,7 @@ impl Completion {
                 waits: number,
             },
         );
-        answer(0, &[], text);
+        answer(SUCCESS, &[], text);
     }
 
     /// Of the object in a place, and one that waits or none, the one that waits longer.
@@ -130,7 +133,7 @@ impl Completion {
 fn wants_room(row: Row, response: &[u8]) -> bool
     ensures { result ≡ wants_room row response.now }
 {
-    (row.code == 0x131 || row.code == 0x157) && is_refusal(0x902, response)
+    (row.code == CREATE_PRIMARY || row.code == LOAD) && is_refusal(OBJECT_MEMORY, response)
 }
 
 /// The command that flushes the object in a place.

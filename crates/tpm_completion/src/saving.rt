@@ -6,6 +6,10 @@ ghost use Rattle.tpm_step.specs.declared.event.Outcome.{Outcome as Told};
 ghost use Rattle.tpm_completion.specs.Saving.{Reply, context_given, counted, handle_given, loaded, next_number, object_loaded, object_saved, place_named, refused, saved, session_loaded, session_saved, token_loaded, with_object, with_session};
 
 use crate::answer::answer;
+use crate::codes::{
+    HANDLE_OF_PARAMETER_1, INTEGRITY_OF_PARAMETER_1, REFERENCE_H0, SUCCESS, TOO_MANY_CONTEXTS,
+    VALUE_OF_HANDLE_1,
+};
 use crate::completion::{Completion, Held};
 use crate::context::{Token, context_text, read_token};
 use tpm_containers::numbered;
@@ -50,12 +54,12 @@ impl Completion {
     }
 
     /// Answers with the context of this number.
-    fn give_context<K: Keep>(&self, keep: &K, handle: Handle, context: u64, text: &mut Response)
+    fn give_context(&self, handle: Handle, context: u64, text: &mut Response)
         ensures { record { response = text.new.items; after = self.now }
-            ≡ context_given (K.record_of keep.now) self.now handle context }
+            ≡ context_given self.now handle context }
     {
         let token = Token { context, handle };
-        answer(0, context_text(keep, token).as_slice(), text);
+        answer(SUCCESS, context_text(self.start, token).as_slice(), text);
     }
 
     /// Refuses with this code.
@@ -71,10 +75,10 @@ impl Completion {
             ≡ object_saved (K.record_of keep.now) self.old handle held }
     {
         if keep.objects().get(handle).is_none() || held.waits != 0 {
-            return self.refuse(0x910, text);
+            return self.refuse(REFERENCE_H0, text);
         }
         if held.context != 0 {
-            return self.give_context(keep, handle, held.context, text);
+            return self.give_context(handle, held.context, text);
         }
         match self.next_number() {
             Some(number) => {
@@ -86,9 +90,9 @@ impl Completion {
                         waits: 0,
                     },
                 );
-                self.give_context(keep, handle, number, text);
+                self.give_context(handle, number, text);
             }
-            None => self.refuse(0x12e, text),
+            None => self.refuse(TOO_MANY_CONTEXTS, text),
         }
     }
 
@@ -98,15 +102,15 @@ impl Completion {
             ≡ session_saved (K.record_of keep.now) self.old handle context }
     {
         if keep.sessions().get(handle).is_none() || context != 0 {
-            return self.refuse(0x910, text);
+            return self.refuse(REFERENCE_H0, text);
         }
         match self.next_number() {
             Some(number) => {
                 self.count = number;
                 self.set_session(place_named(handle), number);
-                self.give_context(keep, handle, number, text);
+                self.give_context(handle, number, text);
             }
-            None => self.refuse(0x12e, text),
+            None => self.refuse(TOO_MANY_CONTEXTS, text),
         }
     }
 
@@ -123,7 +127,7 @@ impl Completion {
             let context = self.session(place_named(handle));
             self.save_session(keep, handle, context, text);
         } else {
-            self.refuse(0x184, text);
+            self.refuse(VALUE_OF_HANDLE_1, text);
         }
     }
 
@@ -132,7 +136,7 @@ impl Completion {
         ensures { record { response = text.new.items; after = self.now }
             ≡ handle_given self.now handle }
     {
-        answer(0, &handle.number.to_be_bytes(), text);
+        answer(SUCCESS, &handle.number.to_be_bytes(), text);
     }
 
     /// Loads the object of a context again.
@@ -143,7 +147,7 @@ impl Completion {
         let place = place_named(token.handle);
         let is_there = keep.objects().get(token.handle).is_some();
         if !is_there || token.context == 0 || token.context != self.object(place).context {
-            return self.refuse(0x1cb, text);
+            return self.refuse(HANDLE_OF_PARAMETER_1, text);
         }
         self.set_object(
             place,
@@ -163,7 +167,7 @@ impl Completion {
         let place = place_named(token.handle);
         let is_there = keep.sessions().get(token.handle).is_some();
         if !is_there || token.context == 0 || token.context != self.session(place) {
-            return self.refuse(0x1cb, text);
+            return self.refuse(HANDLE_OF_PARAMETER_1, text);
         }
         self.set_session(place, 0);
         self.give_handle(token.handle, text);
@@ -178,7 +182,7 @@ impl Completion {
         } else if token.handle.is_session() {
             self.load_session(keep, token, text);
         } else {
-            self.refuse(0x1cb, text);
+            self.refuse(HANDLE_OF_PARAMETER_1, text);
         }
     }
 
@@ -188,9 +192,9 @@ impl Completion {
         ensures { record { response = text.new.items; after = self.new }
             ≡ loaded (K.record_of keep.now) self.old context.now }
     {
-        match read_token(keep, context) {
+        match read_token(self.start, context) {
             Ok(token) => self.load_token(keep, token, text),
-            Err(_) => self.refuse(0x1df, text),
+            Err(_) => self.refuse(INTEGRITY_OF_PARAMETER_1, text),
         }
     }
 }
