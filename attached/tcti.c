@@ -126,7 +126,10 @@ static void begin(TSS2_TCTI_CONTEXT *handed, struct kept *kept, uint8_t locality
 }
 
 EXPORTED TSS2_RC Tss2_Tcti_Tpmsim_Init(TSS2_TCTI_CONTEXT *handed, size_t *size,
-                                       const char *config) {
+                                       const char *config);
+EXPORTED const TSS2_TCTI_INFO *Tss2_Tcti_Info(void);
+
+TSS2_RC Tss2_Tcti_Tpmsim_Init(TSS2_TCTI_CONTEXT *handed, size_t *size, const char *config) {
     struct words words;
     struct reason reason;
     if (!size) return TSS2_TCTI_RC_BAD_VALUE;
@@ -149,6 +152,4 @@ static const TSS2_TCTI_INFO INFO = {
     .init = Tss2_Tcti_Tpmsim_Init,
 };
 
-EXPORTED const TSS2_TCTI_INFO *Tss2_Tcti_Info(void);
-
-EXPORTED const TSS2_TCTI_INFO *Tss2_Tcti_Info(void) { return &INFO; }
+const TSS2_TCTI_INFO *Tss2_Tcti_Info(void) { return &INFO; }
