@@ -1,6 +1,6 @@
 /* libtss2-tcti-tpmsim: a device for libtss2, in the process that loads this module, or kept in a
- * folder. It is what the TCG's "TSS 2.0 TPM Command Transmission Interface" calls a TCTI, of its
- * version 2. A fault is a line on standard error, and one of that paper's return codes. */
+ * folder. The module is a TCTI of version 2, as the TCG's "TSS 2.0 TPM Command Transmission
+ * Interface" has it. A fault is a line on standard error, and one of that paper's return codes. */
 #define _GNU_SOURCE
 #include "words.h"
 #include <stdio.h>
