@@ -1,5 +1,5 @@
-/* How a journal begins: as a file beside the other one, whose place it then takes. So there is a
- * whole journal at each moment. */
+/* How a journal begins: as a file beside the other one, whose place it then takes. A whole journal
+ * stands there at each moment. */
 #define _GNU_SOURCE
 #include "journal.h"
 #include "told.h"

@@ -123,9 +123,10 @@ static bool open_lock(struct folder *folder, struct reason *reason) {
         if (made >= 0) close(made);
     }
     folder->lock = folder_open_file(folder, LOCK, &status, reason);
+    if (folder->lock < 0) return false;
     folder->lock_identity = identity_of(&status);
     folder->process = getpid();
-    return folder->lock >= 0;
+    return true;
 }
 
 static void close_lock(struct folder *folder) {

@@ -51,16 +51,21 @@ static bool execute_part(struct journal *journal, const uint8_t *part, size_t si
     return told == TPMSIM_DONE || refuse_journal(journal, told_words(told), 0, reason);
 }
 
+/* How many bytes the next part has. */
+static size_t next_part(const struct journal *journal) {
+    uint64_t left = journal->size - journal->executed;
+    return left < PART ? (size_t)left : PART;
+}
+
 /* Has the device execute all that stands behind what it executed, part by part. */
 static bool execute_parts(struct journal *journal, uint8_t *part, struct reason *reason) {
     for (bool is_last = false; !is_last;) {
-        uint64_t left = journal->size - journal->executed;
-        size_t wanted = left < PART ? (size_t)left : PART;
+        size_t wanted = next_part(journal);
         ssize_t got = transfer_read(journal->file, part, wanted, (off_t)journal->executed);
         if (got < 0) return refuse_journal(journal, "cannot be read", errno, reason);
         if ((size_t)got < wanted)
             return refuse_journal(journal, "was shortened while it was read", 0, reason);
-        is_last = left == wanted;
+        is_last = wanted == journal->size - journal->executed;
         if (!execute_part(journal, part, wanted, is_last, reason)) return false;
     }
     return true;
@@ -68,7 +73,7 @@ static bool execute_parts(struct journal *journal, uint8_t *part, struct reason 
 
 static bool execute_rest(struct journal *journal, struct reason *reason) {
     if (journal->executed > 0 && journal->executed == journal->size) return true;
-    uint8_t *part = malloc(PART);
+    uint8_t *part = malloc(next_part(journal) + 1);
     if (!part) return refuse_journal(journal, told_words(TPMSIM_NO_MEMORY), 0, reason);
     bool is_done = execute_parts(journal, part, reason);
     free(part);

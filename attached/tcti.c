@@ -1,6 +1,6 @@
 /* libtss2-tcti-tpmsim: a device for libtss2, in the process that loads this module, or kept in a
- * folder. It is what the TCG's "TSS 2.0 TPM Command Transmission Interface" calls a TCTI, of its
- * version 2. A fault is a line on standard error, and one of that paper's return codes. */
+ * folder. The module is a TCTI of version 2, as the TCG's "TSS 2.0 TPM Command Transmission
+ * Interface" has it. A fault is a line on standard error, and one of that paper's return codes. */
 #define _GNU_SOURCE
 #include "words.h"
 #include <stdio.h>
@@ -126,7 +126,10 @@ static void begin(TSS2_TCTI_CONTEXT *handed, struct kept *kept, uint8_t locality
 }
 
 EXPORTED TSS2_RC Tss2_Tcti_Tpmsim_Init(TSS2_TCTI_CONTEXT *handed, size_t *size,
-                                       const char *config) {
+                                       const char *config);
+EXPORTED const TSS2_TCTI_INFO *Tss2_Tcti_Info(void);
+
+TSS2_RC Tss2_Tcti_Tpmsim_Init(TSS2_TCTI_CONTEXT *handed, size_t *size, const char *config) {
     struct words words;
     struct reason reason;
     if (!size) return TSS2_TCTI_RC_BAD_VALUE;
@@ -149,6 +152,4 @@ static const TSS2_TCTI_INFO INFO = {
     .init = Tss2_Tcti_Tpmsim_Init,
 };
 
-EXPORTED const TSS2_TCTI_INFO *Tss2_Tcti_Info(void);
-
-EXPORTED const TSS2_TCTI_INFO *Tss2_Tcti_Info(void) { return &INFO; }
+const TSS2_TCTI_INFO *Tss2_Tcti_Info(void) { return &INFO; }

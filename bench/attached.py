@@ -72,8 +72,9 @@ class Swtpm:
 
 def run(words: list[str], transport: str) -> None:
     """Runs a tool of tpm2-tools, which has to end well."""
-    environment = os.environ | {"TPM2TOOLS_TCTI": transport, "TSS2_LOG": "all+none"}
-    subprocess.run(words, env=environment, check=True, stdout=subprocess.DEVNULL)
+    environment = os.environ | {"TPM2TOOLS_TCTI": transport}
+    nowhere = subprocess.DEVNULL
+    subprocess.run(words, env=environment, check=True, stdout=nowhere, stderr=nowhere)
 
 
 def tool_time(tools: list[list[str]], transport: str) -> float:

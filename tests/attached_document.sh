@@ -5,6 +5,7 @@ page=$tests/../docs/ATTACHED.md
 attached=$tests/../attached
 
 # quoted HEADING: prints what is quoted in the first cells of a heading's table, one a line.
+# shellcheck disable=SC2016 # the quotes are backticks
 quoted() {
     awk -v heading="## $1" '
         /^## / { is_there = $0 == heading }

@@ -8,18 +8,19 @@ needs objdump
 echo '#include <tss2/tss2_tcti.h>' | cc -E - >"$room/header" 2>&1 ||
     skip 'there is no header tss2/tss2_tcti.h, which Debian has in libtss2-dev'
 
-# make FOLDER: makes all of it in a folder.
+# make TOP FOLDER: makes all of it in a folder, of the sources in another one.
 make() {
-    TPMSIM_ARCHIVE=$archive sh "$tests/../tools/attached.sh" "$1" 2>&1 |
+    TPMSIM_ARCHIVE=$archive sh "$1/tools/attached.sh" "$2" 2>&1 |
         sed -e "s,^[^:]*attached.sh: ,," -e "s,$room,ROOM,g"
 }
 
 module=libtss2-tcti-tpmsim.so.0
-make first
+top=$tests/..
+make "$top" first
 cp -R "$tests/../attached" "$tests/../tools" "$room/"
-mkdir -p "$room/other/tests"
+mkdir "$room/other"
 mv "$room/attached" "$room/tools" "$room/other/"
-(umask 077 && tests=$room/other/tests && make second/folder)
+(umask 077 && make "$room/other" second/folder)
 ls first
 for file in "$module" tpmsim-power; do
     cmp "first/$file" "second/folder/$file" && echo "$file: the same bytes each time"
@@ -31,18 +32,23 @@ objdump -p "first/$module" | sed -n 's/^ *\(NEEDED\|SONAME\) */\1 /p'
 objdump -h "first/$module" | grep -c 'build-id\|debug_info'
 nm "first/$module" 2>&1 | sed 's/^nm: //'
 echo 'tpmsim-power:'
-for words in '' 'one two' none; do
+mkdir empty
+attach ask ask
+"$room/ask" state=kept 80010000000c000001440000 80010000000c0000017b0000
+for words in '' 'one two' none empty kept; do
     # shellcheck disable=SC2086 # they are words
     first/tpmsim-power $words
     echo "status $?"
 done 2>&1
+ls empty
+"$room/ask" state=kept 80010000000c0000017b0000
 echo 'faults:'
-sh "$tests/../tools/attached.sh" 2>&1 | sed 's,^[^:]*attached.sh: ,,'
+sh "$top/tools/attached.sh" 2>&1 | sed 's,^[^:]*attached.sh: ,,'
 archive=$room/none
-make third
+make "$top" third
 : >"$room/empty.a"
 archive=$room/empty.a
-make third
+make "$top" third
 archive=$(readlink -f "$program")
-make "$room/empty.a/folder" 2>&1 | tail -n 1
+make "$top" "$room/empty.a/folder" | tail -n 1
 ls

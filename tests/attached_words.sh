@@ -42,7 +42,7 @@ ask 'a word that is none' colour=blue
 short='s/ is none of the words .* or force=always$/ is none of them/'
 for words in state stat=x state= image= complete=1 completes locality= locality=5 \
     locality=-1 locality=00 locality=a random= random=0 random=0g "random=${many}00" force \
-    force= force=sometimes force=neverr force=never , complete, ,complete state=a,,complete \
+    force= force=sometimes force=neverr force=never ',' 'complete,' ,complete state=a,,complete \
     complete,complete state=a,state=b ' complete' State=a; do
     ask "'$(echo "$words" | cut -c 1-40)'" "$words"
 done

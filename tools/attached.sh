@@ -1,6 +1,6 @@
 #!/bin/sh
 # Makes what attaches a kept device, in a folder: the module for libtss2, libtss2-tcti-tpmsim.so.0,
-# and tpmsim-power. They have the library within them, and are the same bytes each time.
+# and tpmsim-power. Both have the library within them, and are the same bytes each time.
 #
 #   tools/attached.sh FOLDER
 #

@@ -192,13 +192,17 @@ contexts() {
     for what in algorithms properties-fixed properties-variable handles-loaded-session; do
         tool getcap "$what"
     done
+    tool flushcontext -t
     tool createprimary -C o -G aes128cfb -g sha256 -c primary.context
+    tool flushcontext -t
     tool startauthsession -S trial.context
     tool policypcr -S trial.context -l sha256:16 -L pcr.policy
     tool flushcontext trial.context
     tool create -C primary.context -i key -u key.pub -r key.priv -L pcr.policy -g sha256 \
         -a 'fixedtpm|fixedparent'
+    tool flushcontext -t
     tool load -C primary.context -u key.pub -r key.priv -c key.context
+    tool flushcontext -t
     tool startauthsession --policy-session -S session.context
     tool policypcr -S session.context -l sha256:16
     tool unseal -c key.context -p session:session.context
@@ -247,7 +251,7 @@ serve() {
 keep() {
     [ -e made ] || "$top/tools/attached.sh" made || exit 2
     rm -rf state
-    export TPM2TOOLS_TCTI="$folder/made/libtss2-tcti-tpmsim.so.0:state=$folder/state$1"
+    export TPM2TOOLS_TCTI="tpmsim:state=$folder/state$1" LD_LIBRARY_PATH="$folder/made"
 }
 
 zeros=$(printf '%064d' 0)

@@ -109,7 +109,7 @@ static void try_receive(TSS2_TCTI_CONTEXT *context) {
     told("receive once more", Tss2_Tcti_Receive(context, &size, response, -1));
 }
 
-/* Extends PCR 20, which localities 1 to 4 may, from each locality. */
+/* Extends PCR 20, which localities 2 to 4 may, from each locality. */
 static void try_localities(TSS2_TCTI_CONTEXT *context) {
     uint8_t command[sizeof EXTEND], response[RESPONSE_BYTES];
     memcpy(command, EXTEND, sizeof EXTEND);
@@ -163,7 +163,7 @@ static void try_no_context(TSS2_TCTI_CONTEXT *context) {
     Tss2_Tcti_Finalize(context);
 }
 
-/* The same with the functions themselves and no context at all. */
+/* The functions themselves with no context at all. */
 static void try_null(TSS2_TCTI_CONTEXT *context) {
     uint8_t response[RESPONSE_BYTES];
     size_t size = sizeof response;
