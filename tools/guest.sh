@@ -159,6 +159,7 @@ combination() {
     firmware=$1
     device=$2
     name=$1-$2
+    rm -rf "$folder/$name-swtpm-state" "$folder/$name-pcrs-state" "$folder/$name-state"
     boot "$name-swtpm" swtpm "$name-swtpm-state" guest=pcrs
     boot "$name-pcrs" tpmsim "$name-pcrs-state" guest=pcrs
     measured "$name-swtpm" >"$folder/wanted"
