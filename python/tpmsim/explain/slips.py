@@ -48,14 +48,21 @@ def slips(use: Use) -> list[Slip]:
 
 
 def found(use: Use) -> list[Slip]:
+    """What makes the HMAC that was given; a whole command that is sent again is a slip of its own."""
+    if not use.entry.hmac:
+        return [left_out()]
+    explained = by_trying(use)
+    line = use.scene.past.accepted_buffers.get(use.scene.buffer)
+    is_past = any(it.name == "old nonceTPM" for it in explained)
+    if line is None or explained and not is_past:
+        return explained
+    words = f"the same command was accepted in line {line}, and its nonceTPM is past since then"
+    return [Slip("sent again", words, "", lambda it: it)]
+
+
+def by_trying(use: Use) -> list[Slip]:
     """The first slip, or the first pair of them, whose HMAC is the one that was given."""
     given, right = use.entry.hmac, use.right()
-    if not given:
-        return [left_out()]
-    line = use.scene.past.accepted_buffers.get(use.scene.buffer)
-    if line is not None:
-        words = f"the same command was accepted in line {line}, and its nonceTPM is past since then"
-        return [Slip("sent again", words, "", lambda it: it)]
     those = slips(use)
     for one in [*those, *zeros(use)]:
         if matches(given, one.change(right)):
