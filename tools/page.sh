@@ -31,12 +31,12 @@ check() {
     fi
 }
 
-# A page with the keys pressed on it, which says of itself what came of them.
-tried() {
-    "$top/tools/python.sh" "$top/tests/outside/scripts/tried_page.py" "$1" >"$2"
+# program NAME WORD: runs a program of the package's tests.
+program() {
+    PYTHONPATH=$top/python python3 -B "$top/python/tests/$1" "$2"
 }
 
-"$top/tools/python.sh" "$top/tests/outside/scripts/long_log.py" 10000 >"$work/long.tpm" || exit 1
+program long_log.py 10000 >"$work/long.tpm" || exit 1
 "$top/tools/explain.py" --html "$work/long.tpm" >"$work/long.html" || exit 1
 browser --window-size=1600,1000 --dump-dom "file://$work/long.html" >"$work/long.dom"
 opened=$(sed -n 's/.*data-opened="\([0-9]*\)".*/\1/p' "$work/long.dom" | head -n 1)
@@ -45,7 +45,7 @@ check "10,000 commands were there after ${opened:-no} ms" "$?"
 
 "$top/tools/explain.py" --html "$top/examples/disk_unlock.tpm" "$top/examples/disk_unlock.out" \
     >"$work/page.html" || exit 1
-tried "$work/page.html" "$work/tried.html"
+program tried_page.py "$work/page.html" >"$work/tried.html" || exit 1
 for width in 400 1600; do
     browser --window-size="$width,900" --dump-dom "file://$work/tried.html" >"$work/tried.dom"
     sed -n 's/.*data-tried="\([^"]*\)".*/\1/p' "$work/tried.dom" | tr ';' '\n' >"$work/tried.txt"

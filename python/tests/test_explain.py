@@ -54,7 +54,8 @@ class Logs(unittest.TestCase):
     def test_all_scripts(self):
         """No refusal has a code alone, no script is a crash, and model and answers part nowhere."""
         refused = 0
-        for script in sorted([*TOP.glob("tests/*.tpm"), *TOP.glob("examples/*.tpm")]):
+        scripts = [*TOP.glob("tests/**/*.tpm"), *TOP.glob("examples/*.tpm")]
+        for script in sorted(it for it in scripts if it.with_suffix(".out").exists()):
             if script.stat().st_size > MOST_BYTES:
                 continue
             beside = script.with_suffix(".trace")

@@ -264,6 +264,11 @@ class Policies(unittest.TestCase):
         self.tpm.send(self.tpm.unsealing(handle, use))
         found = self.reason(self.tpm.unsealing(handle, use.session))
         self.assertIn("with which its policy began anew", found.words)
+        again = self.tpm.policy(first).session
+        self.tpm.send(self.tpm.restart(again))
+        line = len(self.device.trace) - 1
+        found = self.reason(self.tpm.unsealing(handle, again))
+        self.assertIn(f"It was told nothing since line {line}, with which", found.words)
 
     def test_name_of_an_index(self):
         """A policy that names an index by the Name that it had before its first write."""

@@ -30,17 +30,20 @@ def page_of(name, log, answers=None):
 
 
 class Elements(html.parser.HTMLParser):
-    """The elements of a page with their attributes, and the text of its scripts."""
+    """The elements of a page with their attributes, the text of its scripts, and that of the last of
+    each other element.
+    """
 
     def __init__(self, text):
         super().__init__()
-        self.found, self.scripts, self.inside = [], [], None
+        self.found, self.scripts, self.inside, self.texts = [], [], None, {}
         self.feed(text)
         self.close()
 
     def handle_starttag(self, tag, attrs):
         self.found.append((tag, dict(attrs)))
         self.inside = tag
+        self.texts[tag] = ""
         if tag == "script":
             self.scripts.append("")
 
@@ -50,6 +53,8 @@ class Elements(html.parser.HTMLParser):
     def handle_data(self, data):
         if self.inside == "script":
             self.scripts[-1] += data
+        elif self.inside:
+            self.texts[self.inside] += data
 
 
 class Page(unittest.TestCase):
@@ -60,11 +65,14 @@ class Page(unittest.TestCase):
         parsed = Elements(hostile)
         tags = [tag for tag, _ in parsed.found]
         self.assertEqual(tags, [tag for tag, _ in plain.found])
+        name = pathlib.PurePath(HOSTILE).name
+        self.assertEqual(parsed.texts["title"], f"{name}, explained")
+        self.assertEqual(parsed.texts["h1"], name)
         self.assertEqual(len(parsed.scripts), 2)
         data = parsed.scripts[0]
         self.assertNotRegex(data, "[<>&]")
         value = json.loads(data)
-        self.assertEqual(value["name"], pathlib.PurePath(HOSTILE).name)
+        self.assertEqual(value["name"], name)
         self.assertTrue(any(HOSTILE in it for it in value["texts"]))
         self.assertEqual(parsed.scripts[1], plain.scripts[1])
 
