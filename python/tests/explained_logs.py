@@ -1,6 +1,21 @@
 """Logs that tests explain, and a caller that makes a slip."""
 
+import pathlib
+
 from tpmsim.explain.play import Play
+
+TOP = pathlib.Path(__file__).resolve().parents[2]
+EXAMPLE = TOP / "examples" / "disk_unlock.tpm"
+
+
+def lines_with(words):
+    """The numbers of the lines of the example that begin so."""
+    lines = EXAMPLE.read_text().splitlines()
+    return [at for at, it in enumerate(lines, 1) if it.startswith(words)]
+
+
+# Where the disk stays locked, as another text went into PCR 7.
+LOCKED, MOVED = lines_with("do Unseal")[-1], lines_with("do PCR_Event 00000007")[-1]
 
 
 def events_of(*lines, answers=None):

@@ -8,7 +8,7 @@ import tempfile
 import unittest
 
 import table_rules
-from explained_logs import events_of
+from explained_logs import EXAMPLE, LOCKED, MOVED, TOP, events_of, lines_with
 from tpmsim.caller import BY_OWNER, BY_POLICY, Caller, area
 from tpmsim.device import ModelDevice
 from tpmsim.explain import main as command_line
@@ -17,9 +17,6 @@ from tpmsim.explain.play import Play
 from tpmsim.explain.rules import RULES
 from tpmsim.model.image import image
 from tpmsim.standard import CC
-
-TOP = pathlib.Path(__file__).resolve().parents[2]
-EXAMPLE = TOP / "examples" / "disk_unlock.tpm"
 
 # Longer scripts are left out here, as they take half a minute; they are bent and cut commands.
 MOST_BYTES = 40_000
@@ -117,14 +114,15 @@ class CommandLine(unittest.TestCase):
     def test_text(self):
         output, error, status = told(EXAMPLE, EXAMPLE.with_suffix(".trace"))
         self.assertEqual((error, status), ("", 0))
-        self.assertIn("line 198: Unseal is refused: POLICY_FAIL/s1 (99d), by check G9", output)
-        self.assertIn("PCR 7 was written by  line 167 (PCR_Event of PCR 7)", output)
+        said = f"line {LOCKED}: Unseal is refused: POLICY_FAIL/s1 (99d), by check G9"
+        self.assertIn(said, output)
+        self.assertIn(f"PCR 7 was written by  line {MOVED} (PCR_Event of PCR 7)", output)
         self.assertTrue(output.rstrip().endswith("90 answers of the log are the model's."))
 
     def test_at(self):
-        output, _, status = told(EXAMPLE, "--at", 198)
+        output, _, status = told(EXAMPLE, "--at", LOCKED)
         self.assertEqual(status, 0)
-        self.assertNotIn("line 114", output)
+        self.assertNotIn(f"line {lines_with('do Unseal')[0]}", output)
         self.assertIn("itemHandle", output)
         _, error, status = told(EXAMPLE, "--at", 1)
         self.assertEqual(
@@ -138,8 +136,8 @@ class CommandLine(unittest.TestCase):
             (value["commands"], value["refused"], value["power_cycles"], status), (45, 6, 2, 0)
         )
         lines = [(it["line"], it["refused"], it["reason"]["rule"]) for it in value["events"]]
-        self.assertIn((198, "POLICY_FAIL/s1", "condition/8"), lines)
-        whole = json.loads(told(EXAMPLE, "--json", "--at", 198)[0])["events"]
+        self.assertIn((LOCKED, "POLICY_FAIL/s1", "condition/8"), lines)
+        whole = json.loads(told(EXAMPLE, "--json", "--at", LOCKED)[0])["events"]
         self.assertEqual(whole[0]["fields"][3]["name"], "itemHandle")
 
     def test_statuses(self):

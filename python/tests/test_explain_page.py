@@ -8,12 +8,10 @@ import pathlib
 import re
 import unittest
 
+from explained_logs import EXAMPLE, lines_with
 from tpmsim.explain import page
 from tpmsim.explain.play import Play
 from tpmsim.explain.text import Counts
-
-TOP = pathlib.Path(__file__).resolve().parents[2]
-EXAMPLE = TOP / "examples" / "disk_unlock.tpm"
 
 # A log may hold anything: in its name, in comments, in words and in bytes that are a text.
 HOSTILE = "</script><script>alert(1)</script><!--<img src=x onerror=alert(2)>&amp;@DATA@"
@@ -100,7 +98,9 @@ class Page(unittest.TestCase):
         texts, events = value["texts"], value["events"]
         self.assertEqual((value["name"], len(events)), ("disk_unlock.tpm", 47))
         refused = [it for it in events if "x" in it]
-        self.assertEqual([it["l"] for it in refused], [114, 140, 150, 198, 201, 204])
+        unseals, loads = lines_with("do Unseal"), lines_with("do Load")
+        wanted = [unseals[0], *unseals[2:], *loads[-2:]]
+        self.assertEqual([it["l"] for it in refused], wanted)
         self.assertEqual([texts[it["x"]] for it in refused][3], "POLICY_FAIL/s1")
         self.assertIn("The PCRs differ: PCR 7.", refused[3]["y"][0])
         self.assertEqual([it["m"] for it in events if "m" in it][:5], [0, 7, 4, 11, 11])
