@@ -18,8 +18,8 @@ from tpmsim.explain.rules import RULES
 from tpmsim.model.image import image
 from tpmsim.standard import CC
 
-# Longer scripts are left out here, as they take half a minute; they are bent and cut commands.
-MOST_BYTES = 40_000
+# Longer scripts are left out here, as all take half a minute. Most are bent and cut commands.
+MOST_BYTES = 20_000
 
 
 def told(*words):
