@@ -89,6 +89,9 @@ class Logs(unittest.TestCase):
         self.assertEqual([it.words for it in events[0].differences], [words])
         events = events_of("# 10:11:12.131 Startup L0 +0 ok 00000000", "do Startup 0")
         self.assertEqual((events[0].answers, events[0].differences), (1, []))
+        others = "# 00000123 01234567", "# 54504d490002000000a200000000", "# 0123456", "# Startup"
+        events = events_of("do Startup 0", *others)
+        self.assertEqual((events[0].answers, events[0].differences), (0, []))
 
     def test_answers_beside(self):
         script = EXAMPLE.read_bytes().decode().splitlines()
