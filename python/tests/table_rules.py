@@ -90,8 +90,10 @@ class Rules:
     def add(self, key, text, link):
         assert key not in self.found, key
         text = plain(text)
-        ends = text.endswith((".", ":"))
-        self.found[key] = text[0].upper() + text[1:] + ("" if ends else "."), f"docs/table/{link}"
+        is_word = text.partition(" ")[0].islower()
+        begin = text[0].upper() if is_word else text[0]
+        end = "" if text.endswith((".", ":")) else "."
+        self.found[key] = begin + text[1:] + end, f"docs/table/{link}"
 
     def general(self):
         """G1 to G11, and M."""
@@ -105,7 +107,7 @@ class Rules:
                 number = f".{names[: at + 1].count(name)}" if names.count(name) > 1 else ""
                 words = row[0]
                 if check == "G9" and name in ("AUTH_FAIL", "BAD_AUTH"):
-                    words += ". " + paragraphs(text)[-1]
+                    words += ". " + " ".join(SENTENCE.split(paragraphs(text)[-1])[:2])
                 self.add(f"{check}/{name}{number}", words, link)
             if not rows:
                 self.add(check, paragraphs(text)[0], link)

@@ -8,12 +8,10 @@ import pathlib
 import re
 import unittest
 
+from explained_logs import EXAMPLE, lines_with
 from tpmsim.explain import page
 from tpmsim.explain.play import Play
 from tpmsim.explain.text import Counts
-
-TOP = pathlib.Path(__file__).resolve().parents[2]
-EXAMPLE = TOP / "examples" / "disk_unlock.tpm"
 
 # A log may hold anything: in its name, in comments, in words and in bytes that are a text.
 HOSTILE = "</script><script>alert(1)</script><!--<img src=x onerror=alert(2)>&amp;@DATA@"
@@ -30,17 +28,20 @@ def page_of(name, log, answers=None):
 
 
 class Elements(html.parser.HTMLParser):
-    """The elements of a page with their attributes, and the text of its scripts."""
+    """The elements of a page with their attributes, the text of its scripts, and that of the last of
+    each other element.
+    """
 
     def __init__(self, text):
         super().__init__()
-        self.found, self.scripts, self.inside = [], [], None
+        self.found, self.scripts, self.inside, self.texts = [], [], None, {}
         self.feed(text)
         self.close()
 
     def handle_starttag(self, tag, attrs):
         self.found.append((tag, dict(attrs)))
         self.inside = tag
+        self.texts[tag] = ""
         if tag == "script":
             self.scripts.append("")
 
@@ -50,6 +51,8 @@ class Elements(html.parser.HTMLParser):
     def handle_data(self, data):
         if self.inside == "script":
             self.scripts[-1] += data
+        elif self.inside:
+            self.texts[self.inside] += data
 
 
 class Page(unittest.TestCase):
@@ -60,11 +63,14 @@ class Page(unittest.TestCase):
         parsed = Elements(hostile)
         tags = [tag for tag, _ in parsed.found]
         self.assertEqual(tags, [tag for tag, _ in plain.found])
+        name = pathlib.PurePath(HOSTILE).name
+        self.assertEqual(parsed.texts["title"], f"{name}, explained")
+        self.assertEqual(parsed.texts["h1"], name)
         self.assertEqual(len(parsed.scripts), 2)
         data = parsed.scripts[0]
         self.assertNotRegex(data, "[<>&]")
         value = json.loads(data)
-        self.assertEqual(value["name"], pathlib.PurePath(HOSTILE).name)
+        self.assertEqual(value["name"], name)
         self.assertTrue(any(HOSTILE in it for it in value["texts"]))
         self.assertEqual(parsed.scripts[1], plain.scripts[1])
 
@@ -92,7 +98,9 @@ class Page(unittest.TestCase):
         texts, events = value["texts"], value["events"]
         self.assertEqual((value["name"], len(events)), ("disk_unlock.tpm", 47))
         refused = [it for it in events if "x" in it]
-        self.assertEqual([it["l"] for it in refused], [114, 140, 150, 198, 201, 204])
+        unseals, loads = lines_with("do Unseal"), lines_with("do Load")
+        wanted = [unseals[0], *unseals[2:], *loads[-2:]]
+        self.assertEqual([it["l"] for it in refused], wanted)
         self.assertEqual([texts[it["x"]] for it in refused][3], "POLICY_FAIL/s1")
         self.assertIn("The PCRs differ: PCR 7.", refused[3]["y"][0])
         self.assertEqual([it["m"] for it in events if "m" in it][:5], [0, 7, 4, 11, 11])

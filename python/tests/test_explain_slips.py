@@ -8,10 +8,10 @@ from dataclasses import replace
 
 from tpmsim.caller import BY_VALUE, Caller, HERE, Refused, Use, area, hmac_key, sealed
 from tpmsim.device import ModelDevice
-from tpmsim.explain.play import Play
 from tpmsim.standard import AES, RH_NULL, RH_OWNER, SHA1, SHA256, XOR, policy, sessions
 from tpmsim.standard.frames import ALG_NULL, CONTINUE_SESSION, DECRYPT, ENCRYPT, sized
 from tpmsim.standard.objects import Attribute
+from explained_logs import explained, sessions_of, without_value
 
 # How many random sessions each slip is tried in.
 ROUNDS = 10
@@ -96,16 +96,6 @@ class Case:
         text = front + prepared.code.to_bytes(4, "big") + b"".join(own if names is None else names)
         text += prepared.parameters if parameters is None else parameters
         return sessions.digest(algorithm or self.session.algorithm, text)
-
-
-def explained(device):
-    """The last event of a device's trace, as it is explained."""
-    log = "\n".join(device.trace).encode()
-    play = Play()
-    events = list(play.events(log))
-    assert play.bad_line is None
-    assert not any(it.differences for it in events)
-    return events[-1]
 
 
 class Slips(unittest.TestCase):
@@ -366,12 +356,6 @@ class Slips(unittest.TestCase):
             self.refused(case, prepared, "HMAC in place of a password")
 
 
-def without_value(tpm):
-    """The encryption of a caller that leaves the authorization value out of its key."""
-    right = type(tpm).encrypted
-    return lambda use, handle, parameters: right(tpm, use, None, parameters)
-
-
 def policy_digest(words, algorithm):
     """By a trial session on a device of its own."""
     tpm = Caller(ModelDevice(seed=b"trial"))
@@ -379,14 +363,6 @@ def policy_digest(words, algorithm):
     trial = tpm.trial(algorithm)
     tpm.tell(trial, words)
     return tpm.send(tpm.get_digest(trial))["policyDigest"]
-
-
-def sessions_of(device):
-    """What is known of each session of a trace."""
-    play = Play()
-    for _ in play.events("\n".join(device.trace).encode()):
-        pass
-    return play.past.sessions.values()
 
 
 if __name__ == "__main__":

@@ -6,7 +6,7 @@ from tpmsim.explain import ingredients, means, passwords, policies, slips
 from tpmsim.explain.ingredients import Use
 from tpmsim.explain.reason import HAD, Reason, WANTED
 from tpmsim.explain.scene import Scene
-from tpmsim.explain.words import bytes_words, handle_words, plural, seconds_words
+from tpmsim.explain.words import bytes_words, handle_words, seconds_words
 from tpmsim.model.protection import LOCKOUT_AUTH, MILLISECONDS, TRIES
 from tpmsim.standard import handle_kinds, policy
 from tpmsim.standard.frames import Entry
@@ -161,7 +161,9 @@ def counted_words(scene: Scene, entry: Entry, handle: int | None) -> str:
         return "It counts no try, as recoveryTime is 0."
     left = max(0, lockout.max_tries - lockout.failed_tries)
     closes = (
-        "which locks out what is protected" if not left else f"{plural(left, 'more')} locks it out"
+        "which locks out what is protected"
+        if not left
+        else f"{left} more {'locks' if left == 1 else 'lock'} it out"
     )
     return f"It counted as failed try {lockout.failed_tries} of {lockout.max_tries}; {closes}."
 

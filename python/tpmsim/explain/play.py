@@ -18,7 +18,11 @@ from tpmsim.model.player import BadLine, LINES, Player
 from tpmsim.standard import policy
 from tpmsim.standard.aes_tables import encrypt_block
 
-GIVEN = re.compile(rb"# (?:[0-9:.]{8,} )?(\S+ L\d \+\d+ \S+ [0-9a-f]{8}|[0-9a-f]{8}|[0-9a-f]{20,})")
+# An answer in a comment: a trace, which may have the time of day before it, a code or a response.
+GIVEN = re.compile(
+    rb"# (\d\d:\d\d:\d\d\.\d{3} )?"
+    rb"(\S+ L\d \+\d+ \S+ [0-9a-f]{8}|[0-9a-f]{8}|(?:8001|8002|00c4)[0-9a-f]{16,})"
+)
 
 
 @dataclass
@@ -107,7 +111,7 @@ class Play:
         for self.line, text in enumerate(lines[:LINES], 1):
             given = GIVEN.fullmatch(text)
             if given:
-                self.given(given[1].decode("ascii"), is_before=b":" in text.split(b" ")[1])
+                self.given(given[2].decode("ascii"), is_before=given[1] is not None)
                 continue
             if text.startswith(b"#") or not text:
                 self.comment(text[1:].decode("latin-1").strip())

@@ -119,13 +119,14 @@ function groupShown(group, list, changed) {
   }
   const isChanged = [...entities.values()].some((all) => all.some(([, , it]) => it));
   const head = make("summary", {}, group, make("span", { class: "dim" }, briefly(group, entities)), isChanged ? make("span", { class: "dim changed" }, "changed") : null);
-  const found = make("details", { open: open.has(group) }, head);
+  const isOpen = open.has(group) || isChanged;
+  const found = make("details", { open: isOpen }, head);
   found.addEventListener("toggle", () => {
-    if (found.open) open.add(group);
-    else open.delete(group);
-    if (found.open && found.childElementCount === 1) found.append(...entitiesShown(group, entities));
+    if (found.open && !isChanged) open.add(group);
+    else if (!found.open) open.delete(group);
+    if (found.open && found.childElementCount === 1) found.append(...entitiesShown(entities));
   });
-  if (open.has(group)) found.append(...entitiesShown(group, entities));
+  if (isOpen) found.append(...entitiesShown(entities));
   return found;
 }
 
@@ -137,7 +138,7 @@ function briefly(group, entities) {
   return `${all.get("failed tries")} of ${all.get("maxTries")} tries failed, Clock ${all.get("Clock")}`;
 }
 
-function entitiesShown(group, entities) {
+function entitiesShown(entities) {
   const found = [];
   for (const [of, all] of entities) {
     const shown = make("dl");
