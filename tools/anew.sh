@@ -30,7 +30,7 @@ cd "$work" || exit 1
 
 failed=0
 # A program says in its first line what it writes.
-grep -lE '^"""Writes (tests|examples)/' tests/*/*.py examples/*.py |
+grep -lE '^"""Writes [a-z_0-9]+[.](tpm|lines)' tests/*/*.py examples/*.py |
     xargs -P "$jobs" -n 1 tools/python.sh || failed=1
 tools/python.sh tests/common/expected.py || failed=1
 

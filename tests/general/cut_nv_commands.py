@@ -1,4 +1,4 @@
-"""Writes tests/general/cut_nv_commands.tpm: the commands on NV indices, cut to every shorter length."""
+"""Writes cut_nv_commands.tpm: the commands on NV indices, cut to every shorter length."""
 
 from tests.general import cuts
 from tpmsim.standard import CC, RH_OWNER, SHA256, command, entry, frames, number, nv, on_handle

@@ -1,4 +1,4 @@
-"""Writes tests/general/cut_state_commands.tpm: the commands on what a device keeps, cut to every shorter
+"""Writes cut_state_commands.tpm: the commands on what a device keeps, cut to every shorter
 length.
 """
 
