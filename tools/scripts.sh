@@ -71,7 +71,7 @@ fi
 for name do
     shift
     found=
-    # shellcheck disable=SC2086 # a name may be a pattern
+    # shellcheck disable=SC2086,SC2231 # a name may be a pattern
     for test in "$top/tests/"$name.sh "$top/tests/"*/$name.sh "$top/tests/"$name.tpm \
         "$top/tests/"*/$name.tpm "$top/examples/"$name.tpm; do
         if is_test "$test"; then

@@ -47,7 +47,7 @@ script.command(
 FIRST = 0x8000_0000
 answer = script.command(
     'TPM2_HMAC of "what do ya want for nothing?" with SHA-256, which is test case 2 of RFC 4231: '
-        "SUCCESS",
+    "SUCCESS",
     on_handle(CC.HMAC, FIRST, sized(QUESTION) + number(SHA256, 2)),
 )
 assert mac(SHA256, b"Jefe", QUESTION) in answer
