@@ -68,6 +68,9 @@ def bytes_text(lines):
 
 # What is compared. A difference in the device in Python is one too: it must not fail.
 
+# What a device in Python raises that has a defect.
+DEFECTS = ArithmeticError, AssertionError, AttributeError, LookupError, TypeError, ValueError
+
 
 @dataclass
 class Kind:
@@ -83,7 +86,7 @@ class Kind:
     def first_difference(self, program, lines):
         try:
             return self.difference(program, lines)
-        except Exception as fault:
+        except DEFECTS as fault:
             return 0, "a device in Python that does not fail", repr(fault)
 
     def told(self):
@@ -230,11 +233,13 @@ def main(program, *words):
     print(f"from seed {first} on", flush=True)
     seed = first
     while seed < last and time.monotonic() - began < seconds:
+        is_done = False
         try:
             fuzz.round(seed)
-        except Exception:
-            print(f"FAILS: seed {seed}", flush=True)
-            raise
+            is_done = True
+        finally:
+            if not is_done:
+                print(f"FAILS: seed {seed}", flush=True)
         seed += 1
     print(f"{seed - first} rounds")
     fuzz.tell()
