@@ -18,7 +18,9 @@ from collections import Counter
 from dataclasses import dataclass, field
 from itertools import zip_longest
 
+from tpmsim.model.general import Refusal
 from tpmsim.model import player, streams
+from tpmsim.standard.reading import Short
 from tests.at_random import served_runs as serving
 from tests.at_random.bent_script import bent_script
 from tests.at_random.random_script import Writer
@@ -69,7 +71,10 @@ def bytes_text(lines):
 # What is compared. A difference in the device in Python is one too: it must not fail.
 
 # What a device in Python raises that has a defect.
-DEFECTS = ArithmeticError, AssertionError, AttributeError, LookupError, TypeError, ValueError
+DEFECTS = (
+    *(ArithmeticError, AssertionError, AttributeError, LookupError, TypeError, ValueError),
+    *(Refusal, Short),
+)
 
 
 @dataclass
