@@ -36,6 +36,9 @@ export PYTHONPYCACHEPREFIX="$work/python"
 : >"$work/queue"
 number=0
 
+# The tests that take longest begin first, then the other shell tests, and then the scripts.
+longest=' starved front library_scripts audit bent_lines images policy_audit torn launcher '
+
 # say WORDS: a line that stands between what is said of tests.
 say() {
     number=$((number + 1))
@@ -47,8 +50,10 @@ say() {
 check() {
     number=$((number + 1))
     printf '%s\t%s\t%s\t%s\n' "$1" "$2" "$3" "${4:-}" >>"$work/queue"
-    case $1 in
-    *.sh) echo "$number" >>"$work/long" ;;
+    name=${1##*/}
+    case $1,$longest in
+    *.sh,*" ${name%.sh} "*) echo "$number" >>"$work/longest" ;;
+    *.sh,*) echo "$number" >>"$work/long" ;;
     *) echo "$number" >>"$work/short" ;;
     esac
 }
@@ -166,9 +171,8 @@ show() {
     done
 }
 
-# The shell tests begin first, which take longest.
-touch "$work/long" "$work/short"
-cat "$work/long" "$work/short" |
+touch "$work/longest" "$work/long" "$work/short"
+cat "$work/longest" "$work/long" "$work/short" |
     xargs -P "$jobs" -n 1 sh "$top/tools/lib/one_test.sh" "$work" |
     {
         show
