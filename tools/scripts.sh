@@ -4,7 +4,7 @@
 # files beside them. Then it runs the scripts that are to end well with tpmsim_lists, which keeps
 # the device's state in lists and not in fixed places, for the same bytes over both keeps; and the
 # shell tests of that program; and those of the library, over the one in dist/. Where nothing was
-# built here, what is in dist/ is run alone; that takes half a minute, and needs no `rt`.
+# built here, what is in dist/ is run alone; that takes a minute, and needs no `rt`.
 #
 #   tools/scripts.sh                   all of them
 #   tools/scripts.sh pcr_extend files  these
