@@ -262,4 +262,4 @@ COMMANDS = [
 
 
 if __name__ == "__main__":
-    cuts.write("cut_commands.tpm", HEAD, LISTED, COMMANDS)
+    cuts.write(__file__, HEAD, LISTED, COMMANDS)

@@ -93,4 +93,4 @@ COMMANDS = [
 
 
 if __name__ == "__main__":
-    cuts.write("cut_state_commands.tpm", HEAD, LISTED, COMMANDS)
+    cuts.write(__file__, HEAD, LISTED, COMMANDS)
