@@ -49,7 +49,7 @@ prepared = {
     "extend": lambda: extending(caller, use),
 }[kind]()
 buffer = prepared.buffer()
-script.command("", "SUCCESS", buffer)
-script.command("", "SUCCESS", buffer)
+script.command("SUCCESS", buffer)
+script.command("SUCCESS", buffer)
 kept = [it for it in script.lines if it.startswith(("cmd", "do ", "entropy"))]
 print("\n".join([in_hex(it) for it in kept[:-2]] + [in_hex(kept[-1])] * count))

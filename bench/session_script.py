@@ -22,8 +22,8 @@ script.entropy(b"\xbb")
 script.fresh = lambda: None
 session = caller.start("A session", RH_OWNER)
 buffer = caller.reset(Use(session)).buffer()
-script.command("", "SUCCESS", buffer)
-script.command("", "SUCCESS", buffer)
+script.command("SUCCESS", buffer)
+script.command("SUCCESS", buffer)
 lines = [line for line in script.lines if line.startswith(("cmd", "do ", "entropy"))]
 print("\n".join(lines[:-2]))
 for _ in range(int(sys.argv[1])):

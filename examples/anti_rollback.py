@@ -1,4 +1,4 @@
-"""Writes examples/anti_rollback.tpm: a disk's key that no old image gets any more."""
+"""Writes anti_rollback.tpm: a disk's key that no old image gets any more."""
 
 import hashlib
 
@@ -46,7 +46,7 @@ def policy_of(version):
 
 
 def says(what, prepared):
-    tpm.says(what, "SUCCESS", prepared)
+    tpm.says(f"{what}: SUCCESS", prepared)
 
 
 def start(version):
@@ -151,19 +151,17 @@ tpm.flush_objects("The storage root key is flushed", parent)
 
 script.chapter("What runs behind the boot loader cannot touch the counter.")
 tpm.fails(
-    "TPM2_NV_Increment as the platform, by the empty value of before",
-    "BAD_AUTH/s1",
+    "TPM2_NV_Increment as the platform, by the empty value of before: BAD_AUTH/s1",
     tpm.incrementing(MINIMUM, by=RH_PLATFORM),
 )
 tpm.fails(
-    "By the owner, as there is no OWNERWRITE",
-    "NV_AUTHORIZATION",
+    "By the owner, as there is no OWNERWRITE: NV_AUTHORIZATION",
     tpm.incrementing(MINIMUM, by=RH_OWNER),
 )
 tpm.fails(
-    "By the index itself, as there is no AUTHWRITE", "AUTH_UNAVAILABLE", tpm.incrementing(MINIMUM)
+    "By the index itself, as there is no AUTHWRITE: AUTH_UNAVAILABLE", tpm.incrementing(MINIMUM)
 )
-tpm.fails("TPM2_NV_UndefineSpace by the owner", "NV_AUTHORIZATION", tpm.undefining(MINIMUM))
+tpm.fails("TPM2_NV_UndefineSpace by the owner: NV_AUTHORIZATION", tpm.undefining(MINIMUM))
 
 script.chapter("A START with image 1. The disk is unlocked.")
 start(1)
@@ -212,18 +210,14 @@ parent = storage_root()
 handle = tpm.load("TPM2_Load of the token of image 1", parent, token_1)
 session = tpm.policy("TPM2_StartAuthSession")
 says("TPM2_PolicyPCR of PCR 11", tpm.pcrs(session, CHOSEN))
-tpm.fails("TPM2_PolicyNV: 2 is not less than or equal to 1", "POLICY", compared(session, 1))
-tpm.fails("TPM2_Unseal without it", "POLICY_FAIL/s1", tpm.unsealing(handle, session))
+tpm.fails("TPM2_PolicyNV: 2 is not less than or equal to 1: POLICY", compared(session, 1))
+tpm.fails("TPM2_Unseal without it: POLICY_FAIL/s1", tpm.unsealing(handle, session))
 tpm.does("TPM2_PolicyNV with 2 as its version, which holds", compared(session, 2))
 tpm.fails(
-    "TPM2_Unseal: but the version is in the digest",
-    "POLICY_FAIL/s1",
-    tpm.unsealing(handle, session),
+    "TPM2_Unseal: but the version is in the digest: POLICY_FAIL/s1", tpm.unsealing(handle, session)
 )
 other = tpm.load("TPM2_Load of the token of image 2", parent, token_2)
-tpm.fails(
-    "TPM2_Unseal: PCR 11 has measured image 1", "POLICY_FAIL/s1", tpm.unsealing(other, session)
-)
+tpm.fails("TPM2_Unseal: PCR 11 has measured image 1: POLICY_FAIL/s1", tpm.unsealing(other, session))
 hand_over()
 
 script.chapter("A START with image 2. It is unlocked as before.")
@@ -243,5 +237,5 @@ tpm.read(
 )
 session = tpm.policy("TPM2_StartAuthSession")
 says("TPM2_PolicyPCR of PCR 11", tpm.pcrs(session, CHOSEN))
-tpm.fails("TPM2_PolicyNV: 3 is not less than or equal to 2", "POLICY", compared(session, 2))
+tpm.fails("TPM2_PolicyNV: 3 is not less than or equal to 2: POLICY", compared(session, 2))
 script.write()

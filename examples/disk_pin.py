@@ -1,4 +1,4 @@
-"""Writes examples/disk_pin.tpm: a disk's key behind a PIN of four digits, and who guesses it."""
+"""Writes disk_pin.tpm: a disk's key behind a PIN of four digits, and who guesses it."""
 
 import hashlib
 
@@ -27,8 +27,8 @@ def storage_root(what):
     return tpm.create_primary(what, RH_OWNER, storage_key())
 
 
-def guess(what, outcome, *pins):
-    tpm.says(what, outcome, *(tpm.unsealing(disk, it) for it in pins))
+def guess(words, *pins):
+    tpm.says(words, *(tpm.unsealing(disk, it) for it in pins))
 
 
 def start_computer():
@@ -50,8 +50,7 @@ script.chapter(
 tpm.set_protection("Its three parameters are those", 5, TEN_MINUTES, 86_400)
 tpm.says(
     "TPM2_HierarchyChangeAuth gives TPM_RH_LOCKOUT a long passphrase, which is kept in a drawer: "
-    "with it the owner will be able to unlock what a thief, or a child, has locked",
-    "SUCCESS",
+    "with it the owner will be able to unlock what a thief, or a child, has locked: SUCCESS",
     tpm.change_auth(RH_LOCKOUT, RECOVERY, b""),
 )
 tpm.auth_values[RH_LOCKOUT] = RECOVERY
@@ -72,7 +71,7 @@ token = tpm.create(
 
 script.chapter("EACH START asks for the PIN.")
 disk = start_computer()
-guess("The owner mistypes it. This is a try, and it is counted", "AUTH_FAIL/s1", b"7319")
+guess("The owner mistypes it. This is a try, and it is counted: AUTH_FAIL/s1", b"7319")
 tpm.unseal("TPM2_Unseal with the right PIN: the disk's key", disk, DISK_KEY)
 script.chapter("The try stays counted. Ten minutes later it is forgiven.")
 script.wait(1000 * TEN_MINUTES)
@@ -80,37 +79,35 @@ tpm.unseal("The right PIN", disk, DISK_KEY)
 
 script.chapter("THE COMPUTER IS STOLEN. The thief starts it, and guesses.")
 disk = start_computer()
-guess("Five popular PINs", "AUTH_FAIL/s1", *GUESSES)
-guess("The sixth guess is the right one, and is not even looked at", "LOCKOUT", PIN)
+guess("Five popular PINs: AUTH_FAIL/s1", *GUESSES)
+guess("The sixth guess is the right one, and is not even looked at: LOCKOUT", PIN)
 script.chapter("Switching it off and on does not help, as tries are kept without power.")
 disk = start_computer()
-guess("Still", "LOCKOUT", PIN)
+guess("Still: LOCKOUT", PIN)
 script.chapter("Nor does guessing lockoutAuth, of which there is one try a day.")
-tpm.says("TPM2_DictionaryAttackLockReset with a guess", "AUTH_FAIL/s1", tpm.lock_reset(b"password"))
-tpm.says("With the next one", "LOCKOUT", tpm.lock_reset(b"letmein"))
+tpm.says("TPM2_DictionaryAttackLockReset with a guess: AUTH_FAIL/s1", tpm.lock_reset(b"password"))
+tpm.says("With the next one: LOCKOUT", tpm.lock_reset(b"letmein"))
 script.chapter(
     "Waiting does. Ten minutes buy one guess: all 10,000 would take 69 days, and a PIN of six "
     "digits 19 years."
 )
 script.wait(1000 * TEN_MINUTES - 1)
-guess("A millisecond too early", "LOCKOUT", b"9999")
+guess("A millisecond too early: LOCKOUT", b"9999")
 script.wait(1)
-guess("Then one guess is looked at", "AUTH_FAIL/s1", b"9999")
-guess("And no other", "LOCKOUT", PIN)
+guess("Then one guess is looked at: AUTH_FAIL/s1", b"9999")
+guess("And no other: LOCKOUT", PIN)
 
 script.chapter("THE COMPUTER IS BACK. The owner does not want to wait.")
 tpm.says(
-    "lockoutAuth is still closed by the thief's guess, for the rest of that day",
-    "LOCKOUT",
+    "lockoutAuth is still closed by the thief's guess, for the rest of that day: LOCKOUT",
     tpm.lock_reset(RECOVERY),
 )
 script.wait(86_400_000 - 1000 * TEN_MINUTES)
 tpm.says(
-    "The next day: TPM2_DictionaryAttackLockReset by the passphrase forgets all tries",
-    "SUCCESS",
+    "The next day: TPM2_DictionaryAttackLockReset by the passphrase forgets all tries: SUCCESS",
     tpm.lock_reset(RECOVERY),
 )
 tpm.unseal("TPM2_Unseal with the right PIN: the disk's key", disk, DISK_KEY)
-guess("And all five tries are there again, of which this is one", "AUTH_FAIL/s1", b"7319")
+guess("And all five tries are there again, of which this is one: AUTH_FAIL/s1", b"7319")
 tpm.unseal("The right PIN", disk, DISK_KEY)
 script.write()

@@ -1,4 +1,4 @@
-"""Writes examples/disk_unlock.tpm: a disk's key, sealed at enrolment and unsealed at each start."""
+"""Writes disk_unlock.tpm: a disk's key, sealed at enrolment and unsealed at each start."""
 
 import hashlib
 from dataclasses import replace
@@ -79,10 +79,10 @@ script.chapter(
     "The policy: a trial session tells what digest TPM2_PolicyPCR makes of PCR 7 and 11 of now."
 )
 trial = tpm.trial("TPM2_StartAuthSession of type 03, TPM_SE_TRIAL: 03000000")
-tpm.says("TPM2_PolicyPCR of PCR 7 and 11 of the SHA-256 bank", "SUCCESS", tpm.pcrs(trial, CHOSEN))
+tpm.says("TPM2_PolicyPCR of PCR 7 and 11 of the SHA-256 bank: SUCCESS", tpm.pcrs(trial, CHOSEN))
 AUTH_POLICY = policy_of(BOOT)
 tpm.digest_is("TPM2_PolicyGetDigest: the authPolicy", trial, AUTH_POLICY)
-tpm.says("TPM2_FlushContext of the trial session", "SUCCESS", tpm.flush(trial))
+tpm.says("TPM2_FlushContext of the trial session: SUCCESS", tpm.flush(trial))
 
 script.chapter(
     "The disk's key, 32 bytes, is added to the disk as one that unlocks it (a LUKS key slot), and "
@@ -109,9 +109,7 @@ assert tpm.names[parent] == name_at_enrolment
 handle = tpm.load("TPM2_Load of the token's two areas: 80000001", parent, token)
 tpm.flush_objects("The storage root key is not needed any more", parent)
 tpm.says(
-    "A password does not unseal, as userWithAuth is clear",
-    "AUTH_UNAVAILABLE",
-    tpm.unsealing(handle),
+    "A password does not unseal, as userWithAuth is clear: AUTH_UNAVAILABLE", tpm.unsealing(handle)
 )
 session = tpm.policy(
     "TPM2_StartAuthSession of type 01, TPM_SE_POLICY: 03000000. It is bound to nothing, so that "
@@ -119,8 +117,7 @@ session = tpm.policy(
     "and TPM reads what is unsealed"
 )
 tpm.says(
-    "TPM2_PolicyPCR: the digest of the session becomes the authPolicy",
-    "SUCCESS",
+    "TPM2_PolicyPCR: the digest of the session becomes the authPolicy: SUCCESS",
     tpm.pcrs(session, CHOSEN),
 )
 tpm.unseal("TPM2_Unseal: the disk's key, and the disk is unlocked", handle, DISK_KEY, session)
@@ -128,19 +125,16 @@ tpm.unseal("TPM2_Unseal: the disk's key, and the disk is unlocked", handle, DISK
 script.chapter(
     "What runs later must not get the key. Before the system proper is started, PCR 11 moves on."
 )
-tpm.says("Somebody has prepared a session by then", "SUCCESS", tpm.pcrs(session, CHOSEN))
+tpm.says("Somebody has prepared a session by then: SUCCESS", tpm.pcrs(session, CHOSEN))
 measure(LEAVE)
 tpm.refused(
-    "TPM2_Unseal by it: a PCR has changed since TPM2_PolicyPCR",
-    "PCR_CHANGED",
+    "TPM2_Unseal by it: a PCR has changed since TPM2_PolicyPCR: PCR_CHANGED",
     tpm.unsealing(handle, session),
 )
-tpm.says("TPM2_PolicyRestart", "SUCCESS", tpm.restart(session))
-tpm.says("TPM2_PolicyPCR, of the values of now", "SUCCESS", tpm.pcrs(session, CHOSEN))
+tpm.says("TPM2_PolicyRestart: SUCCESS", tpm.restart(session))
+tpm.says("TPM2_PolicyPCR, of the values of now: SUCCESS", tpm.pcrs(session, CHOSEN))
 tpm.refused(
-    "TPM2_Unseal: the digest is not the authPolicy",
-    "POLICY_FAIL/s1",
-    tpm.unsealing(handle, session),
+    "TPM2_Unseal: the digest is not the authPolicy: POLICY_FAIL/s1", tpm.unsealing(handle, session)
 )
 
 script.chapter("ANOTHER START, with secure boot switched off. The disk stays locked.")
@@ -151,16 +145,14 @@ parent = storage_root("TPM2_CreatePrimary: the storage root key does not depend 
 assert tpm.names[parent] == name_at_enrolment
 handle = tpm.load("TPM2_Load does not, either", parent, token)
 session = tpm.policy("TPM2_StartAuthSession")
-tpm.says("TPM2_PolicyPCR", "SUCCESS", tpm.pcrs(session, CHOSEN))
-tpm.refused("TPM2_Unseal", "POLICY_FAIL/s1", tpm.unsealing(handle, session))
+tpm.says("TPM2_PolicyPCR: SUCCESS", tpm.pcrs(session, CHOSEN))
+tpm.refused("TPM2_Unseal: POLICY_FAIL/s1", tpm.unsealing(handle, session))
 tpm.says(
-    "With another policy in the token's public area, the empty one: TPM2_Load",
-    "INTEGRITY/p1",
+    "With another policy in the token's public area, the empty one: TPM2_Load: INTEGRITY/p1",
     tpm.loading(parent, replace(token, public=replace(token.public, auth_policy=b""))),
 )
 tpm.says(
-    "With a bit of its private area changed",
-    "INTEGRITY/p1",
+    "With a bit of its private area changed: INTEGRITY/p1",
     tpm.loading(parent, replace(token, private=flipped(token.private))),
 )
 script.write()

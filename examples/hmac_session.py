@@ -1,4 +1,4 @@
-"""Writes examples/hmac_session.tpm: a caller changes ownerAuth through an HMAC session."""
+"""Writes hmac_session.tpm: a caller changes ownerAuth through an HMAC session."""
 
 from tpmsim.caller import Use
 from tpmsim.standard import CONTINUE_SESSION, DECRYPT, ENCRYPT, RH_OWNER
@@ -36,11 +36,10 @@ script.chapter(
 change = tpm.change_auth(RH_OWNER, b"a longer value", Use(session, CONTINUE_SESSION | DECRYPT))
 tpm.accepted("TPM2_HierarchyChangeAuth", change)
 tpm.refused(
-    "Somebody who listened sends the same buffer again, whose nonce is past", "BAD_AUTH/s1", change
+    "Somebody who listened sends the same buffer again, whose nonce is past: BAD_AUTH/s1", change
 )
 tpm.refused(
-    "Or tries the old password, with a value of their own",
-    "BAD_AUTH/s1",
+    "Or tries the old password, with a value of their own: BAD_AUTH/s1",
     tpm.change_auth(RH_OWNER, b"theirs", b"cradle"),
 )
 
@@ -64,5 +63,5 @@ tpm.accepted(
     "The session has done its work, and its place is given back (TPM2_FlushContext)",
     tpm.flush(session),
 )
-tpm.refused("It is no more", "REFERENCE_S0", tpm.reset(session))
+tpm.refused("It is no more: REFERENCE_S0", tpm.reset(session))
 script.write()

@@ -1,4 +1,4 @@
-"""Writes examples/nv_secret.tpm: a secret behind a password, that is read once at each start."""
+"""Writes nv_secret.tpm: a secret behind a password, that is read once at each start."""
 
 import hashlib
 
@@ -65,16 +65,14 @@ tpm.does(
     tpm.writing(SECRET_INDEX, SECRET, Use(owner, DECRYPTS), by=RH_OWNER),
 )
 tpm.fails(
-    "TPM2_NV_Write of a part, as WRITEALL asks for the whole",
-    "NV_RANGE",
+    "TPM2_NV_Write of a part, as WRITEALL asks for the whole: NV_RANGE",
     tpm.writing(SECRET_INDEX, SECRET[:16], Use(owner, DECRYPTS), by=RH_OWNER),
 )
 tpm.fails(
-    "TPM2_NV_Read by the owner, who has no OWNERREAD",
-    "NV_AUTHORIZATION",
+    "TPM2_NV_Read by the owner, who has no OWNERREAD: NV_AUTHORIZATION",
     tpm.reading(SECRET_INDEX, len(SECRET), owner, by=RH_OWNER),
 )
-tpm.says("TPM2_FlushContext of the session", "SUCCESS", tpm.flush(owner))
+tpm.says("TPM2_FlushContext of the session: SUCCESS", tpm.flush(owner))
 
 script.chapter("THE NEXT START. The boot loader asks for the password.")
 start()
@@ -89,11 +87,11 @@ session = bound_session(
     "it: its session's key is made of the right one"
 )
 tpm.fails(
-    "TPM2_NV_Read: the hmac is wrong. As the index has no NO_DA, it is protected from guessing",
+    "TPM2_NV_Read: the hmac is wrong. As the index has no NO_DA, it is protected from guessing: "
     "AUTH_FAIL/s1",
     tpm.reading(SECRET_INDEX, len(SECRET), Use(session, ENCRYPTS)),
 )
-tpm.says("TPM2_FlushContext of the session", "SUCCESS", tpm.flush(session))
+tpm.says("TPM2_FlushContext of the session: SUCCESS", tpm.flush(session))
 tpm.auth_values[SECRET_INDEX] = PASSWORD
 session = bound_session(
     "With the right password. TPM2_StartAuthSession of a session that is bound to the index, with "
@@ -107,7 +105,7 @@ answer = tpm.does(
     read,
 )
 assert answer[2:] == SECRET and SECRET not in script.last.response
-tpm.fails("Somebody who listened sends the same buffer again", "AUTH_FAIL/s1", read)
+tpm.fails("Somebody who listened sends the same buffer again: AUTH_FAIL/s1", read)
 tpm.does(
     "TPM2_NV_ReadLock by the session. It sets READLOCKED, so the Name is another, the session is "
     "not bound to the index any more, and the password is in the key of the response's hmac",
@@ -115,21 +113,17 @@ tpm.does(
 )
 
 script.chapter("BEHIND THE BOOT LOADER nobody reads the secret.")
-tpm.fails(
-    "TPM2_NV_Read by the session", "NV_LOCKED", tpm.reading(SECRET_INDEX, len(SECRET), session)
-)
-tpm.fails("By the right password", "NV_LOCKED", tpm.reading(SECRET_INDEX, len(SECRET), PASSWORD))
-tpm.fails("Of one byte", "NV_LOCKED", tpm.reading(SECRET_INDEX, 1, PASSWORD))
+tpm.fails("TPM2_NV_Read by the session: NV_LOCKED", tpm.reading(SECRET_INDEX, len(SECRET), session))
+tpm.fails("By the right password: NV_LOCKED", tpm.reading(SECRET_INDEX, len(SECRET), PASSWORD))
+tpm.fails("Of one byte: NV_LOCKED", tpm.reading(SECRET_INDEX, 1, PASSWORD))
 tpm.is_now("TPM2_NV_ReadPublic: the attributes have READLOCKED", SECRET_INDEX)
 script.command(
-    "TPM2_Startup without a power cycle does not open it",
-    "INITIALIZE",
+    "TPM2_Startup without a power cycle does not open it: INITIALIZE",
     frames.command(CC.Startup, frames.number(0, 2)),
 )
 tpm.fails(
     "Nor does anybody write it or take it away who does not know ownerAuth (TPM2_NV_Write and "
-    "TPM2_NV_UndefineSpace by the empty password)",
-    "BAD_AUTH/s1",
+    "TPM2_NV_UndefineSpace by the empty password): BAD_AUTH/s1",
     tpm.writing(SECRET_INDEX, bytes(32), b"", by=RH_OWNER),
     tpm.undefining(SECRET_INDEX, b""),
 )
@@ -143,6 +137,6 @@ tpm.does(
     "TPM2_NV_ReadLock, and the session ends with it",
     tpm.read_locking(SECRET_INDEX, Use(session, 0)),
 )
-tpm.fails("It is no more", "REFERENCE_S0", tpm.reading(SECRET_INDEX, 32, session))
-tpm.fails("And the index is locked", "NV_LOCKED", tpm.reading(SECRET_INDEX, 32, PASSWORD))
+tpm.fails("It is no more: REFERENCE_S0", tpm.reading(SECRET_INDEX, 32, session))
+tpm.fails("And the index is locked: NV_LOCKED", tpm.reading(SECRET_INDEX, 32, PASSWORD))
 script.write()

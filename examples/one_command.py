@@ -1,4 +1,4 @@
-"""Writes examples/one_command.tpm: a policy that lets one command through, by its cpHash."""
+"""Writes one_command.tpm: a policy that lets one command through, by its cpHash."""
 
 from tpmsim.caller import area
 from tpmsim.standard import RH_OWNER, SHA256, command_hash, name_of, policy
@@ -63,14 +63,13 @@ tpm.accepted(
 tpm.digest_is("TPM2_PolicyGetDigest: the digest is the authPolicy", session, by_owner)
 
 script.chapter("THE TECHNICIAN has a session for one command.")
-tpm.fails("TPM2_NV_Write of another value", "POLICY_FAIL/s1", write(OTHER))
+tpm.fails("TPM2_NV_Write of another value: POLICY_FAIL/s1", write(OTHER))
 tpm.fails(
-    "Of the right one at another offset",
-    "POLICY_FAIL/s1",
+    "Of the right one at another offset: POLICY_FAIL/s1",
     tpm.writing(FIRST, NEW[:-1], session, offset=1),
 )
 tpm.does("TPM2_NV_Write of the approved one", write(NEW))
-tpm.fails("The same again: the approval is used up", "POLICY_FAIL/s1", write(NEW))
+tpm.fails("The same again: the approval is used up: POLICY_FAIL/s1", write(NEW))
 tpm.read("TPM2_NV_Read by the empty value", FIRST, NEW)
 
 script.chapter(
@@ -82,15 +81,14 @@ tpm.accepted(
     tpm.secret(session, OWNER_AUTH, of=RH_OWNER, cp_hash=hash_of(write(OLD))),
 )
 before = tpm.cp_hash_told(session, approved)
-tpm.says("TPM2_PolicyCpHash of what was approved before", "CPHASH", before)
-tpm.says("Of what is approved now", "SUCCESS", tpm.cp_hash_told(session, hash_of(write(OLD))))
+tpm.says("TPM2_PolicyCpHash of what was approved before: CPHASH", before)
+tpm.says("Of what is approved now: SUCCESS", tpm.cp_hash_told(session, hash_of(write(OLD))))
 tpm.fails(
     "The cpHash holds, and the digest is another now. No authPolicy of the index can be that one: "
-    "it is in the index's Name, and the Name is in cpHash. TPM2_NV_Write",
-    "POLICY_FAIL/s1",
+    "it is in the index's Name, and the Name is in cpHash. TPM2_NV_Write: POLICY_FAIL/s1",
     write(OLD),
 )
-tpm.says("TPM2_PolicyRestart takes both assertions back", "SUCCESS", tpm.restart(session))
+tpm.says("TPM2_PolicyRestart takes both assertions back: SUCCESS", tpm.restart(session))
 tpm.accepted(
     "Approved once more, by TPM2_PolicySecret alone",
     tpm.secret(session, OWNER_AUTH, of=RH_OWNER, cp_hash=hash_of(write(OLD))),

@@ -1,4 +1,4 @@
-"""Writes examples/sealing_policy.tpm: the policy of a disk's key, made in a trial session."""
+"""Writes sealing_policy.tpm: the policy of a disk's key, made in a trial session."""
 
 from tpmsim.standard import CC, SHA256, digest, policy, selection
 from tpmsim.caller.script_caller import ScriptCaller, zeros
@@ -39,7 +39,7 @@ def start_of(measurements):
 
 
 def says(what, prepared):
-    tpm.says(what, "SUCCESS", prepared)
+    tpm.says(f"{what}: SUCCESS", prepared)
 
 
 def for_every_branch(session, words):
@@ -111,7 +111,7 @@ says(
 for_every_branch(trial, ("", "", ""))
 wanted = after_all_of_it(policy.after_or(SHA256, branches))
 tpm.digest_is("TPM2_PolicyGetDigest: the policy with which the key is sealed", trial, wanted)
-tpm.refused("A trial session authorizes nothing", "ATTRIBUTES/s1", tpm.reset(trial))
+tpm.refused("A trial session authorizes nothing: ATTRIBUTES/s1", tpm.reset(trial))
 says("It has done its work (TPM2_FlushContext)", tpm.flush(trial))
 
 script.chapter("The computer is started with the next boot loader.")
@@ -136,13 +136,10 @@ start_of((7, "That secure boot is off", b"secure boot off") if it[0] == 7 else i
 session = tpm.policy("TPM2_StartAuthSession")
 says("TPM2_PolicyPCR, which makes another digest", tpm.pcrs(session, CHOSEN))
 tpm.says(
-    "TPM2_PolicyOR, as the digest is neither of the two",
-    "VALUE/p1",
-    tpm.branches(session, *branches),
+    "TPM2_PolicyOR, as the digest is neither of the two: VALUE/p1", tpm.branches(session, *branches)
 )
 tpm.says(
-    "TPM2_PolicyPCR with the digest of the values of the update",
-    "VALUE/p1",
+    "TPM2_PolicyPCR with the digest of the values of the update: VALUE/p1",
     tpm.pcrs(session, CHOSEN, measured_by(UPDATED)),
 )
 script.write()

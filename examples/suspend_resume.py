@@ -1,4 +1,4 @@
-"""Writes examples/suspend_resume.tpm: a laptop sleeps, and its TPM loses power and comes back."""
+"""Writes suspend_resume.tpm: a laptop sleeps, and its TPM loses power and comes back."""
 
 import hashlib
 
@@ -47,19 +47,19 @@ def load_key():
 def unlock(outcome, handle):
     """By a policy session, which has to find the PCRs of the enrolment."""
     session = tpm.policy("TPM2_StartAuthSession of a policy session")
-    tpm.says("TPM2_PolicyPCR of PCR 0, 4 and 11", "SUCCESS", tpm.pcrs(session, CHOSEN))
+    tpm.says("TPM2_PolicyPCR of PCR 0, 4 and 11: SUCCESS", tpm.pcrs(session, CHOSEN))
     if outcome == "SUCCESS":
         tpm.unseal("TPM2_Unseal: the key", handle, KEY, session)
     else:
-        tpm.fails("TPM2_Unseal", outcome, tpm.unsealing(handle, session))
+        tpm.fails(f"TPM2_Unseal: {outcome}", tpm.unsealing(handle, session))
 
 
 def sealed_key():
     """What TPM2_Create answers, for the PCRs of now."""
     trial = tpm.trial("A trial session, for the policy")
-    tpm.says("TPM2_PolicyPCR of PCR 0, 4 and 11", "SUCCESS", tpm.pcrs(trial, CHOSEN))
+    tpm.says("TPM2_PolicyPCR of PCR 0, 4 and 11: SUCCESS", tpm.pcrs(trial, CHOSEN))
     answer = tpm.does("TPM2_PolicyGetDigest", tpm.get_digest(trial))
-    tpm.says("TPM2_FlushContext", "SUCCESS", tpm.flush(trial))
+    tpm.says("TPM2_FlushContext: SUCCESS", tpm.flush(trial))
     parent = tpm.create_primary("TPM2_CreatePrimary of the storage key", RH_OWNER, storage_key())
     made = tpm.create(
         "TPM2_Create of the sealed key, with this policy",
@@ -92,7 +92,7 @@ tpm.does(
     tpm.clock(),
 )
 script.chapter("Sessions and objects do not survive; the operating system loads what it needs.")
-tpm.fails("The key's old handle", "REFERENCE_H0", tpm.public(key))
+tpm.fails("The key's old handle: REFERENCE_H0", tpm.public(key))
 key = load_key()
 unlock("SUCCESS", key)
 
@@ -103,7 +103,7 @@ script.chapter(
 tpm.does("TPM2_Shutdown(STATE)", tpm.shutting_down(STATE))
 measure((11, "Something is measured after it, into PCR 11", b"late"))
 script.power()
-tpm.fails("TPM2_Startup(STATE)", "VALUE/p1", tpm.starting(STATE))
+tpm.fails("TPM2_Startup(STATE): VALUE/p1", tpm.starting(STATE))
 script.chapter("The firmware can then but start the laptop anew, as if it had been switched off.")
 tpm.start_up("TPM2_Startup(CLEAR)", CLEAR)
 boot()
@@ -122,5 +122,5 @@ key = load_key()
 unlock("POLICY_FAIL/s1", key)
 script.chapter("Nor is the saved state there for later.")
 script.power()
-tpm.fails("TPM2_Startup(STATE)", "VALUE/p1", tpm.starting(STATE))
+tpm.fails("TPM2_Startup(STATE): VALUE/p1", tpm.starting(STATE))
 script.write()

@@ -1,4 +1,4 @@
-"""Writes examples/write_once.tpm: an NV index that is written once, and never again."""
+"""Writes write_once.tpm: an NV index that is written once, and never again."""
 
 import hashlib
 
@@ -24,7 +24,7 @@ script.chapter("THE POLICY, computed once, on any device.")
 script.startup()
 trial = tpm.trial("A trial session: 03000000")
 tpm.says(
-    "TPM2_PolicyNvWritten of 0: the index must not be written yet when this policy authorizes",
+    "TPM2_PolicyNvWritten of 0: the index must not be written yet when this policy authorizes: "
     "SUCCESS",
     tpm.written_told(trial, False),
 )
@@ -34,7 +34,7 @@ tpm.digest_is(
     trial,
     once,
 )
-tpm.says("TPM2_FlushContext of the trial session", "SUCCESS", tpm.flush(trial))
+tpm.says("TPM2_FlushContext of the trial session: SUCCESS", tpm.flush(trial))
 
 script.chapter("THE FACTORY.")
 attributes = Attribute.PLATFORMCREATE | Attribute.POLICYWRITE | Attribute.AUTHREAD | Attribute.NO_DA
@@ -48,37 +48,34 @@ tpm.define(
     by=RH_PLATFORM,
 )
 session = tpm.policy("A policy session: 03000000")
-tpm.says("TPM2_PolicyNvWritten of 0 in it", "SUCCESS", tpm.written_told(session, False))
+tpm.says("TPM2_PolicyNvWritten of 0 in it: SUCCESS", tpm.written_told(session, False))
 tpm.does("TPM2_NV_Write of the record", tpm.writing(FIRST, RECORD, session))
 tpm.is_now("TPM2_NV_ReadPublic: the index has WRITTEN (20000000) now, and another Name", FIRST)
 
 script.chapter("NOBODY WRITES IT AGAIN. The same assertion still makes the policy's digest ...")
-tpm.says("TPM2_PolicyNvWritten of 0", "SUCCESS", tpm.written_told(session, False))
+tpm.says("TPM2_PolicyNvWritten of 0: SUCCESS", tpm.written_told(session, False))
 tpm.digest_is("TPM2_PolicyGetDigest: the digest is the authPolicy", session, once)
 tpm.fails(
-    "... but the index is looked at when the session authorizes, and it is written: TPM2_NV_Write",
+    "... but the index is looked at when the session authorizes, and it is written: TPM2_NV_Write: "
     "POLICY_FAIL/s1",
     tpm.writing(FIRST, bytes(32), session),
 )
-tpm.says("TPM2_PolicyRestart", "SUCCESS", tpm.restart(session))
+tpm.says("TPM2_PolicyRestart: SUCCESS", tpm.restart(session))
 tpm.says(
-    "TPM2_PolicyNvWritten of 1, which holds, makes another digest",
-    "SUCCESS",
+    "TPM2_PolicyNvWritten of 1, which holds, makes another digest: SUCCESS",
     tpm.written_told(session, True),
 )
-tpm.fails("TPM2_NV_Write", "POLICY_FAIL/s1", tpm.writing(FIRST, bytes(32), session))
+tpm.fails("TPM2_NV_Write: POLICY_FAIL/s1", tpm.writing(FIRST, bytes(32), session))
 tpm.fails(
-    "By its empty value: it has no AUTHWRITE", "AUTH_UNAVAILABLE", tpm.writing(FIRST, bytes(32))
+    "By its empty value: it has no AUTHWRITE: AUTH_UNAVAILABLE", tpm.writing(FIRST, bytes(32))
 )
 for by, name in ((RH_OWNER, "the owner"), (RH_PLATFORM, "the platform")):
     tpm.fails(
-        f"By {name}: it has neither OWNERWRITE nor PPWRITE",
-        "NV_AUTHORIZATION",
+        f"By {name}: it has neither OWNERWRITE nor PPWRITE: NV_AUTHORIZATION",
         tpm.writing(FIRST, bytes(32), by=by),
     )
 tpm.fails(
-    "The owner cannot remove it, to define another in its place",
-    "NV_AUTHORIZATION",
+    "The owner cannot remove it, to define another in its place: NV_AUTHORIZATION",
     tpm.undefining(FIRST, by=RH_OWNER),
 )
 
@@ -87,6 +84,6 @@ script.power()
 script.startup()
 tpm.read("TPM2_NV_Read by the empty value", FIRST, RECORD)
 session = tpm.policy("A policy session: 03000000")
-tpm.says("TPM2_PolicyNvWritten of 0", "SUCCESS", tpm.written_told(session, False))
-tpm.fails("TPM2_NV_Write", "POLICY_FAIL/s1", tpm.writing(FIRST, bytes(32), session))
+tpm.says("TPM2_PolicyNvWritten of 0: SUCCESS", tpm.written_told(session, False))
+tpm.fails("TPM2_NV_Write: POLICY_FAIL/s1", tpm.writing(FIRST, bytes(32), session))
 script.write()

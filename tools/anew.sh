@@ -29,23 +29,29 @@ export PYTHONPYCACHEPREFIX="$work/compiled"
 cd "$work" || exit 1
 
 failed=0
-# A program says in its first line what it writes.
-grep -lE '^"""Writes (tests|examples)/' tests/*/*.py examples/*.py |
-    xargs -P "$jobs" -n 1 tools/python.sh || failed=1
+# A program says in its first line what it writes: what has its name goes away first.
+grep -lE '^"""Writes [a-z_0-9]+[.](tpm|lines)' tests/*/*.py examples/*.py >programs
+while read -r program; do
+    rm -f "${program%.py}.tpm" "${program%.py}.lines"
+done <programs
+xargs -P "$jobs" -n 1 tools/python.sh <programs >said || failed=1
 tools/python.sh tests/common/expected.py || failed=1
 
-find tests examples -name '*.tpm' -o -name '*.out' -o -name '*.trace' -o -name '*.lines' |
-    LC_ALL=C sort >"$work/files"
+# files: those that may be written.
+files() {
+    find tests examples -name '*.tpm' -o -name '*.out' -o -name '*.trace' -o -name '*.lines'
+}
+{ files; (cd "$top" && files); } | LC_ALL=C sort -u >names
 same=0
 others=0
 while read -r file; do
-    if cmp -s "$file" "$top/$file"; then
+    if cmp -s "$file" "$top/$file" 2>"$work/told"; then
         same=$((same + 1))
         continue
     fi
     others=$((others + 1))
     echo "$file"
     [ ! "$write" ] || cp "$file" "$top/$file" || exit 1
-done <"$work/files"
+done <names
 echo "$same files as they are, $others others"
 [ "$failed" -eq 0 ] && { [ "$others" -eq 0 ] || [ "$write" ]; }

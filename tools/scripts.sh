@@ -4,8 +4,8 @@
 # files beside them. Then it runs the scripts that are to end well with tpmsim_lists, which keeps
 # the device's state in lists and not in fixed places, for the same bytes over both keeps; and the
 # shell tests of that program; and those of the library and of what is attached by it, over the one
-# in dist/. Where nothing was built here, what is in dist/ is run alone; that takes half a minute,
-# and needs no `rt`.
+# in dist/. Where nothing was built here, what is in dist/ is run alone; that takes a minute, and
+# needs no `rt`.
 #
 #   tools/scripts.sh                   all of them
 #   tools/scripts.sh pcr_extend files  these
@@ -38,6 +38,9 @@ export PYTHONPYCACHEPREFIX="$work/python"
 : >"$work/queue"
 number=0
 
+# The tests that take longest begin first, then the other shell tests, and then the scripts.
+longest=' starved front library_scripts audit bent_lines images policy_audit torn launcher '
+
 # say WORDS: a line that stands between what is said of tests.
 say() {
     number=$((number + 1))
@@ -49,8 +52,10 @@ say() {
 check() {
     number=$((number + 1))
     printf '%s\t%s\t%s\t%s\n' "$1" "$2" "$3" "${4:-}" >>"$work/queue"
-    case $1 in
-    *.sh) echo "$number" >>"$work/long" ;;
+    name=${1##*/}
+    case $1,$longest in
+    *.sh,*" ${name%.sh} "*) echo "$number" >>"$work/longest" ;;
+    *.sh,*) echo "$number" >>"$work/long" ;;
     *) echo "$number" >>"$work/short" ;;
     esac
 }
@@ -73,7 +78,7 @@ fi
 for name do
     shift
     found=
-    # shellcheck disable=SC2086 # a name may be a pattern
+    # shellcheck disable=SC2086,SC2231 # a name may be a pattern
     for test in "$top/tests/"$name.sh "$top/tests/"*/$name.sh "$top/tests/"$name.tpm \
         "$top/tests/"*/$name.tpm "$top/examples/"$name.tpm; do
         if is_test "$test"; then
@@ -180,8 +185,8 @@ show() {
 }
 
 # The shell tests begin first, which take longest.
-touch "$work/long" "$work/short"
-cat "$work/long" "$work/short" |
+touch "$work/longest" "$work/long" "$work/short"
+cat "$work/longest" "$work/long" "$work/short" |
     xargs -r -P "$jobs" -n 1 sh "$top/tools/lib/one_test.sh" "$work" |
     {
         show

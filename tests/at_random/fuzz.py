@@ -18,7 +18,9 @@ from collections import Counter
 from dataclasses import dataclass, field
 from itertools import zip_longest
 
+from tpmsim.model.general import Refusal
 from tpmsim.model import player, streams
+from tpmsim.standard.reading import Short
 from tests.at_random import served_runs as serving
 from tests.at_random.bent_script import bent_script
 from tests.at_random.random_script import Writer
@@ -68,6 +70,12 @@ def bytes_text(lines):
 
 # What is compared. A difference in the device in Python is one too: it must not fail.
 
+# What a device in Python raises that has a defect.
+DEFECTS = (
+    *(ArithmeticError, AssertionError, AttributeError, LookupError, TypeError, ValueError),
+    *(Refusal, Short),
+)
+
 
 @dataclass
 class Kind:
@@ -83,7 +91,7 @@ class Kind:
     def first_difference(self, program, lines):
         try:
             return self.difference(program, lines)
-        except Exception as fault:
+        except DEFECTS as fault:
             return 0, "a device in Python that does not fail", repr(fault)
 
     def told(self):
@@ -230,11 +238,13 @@ def main(program, *words):
     print(f"from seed {first} on", flush=True)
     seed = first
     while seed < last and time.monotonic() - began < seconds:
+        is_done = False
         try:
             fuzz.round(seed)
-        except Exception:
-            print(f"FAILS: seed {seed}", flush=True)
-            raise
+            is_done = True
+        finally:
+            if not is_done:
+                print(f"FAILS: seed {seed}", flush=True)
         seed += 1
     print(f"{seed - first} rounds")
     fuzz.tell()

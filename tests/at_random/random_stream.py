@@ -38,11 +38,11 @@ class StreamWriter(Writer):
 
     def __init__(self, seed):
         super().__init__(seed)
-        self.served, self.lines = streams.Served(), []
+        self.served, self.events = streams.Served(), []
 
     def say(self, line):
-        self.lines.append(line)
-        for buffer, outcome in self.served.play(len(self.lines), line):
+        self.events.append(line)
+        for buffer, outcome in self.served.play(len(self.events), line):
             self.note(buffer, outcome.response, outcome.refused)
         self.device = self.served.device
 

@@ -1,4 +1,4 @@
-"""Writes tests/general/bent_commands.tpm, and bent_nv_commands.tpm, bent_object_commands.tpm and
+"""Writes bent_commands.tpm, and bent_nv_commands.tpm, bent_object_commands.tpm and
 bent_state_commands.tpm: the commands that cut_commands.py, and the like, have, each bent.
 """
 

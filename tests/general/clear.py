@@ -1,4 +1,4 @@
-"""Writes tests/general/clear.tpm: TPM2_Clear, what it takes away and what it leaves."""
+"""Writes clear.tpm: TPM2_Clear, what it takes away and what it leaves."""
 
 from tpmsim.caller import BY_OWNER, BY_PLATFORM, BY_VALUE, STATE, area, counter, sealed
 from tpmsim.caller import storage_key, wrong
@@ -64,29 +64,26 @@ def primary_of(what, hierarchy):
 
 
 def refusals():
-    says("Before TPM2_Startup", "INITIALIZE", on_handle(CC.Clear, RH_PLATFORM))
+    says("Before TPM2_Startup: INITIALIZE", on_handle(CC.Clear, RH_PLATFORM))
     script.startup()
-    says("No handle", "INSUFFICIENT/h1", command(CC.Clear, b""))
+    says("No handle: INSUFFICIENT/h1", command(CC.Clear, b""))
     says(
-        "Who cannot clear",
-        "VALUE/h1",
+        "Who cannot clear: VALUE/h1",
         *(on_handle(CC.Clear, it) for it in (RH_OWNER, RH_ENDORSEMENT, RH_NULL, 0, 0x8000_0000)),
     )
     for handle in (RH_LOCKOUT, RH_PLATFORM):
         words = "Without sessions" if handle == RH_LOCKOUT else ""
-        says(words, "AUTH_MISSING", command(CC.Clear, number(handle, 4)))
+        says(f"{words}: AUTH_MISSING", command(CC.Clear, number(handle, 4)))
     says(
-        "A byte behind the handle",
-        "SIZE",
+        "A byte behind the handle: SIZE",
         *(on_handle(CC.Clear, it, b"\0") for it in (RH_LOCKOUT, RH_PLATFORM)),
     )
-    tpm.fails("A wrong password", "BAD_AUTH/s1", tpm.clearing(RH_PLATFORM, b"x"))
+    tpm.fails("A wrong password: BAD_AUTH/s1", tpm.clearing(RH_PLATFORM, b"x"))
     policy = tpm.policy("A policy session")
-    tpm.fails("No policy clears", "AUTH_UNAVAILABLE", tpm.clearing(RH_PLATFORM, policy))
+    tpm.fails("No policy clears: AUTH_UNAVAILABLE", tpm.clearing(RH_PLATFORM, policy))
     tpm.does("It is flushed", tpm.flush(policy))
     says(
-        "TPM2_Clear by the platform, and by lockoutAuth",
-        "SUCCESS",
+        "TPM2_Clear by the platform, and by lockoutAuth: SUCCESS",
         *(on_handle(CC.Clear, it) for it in (RH_PLATFORM, RH_LOCKOUT)),
     )
 
@@ -127,8 +124,8 @@ def what_is_left():
     listed("The index of the platform", 0x0100_0000, SECOND)
     tpm.does("TPM2_ReadPublic of the platform's object", tpm.public(0x8180_0000))
     tpm.read("TPM2_NV_Read of its index", SECOND, b"data", by=RH_PLATFORM)
-    tpm.fails("The owner's index", "HANDLE/h1", tpm.index_public(FIRST))
-    tpm.fails("The owner's object", "HANDLE/h1", tpm.public(0x8100_0000))
+    tpm.fails("The owner's index: HANDLE/h1", tpm.index_public(FIRST))
+    tpm.fails("The owner's object: HANDLE/h1", tpm.public(0x8100_0000))
 
 
 def effects():
@@ -140,11 +137,11 @@ def effects():
     parent = tpm.create_primary("A storage key of the owner", RH_OWNER, storage_key(), b"owner")
     below = tpm.create("An object below it", parent, sealed(), data=b"data")
     bad = tpm.writing(SECOND, b"x", b"x")
-    tpm.fails("A try", "AUTH_FAIL/s1", bad)
-    tpm.fails("And one that closes lockoutAuth", "AUTH_FAIL/s1", tpm.lock_reset(b"x"))
+    tpm.fails("A try: AUTH_FAIL/s1", bad)
+    tpm.fails("And one that closes lockoutAuth: AUTH_FAIL/s1", tpm.lock_reset(b"x"))
     session = tpm.start("A session that is bound to the owner", RH_OWNER)
     policy = tpm.policy("A policy session")
-    tpm.says("TPM2_PolicyPCR", "SUCCESS", tpm.pcrs(policy, [(SHA256, [0])]))
+    tpm.says("TPM2_PolicyPCR: SUCCESS", tpm.pcrs(policy, [(SHA256, [0])]))
     lockout_is("One try", 1, 5, 2000, 3000)
     before = counter_of("The update counter, and PCR 16")
     clock_is("The clock", 5000, 5000, 1, 1)
@@ -157,9 +154,9 @@ def effects():
     tpm.does("lockoutAuth is open, and empty", tpm.lock_reset())
     tpm.does("So is ownerAuth", tpm.change_auth(RH_OWNER, b"", b""))
     tpm.does("And endorsementAuth", tpm.change_auth(RH_ENDORSEMENT, b"", b""))
-    tpm.fails("platformAuth is as it was", "BAD_AUTH/s1", tpm.change_auth(RH_PLATFORM, b"", b""))
+    tpm.fails("platformAuth is as it was: BAD_AUTH/s1", tpm.change_auth(RH_PLATFORM, b"", b""))
     pcr = tpm.pcrs(policy, [(SHA256, [0])])
-    tpm.fails("TPM2_PolicyPCR: as if a PCR had changed", "PCR_CHANGED", pcr)
+    tpm.fails("TPM2_PolicyPCR: as if a PCR had changed: PCR_CHANGED", pcr)
     tpm.accepted("The sessions are there: on PCR 16", tpm.reset(session))
     tpm.accepted("On TPM_RH_OWNER, whose value is another", tpm.change_auth(RH_OWNER, b"", session))
     what_is_left()
@@ -170,7 +167,7 @@ def effects():
         # The proofs of both are new, so that old tickets are worth nothing.
         assert (ticket == names[hierarchy][1]) == (hierarchy == RH_PLATFORM)
     parent = tpm.create_primary("A storage key of the new owner", RH_OWNER, storage_key())
-    tpm.fails("What was created below the old one", "INTEGRITY/p1", tpm.loading(parent, below))
+    tpm.fails("What was created below the old one: INTEGRITY/p1", tpm.loading(parent, below))
     script.chapter("No counter goes back.")
     tpm.define("The counter is defined again", counter(THIRD))
     tpm.does("TPM2_NV_Increment", tpm.incrementing(THIRD))
@@ -182,8 +179,8 @@ def by_sessions():
     tpm.does('lockoutAuth is "lockout"', tpm.change_auth(RH_LOCKOUT, b"lockout", b""))
     unbound = tpm.start("An HMAC session that is bound to nothing")
     bound = tpm.start("One that is bound to TPM_RH_LOCKOUT", RH_LOCKOUT)
-    tpm.fails("A wrong hmac", "AUTH_FAIL/s1", wrong(tpm.clearing(RH_LOCKOUT, unbound)))
-    tpm.fails("lockoutAuth is closed", "LOCKOUT", tpm.clearing(RH_LOCKOUT, unbound))
+    tpm.fails("A wrong hmac: AUTH_FAIL/s1", wrong(tpm.clearing(RH_LOCKOUT, unbound)))
+    tpm.fails("lockoutAuth is closed: LOCKOUT", tpm.clearing(RH_LOCKOUT, unbound))
     tpm.does("The platform opens it by TPM2_Clear", tpm.clearing(RH_PLATFORM))
     tpm.does('lockoutAuth is "lockout"', tpm.change_auth(RH_LOCKOUT, b"lockout", b""))
     tpm.accepted("TPM2_Clear by the first", tpm.clearing(RH_LOCKOUT, unbound))
@@ -199,7 +196,7 @@ def over_starts():
     tpm.does("TPM2_Shutdown(STATE)", tpm.shutting_down(STATE))
     tpm.does("TPM2_Clear cancels what was saved", tpm.clearing(RH_PLATFORM))
     script.power()
-    tpm.fails("TPM2_Startup(STATE)", "VALUE/p1", tpm.starting(STATE))
+    tpm.fails("TPM2_Startup(STATE): VALUE/p1", tpm.starting(STATE))
     tpm.start_up("TPM2_Startup(CLEAR)")
     clock_is("It is the first reset", 0, 0, 1, 0)
     listed("The persistent object of the platform", 0x8100_0000, 0x8180_0000)

@@ -1,4 +1,4 @@
-"""Writes tests/general/clear_control.tpm: TPM2_ClearControl, and TPM2_Clear where it is disabled."""
+"""Writes clear_control.tpm: TPM2_ClearControl, and TPM2_Clear where it is disabled."""
 
 from tpmsim.caller import STATE, wrong
 from tpmsim.standard import CC, CONTINUE_SESSION, DECRYPT, ENCRYPT, RH_ENDORSEMENT, RH_LOCKOUT
@@ -24,11 +24,11 @@ def control(handle, disables):
 
 
 def clears(what):
-    says(what, "SUCCESS", *(on_handle(CC.Clear, it) for it in BOTH))
+    says(f"{what}: SUCCESS", *(on_handle(CC.Clear, it) for it in BOTH))
 
 
 def is_disabled(what):
-    says(what, "DISABLED", *(on_handle(CC.Clear, it) for it in BOTH))
+    says(f"{what}: DISABLED", *(on_handle(CC.Clear, it) for it in BOTH))
 
 
 def no_try(what):
@@ -39,31 +39,27 @@ def no_try(what):
 
 
 def refusals():
-    says("Before TPM2_Startup", "INITIALIZE", control(RH_PLATFORM, YES))
+    says("Before TPM2_Startup: INITIALIZE", control(RH_PLATFORM, YES))
     script.startup()
-    says("No handle", "INSUFFICIENT/h1", command(CC.ClearControl, b""))
+    says("No handle: INSUFFICIENT/h1", command(CC.ClearControl, b""))
     others = RH_OWNER, RH_ENDORSEMENT, RH_NULL, 0
-    says("Who cannot clear", "VALUE/h1", *(control(it, YES) for it in others))
+    says("Who cannot clear: VALUE/h1", *(control(it, YES) for it in others))
     says(
-        "Without sessions",
-        "AUTH_MISSING",
+        "Without sessions: AUTH_MISSING",
         *(command(CC.ClearControl, number(it, 4) + b"\1") for it in BOTH),
     )
-    says("No parameter", "INSUFFICIENT/p1", *(on_handle(CC.ClearControl, it) for it in BOTH))
+    says("No parameter: INSUFFICIENT/p1", *(on_handle(CC.ClearControl, it) for it in BOTH))
     says(
-        "Neither YES nor NO",
-        "VALUE/p1",
+        "Neither YES nor NO: VALUE/p1",
         *(control(handle, value) for handle in BOTH for value in (2, 0x80, 0xFF)),
     )
     says(
-        "A byte behind it, also of NO by lockoutAuth",
-        "SIZE",
+        "A byte behind it, also of NO by lockoutAuth: SIZE",
         *(on_handle(CC.ClearControl, handle, it) for handle in BOTH for it in (b"\0\0", b"\1\0")),
     )
     policy = tpm.policy("A policy session")
     tpm.fails(
-        "No policy authorizes it",
-        "AUTH_UNAVAILABLE",
+        "No policy authorizes it: AUTH_UNAVAILABLE",
         *(tpm.clear_control(it, YES, policy) for it in BOTH),
     )
     tpm.does("It is flushed", tpm.flush(policy))
@@ -72,28 +68,28 @@ def refusals():
 
 def who_may():
     script.chapter("By the platform.")
-    says("NO, and TPM2_Clear was enabled already", "SUCCESS", control(RH_PLATFORM, NO))
+    says("NO, and TPM2_Clear was enabled already: SUCCESS", control(RH_PLATFORM, NO))
     clears("TPM2_Clear")
-    says("YES, twice", "SUCCESS", control(RH_PLATFORM, YES), control(RH_PLATFORM, YES))
+    says("YES, twice: SUCCESS", control(RH_PLATFORM, YES), control(RH_PLATFORM, YES))
     is_disabled("TPM2_Clear by lockoutAuth, and by the platform")
-    says("NO", "SUCCESS", control(RH_PLATFORM, NO))
+    says("NO: SUCCESS", control(RH_PLATFORM, NO))
     clears("TPM2_Clear")
     script.chapter("By lockoutAuth.")
-    says("NO, though TPM2_Clear is enabled", "AUTH_FAIL", control(RH_LOCKOUT, NO))
-    says("YES", "SUCCESS", control(RH_LOCKOUT, YES))
+    says("NO, though TPM2_Clear is enabled: AUTH_FAIL", control(RH_LOCKOUT, NO))
+    says("YES: SUCCESS", control(RH_LOCKOUT, YES))
     is_disabled("TPM2_Clear by lockoutAuth, and by the platform")
-    says("YES again", "SUCCESS", control(RH_LOCKOUT, YES))
-    says("NO", "AUTH_FAIL", control(RH_LOCKOUT, NO))
+    says("YES again: SUCCESS", control(RH_LOCKOUT, YES))
+    says("NO: AUTH_FAIL", control(RH_LOCKOUT, NO))
     is_disabled("It is disabled as before")
     no_try("That was no try, though its code is of one")
     for session, words in (
         (tpm.start("A session that is bound to nothing"), "By it"),
         (tpm.start("One that is bound to TPM_RH_LOCKOUT", RH_LOCKOUT), "By that"),
     ):
-        tpm.fails(f"{words}: NO", "AUTH_FAIL", tpm.clear_control(RH_LOCKOUT, NO, session))
+        tpm.fails(f"{words}: NO: AUTH_FAIL", tpm.clear_control(RH_LOCKOUT, NO, session))
         tpm.does(f"{words}: YES", tpm.clear_control(RH_LOCKOUT, YES, session))
-        tpm.fails("A wrong hmac, of NO", "AUTH_FAIL/s1", wrong_control(session))
-        tpm.fails("It has closed lockoutAuth", "LOCKOUT", tpm.lock_reset())
+        tpm.fails("A wrong hmac, of NO: AUTH_FAIL/s1", wrong_control(session))
+        tpm.fails("It has closed lockoutAuth: LOCKOUT", tpm.lock_reset())
         script.wait(1_000_000)
         tpm.does("It opens with the time", tpm.lock_reset())
         tpm.does("It is flushed", tpm.flush(session))
@@ -105,20 +101,18 @@ def wrong_control(session):
 
 def order():
     script.chapter("DISABLED is the check of the command itself, behind all others.")
-    says("A byte behind the handle", "SIZE", *(on_handle(CC.Clear, it, b"\0") for it in BOTH))
+    says("A byte behind the handle: SIZE", *(on_handle(CC.Clear, it, b"\0") for it in BOTH))
     wrong_password = [frames.entry(hmac=b"x")]
     says(
-        "A wrong password of the platform",
-        "BAD_AUTH/s1",
+        "A wrong password of the platform: BAD_AUTH/s1",
         on_handle(CC.Clear, RH_PLATFORM, b"", wrong_password),
     )
     says(
-        "One of TPM_RH_LOCKOUT: a try, which is counted",
-        "AUTH_FAIL/s1",
+        "One of TPM_RH_LOCKOUT: a try, which is counted: AUTH_FAIL/s1",
         on_handle(CC.Clear, RH_LOCKOUT, b"", wrong_password),
     )
-    says("The right one", "LOCKOUT", on_handle(CC.Clear, RH_LOCKOUT))
-    says("Of TPM2_ClearControl, too", "LOCKOUT", control(RH_LOCKOUT, NO), control(RH_LOCKOUT, YES))
+    says("The right one: LOCKOUT", on_handle(CC.Clear, RH_LOCKOUT))
+    says("Of TPM2_ClearControl, too: LOCKOUT", control(RH_LOCKOUT, NO), control(RH_LOCKOUT, YES))
     script.wait(1_000_000)
     is_disabled("Behind lockoutRecovery")
 
@@ -129,8 +123,7 @@ def sessions():
     for attribute in (DECRYPT, ENCRYPT):
         words = "Its only parameter is one byte, and nothing is answered"
         tpm.fails(
-            words if attribute == DECRYPT else "",
-            "ATTRIBUTES/s1",
+            f"{words if attribute == DECRYPT else ''}: ATTRIBUTES/s1",
             tpm.clear_control(RH_PLATFORM, NO, session).but_entry(
                 1, attributes=CONTINUE_SESSION | attribute
             ),
@@ -147,7 +140,7 @@ def over_starts():
     script.power()
     tpm.start_up("TPM2_Startup(STATE)", STATE)
     is_disabled("Behind it")
-    says("NO by the platform", "SUCCESS", control(RH_PLATFORM, NO))
+    says("NO by the platform: SUCCESS", control(RH_PLATFORM, NO))
     clears("TPM2_Clear")
 
 

@@ -1,4 +1,4 @@
-"""Writes tests/general/clock.tpm: TPM2_ReadClock, the times and the counts of starts."""
+"""Writes clock.tpm: TPM2_ReadClock, the times and the counts of starts."""
 
 from tpmsim.caller import CLEAR, STATE
 from tpmsim.standard import CC, command, frames, number
@@ -27,14 +27,13 @@ def shut_down(kind):
 
 
 def refusals():
-    says("Before TPM2_Startup", "INITIALIZE", command(CC.ReadClock, b""))
+    says("Before TPM2_Startup: INITIALIZE", command(CC.ReadClock, b""))
     script.startup()
     script.wait(5)
     is_now("Five milliseconds later", 5, 5, 1, 0)
-    says("A byte behind it", "SIZE", command(CC.ReadClock, b"\0"))
+    says("A byte behind it: SIZE", command(CC.ReadClock, b"\0"))
     says(
-        "With an authorization area, right or wrong",
-        "AUTH_CONTEXT",
+        "With an authorization area, right or wrong: AUTH_CONTEXT",
         command(CC.ReadClock, frames.area(frames.entry()), frames.SESSIONS),
         command(CC.ReadClock, number(0, 4), frames.SESSIONS),
         command(CC.ReadClock, b"", frames.SESSIONS),
@@ -50,9 +49,9 @@ def time():
     script.wait(100)
     tpm.does("TPM2_GetRandom, after 100", tpm.random(2))
     script.wait(1000)
-    says("The empty buffer, after 1,000", "COMMAND_SIZE", b"")
+    says("The empty buffer, after 1,000: COMMAND_SIZE", b"")
     script.wait(10_000)
-    says("A command that is not served, after 10,000", "COMMAND_CODE", command(0x0146, b"\0\0"))
+    says("A command that is not served, after 10,000: COMMAND_CODE", command(0x0146, b"\0\0"))
     is_now("All of that has passed", 11_108, 11_108, 1, 0)
     script.wait(MOST)
     tpm.does("TPM2_GetRandom, after 4,294,967,295", tpm.random(2))
@@ -65,7 +64,7 @@ def power():
     script.chapter("A power cycle: time starts over, and clock goes on.")
     script.power()
     script.wait(3)
-    tpm.fails("TPM2_GetRandom, after 3", "INITIALIZE", tpm.random(2))
+    tpm.fails("TPM2_GetRandom, after 3: INITIALIZE", tpm.random(2))
     script.wait(4)
     script.startup()
     is_now("Time has passed before TPM2_Startup too; it was a reset", 7, clock + 7, 2, 0)
@@ -97,7 +96,7 @@ def starts(clock):
     is_now("resetCount is 5", 0, clock, 5, 0)
     shut_down(STATE)
     script.power()
-    tpm.fails("A wrong type", "VALUE/p1", tpm.starting(2))
+    tpm.fails("A wrong type: VALUE/p1", tpm.starting(2))
     tpm.start_up("TPM2_Startup(STATE)", STATE)
     is_now("A refused one has counted nothing", 0, clock, 5, 1)
     shut_down(STATE)

@@ -1,4 +1,4 @@
-"""Writes tests/general/cut_commands.tpm: each command that succeeds, cut to every shorter length.
+"""Writes cut_commands.tpm: each command that succeeds, cut to every shorter length.
 
 Those of objects are in tests/general/cut_object_commands.tpm, and those on NV indices in
 tests/general/cut_nv_commands.tpm.
@@ -262,4 +262,4 @@ COMMANDS = [
 
 
 if __name__ == "__main__":
-    cuts.write("cut_commands.tpm", HEAD, LISTED, COMMANDS)
+    cuts.write(__file__, HEAD, LISTED, COMMANDS)

@@ -1,4 +1,4 @@
-"""Writes tests/general/cut_hmac_commands.tpm: commands by an hmac, cut behind the authorization area."""
+"""Writes cut_hmac_commands.tpm: commands by an hmac, cut behind the authorization area."""
 
 from collections.abc import Iterator
 
@@ -37,7 +37,7 @@ def unlock() -> None:
 
 def refused(what: str, outcome: str, tries: int, *buffers: bytes) -> None:
     """What is refused, and how many tries have failed then."""
-    script.command(what, outcome, *buffers)
+    script.command(f"{what}: {outcome}", *buffers)
     tpm.tries_are("Tries", tries)
 
 
@@ -56,7 +56,7 @@ def cuts_of(prepared: Prepared) -> Iterator[tuple[str, bytes]]:
 
 
 def comes_whole(prepared: Prepared) -> None:
-    response = script.command("Whole", "SUCCESS", prepared.buffer(), fresh=True)
+    response = script.command("Whole: SUCCESS", prepared.buffer(), fresh=True)
     tpm.received(prepared, response)
     tpm.tries_are("No try", NO_TRY)
 
@@ -85,7 +85,7 @@ def by_each_session() -> tuple[Session, ...]:
         tpm.writing(FIRST, DATA, Use(to_owner, DECRYPTS), offset=2),
     )
     told = tpm.policy("A policy session")
-    tpm.says("TPM2_PolicyAuthValue", "SUCCESS", tpm.auth_value_told(told))
+    tpm.says("TPM2_PolicyAuthValue: SUCCESS", tpm.auth_value_told(told))
     by_policy = Use(told, demand=policy.AUTH_VALUE)
     cut("TPM2_NV_Write by it", tpm.writing(FIRST, DATA, by_policy, offset=2))
     return unbound, sha1, bound, to_owner, told
@@ -229,7 +229,7 @@ before_the_parameters(tpm.writing(FIRST, DATA, UNBOUND, offset=2))
 of_what_is_left(UNBOUND)
 up_to_lockout(UNBOUND)
 tpm.set_protection("maxTries is 3 again", 3, 1000, 1000)
-tpm.says("TPM2_PolicyRestart", "SUCCESS", tpm.restart(TOLD))
+tpm.says("TPM2_PolicyRestart: SUCCESS", tpm.restart(TOLD))
 by_each_command(UNBOUND, TOLD, KEY)
 beside(UNBOUND, BOUND)
 without_try(UNBOUND)

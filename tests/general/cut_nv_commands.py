@@ -1,4 +1,4 @@
-"""Writes tests/general/cut_nv_commands.tpm: the commands on NV indices, cut to every shorter length."""
+"""Writes cut_nv_commands.tpm: the commands on NV indices, cut to every shorter length."""
 
 from tests.general import cuts
 from tpmsim.standard import CC, RH_OWNER, SHA256, command, entry, frames, number, nv, on_handle
@@ -133,4 +133,4 @@ COMMANDS = [
 
 
 if __name__ == "__main__":
-    cuts.write("cut_nv_commands.tpm", HEAD, LISTED, COMMANDS)
+    cuts.write(__file__, HEAD, LISTED, COMMANDS)

@@ -1,4 +1,4 @@
-"""Writes tests/general/cut_object_commands.tpm: the commands of objects, cut to every shorter length."""
+"""Writes cut_object_commands.tpm: the commands of objects, cut to every shorter length."""
 
 from tests.general import cuts
 from tpmsim.caller import hmac_key, sealed, storage_key
@@ -124,4 +124,4 @@ COMMANDS = [
 
 
 if __name__ == "__main__":
-    cuts.write("cut_object_commands.tpm", HEAD, LISTED, COMMANDS)
+    cuts.write(__file__, HEAD, LISTED, COMMANDS)

@@ -1,4 +1,4 @@
-"""Writes tests/general/cut_state_commands.tpm: the commands on what a device keeps, cut to every shorter
+"""Writes cut_state_commands.tpm: the commands on what a device keeps, cut to every shorter
 length.
 """
 
@@ -93,4 +93,4 @@ COMMANDS = [
 
 
 if __name__ == "__main__":
-    cuts.write("cut_state_commands.tpm", HEAD, LISTED, COMMANDS)
+    cuts.write(__file__, HEAD, LISTED, COMMANDS)

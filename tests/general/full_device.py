@@ -1,4 +1,4 @@
-"""Writes tests/general/full_device.tpm: a device that is filled up to each of its limits."""
+"""Writes full_device.tpm: a device that is filled up to each of its limits."""
 
 from tpmsim.caller import BY_OWNER, BY_PLATFORM, BY_POLICY, BY_VALUE, HERE, OPEN, STATE, area, bits
 from tpmsim.caller import counter, extended, hmac_key, sealed, storage_key
@@ -80,7 +80,7 @@ def define_all():
         tpm.define("As many as there are, and all bytes" if at == 0 else "", public)
         taken += public.data_size
     assert taken == nv_commands.ALL_BYTES and len(tpm.publics) == nv_commands.INDICES
-    tpm.fails("One more", "NV_SPACE", tpm.defining(area(0x0100_00FF, size=0)))
+    tpm.fails("One more: NV_SPACE", tpm.defining(area(0x0100_00FF, size=0)))
 
 
 def write_some():
@@ -113,7 +113,7 @@ def keep_all():
     made = tpm.create("A child of the first", parent, hmac_key(), data=b"key")
     handle = tpm.load("It is loaded", parent, made)
     tpm.keep("It stays", RH_OWNER, handle, 0x817F_FFFF)
-    tpm.fails("One more", "NV_SPACE", tpm.evicting(RH_OWNER, handle, 0x8100_0001))
+    tpm.fails("One more: NV_SPACE", tpm.evicting(RH_OWNER, handle, 0x8100_0001))
     tpm.flush_objects("It is flushed", handle)
 
 
@@ -122,12 +122,12 @@ def transient():
     for at in range(OBJECTS):
         hierarchy = (RH_OWNER, RH_NULL)[at % 2]
         tpm.create_primary("Eight objects" if at == 0 else "", hierarchy, storage_key())
-    tpm.fails("One more", "OBJECT_MEMORY", tpm.primary(RH_NULL, storage_key()))
+    tpm.fails("One more: OBJECT_MEMORY", tpm.primary(RH_NULL, storage_key()))
     for at in range(SESSIONS):
         kind = (SE_HMAC, SE_POLICY, SE_TRIAL)[at % 3]
         tpm.start("Sixteen sessions" if at == 0 else "", kind=kind)
     start = tpm.prepare(CC.StartAuthSession, *frames.start_auth_session(bytes(16)))
-    tpm.fails("One more", "SESSION_MEMORY", start)
+    tpm.fails("One more: SESSION_MEMORY", start)
 
 
 def the_rest():
@@ -137,8 +137,8 @@ def the_rest():
         tpm.does("An authorization value", tpm.change_auth(handle, value, b""))
     tpm.does("TPM2_Clear is disabled", tpm.clear_control(RH_PLATFORM, 1))
     wrong = tpm.writing(0x0100_0002, b"", b"wrong")
-    tpm.fails("Two tries", "AUTH_FAIL/s1", wrong, wrong)
-    tpm.fails("lockoutAuth is closed", "AUTH_FAIL/s1", tpm.lock_reset(b"wrong"))
+    tpm.fails("Two tries: AUTH_FAIL/s1", wrong, wrong)
+    tpm.fails("lockoutAuth is closed: AUTH_FAIL/s1", tpm.lock_reset(b"wrong"))
     for pcr in (0, 3, 15, 16):
         tpm.does("A PCR is extended", tpm.event(b"event", b"", pcr=pcr))
     script.wait(123_456_789)

@@ -1,4 +1,4 @@
-"""Writes tests/general/get_capability.tpm: TPM2_GetCapability, each capability at its borders."""
+"""Writes get_capability.tpm: TPM2_GetCapability, each capability at its borders."""
 
 from tpmsim.caller import BY_VALUE, area, storage_key, wrong
 from tpmsim.model.capability import command_attributes
@@ -54,32 +54,28 @@ def borders(name, capability, wanted, whole):
 
 def refusals():
     asked = number(PROPERTIES, 4) + number(0x100, 4) + number(1, 4)
-    says("Before TPM2_Startup", "INITIALIZE", command(CC.GetCapability, asked))
+    says("Before TPM2_Startup: INITIALIZE", command(CC.GetCapability, asked))
     script.startup()
-    says("As it is asked for", "SUCCESS", command(CC.GetCapability, asked))
+    says("As it is asked for: SUCCESS", command(CC.GetCapability, asked))
     for place in (1, 2, 3):
         says(
-            f"Cut within parameter {place}",
-            f"INSUFFICIENT/p{place}",
+            f"Cut within parameter {place}: INSUFFICIENT/p{place}",
             *(command(CC.GetCapability, asked[: 4 * place - it]) for it in (4, 1)),
         )
-    says("A byte behind them", "SIZE", command(CC.GetCapability, asked + b"\0"))
+    says("A byte behind them: SIZE", command(CC.GetCapability, asked + b"\0"))
     says(
-        "Algorithms (0), and others that are not served",
-        "VALUE/p1",
+        "Algorithms (0), and others that are not served: VALUE/p1",
         *(
             command(CC.GetCapability, number(it, 4) + asked[4:])
             for it in (0, 3, 4, 7, 8, 9, 0x100, 0x0100_0001, MOST)
         ),
     )
     says(
-        "Such a one and a byte behind it: the bytes are looked at first",
-        "SIZE",
+        "Such a one and a byte behind it: the bytes are looked at first: SIZE",
         command(CC.GetCapability, bytes(13)),
     )
     says(
-        "Handles that begin with another byte than 00, 01, 02, 03, 40, 80 and 81",
-        "HANDLE/p2",
+        "Handles that begin with another byte than 00, 01, 02, 03, 40, 80 and 81: HANDLE/p2",
         *(
             command(CC.GetCapability, number(HANDLES, 4) + number(it << 24, 4) + number(count, 4))
             for it in (0x04, 0x3F, 0x41, 0x7F, 0x82, 0x90, 0xFF)
@@ -87,8 +83,7 @@ def refusals():
         ),
     )
     says(
-        "A password, as there is nothing to authorize",
-        "HANDLE/s1",
+        "A password, as there is nothing to authorize: HANDLE/s1",
         command(CC.GetCapability, frames.area(frames.entry()) + asked, frames.SESSIONS),
     )
 
@@ -99,11 +94,10 @@ def with_sessions():
     asked = tpm.capability(PROPERTIES, 0x100, 1, session)
     tpm.accepted("It authorizes nothing", asked)
     asked = tpm.capability(PROPERTIES, 0x100, 1, session)
-    tpm.refused("A wrong hmac", "BAD_AUTH/s1", wrong(asked))
+    tpm.refused("A wrong hmac: BAD_AUTH/s1", wrong(asked))
     for attribute, words in ((DECRYPT, "decrypted"), (ENCRYPT, "encrypted")):
         tpm.refused(
-            f"Nothing can be {words}",
-            "ATTRIBUTES/s1",
+            f"Nothing can be {words}: ATTRIBUTES/s1",
             asked.but_entry(1, attributes=CONTINUE_SESSION | attribute),
         )
     tpm.does("It is flushed", tpm.flush(session))
@@ -252,13 +246,13 @@ def tries():
 
     bad = tpm.writing(index, b"x", b"b")
     for count in (1, 2, 3):
-        tpm.fails("A wrong password", "AUTH_FAIL/s1", bad)
+        tpm.fails("A wrong password: AUTH_FAIL/s1", bad)
         are(f"Tries: {count}", count)
-    tpm.fails("One more", "LOCKOUT", bad)
+    tpm.fails("One more: LOCKOUT", bad)
     are("It was not counted", 3)
-    tpm.fails("A wrong password of what is not protected", "BAD_AUTH/s1", tpm.reset(b"x"))
+    tpm.fails("A wrong password of what is not protected: BAD_AUTH/s1", tpm.reset(b"x"))
     are("Nor was it", 3)
-    tpm.fails("One of TPM_RH_LOCKOUT", "AUTH_FAIL/s1", tpm.lock_reset(b"x"))
+    tpm.fails("One of TPM_RH_LOCKOUT: AUTH_FAIL/s1", tpm.lock_reset(b"x"))
     are("Nor that", 3)
     script.wait(999_999)
     are("Just before recoveryTime", 3)
@@ -268,10 +262,10 @@ def tries():
     are("A millisecond before all are forgiven", 1)
     script.wait(1)
     are("Then", 0)
-    tpm.fails("A wrong password", "AUTH_FAIL/s1", bad)
+    tpm.fails("A wrong password: AUTH_FAIL/s1", bad)
     script.wait(2**32 - 1)
     are("Never less than 0", 0)
-    tpm.fails("Two wrong ones", "AUTH_FAIL/s1", bad, bad)
+    tpm.fails("Two wrong ones: AUTH_FAIL/s1", bad, bad)
     script.power()
     script.startup()
     are("After a power cycle", 2)
@@ -279,9 +273,9 @@ def tries():
     are("1,500 seconds later", 1)
     script.wait(500_000)
     are("500 more", 0)
-    tpm.fails("Two wrong ones", "AUTH_FAIL/s1", bad, bad)
+    tpm.fails("Two wrong ones: AUTH_FAIL/s1", bad, bad)
     tpm.set_protection("recoveryTime is 0", 3, 0, 1000)
-    tpm.fails("Two wrong ones are not counted", "AUTH_FAIL/s1", bad, bad)
+    tpm.fails("Two wrong ones are not counted: AUTH_FAIL/s1", bad, bad)
     script.wait(2**32 - 1)
     are("Nor are others forgiven", 2)
     tpm.does("TPM2_DictionaryAttackLockReset", tpm.lock_reset())

@@ -1,4 +1,4 @@
-"""Writes tests/general/hierarchy_change_auth.tpm: TPM2_HierarchyChangeAuth, by passwords and sessions."""
+"""Writes hierarchy_change_auth.tpm: TPM2_HierarchyChangeAuth, by passwords and sessions."""
 
 from tpmsim.caller import Use
 from tpmsim.standard import CC, RH_ENDORSEMENT, RH_LOCKOUT, RH_NULL, RH_OWNER, RH_PLATFORM, SHA1
@@ -29,7 +29,7 @@ def starts(what, **choices):
     return tpm.start(f"TPM2_StartAuthSession: {what}", **choices)
 
 
-script.command("Before TPM2_Startup", "INITIALIZE", change(RH_OWNER, b"abc"))
+script.command("Before TPM2_Startup: INITIALIZE", change(RH_OWNER, b"abc"))
 script.startup()
 
 script.chapter("By passwords, each of the four. Every authorization value is empty at first.")
@@ -37,16 +37,15 @@ for handle, name, new in HIERARCHIES:
     # A wrong one at TPM_RH_LOCKOUT has a script of its own, lockout_authorization.
     tried = handle != RH_LOCKOUT
     if tried:
-        script.command(f'{name} by the password "x"', "BAD_AUTH/s1", change(handle, new, b"x"))
+        script.command(f'{name} by the password "x": BAD_AUTH/s1', change(handle, new, b"x"))
     tpm.accepted(
         f'{name} by the empty password, to "{new.decode()}"', tpm.change_auth(handle, new, b"")
     )
     if tried:
-        script.command("By the empty password once more", "BAD_AUTH/s1", change(handle, new))
+        script.command("By the empty password once more: BAD_AUTH/s1", change(handle, new))
     tpm.accepted("By the new one, to the same", tpm.change_auth(handle, new, new))
 script.command(
-    "No value of another entity serves",
-    "BAD_AUTH/s1",
+    "No value of another entity serves: BAD_AUTH/s1",
     change(RH_OWNER, b"x", b"endorsement"),
     change(RH_ENDORSEMENT, b"x", b"owner"),
     change(RH_PLATFORM, b"x", b"lockout"),
@@ -54,46 +53,39 @@ script.command(
 
 script.chapter("Handles and parameters that are refused.")
 script.command(
-    "TPM_RH_NULL, whose value stays empty, PCR 0, an object, an NV index and a session",
-    "VALUE/h1",
+    "TPM_RH_NULL, whose value stays empty, PCR 0, an object, an NV index and a session: VALUE/h1",
     *map(change, (RH_NULL, 0, 0x8000_0000, 0x8100_0000, 0x0100_0000, 0x0200_0000, frames.RS_PW)),
 )
+script.command("No handle: INSUFFICIENT/h1", command(CC.HierarchyChangeAuth, b"", frames.SESSIONS))
 script.command(
-    "No handle", "INSUFFICIENT/h1", command(CC.HierarchyChangeAuth, b"", frames.SESSIONS)
-)
-script.command(
-    "No sessions (tag 8001)",
-    "AUTH_MISSING",
+    "No sessions (tag 8001): AUTH_MISSING",
     command(CC.HierarchyChangeAuth, number(RH_OWNER, 4) + sized(b"abc")),
 )
 OWNER = [frames.entry(hmac=b"owner")]
 script.command(
-    "No newAuth, half its size, and one that is cut",
-    "INSUFFICIENT/p1",
+    "No newAuth, half its size, and one that is cut: INSUFFICIENT/p1",
     *(
         on_handle(CC.HierarchyChangeAuth, RH_OWNER, text, OWNER)
         for text in (b"", b"\0", b"\0\x03ab", b"\0\x20" + bytes(31))
     ),
 )
 script.command(
-    "One of 33 bytes, of letters or of zeros, whole or cut",
-    "SIZE/p1",
+    "One of 33 bytes, of letters or of zeros, whole or cut: SIZE/p1",
     change(RH_OWNER, b"a" * 33, b"owner"),
     change(RH_OWNER, bytes(33), b"owner"),
     change(RH_OWNER, b"owner" + bytes(28), b"owner"),
     on_handle(CC.HierarchyChangeAuth, RH_OWNER, b"\0\x21", OWNER),
 )
 script.command(
-    "A byte behind it",
-    "SIZE",
+    "A byte behind it: SIZE",
     on_handle(CC.HierarchyChangeAuth, RH_OWNER, sized(b"abc") + b"\0", OWNER),
 )
-script.command("None of them changed the value", "SUCCESS", change(RH_OWNER, b"owner", b"owner"))
+script.command("None of them changed the value: SUCCESS", change(RH_OWNER, b"owner", b"owner"))
 
 script.chapter("Sizes, and trailing zeros, which do not count.")
 longest = b"0123456789abcdef" * 2
 tpm.accepted("32 bytes", tpm.change_auth(RH_OWNER, longest, b"owner"))
-script.command("By its first 31 bytes", "BAD_AUTH/s1", change(RH_OWNER, b"owner", longest[:31]))
+script.command("By its first 31 bytes: BAD_AUTH/s1", change(RH_OWNER, b"owner", longest[:31]))
 tpm.accepted(
     'By all of them, to "abc" and 29 zeros', tpm.change_auth(RH_OWNER, b"abc" + bytes(29), longest)
 )
@@ -102,8 +94,7 @@ tpm.accepted(
     'By "abc" and a zero, to "a", a zero and "c"', tpm.change_auth(RH_OWNER, b"a\0c", b"abc\0")
 )
 script.command(
-    'By "ac", and by a zero and "a"',
-    "BAD_AUTH/s1",
+    'By "ac", and by a zero and "a": BAD_AUTH/s1',
     change(RH_OWNER, b"", b"ac"),
     change(RH_OWNER, b"", b"\0a"),
 )
@@ -176,8 +167,7 @@ script.power()
 tpm.auth_values[RH_PLATFORM] = b""
 script.startup()
 script.command(
-    "platformAuth is empty: by its old value",
-    "BAD_AUTH/s1",
+    "platformAuth is empty: by its old value: BAD_AUTH/s1",
     change(RH_PLATFORM, b"platform", b"platform"),
 )
 tpm.accepted("By the empty password", tpm.change_auth(RH_PLATFORM, b"platform", b""))

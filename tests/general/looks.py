@@ -97,7 +97,7 @@ class LookingScript(Script):
         number = "" if outcome == "SUCCESS" else f" ({frames.code_of(outcome):03X})"
         self.write_comment(f"{what}: {outcome}{number}.")
         for buffer in looks:
-            answer = self.command("", outcome, buffer)
+            answer = self.command(outcome, buffer)
             if self.seen.setdefault(buffer, answer) != answer:
                 raise ValueError(f"{self.path.name}: a refusal changed what {buffer.hex()} sees")
 
@@ -115,14 +115,14 @@ class LookingScript(Script):
         self.seen = {}
         rows = list(refused)
         if not rows:
-            self.command(name, outcome, whole, as_bytes=True)
+            self.command(f"{name}: {outcome}", whole, as_bytes=True)
             return
         self.lines.append("")
         self.look_at_all(f"{name}. What is seen before it")
         for what, code, buffers in rows:
-            self.command(what, code, *buffers, as_bytes=True)
+            self.command(f"{what}: {code}", *buffers, as_bytes=True)
             self.look("As before", [at_pcrs(), at_handles(self.kind)])
         self.look_at_all("All as before")
-        self.command("Whole", outcome, whole, as_bytes=True)
+        self.command(f"Whole: {outcome}", whole, as_bytes=True)
         if outcome != "SUCCESS":
             self.look_at_all("All as before")

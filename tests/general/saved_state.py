@@ -1,4 +1,4 @@
-"""Writes tests/general/saved_state.tpm: which commands cancel what TPM2_Shutdown(STATE) saved."""
+"""Writes saved_state.tpm: which commands cancel what TPM2_Shutdown(STATE) saved."""
 
 from tpmsim.caller import BY_OWNER, BY_VALUE, CLEAR, STATE, Use, area, bits, counter, extended
 from tpmsim.caller import hmac_key, sealed, storage_key, wrong
@@ -46,7 +46,7 @@ def loading():
 def changing_nv_auth():
     policy_session = session()
     told = tpm.command_code(policy_session, CC.NV_ChangeAuth)
-    tpm.says("TPM2_PolicyCommandCode of TPM2_NV_ChangeAuth", "SUCCESS", told)
+    tpm.says("TPM2_PolicyCommandCode of TPM2_NV_ChangeAuth: SUCCESS", told)
     return tpm.changing_auth(FIFTH, b"", policy_session)
 
 
@@ -123,7 +123,7 @@ def start_again(is_kept):
     if is_kept:
         tpm.start_up("It was kept: TPM2_Startup(STATE)", STATE)
     else:
-        tpm.fails("It was cancelled: TPM2_Startup(STATE)", "VALUE/p1", tpm.starting(STATE))
+        tpm.fails("It was cancelled: TPM2_Startup(STATE): VALUE/p1", tpm.starting(STATE))
         tpm.start_up("TPM2_Startup(CLEAR)")
 
 
@@ -146,11 +146,11 @@ def others():
     tpm.define("An index", area(0x0100_0007, BY_VALUE), auth=b"a")
     hmac = tpm.start("An HMAC session")
     save()
-    tpm.fails("A wrong password", "AUTH_FAIL/s1", tpm.writing(0x0100_0007, b"x", b"b"))
-    tpm.fails("TPM2_PCR_Reset of PCR 0", "LOCALITY", tpm.reset(b"", pcr=0))
-    tpm.fails("TPM2_Startup", "INITIALIZE", tpm.starting(CLEAR))
-    tpm.refused("A wrong hmac", "BAD_AUTH/s1", wrong(tpm.reset(hmac)))
-    script.command("The empty buffer", "COMMAND_SIZE", b"")
+    tpm.fails("A wrong password: AUTH_FAIL/s1", tpm.writing(0x0100_0007, b"x", b"b"))
+    tpm.fails("TPM2_PCR_Reset of PCR 0: LOCALITY", tpm.reset(b"", pcr=0))
+    tpm.fails("TPM2_Startup: INITIALIZE", tpm.starting(CLEAR))
+    tpm.refused("A wrong hmac: BAD_AUTH/s1", wrong(tpm.reset(hmac)))
+    script.command("The empty buffer: COMMAND_SIZE", b"")
     start_again(is_kept=True)
     script.chapter("The use of sessions cancels nothing, where the command does not.")
     hmac = tpm.start("An HMAC session")
@@ -168,7 +168,7 @@ def others():
     script.power()
     script.power()
     script.wait(2**32 - 1)
-    script.command("TPM2_GetRandom", "INITIALIZE", tpm.random(2).buffer())
+    script.command("TPM2_GetRandom: INITIALIZE", tpm.random(2).buffer())
     start_again(is_kept=True)
 
 

@@ -1,4 +1,4 @@
-"""Writes tests/general/startup_state.tpm: what TPM2_Startup(STATE) restores, and what a restart does."""
+"""Writes startup_state.tpm: what TPM2_Startup(STATE) restores, and what a restart does."""
 
 from tpmsim.caller import BY_OWNER, BY_VALUE, CLEAR, STATE, area, storage_key
 from tpmsim.standard import RH_NULL, RH_OWNER, RH_PLATFORM, SE_HMAC, SE_POLICY, SE_TRIAL, SHA256
@@ -61,7 +61,7 @@ def pcrs():
     script.chapter("What is saved are the values of then.")
     tpm.does("TPM2_Shutdown(CLEAR)", tpm.shutting_down(CLEAR))
     script.power()
-    tpm.fails("TPM2_Startup(STATE)", "VALUE/p1", tpm.starting(STATE))
+    tpm.fails("TPM2_Startup(STATE): VALUE/p1", tpm.starting(STATE))
     tpm.start_up("TPM2_Startup(CLEAR)")
     tpm.does("TPM2_Shutdown(STATE), before any extend", tpm.shutting_down(STATE))
     script.power()
@@ -88,14 +88,13 @@ def sessions_and_objects():
     trial = tpm.trial("A trial session")
     handle = tpm.create_primary("A storage key", RH_OWNER, storage_key())
     restart(STATE, "a resume")
-    tpm.fails("The HMAC session", "REFERENCE_S0", tpm.reset(session))
+    tpm.fails("The HMAC session: REFERENCE_S0", tpm.reset(session))
     tpm.fails(
-        "The policy session, and the trial session",
-        "REFERENCE_H0",
+        "The policy session, and the trial session: REFERENCE_H0",
         tpm.get_digest(policy),
         tpm.get_digest(trial),
     )
-    tpm.fails("The storage key", "REFERENCE_H0", tpm.public(handle))
+    tpm.fails("The storage key: REFERENCE_H0", tpm.public(handle))
     for kind, words in ((SE_HMAC, "HMAC"), (SE_POLICY, "policy"), (SE_TRIAL, "trial")):
         tpm.start(f"A new {words} session has the next place", kind=kind)
     script.power()
@@ -105,9 +104,9 @@ def sessions_and_objects():
 def policies():
     script.chapter("A policy that was told before has no session any more.")
     policy = tpm.policy("A policy session")
-    tpm.says("TPM2_PolicyPCR of PCR 3", "SUCCESS", tpm.pcrs(policy, [(SHA256, [3])]))
+    tpm.says("TPM2_PolicyPCR of PCR 3: SUCCESS", tpm.pcrs(policy, [(SHA256, [3])]))
     restart(STATE, "a resume")
-    tpm.fails("TPM2_PolicyGetDigest", "REFERENCE_H0", tpm.get_digest(policy))
+    tpm.fails("TPM2_PolicyGetDigest: REFERENCE_H0", tpm.get_digest(policy))
 
 
 def hierarchies():
@@ -117,8 +116,7 @@ def hierarchies():
     restart(STATE, "a resume")
     assert null_name("The same primary object") == name
     tpm.fails(
-        "The empty password of TPM_RH_PLATFORM",
-        "BAD_AUTH/s1",
+        "The empty password of TPM_RH_PLATFORM: BAD_AUTH/s1",
         tpm.change_auth(RH_PLATFORM, b"x", b""),
     )
     tpm.does("platformAuth is as it was", tpm.change_auth(RH_PLATFORM, b"platform", b"platform"))
@@ -156,7 +154,7 @@ def indices():
     for index in (FIRST, SECOND, THIRD):
         tpm.is_now("All are as they were" if index == FIRST else "", index)
     tpm.read("The second one", SECOND, b"8 bytes.", by=RH_OWNER)
-    tpm.fails("The first one is locked", "NV_LOCKED", tpm.reading(FIRST, 8, by=RH_OWNER))
+    tpm.fails("The first one is locked: NV_LOCKED", tpm.reading(FIRST, 8, by=RH_OWNER))
     restart(CLEAR, "a restart")
     tpm.is_now(
         "The locks of the first are open",
@@ -171,11 +169,11 @@ def lockout():
     script.chapter("With lockoutRecovery 0 lockoutAuth is closed until a reset.")
     closing = tpm.lock_reset(b"wrong")
     tpm.set_protection("lockoutRecovery is 0", 3, 1000, 0)
-    tpm.fails("A wrong password", "AUTH_FAIL/s1", closing)
+    tpm.fails("A wrong password: AUTH_FAIL/s1", closing)
     restart(STATE, "a resume")
-    tpm.fails("It is closed", "LOCKOUT", tpm.lock_reset())
+    tpm.fails("It is closed: LOCKOUT", tpm.lock_reset())
     restart(CLEAR, "a restart")
-    tpm.fails("It is closed", "LOCKOUT", tpm.lock_reset())
+    tpm.fails("It is closed: LOCKOUT", tpm.lock_reset())
     tpm.does("TPM2_Shutdown(CLEAR)", tpm.shutting_down(CLEAR))
     script.power()
     tpm.start_up("TPM2_Startup(CLEAR), a reset")
@@ -184,14 +182,14 @@ def lockout():
     tpm.define("An index", area(FOURTH, BY_VALUE), auth=b"a")
     tpm.does("It is written", tpm.writing(FOURTH, b"x"))
     wrong = tpm.writing(FOURTH, b"x", b"b")
-    tpm.fails("A wrong password", "AUTH_FAIL/s1", wrong)
+    tpm.fails("A wrong password: AUTH_FAIL/s1", wrong)
     restart(STATE, "a resume")
-    tpm.fails("The second", "AUTH_FAIL/s1", wrong)
+    tpm.fails("The second: AUTH_FAIL/s1", wrong)
     restart(CLEAR, "a restart")
-    tpm.fails("The third", "AUTH_FAIL/s1", wrong)
+    tpm.fails("The third: AUTH_FAIL/s1", wrong)
     script.power()
     tpm.start_up("TPM2_Startup(CLEAR), a reset")
-    tpm.fails("The right one", "LOCKOUT", tpm.writing(FOURTH, b"x"))
+    tpm.fails("The right one: LOCKOUT", tpm.writing(FOURTH, b"x"))
 
 
 script.startup()

@@ -1,4 +1,4 @@
-"""Writes tests/general/state_vectors.tpm: commands and answers whose bytes were written down by hand."""
+"""Writes state_vectors.tpm: commands and answers whose bytes were written down by hand."""
 
 from tpmsim.caller import BY_VALUE, area, sealed, storage_key
 from tpmsim.standard import RH_NULL, frames
@@ -33,7 +33,7 @@ def code(number):
 
 
 def answered(what, outcome, asked, wanted):
-    response = script.command(what, outcome, bytes_of(asked))
+    response = script.command(f"{what}: {outcome}", bytes_of(asked))
     assert response == bytes_of(wanted), f"{what}: {response.hex()}"
 
 
@@ -146,7 +146,7 @@ def persistent():
 def sent_again():
     script.chapter("A buffer of an HMAC session that is sent again is a try.")
     script.command(
-        'TPM2_NV_DefineSpace of index 01000001, attributes 00040004, eight bytes, value "a"',
+        'TPM2_NV_DefineSpace of index 01000001, attributes 00040004, eight bytes, value "a": '
         "SUCCESS",
         bytes_of(
             f"8002 0000002E 0000012A 40000001 {PW} 0001 61 000E 01000001 000B 00040004 0000 0008"

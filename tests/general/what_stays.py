@@ -1,4 +1,4 @@
-"""Writes tests/general/what_stays.tpm: what a device still knows of sessions and counters that are gone."""
+"""Writes what_stays.tpm: what a device still knows of sessions and counters that are gone."""
 
 from tpmsim.caller import counter
 from tpmsim.model.history import History
@@ -25,8 +25,8 @@ def counts_up_to(value, handle, times):
 script.startup()
 script.chapter("A new session under the handle of one that was flushed has nothing of its policy.")
 session = tpm.policy("A policy session")
-tpm.says("TPM2_PolicyPCR", "SUCCESS", tpm.pcrs(session, [(SHA256, [10])]))
-tpm.says("It is flushed", "SUCCESS", tpm.flush(session))
+tpm.says("TPM2_PolicyPCR: SUCCESS", tpm.pcrs(session, [(SHA256, [10])]))
+tpm.says("It is flushed: SUCCESS", tpm.flush(session))
 again = tpm.policy("A policy session, which has the same handle")
 assert again.handle == session.handle
 tpm.digest_is("TPM2_PolicyGetDigest: zeros", again, zeros(again))

@@ -3,8 +3,8 @@
     tools/python.sh tests/images/make_version_1.py PROGRAM
 
 PROGRAM is one that writes this version. It serves the device of each script NAME.tpm in
-tests/version_1: a run up to each `power` line, of the script's random bytes and at its times, which
-tests/common/clock.c tells it; `cc` builds that. The image that it saves at the end, and that of the
+tests/images/version_1: a run up to each `power` line, of the script's random bytes and at its times,
+which tests/common/clock.c tells it; `cc` builds that. The image that it saves at the end, and that of the
 device in Python behind the same commands, have to be the same. Where there is no NAME.hex, they are
 written there; where there is one, they have to be those of it.
 """
@@ -18,6 +18,7 @@ from dataclasses import dataclass
 
 from tests.common import expected
 from tests.at_random import served_runs as serving
+from tests.common import places
 from tests.images import version_1
 from tpmsim.model.machine import MANUFACTURED, Model
 

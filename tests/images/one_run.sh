@@ -141,6 +141,7 @@ for kind in pipe folder device link listener folder/ missing/ missing/image ''; 
     run "the image '$kind', a script" run --image "$kind" script
     serve "the image '$kind', a served device" "$kind"
 done
+# shellcheck disable=SC2012 # the names are known
 echo "all that is there: $(ls -A | tr '\n' ' ')"
 
 # A folder has no random bytes. A pipe has those that are written to it, once somebody does.

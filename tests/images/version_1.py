@@ -1,5 +1,6 @@
-"""Images of version 1, as bytes that are kept in tests/version_1: NAME.hex has one of them, which a
-program of that version saved, and NAME.tpm the script of its device. Neither is ever written anew.
+"""Images of version 1, as bytes that are kept in tests/images/version_1: NAME.hex has one of them,
+which a program of that version saved, and NAME.tpm the script of its device. Neither is ever written
+anew.
 """
 
 import pathlib

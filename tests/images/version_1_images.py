@@ -1,4 +1,4 @@
-"""Has a program open the images of version 1 that are kept in tests/version_1:
+"""Has a program open the images of version 1 that are kept in tests/images/version_1:
 
     tools/python.sh tests/images/version_1_images.py PROGRAM
 

@@ -1,4 +1,4 @@
-"""Writes tests/lines/assemble.lines, the lines that tests/lines/assemble.sh hands to `tpmsim asm`, and
+"""Writes assemble.lines, the lines that tests/lines/assemble.sh hands to `tpmsim asm`, and
 tests/lines/assemble.out, what comes of them, of those that are longer, too.
 
 A line stands in assemble.lines as printf takes it: a byte that is no ASCII is \\ooo, in octal.

@@ -5,6 +5,7 @@
 
 # third LINE [LABEL]: a script of which this is the third line.
 third() {
+    # shellcheck disable=SC2059 # a line has escapes of printf
     printf "$startup\n# the second\n$1\n$startup\n" >script
     run "${2:-\"$1\"}" run script
 }

@@ -59,6 +59,7 @@ echo cmd >>script
 run '1048576 lines' run script
 run '1048576 lines, the last without a line break' run without_line_break
 for line in '\n' '#\n' "$startup\n" 'bad\n' '#' "$startup" bad; do
+    # shellcheck disable=SC2059 # it has escapes of printf
     { cat script; printf "$line"; } >longer
     run "1048576 lines and \"$line\"" run longer
 done
@@ -89,6 +90,7 @@ fi
 
 # Milliseconds add up to at most 4,294,967,295 before a command.
 waits() {
+    # shellcheck disable=SC2059 # it has escapes of printf
     printf "$1\n" >script
     run "\"$1\"" run script
 }

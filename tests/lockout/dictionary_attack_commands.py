@@ -1,4 +1,4 @@
-"""Writes tests/lockout/dictionary_attack_commands.tpm: the two commands, and all that refuses them."""
+"""Writes dictionary_attack_commands.tpm: the two commands, and all that refuses them."""
 
 from tpmsim.caller import Use
 from tpmsim.standard import CC, DECRYPT, ENCRYPT, RH_LOCKOUT, RH_NULL, RH_OWNER, RH_PLATFORM
@@ -19,20 +19,21 @@ tpm = ScriptCaller(script)
 says = script.command
 
 says(
-    "Before TPM2_Startup",
-    "INITIALIZE",
+    "Before TPM2_Startup: INITIALIZE",
     *(on_handle(code, RH_LOCKOUT, parameters) for code, parameters in COMMANDS),
 )
 script.startup()
 script.chapter("By the empty password, which lockoutAuth is on a new device.")
 for code, parameters in COMMANDS:
-    says("Both" if code == LOCK_RESET else "", "SUCCESS", on_handle(code, RH_LOCKOUT, parameters))
+    says(
+        "Both: SUCCESS" if code == LOCK_RESET else "SUCCESS",
+        on_handle(code, RH_LOCKOUT, parameters),
+    )
 
 script.chapter("The handle.")
-says("None", "INSUFFICIENT/h1", *(command(code, b"") for code, _ in COMMANDS))
+says("None: INSUFFICIENT/h1", *(command(code, b"") for code, _ in COMMANDS))
 says(
-    "That of another hierarchy, of TPM_RH_NULL, and of PCR 0",
-    "VALUE/h1",
+    "That of another hierarchy, of TPM_RH_NULL, and of PCR 0: VALUE/h1",
     *(
         on_handle(code, handle, parameters)
         for code, parameters in COMMANDS
@@ -40,26 +41,22 @@ says(
     ),
 )
 says(
-    "Without sessions",
-    "AUTH_MISSING",
+    "Without sessions: AUTH_MISSING",
     *(command(code, number(RH_LOCKOUT, 4) + parameters) for code, parameters in COMMANDS),
 )
 
 script.chapter("The parameters.")
 for place in (1, 2, 3):
     says(
-        f"Cut within parameter {place}",
-        f"INSUFFICIENT/p{place}",
+        f"Cut within parameter {place}: INSUFFICIENT/p{place}",
         *(on_handle(PARAMETERS, RH_LOCKOUT, THREE[: 4 * place - it]) for it in (4, 1)),
     )
 says(
-    "A byte behind them",
-    "SIZE",
+    "A byte behind them: SIZE",
     *(on_handle(code, RH_LOCKOUT, parameters + b"\0") for code, parameters in COMMANDS),
 )
 says(
-    "All values are good ones",
-    "SUCCESS",
+    "All values are good ones: SUCCESS",
     *(
         on_handle(PARAMETERS, RH_LOCKOUT, frames.attack_parameters(*it))
         for it in (
@@ -83,24 +80,21 @@ for session, words in ((unbound, "The first one"), (bound, "The second one")):
 tpm.accepted("Both in one command", tpm.lock_reset(bound, unbound))
 for attribute, words in ((DECRYPT, "decrypted"), (ENCRYPT, "encrypted")):
     tpm.refused(
-        f"Nothing can be {words}",
-        "ATTRIBUTES/s1",
+        f"Nothing can be {words}: ATTRIBUTES/s1",
         tpm.lock_reset(unbound).but_entry(1, attributes=attribute),
         tpm.attack_parameters(3, 1000, 1, unbound).but_entry(1, attributes=attribute),
     )
 policy = tpm.policy("A policy session")
 tpm.refused(
-    "No policy authorizes TPM_RH_LOCKOUT",
-    "AUTH_UNAVAILABLE",
+    "No policy authorizes TPM_RH_LOCKOUT: AUTH_UNAVAILABLE",
     tpm.lock_reset(policy),
     tpm.attack_parameters(3, 1000, 1, policy),
 )
 tpm.accepted("Behind the password it may stand", tpm.lock_reset(b"lockout", policy))
 tpm.accepted("A session that ends", tpm.lock_reset(Use(bound, attributes=0)))
-tpm.refused("It is gone", "REFERENCE_S0", tpm.lock_reset(bound))
+tpm.refused("It is gone: REFERENCE_S0", tpm.lock_reset(bound))
 says(
-    "Wrong parameters of a wrong password: the password is looked at first",
-    "AUTH_FAIL/s1",
+    "Wrong parameters of a wrong password: the password is looked at first: AUTH_FAIL/s1",
     on_handle(PARAMETERS, RH_LOCKOUT, b"", [frames.entry(hmac=b"x")]),
 )
 script.write()

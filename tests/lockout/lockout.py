@@ -1,4 +1,4 @@
-"""Writes tests/lockout/lockout.tpm: wrong tries are counted, lock, and are forgiven."""
+"""Writes lockout.tpm: wrong tries are counted, lock, and are forgiven."""
 
 from tpmsim.caller import BY_VALUE, HERE, area, sealed
 from tpmsim.standard import CC, RH_OWNER, SHA256, policy
@@ -28,12 +28,12 @@ def right(what, index=FIRST):
 
 def wrong(what, *passwords, index=FIRST):
     commands = [tpm.reading(index, 8, it) for it in passwords or (b"0000",)]
-    tpm.fails(what, "AUTH_FAIL/s1", *commands)
+    tpm.fails(f"{what}: AUTH_FAIL/s1", *commands)
 
 
 def locked(what, *passwords, index=FIRST):
     commands = [tpm.reading(index, 8, it) for it in passwords or (PIN,)]
-    tpm.fails(what, "LOCKOUT", *commands)
+    tpm.fails(f"{what}: LOCKOUT", *commands)
 
 
 def opened(what, wait):
@@ -62,8 +62,8 @@ def tries():
     locked("The right one comes too late")
     locked("So does every other", b"0000", b"")
     locked("All protected entities are locked: another NV index", index=SECOND)
-    tpm.fails("A sealed object", "LOCKOUT", tpm.unsealing(PROTECTED))
-    tpm.fails("That with a wrong password", "LOCKOUT", tpm.unsealing(PROTECTED, b"x"))
+    tpm.fails("A sealed object: LOCKOUT", tpm.unsealing(PROTECTED))
+    tpm.fails("That with a wrong password: LOCKOUT", tpm.unsealing(PROTECTED, b"x"))
     tpm.does("What is not authorized is not: its public area", tpm.public(PROTECTED))
     tpm.does("TPM2_PCR_Reset", tpm.reset(b""))
 
@@ -138,9 +138,9 @@ def any_command():
     script.chapter("Time passes with every command, refused ones too.")
     lock()
     script.wait(333_333)
-    tpm.fails("A wrong password", "LOCKOUT", tpm.reading(FIRST, 8, b"0000"))
+    tpm.fails("A wrong password: LOCKOUT", tpm.reading(FIRST, 8, b"0000"))
     script.wait(333_333)
-    script.command("The empty buffer", "COMMAND_SIZE", b"")
+    script.command("The empty buffer: COMMAND_SIZE", b"")
     script.wait(333_333)
     tpm.does("TPM2_GetRandom", tpm.random(2))
     locked("999,999 milliseconds have passed")
@@ -163,7 +163,7 @@ def power_cycles():
     wrong("The third one")
     script.power()
     script.wait(400_000)
-    tpm.fails("TPM2_GetRandom", "INITIALIZE", tpm.random(2))
+    tpm.fails("TPM2_GetRandom: INITIALIZE", tpm.random(2))
     script.wait(599_999)
     script.startup()
     locked("A millisecond before the end")
@@ -236,7 +236,7 @@ def no_recovery():
     script.chapter("With maxTries 0 everything that is protected is locked, without a try.")
     tpm.set_protection("maxTries is 0", 0, 1000, 1000)
     locked("The right one, and a wrong one", PIN, b"0")
-    tpm.fails("The object", "LOCKOUT", tpm.unsealing(PROTECTED))
+    tpm.fails("The object: LOCKOUT", tpm.unsealing(PROTECTED))
     script.wait(4_294_967_295)
     locked("No time opens it")
     unlock()
@@ -251,18 +251,15 @@ def no_recovery():
 def unprotected():
     script.chapter("noDA and TPMA_NV_NO_DA: no try is counted.")
     tpm.fails(
-        "Five wrong passwords of an index",
-        "BAD_AUTH/s1",
+        "Five wrong passwords of an index: BAD_AUTH/s1",
         *(tpm.reading(THIRD, 8, it) for it in (b"0", b"1", b"2", b"3", b"4")),
     )
     tpm.fails(
-        "Five of an object",
-        "BAD_AUTH/s1",
+        "Five of an object: BAD_AUTH/s1",
         *(tpm.unsealing(FREE, it) for it in (b"0", b"1", b"2", b"3", b"4")),
     )
     tpm.fails(
-        "Five of TPM_RH_OWNER",
-        "BAD_AUTH/s1",
+        "Five of TPM_RH_OWNER: BAD_AUTH/s1",
         *(tpm.change_auth(RH_OWNER, b"x", it) for it in (b"0", b"1", b"2", b"3", b"4")),
     )
     right("What is protected is open")
@@ -271,7 +268,7 @@ def unprotected():
     right("The index with TPMA_NV_NO_DA is not", index=THIRD)
     tpm.unseal("Nor is the object with noDA", FREE, SECRET)
     tpm.does("Nor is TPM_RH_OWNER", tpm.change_auth(RH_OWNER, b"", b""))
-    tpm.fails("A wrong one of them is as before", "BAD_AUTH/s1", tpm.unsealing(FREE, b"0"))
+    tpm.fails("A wrong one of them is as before: BAD_AUTH/s1", tpm.unsealing(FREE, b"0"))
     unlock()
 
 
@@ -281,50 +278,45 @@ def order():
     lock()
     read = tpm.reading(FIRST, 8)
     tpm.fails(
-        "Before it: an attribute that no entry has",
-        "RESERVED_BITS/s1",
+        "Before it: an attribute that no entry has: RESERVED_BITS/s1",
         read.but_entry(1, attributes=0x08),
     )
+    tpm.fails("An index that its value may not write: AUTH_UNAVAILABLE", tpm.writing(SECOND, b"x"))
+    tpm.fails("One that has no policy: AUTH_UNAVAILABLE", tpm.reading(SECOND, 8, session))
     tpm.fails(
-        "An index that its value may not write", "AUTH_UNAVAILABLE", tpm.writing(SECOND, b"x")
-    )
-    tpm.fails("One that has no policy", "AUTH_UNAVAILABLE", tpm.reading(SECOND, 8, session))
-    tpm.fails(
-        "A policy session whose digest is another", "POLICY_FAIL/s1", tpm.reading(FIRST, 8, session)
+        "A policy session whose digest is another: POLICY_FAIL/s1", tpm.reading(FIRST, 8, session)
     )
     tpm.says(
-        "TPM2_PolicyCommandCode of another command",
-        "SUCCESS",
-        tpm.command_code(session, CC.NV_Write),
+        "TPM2_PolicyCommandCode of another command: SUCCESS", tpm.command_code(session, CC.NV_Write)
     )
-    tpm.fails("Its command code", "POLICY_CC/s1", tpm.reading(FIRST, 8, session))
-    tpm.says("TPM2_PolicyRestart", "SUCCESS", tpm.restart(session))
-    tpm.says("TPM2_PolicyLocality of locality 1", "SUCCESS", tpm.locality(session, 2))
-    tpm.fails("From locality 0", "LOCALITY", tpm.reading(FIRST, 8, session))
-    tpm.says("TPM2_PolicyRestart", "SUCCESS", tpm.restart(session))
-    tpm.says("TPM2_PolicyPCR", "SUCCESS", tpm.pcrs(session, [(SHA256, [0])]))
+    tpm.fails("Its command code: POLICY_CC/s1", tpm.reading(FIRST, 8, session))
+    tpm.says("TPM2_PolicyRestart: SUCCESS", tpm.restart(session))
+    tpm.says("TPM2_PolicyLocality of locality 1: SUCCESS", tpm.locality(session, 2))
+    tpm.fails("From locality 0: LOCALITY", tpm.reading(FIRST, 8, session))
+    tpm.says("TPM2_PolicyRestart: SUCCESS", tpm.restart(session))
+    tpm.says("TPM2_PolicyPCR: SUCCESS", tpm.pcrs(session, [(SHA256, [0])]))
     tpm.does("TPM2_PCR_Reset of PCR 16", tpm.reset(b""))
-    tpm.fails("A PCR has changed", "PCR_CHANGED", tpm.reading(FIRST, 8, session))
-    tpm.says("TPM2_PolicyRestart", "SUCCESS", tpm.restart(session))
+    tpm.fails("A PCR has changed: PCR_CHANGED", tpm.reading(FIRST, 8, session))
+    tpm.says("TPM2_PolicyRestart: SUCCESS", tpm.restart(session))
     trial = tpm.trial("A trial session")
-    tpm.fails("It authorizes nothing", "ATTRIBUTES/s1", tpm.reading(FIRST, 8, trial))
-    tpm.says("TPM2_PolicyPassword", "SUCCESS", tpm.password_told(session))
+    tpm.fails("It authorizes nothing: ATTRIBUTES/s1", tpm.reading(FIRST, 8, trial))
+    tpm.says("TPM2_PolicyPassword: SUCCESS", tpm.password_told(session))
     session_read = tpm.reading(FIRST, 8, session).but_entry(1, hmac=PIN)
-    tpm.fails("The policy that is right, with the right password", "LOCKOUT", session_read)
-    tpm.fails("A wrong entry that touches nothing protected", "BAD_AUTH/s1", tpm.reset(b"x"))
+    tpm.fails("The policy that is right, with the right password: LOCKOUT", session_read)
+    tpm.fails("A wrong entry that touches nothing protected: BAD_AUTH/s1", tpm.reset(b"x"))
     plain = tpm.start("An HMAC session that is bound to nothing")
     bound = tpm.start("One that is bound to the index", bind=FIRST)
     wrong_hmac = tpm.reset(plain, bound).but_entry(1, hmac=b"x")
-    tpm.fails("A wrong entry before one that touches it", "BAD_AUTH/s1", wrong_hmac)
-    tpm.fails("A right one before it", "LOCKOUT", tpm.reset(plain, bound))
+    tpm.fails("A wrong entry before one that touches it: BAD_AUTH/s1", wrong_hmac)
+    tpm.fails("A right one before it: LOCKOUT", tpm.reset(plain, bound))
     wrong_behind = tpm.reset(bound, plain).but_entry(2, hmac=b"x")
-    tpm.fails("It, and a wrong one behind it", "LOCKOUT", wrong_behind)
-    tpm.fails("Behind LOCKOUT: no parameters", "LOCKOUT", read.but(parameters=b""))
-    tpm.fails("Bytes behind them", "LOCKOUT", read.but(parameters=bytes(20)))
-    tpm.fails("A range that is not there", "LOCKOUT", tpm.reading(FIRST, 9))
+    tpm.fails("It, and a wrong one behind it: LOCKOUT", wrong_behind)
+    tpm.fails("Behind LOCKOUT: no parameters: LOCKOUT", read.but(parameters=b""))
+    tpm.fails("Bytes behind them: LOCKOUT", read.but(parameters=bytes(20)))
+    tpm.fails("A range that is not there: LOCKOUT", tpm.reading(FIRST, 9))
     unlock()
-    tpm.fails("These, when nothing is locked", "INSUFFICIENT/p1", read.but(parameters=b""))
-    tpm.fails("And this", "NV_RANGE", tpm.reading(FIRST, 9))
+    tpm.fails("These, when nothing is locked: INSUFFICIENT/p1", read.but(parameters=b""))
+    tpm.fails("And this: NV_RANGE", tpm.reading(FIRST, 9))
 
 
 ONLY_PASSWORD = policy.after_auth_value(SHA256, bytes(32))

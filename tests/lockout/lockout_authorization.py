@@ -1,4 +1,4 @@
-"""Writes tests/lockout/lockout_authorization.tpm: wrong entries that are a try at lockoutAuth."""
+"""Writes lockout_authorization.tpm: wrong entries that are a try at lockoutAuth."""
 
 from tpmsim.caller import BY_VALUE, area, wrong
 from tpmsim.standard import CC, RH_LOCKOUT, RH_OWNER, frames, on_handle, sized
@@ -33,19 +33,16 @@ to_owner = tpm.start("One that is bound to TPM_RH_OWNER", RH_OWNER)
 
 script.chapter("On TPM_RH_LOCKOUT itself.")
 script.command(
-    "A wrong password: another one, the empty one, and ownerAuth",
-    "AUTH_FAIL/s1",
+    "A wrong password: another one, the empty one, and ownerAuth: AUTH_FAIL/s1",
     *(by_password(RH_LOCKOUT, it) for it in (b"wrong", b"", b"owner", b"lockou", b"lockout\0\1")),
 )
 tpm.refused(
     "A wrong hmac, of the session that is bound to nothing, of the one bound to TPM_RH_OWNER, and "
-    "of those bound to TPM_RH_LOCKOUT",
-    "AUTH_FAIL/s1",
+    "of those bound to TPM_RH_LOCKOUT: AUTH_FAIL/s1",
     *(wrong(tpm.change_auth(RH_LOCKOUT, LOCKOUT, it)) for it in (unbound, to_owner, bound, early)),
 )
 tpm.refused(
-    "No hmac where the session has no key of its own",
-    "AUTH_FAIL/s1",
+    "No hmac where the session has no key of its own: AUTH_FAIL/s1",
     tpm.change_auth(RH_LOCKOUT, LOCKOUT, unbound).but_entry(1, hmac=b""),
 )
 for session, words in (
@@ -59,38 +56,33 @@ tpm.accepted("The right password", tpm.change_auth(RH_LOCKOUT, LOCKOUT, LOCKOUT)
 
 script.chapter("On entities that nothing protects, through a session bound to TPM_RH_LOCKOUT.")
 tpm.refused(
-    "A wrong hmac on TPM_RH_OWNER, whose value is in the key too",
-    "AUTH_FAIL/s1",
+    "A wrong hmac on TPM_RH_OWNER, whose value is in the key too: AUTH_FAIL/s1",
     wrong(tpm.change_auth(RH_OWNER, b"owner", bound)),
     wrong(tpm.change_auth(RH_OWNER, b"owner", early)),
 )
-tpm.refused("On PCR 16", "AUTH_FAIL/s1", wrong(tpm.reset(bound)), wrong(tpm.reset(early)))
+tpm.refused("On PCR 16: AUTH_FAIL/s1", wrong(tpm.reset(bound)), wrong(tpm.reset(early)))
 tpm.refused(
-    "On TPM_RH_NULL, by TPM2_PCR_Event",
-    "AUTH_FAIL/s1",
+    "On TPM_RH_NULL, by TPM2_PCR_Event: AUTH_FAIL/s1",
     wrong(tpm.event(b"abc", bound, pcr=frames.RH_NULL)),
 )
-tpm.refused("No hmac", "AUTH_FAIL/s1", tpm.reset(bound).but_entry(1, hmac=b""))
+tpm.refused("No hmac: AUTH_FAIL/s1", tpm.reset(bound).but_entry(1, hmac=b""))
 tpm.accepted("Right hmacs: on TPM_RH_OWNER", tpm.change_auth(RH_OWNER, b"owner", bound))
 tpm.accepted("On PCR 16", tpm.reset(bound))
 
 script.chapter("In an entry that authorizes nothing.")
-tpm.refused("Behind a password", "AUTH_FAIL/s2", wrong(tpm.reset(b"", bound), 2))
+tpm.refused("Behind a password: AUTH_FAIL/s2", wrong(tpm.reset(b"", bound), 2))
 tpm.refused(
-    "Behind two right entries",
-    "AUTH_FAIL/s3",
+    "Behind two right entries: AUTH_FAIL/s3",
     wrong(tpm.reset(b"", to_owner, bound), 3),
     wrong(tpm.reset(to_owner, unbound, early), 3),
 )
 tpm.refused(
-    "Of TPM2_GetRandom",
-    "AUTH_FAIL/s1",
+    "Of TPM2_GetRandom: AUTH_FAIL/s1",
     wrong(tpm.random(4, bound)),
     wrong(tpm.random(4, bound, to_owner)),
 )
 tpm.refused(
-    "Of TPM2_StartAuthSession, as the second",
-    "AUTH_FAIL/s2",
+    "Of TPM2_StartAuthSession, as the second: AUTH_FAIL/s2",
     wrong(
         tpm.prepare(CC.StartAuthSession, *frames.start_auth_session(bytes(16)), to_owner, bound), 2
     ),
@@ -99,48 +91,42 @@ tpm.accepted("Right ones", tpm.reset(to_owner, bound, early))
 
 script.chapter("Entries that are no try at it.")
 tpm.refused(
-    "A wrong hmac on TPM_RH_OWNER, bound to it or to nothing",
-    "BAD_AUTH/s1",
+    "A wrong hmac on TPM_RH_OWNER, bound to it or to nothing: BAD_AUTH/s1",
     wrong(tpm.change_auth(RH_OWNER, b"owner", to_owner)),
     wrong(tpm.change_auth(RH_OWNER, b"owner", unbound)),
 )
 script.command(
-    "lockoutAuth as the password of TPM_RH_OWNER", "BAD_AUTH/s1", by_password(RH_OWNER, LOCKOUT)
+    "lockoutAuth as the password of TPM_RH_OWNER: BAD_AUTH/s1", by_password(RH_OWNER, LOCKOUT)
 )
 tpm.refused(
-    "A wrong hmac beside a right one of a session bound to TPM_RH_LOCKOUT",
-    "BAD_AUTH/s1",
+    "A wrong hmac beside a right one of a session bound to TPM_RH_LOCKOUT: BAD_AUTH/s1",
     wrong(tpm.reset(to_owner, bound)),
 )
-tpm.refused("Behind it", "BAD_AUTH/s2", wrong(tpm.reset(bound, to_owner), 2))
+tpm.refused("Behind it: BAD_AUTH/s2", wrong(tpm.reset(bound, to_owner), 2))
 tpm.refused(
-    "The second entry of TPM_RH_LOCKOUT's own command, where the first is right",
-    "BAD_AUTH/s2",
+    "The second entry of TPM_RH_LOCKOUT's own command, where the first is right: BAD_AUTH/s2",
     wrong(tpm.change_auth(RH_LOCKOUT, LOCKOUT, bound, to_owner), 2),
 )
 tpm.refused(
-    "Of two wrong entries the first is answered, here the one that is no such try",
-    "BAD_AUTH/s1",
+    "Of two wrong entries the first is answered, here the one that is no such try: BAD_AUTH/s1",
     wrong(wrong(tpm.reset(to_owner, bound)), 2),
 )
-tpm.refused("And here the one that is", "AUTH_FAIL/s1", wrong(wrong(tpm.reset(bound, to_owner)), 2))
+tpm.refused("And here the one that is: AUTH_FAIL/s1", wrong(wrong(tpm.reset(bound, to_owner)), 2))
 
 script.chapter("A binding of the start counts, whatever has become of the value.")
 tpm.accepted('lockoutAuth is "another"', tpm.change_auth(RH_LOCKOUT, b"another", LOCKOUT))
 tpm.refused(
-    "A wrong hmac on PCR 16 through the session that was bound to its old value",
-    "AUTH_FAIL/s1",
+    "A wrong hmac on PCR 16 through the session that was bound to its old value: AUTH_FAIL/s1",
     wrong(tpm.reset(bound)),
 )
 tpm.accepted(
     "On TPM_RH_LOCKOUT it has the new value in its key", tpm.change_auth(RH_LOCKOUT, b"", bound)
 )
 script.command(
-    "lockoutAuth is empty: a wrong password", "AUTH_FAIL/s1", by_password(RH_LOCKOUT, b"x")
+    "lockoutAuth is empty: a wrong password: AUTH_FAIL/s1", by_password(RH_LOCKOUT, b"x")
 )
 tpm.refused(
-    "A wrong hmac of the session that is bound to nothing",
-    "AUTH_FAIL/s1",
+    "A wrong hmac of the session that is bound to nothing: AUTH_FAIL/s1",
     tpm.change_auth(RH_LOCKOUT, b"", unbound).but_entry(1, hmac=b"\0"),
 )
 tpm.accepted("No hmac of it", tpm.change_auth(RH_LOCKOUT, b"", unbound))
@@ -154,11 +140,11 @@ def right(what):
 
 
 def wrong_password(what):
-    tpm.fails(what, "AUTH_FAIL/s1", tpm.lock_reset(b"wrong"))
+    tpm.fails(f"{what}: AUTH_FAIL/s1", tpm.lock_reset(b"wrong"))
 
 
 def closed(what, *passwords):
-    tpm.fails(what, "LOCKOUT", *(tpm.lock_reset(it) for it in passwords or (LOCKOUT,)))
+    tpm.fails(f"{what}: LOCKOUT", *(tpm.lock_reset(it) for it in passwords or (LOCKOUT,)))
 
 
 def closed_for(what, milliseconds):
@@ -178,21 +164,19 @@ def how_long():
     wrong_password("A wrong password of TPM2_DictionaryAttackLockReset")
     closed("The right one, and others", LOCKOUT, b"wrong", b"")
     tpm.fails(
-        "Of the other commands: TPM2_DictionaryAttackParameters and TPM2_HierarchyChangeAuth",
+        "Of the other commands: TPM2_DictionaryAttackParameters and TPM2_HierarchyChangeAuth: "
         "LOCKOUT",
         tpm.attack_parameters(3, 1000, 1000, LOCKOUT),
         tpm.change_auth(RH_LOCKOUT, b"x", LOCKOUT),
     )
     tpm.fails(
-        "A session that is bound to nothing, one that is bound to it, and a wrong hmac",
-        "LOCKOUT",
+        "A session that is bound to nothing, one that is bound to it, and a wrong hmac: LOCKOUT",
         tpm.lock_reset(unbound),
         tpm.lock_reset(bound),
         wrong(tpm.lock_reset(unbound)),
     )
     tpm.fails(
-        "One that is bound to it and authorizes PCR 16, and one that authorizes nothing",
-        "LOCKOUT",
+        "One that is bound to it and authorizes PCR 16, and one that authorizes nothing: LOCKOUT",
         tpm.reset(bound),
         tpm.random(2, bound),
         tpm.reset(b"", bound),
@@ -205,11 +189,11 @@ def how_long():
     closed("Another wrong one", b"wrong")
     closed_for("The time goes on.", 500_000)
     script.chapter("At a wrong hmac it closes too.")
-    tpm.fails("Of PCR 16, bound to it", "AUTH_FAIL/s1", wrong(tpm.reset(bound)))
+    tpm.fails("Of PCR 16, bound to it: AUTH_FAIL/s1", wrong(tpm.reset(bound)))
     closed("The right password")
     script.wait(1_000_000)
     right("Later")
-    tpm.fails("Behind a password", "AUTH_FAIL/s2", wrong(tpm.reset(b"", bound), 2))
+    tpm.fails("Behind a password: AUTH_FAIL/s2", wrong(tpm.reset(b"", bound), 2))
     closed("The right password")
     closed_for("It opens.", 1_000_000)
 
@@ -257,21 +241,19 @@ def each_alone():
     to_lockout = tpm.start("A session that is bound to TPM_RH_LOCKOUT", RH_LOCKOUT)
     to_index = tpm.start("And one that is bound to the index", FIRST)
     tpm.fails(
-        "Three wrong passwords of the index",
-        "AUTH_FAIL/s1",
+        "Three wrong passwords of the index: AUTH_FAIL/s1",
         *(tpm.writing(FIRST, b"x", it) for it in (b"0", b"1", b"2")),
     )
-    tpm.fails("The index is locked", "LOCKOUT", tpm.writing(FIRST, b"x"))
+    tpm.fails("The index is locked: LOCKOUT", tpm.writing(FIRST, b"x"))
     wrong_password("A wrong password of TPM_RH_LOCKOUT")
     closed("lockoutAuth is closed, too")
-    tpm.fails("And the index locked", "LOCKOUT", tpm.writing(FIRST, b"x"))
+    tpm.fails("And the index locked: LOCKOUT", tpm.writing(FIRST, b"x"))
     script.wait(1_000)
-    tpm.fails("After lockoutRecovery it still is", "LOCKOUT", tpm.writing(FIRST, b"x"))
+    tpm.fails("After lockoutRecovery it still is: LOCKOUT", tpm.writing(FIRST, b"x"))
     tpm.accepted("The first one is accepted for PCR 16", tpm.reset(to_lockout))
-    tpm.fails("The second one is not", "LOCKOUT", tpm.reset(to_index))
+    tpm.fails("The second one is not: LOCKOUT", tpm.reset(to_index))
     tpm.fails(
-        "The first one for the index: what counts is the value that is in the key",
-        "LOCKOUT",
+        "The first one for the index: what counts is the value that is in the key: LOCKOUT",
         tpm.writing(FIRST, b"x", to_lockout),
     )
     tpm.accepted(
@@ -279,10 +261,10 @@ def each_alone():
         tpm.lock_reset(to_index),
     )
     wrong_password("lockoutAuth closes")
-    tpm.fails("The second one for TPM_RH_LOCKOUT", "LOCKOUT", tpm.lock_reset(to_index))
+    tpm.fails("The second one for TPM_RH_LOCKOUT: LOCKOUT", tpm.lock_reset(to_index))
     tpm.does("The index is open", tpm.writing(FIRST, b"x"))
     tpm.accepted("The second one for PCR 16", tpm.reset(to_index))
-    tpm.fails("The first one for PCR 16", "LOCKOUT", tpm.reset(to_lockout))
+    tpm.fails("The first one for PCR 16: LOCKOUT", tpm.reset(to_lockout))
     tpm.accepted("The first one for the index", tpm.writing(FIRST, b"y", to_lockout))
     script.wait(1_000)
     tpm.accepted("After lockoutRecovery for PCR 16", tpm.reset(to_lockout))
@@ -292,7 +274,7 @@ def each_alone():
     script.wait(1_000)
     tpm.does("Nor is maxTries 0", tpm.attack_parameters(0, 1000, 1, LOCKOUT))
     right("The right one")
-    tpm.fails("Of the index", "LOCKOUT", tpm.writing(FIRST, b"x"))
+    tpm.fails("Of the index: LOCKOUT", tpm.writing(FIRST, b"x"))
 
 
 def longest():

@@ -1,4 +1,4 @@
-"""Writes tests/lockout/lockout_commands.tpm: a try by each command that a protected entity authorizes."""
+"""Writes lockout_commands.tpm: a try by each command that a protected entity authorizes."""
 
 from tpmsim.caller import BY_POLICY, BY_VALUE, HERE, STORES, Use, area, bits, counter, extended
 from tpmsim.caller import hmac_key, sealed, storage_key, wrong
@@ -37,10 +37,10 @@ def tries(name, prepare, outcome="SUCCESS"):
     if outcome == "SUCCESS":
         tpm.accepted("Right", prepare())
     else:
-        tpm.fails("Right, and refused for another reason", outcome, prepare())
-    tpm.fails("Wrong", "AUTH_FAIL/s1", wrong(prepare()))
-    tpm.fails("Right", "LOCKOUT", prepare())
-    tpm.fails("TPM2_Unseal of another entity", "LOCKOUT", tpm.unsealing(SEALED))
+        tpm.fails(f"Right, and refused for another reason: {outcome}", prepare())
+    tpm.fails("Wrong: AUTH_FAIL/s1", wrong(prepare()))
+    tpm.fails("Right: LOCKOUT", prepare())
+    tpm.fails("TPM2_Unseal of another entity: LOCKOUT", tpm.unsealing(SEALED))
     unlock()
 
 
@@ -96,10 +96,10 @@ def change_auth():
     told = tpm.policy("A policy session")
 
     def prepare():
-        tpm.says("TPM2_PolicyRestart", "SUCCESS", tpm.restart(told))
+        tpm.says("TPM2_PolicyRestart: SUCCESS", tpm.restart(told))
         code = tpm.command_code(told, CC.NV_ChangeAuth)
-        tpm.says("TPM2_PolicyCommandCode", "SUCCESS", code)
-        tpm.says("TPM2_PolicyAuthValue", "SUCCESS", tpm.auth_value_told(told))
+        tpm.says("TPM2_PolicyCommandCode: SUCCESS", code)
+        tpm.says("TPM2_PolicyAuthValue: SUCCESS", tpm.auth_value_told(told))
         return tpm.changing_auth(FIFTH, PIN, Use(told, demand=policy.AUTH_VALUE))
 
     tries("NV_ChangeAuth, by a policy that asks for the value", prepare)
@@ -113,18 +113,17 @@ def two_entries():
     third = tpm.start("One that is bound to nothing")
     tpm.set_protection("maxTries is 2", 2, 1000, 1000)
     both = wrong(wrong(tpm.reset(first, second, third)), 2)
-    tpm.fails("The first two are wrong", "AUTH_FAIL/s1", both)
+    tpm.fails("The first two are wrong: AUTH_FAIL/s1", both)
     tpm.accepted("It is not locked: all three", tpm.reset(first, second, third))
     unlock()
     behind = wrong(tpm.reset(third, first, second), 2)
-    tpm.fails("The second of three", "AUTH_FAIL/s2", behind)
+    tpm.fails("The second of three: AUTH_FAIL/s2", behind)
     tpm.accepted("It is not locked: all three", tpm.reset(first, second, third))
-    tpm.fails("The third of three", "AUTH_FAIL/s3", wrong(tpm.reset(third, first, second), 3))
-    tpm.fails("It is locked", "LOCKOUT", tpm.reset(third, first, second))
+    tpm.fails("The third of three: AUTH_FAIL/s3", wrong(tpm.reset(third, first, second), 3))
+    tpm.fails("It is locked: LOCKOUT", tpm.reset(third, first, second))
     unlock()
     tpm.fails(
-        "The first is wrong and no try, and the others are",
-        "BAD_AUTH/s1",
+        "The first is wrong and no try, and the others are: BAD_AUTH/s1",
         wrong(wrong(wrong(tpm.reset(third, first, second)), 2), 3),
         wrong(wrong(wrong(tpm.reset(third, first, second)), 2), 3),
     )

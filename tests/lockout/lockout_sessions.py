@@ -1,4 +1,4 @@
-"""Writes tests/lockout/lockout_sessions.tpm: which entries are a try at a protected value."""
+"""Writes lockout_sessions.tpm: which entries are a try at a protected value."""
 
 from dataclasses import dataclass
 from typing import Callable
@@ -50,10 +50,10 @@ def ways(handle, use):
     sessions = unbound, to_owner, bound, to_lockout, told, bound_policy
 
     def value():
-        tpm.says("TPM2_PolicyAuthValue", "SUCCESS", tpm.auth_value_told(told))
+        tpm.says("TPM2_PolicyAuthValue: SUCCESS", tpm.auth_value_told(told))
 
     def password():
-        tpm.says("TPM2_PolicyPassword", "SUCCESS", tpm.password_told(told))
+        tpm.says("TPM2_PolicyPassword: SUCCESS", tpm.password_told(told))
 
     return sessions, (
         Way("The password", lambda: use(PIN)),
@@ -94,11 +94,11 @@ def check(name, handle, use):
         script.chapter(f"{way.words}, {name}.")
         tpm.accepted("Right", way.prepared())
         bent = wrong(way.prepared(), way.place)
-        tpm.refused("Wrong: that is a try", f"AUTH_FAIL/s{way.place}", bent)
-        tpm.refused("Now it is locked: right", "LOCKOUT", way.prepare())
-        tpm.refused("And the password", "LOCKOUT", use(PIN))
+        tpm.refused(f"Wrong: that is a try: AUTH_FAIL/s{way.place}", bent)
+        tpm.refused("Now it is locked: right: LOCKOUT", way.prepare())
+        tpm.refused("And the password: LOCKOUT", use(PIN))
         if way.tell:
-            tpm.says("TPM2_PolicyRestart", "SUCCESS", tpm.restart(sessions[4]))
+            tpm.says("TPM2_PolicyRestart: SUCCESS", tpm.restart(sessions[4]))
         unlock()
     not_a_try(name, handle, sessions)
     for session in sessions:
@@ -122,9 +122,9 @@ def not_a_try(name, handle, sessions):
         ("Behind a session that is bound to TPM_RH_OWNER", tpm.reset, (to_owner, unbound), 2),
     )
     for words, prepare, arguments, place in others:
-        tpm.refused(f"{words}: wrong", f"BAD_AUTH/s{place}", wrong(prepare(*arguments), place))
+        tpm.refused(f"{words}: wrong: BAD_AUTH/s{place}", wrong(prepare(*arguments), place))
     tpm.accepted("It is not locked", tpm.random(2, bound))
-    tpm.refused("Now a try", "AUTH_FAIL/s1", wrong(tpm.random(2, bound)))
+    tpm.refused("Now a try: AUTH_FAIL/s1", wrong(tpm.random(2, bound)))
     for words, prepare, arguments, _ in others:
         tpm.accepted(f"{words}: right", prepare(*arguments))
     tpm.accepted("Bound to TPM_RH_LOCKOUT, on PCR 16", tpm.reset(to_lockout))
@@ -142,24 +142,24 @@ def policy_without_value():
     session = tpm.policy("A policy session")
 
     def use():
-        tpm.says("TPM2_PolicyLocality of locality 0", "SUCCESS", tpm.locality(session, 1))
+        tpm.says("TPM2_PolicyLocality of locality 0: SUCCESS", tpm.locality(session, 1))
         return tpm.writing(SECOND, DATA, session)
 
     tpm.accepted("TPM2_NV_Write", use())
-    tpm.refused("With an hmac that is not asked for", "BAD_AUTH/s1", wrong(use()))
-    tpm.says("TPM2_PolicyRestart", "SUCCESS", tpm.restart(session))
-    tpm.refused("A try at another entity", "AUTH_FAIL/s1", tpm.writing(FIRST, DATA, b"x"))
+    tpm.refused("With an hmac that is not asked for: BAD_AUTH/s1", wrong(use()))
+    tpm.says("TPM2_PolicyRestart: SUCCESS", tpm.restart(session))
+    tpm.refused("A try at another entity: AUTH_FAIL/s1", tpm.writing(FIRST, DATA, b"x"))
     tpm.accepted("It is open still", use())
     unlock()
     bound = tpm.policy("A policy session that is bound to the other entity", bind=FIRST)
 
     def bound_use():
-        tpm.says("TPM2_PolicyLocality of locality 0", "SUCCESS", tpm.locality(bound, 1))
+        tpm.says("TPM2_PolicyLocality of locality 0: SUCCESS", tpm.locality(bound, 1))
         return tpm.writing(SECOND, DATA, bound)
 
     tpm.accepted("TPM2_NV_Write", bound_use())
-    tpm.refused("A wrong hmac: a try at the other entity", "AUTH_FAIL/s1", wrong(bound_use()))
-    tpm.refused("It is locked", "LOCKOUT", tpm.writing(SECOND, DATA, bound))
+    tpm.refused("A wrong hmac: a try at the other entity: AUTH_FAIL/s1", wrong(bound_use()))
+    tpm.refused("It is locked: LOCKOUT", tpm.writing(SECOND, DATA, bound))
     unlock()
     tpm.does("The index is undefined", tpm.undefining(SECOND, OWNER))
     tpm.does("The sessions are flushed", tpm.flush(session))
@@ -172,8 +172,8 @@ def lasting():
     bound = tpm.start("A session that is bound to it", SECOND)
     tpm.does("The index is undefined", tpm.undefining(SECOND, OWNER))
     tpm.accepted("On PCR 16", tpm.reset(bound))
-    tpm.refused("Wrong: that is a try", "AUTH_FAIL/s1", wrong(tpm.reset(bound)))
-    tpm.refused("It is locked", "LOCKOUT", tpm.reset(bound))
+    tpm.refused("Wrong: that is a try: AUTH_FAIL/s1", wrong(tpm.reset(bound)))
+    tpm.refused("It is locked: LOCKOUT", tpm.reset(bound))
     unlock()
     tpm.define(
         "The index again, with TPMA_NV_NO_DA",
@@ -182,10 +182,9 @@ def lasting():
         auth=PIN,
     )
     free = tpm.start("A session that is bound to it now", SECOND)
-    tpm.refused("Wrong: no try", "BAD_AUTH/s1", wrong(tpm.reset(free)))
+    tpm.refused("Wrong: no try: BAD_AUTH/s1", wrong(tpm.reset(free)))
     tpm.refused(
-        "The first session on it: what that was bound to was protected",
-        "AUTH_FAIL/s1",
+        "The first session on it: what that was bound to was protected: AUTH_FAIL/s1",
         wrong(tpm.writing(SECOND, DATA, bound)),
     )
     tpm.accepted("Locked or not, the second session", tpm.writing(SECOND, DATA, free))

@@ -1,4 +1,4 @@
-"""Writes tests/nv/nv_access.tpm: who may write an index and read it, by each attribute alone."""
+"""Writes nv_access.tpm: who may write an index and read it, by each attribute alone."""
 
 from tpmsim.caller import BY_POLICY, BY_VALUE, area, bits, counter, extended
 from tpmsim.standard import RH_OWNER, RH_PLATFORM, frames, nv
@@ -35,14 +35,14 @@ def comes_to(what, outcome, prepared):
     if outcome == "SUCCESS":
         tpm.does(what, prepared)
     else:
-        tpm.fails(what, outcome, prepared)
+        tpm.fails(f"{what}: {outcome}", prepared)
 
 
 def each_asker(what, allowed, prepare):
     for words, handle, asker in (*ASKERS, ("The index itself", None, "index")):
         comes_to(f"{words}, {what}", refusal(asker, allowed), prepare(handle))
     # Another index authorizes by its own attributes, and may not ask for this one.
-    tpm.fails(f"Another index that can be written, {what}", "NV_AUTHORIZATION", prepare(SECOND))
+    tpm.fails(f"Another index that can be written, {what}: NV_AUTHORIZATION", prepare(SECOND))
 
 
 def changes(what, public, change, allowed):
@@ -74,14 +74,14 @@ def may_read(attribute, allowed):
     each_asker("TPM2_NV_Read", allowed, lambda by: tpm.reading(FIRST, 8, by=by))
     session = tpm.policy("A policy session")
     each_asker("TPM2_PolicyNV", allowed, lambda by: tpm.comparing(session, FIRST, b"w", by=by))
-    tpm.says("It is flushed", "SUCCESS", tpm.flush(session))
+    tpm.says("It is flushed: SUCCESS", tpm.flush(session))
     session = tpm.policy("Another, to be told TPM2_PolicySecret")
     comes_to(
         "TPM2_PolicySecret of the index",
         refusal("index", allowed),
         tpm.secret(session, tpm.auth_value(FIRST), of=FIRST),
     )
-    tpm.says("It is flushed", "SUCCESS", tpm.flush(session))
+    tpm.says("It is flushed: SUCCESS", tpm.flush(session))
     each_asker("TPM2_NV_ReadLock", allowed, lambda by: tpm.read_locking(FIRST, by=by))
     tpm.does("It is undefined", tpm.undefining(FIRST))
 
@@ -107,11 +107,11 @@ def wrong_handles():
     ):
         handles = [[it, SECOND] if place == 1 else [SECOND, it] for it in handles]
         wrong = [right.but(handles=it) for it in handles]
-        tpm.fails(what, f"VALUE/h{place}", *wrong)
+        tpm.fails(f"{what}: VALUE/h{place}", *wrong)
     tpm.does("An index is undefined", tpm.undefining(FIRST))
-    tpm.fails("authHandle that is not defined", "HANDLE/h1", right.but(handles=[FIRST, SECOND]))
-    tpm.fails("nvIndex that is not", "HANDLE/h2", right.but(handles=[SECOND, FIRST]))
-    tpm.fails("Both", "HANDLE/h1", right.but(handles=[FIRST, FIRST]))
+    tpm.fails("authHandle that is not defined: HANDLE/h1", right.but(handles=[FIRST, SECOND]))
+    tpm.fails("nvIndex that is not: HANDLE/h2", right.but(handles=[SECOND, FIRST]))
+    tpm.fails("Both: HANDLE/h1", right.but(handles=[FIRST, FIRST]))
 
 
 script.startup()
@@ -128,13 +128,12 @@ script.chapter("Another index as authHandle: its own attributes say whether it a
 tpm.define("The index that is asked for", area(FIRST, BY_VALUE), auth=b"a")
 tpm.define("One that only a policy can use", area(THIRD, BY_POLICY), auth=b"c")
 tpm.does("The first is written", tpm.writing(FIRST, b"x"))
-tpm.fails("TPM2_NV_Read by the one", "AUTH_UNAVAILABLE", tpm.reading(FIRST, 1, by=THIRD))
-tpm.fails("TPM2_NV_Write by it", "AUTH_UNAVAILABLE", tpm.writing(FIRST, b"x", by=THIRD))
+tpm.fails("TPM2_NV_Read by the one: AUTH_UNAVAILABLE", tpm.reading(FIRST, 1, by=THIRD))
+tpm.fails("TPM2_NV_Write by it: AUTH_UNAVAILABLE", tpm.writing(FIRST, b"x", by=THIRD))
 tpm.fails(
-    "With its right value the other may not, either",
-    "NV_AUTHORIZATION",
+    "With its right value the other may not, either: NV_AUTHORIZATION",
     tpm.reading(FIRST, 1, by=SECOND),
 )
-tpm.fails("Nor with a wrong one", "AUTH_FAIL/s1", tpm.reading(FIRST, 1, b"a", by=SECOND))
+tpm.fails("Nor with a wrong one: AUTH_FAIL/s1", tpm.reading(FIRST, 1, b"a", by=SECOND))
 wrong_handles()
 script.write()

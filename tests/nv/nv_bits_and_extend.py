@@ -1,4 +1,4 @@
-"""Writes tests/nv/nv_bits_and_extend.tpm: indices of bits, and indices that are extended."""
+"""Writes nv_bits_and_extend.tpm: indices of bits, and indices that are extended."""
 
 from tpmsim.caller import BY_OWNER, bits, extended
 from tpmsim.standard import RH_OWNER, SHA1, digest, digest_bytes, frames, number
@@ -24,9 +24,7 @@ def set_bits(what, index, more, value):
 script.startup()
 script.chapter("Bits.")
 tpm.define("TPM2_NV_DefineSpace (attributes 00020022)", bits(FIRST, BY_OWNER))
-tpm.fails(
-    "TPM2_NV_Read before the first bit", "NV_UNINITIALIZED", tpm.reading(FIRST, 8, by=RH_OWNER)
-)
+tpm.fails("TPM2_NV_Read before the first bit: NV_UNINITIALIZED", tpm.reading(FIRST, 8, by=RH_OWNER))
 set_bits("TPM2_NV_SetBits of 1", FIRST, 1, 1)
 set_bits("Of 4", FIRST, 4, 5)
 set_bits("Of 4 again", FIRST, 4, 5)
@@ -40,12 +38,11 @@ set_bits("No bit is set, and it is written", SECOND, 0, 0)
 set_bits("TPM2_NV_SetBits of 8", SECOND, 8, 8)
 wrong = tpm.setting(SECOND, 0, by=RH_OWNER)
 tpm.fails(
-    "Seven bytes, and none",
-    "INSUFFICIENT/p1",
+    "Seven bytes, and none: INSUFFICIENT/p1",
     wrong.but(parameters=bytes(7)),
     wrong.but(parameters=b""),
 )
-tpm.fails("Nine bytes", "SIZE", wrong.but(parameters=bytes(9)))
+tpm.fails("Nine bytes: SIZE", wrong.but(parameters=bytes(9)))
 
 for index, (algorithm, name) in zip((THIRD, THIRD + 1), HASHES):
     script.chapter(f"An index that is extended, of {name}.")
@@ -56,7 +53,7 @@ for index, (algorithm, name) in zip((THIRD, THIRD + 1), HASHES):
         extended(index, BY_OWNER, algorithm=algorithm),
     )
     tpm.fails(
-        "TPM2_NV_Read before the first", "NV_UNINITIALIZED", tpm.reading(index, size, by=RH_OWNER)
+        "TPM2_NV_Read before the first: NV_UNINITIALIZED", tpm.reading(index, size, by=RH_OWNER)
     )
     value = zeros
     for what, data in (
@@ -69,11 +66,9 @@ for index, (algorithm, name) in zip((THIRD, THIRD + 1), HASHES):
         value = digest(algorithm, value + data)
         tpm.read("It is the digest of the value before and the data", index, value, by=RH_OWNER)
     wrong = tpm.extending(index, bytes(1025), by=RH_OWNER)
-    tpm.fails("By 1,025 bytes", "SIZE/p1", wrong)
-    tpm.fails(
-        "By 1,024 that are cut", "INSUFFICIENT/p1", wrong.but(parameters=b"\4\0" + bytes(1023))
-    )
-    tpm.fails("A byte behind the data", "SIZE", wrong.but(parameters=frames.sized(b"abc") + b"d"))
+    tpm.fails("By 1,025 bytes: SIZE/p1", wrong)
+    tpm.fails("By 1,024 that are cut: INSUFFICIENT/p1", wrong.but(parameters=b"\4\0" + bytes(1023)))
+    tpm.fails("A byte behind the data: SIZE", wrong.but(parameters=frames.sized(b"abc") + b"d"))
     tpm.read("It is as it was", index, value, by=RH_OWNER)
     tpm.read("A piece of it", index, value[3:9], offset=3, by=RH_OWNER)
 
@@ -81,7 +76,7 @@ script.chapter("At the next start the first is as it was, and the second is not 
 script.power()
 script.startup()
 tpm.read("TPM2_NV_Read of the first", FIRST, b"\xff" * 8, by=RH_OWNER)
-tpm.fails("Of the second", "NV_UNINITIALIZED", tpm.reading(SECOND, 8, by=RH_OWNER))
+tpm.fails("Of the second: NV_UNINITIALIZED", tpm.reading(SECOND, 8, by=RH_OWNER))
 set_bits("TPM2_NV_SetBits of 2 in the second", SECOND, 2, 2)
 tpm.read("The last one goes on", THIRD + 1, value, by=RH_OWNER)
 tpm.does('TPM2_NV_Extend by "next"', tpm.extending(THIRD + 1, b"next", by=RH_OWNER))

@@ -1,4 +1,4 @@
-"""Writes tests/nv/nv_change_auth.tpm: the authorization value of an index, changed by a policy."""
+"""Writes nv_change_auth.tpm: the authorization value of an index, changed by a policy."""
 
 from tpmsim.caller import BY_OWNER, BY_POLICY, BY_VALUE, Use, area
 from tpmsim.standard import CC, CONTINUE_SESSION, DECRYPT, RH_OWNER, RH_PLATFORM, SHA1, SHA256
@@ -23,7 +23,7 @@ def changing_policy(algorithm=SHA256, before=None):
 
 
 def says(what, prepared):
-    tpm.says(what, "SUCCESS", prepared)
+    tpm.says(f"{what}: SUCCESS", prepared)
 
 
 def told(session, what="TPM2_PolicyCommandCode of TPM2_NV_ChangeAuth"):
@@ -45,19 +45,19 @@ tpm.define(
     area(FIRST, BY_VALUE, auth_policy=changing_policy()),
     auth=b"old",
 )
-tpm.fails("By the password", "AUTH_UNAVAILABLE", tpm.changing_auth(FIRST, b"new"))
-tpm.fails("By a wrong one", "AUTH_UNAVAILABLE", tpm.changing_auth(FIRST, b"new", b"x"))
+tpm.fails("By the password: AUTH_UNAVAILABLE", tpm.changing_auth(FIRST, b"new"))
+tpm.fails("By a wrong one: AUTH_UNAVAILABLE", tpm.changing_auth(FIRST, b"new", b"x"))
 plain = tpm.start("An HMAC session that is bound to it", bind=FIRST)
-tpm.fails("By the session", "AUTH_UNAVAILABLE", tpm.changing_auth(FIRST, b"new", plain))
+tpm.fails("By the session: AUTH_UNAVAILABLE", tpm.changing_auth(FIRST, b"new", plain))
 session = tpm.policy("A policy session")
 tpm.fails(
-    "Before TPM2_PolicyCommandCode", "POLICY_FAIL/s1", tpm.changing_auth(FIRST, b"new", session)
+    "Before TPM2_PolicyCommandCode: POLICY_FAIL/s1", tpm.changing_auth(FIRST, b"new", session)
 )
 trial = tpm.trial("A trial session")
 told(trial)
-tpm.fails("By it", "ATTRIBUTES/s1", tpm.changing_auth(FIRST, b"new", trial))
+tpm.fails("By it: ATTRIBUTES/s1", tpm.changing_auth(FIRST, b"new", trial))
 says("TPM2_PolicyCommandCode of TPM2_NV_Write", tpm.command_code(session, CC.NV_Write))
-tpm.fails("By this session", "POLICY_CC/s1", tpm.changing_auth(FIRST, b"new", session))
+tpm.fails("By this session: POLICY_CC/s1", tpm.changing_auth(FIRST, b"new", session))
 says("TPM2_PolicyRestart", tpm.restart(session))
 tpm.does("The value is as it was: TPM2_NV_Write by it", tpm.writing(FIRST, b"x"))
 
@@ -65,8 +65,8 @@ script.chapter("By the policy.")
 told(session)
 tpm.does('TPM2_NV_ChangeAuth to "new"', tpm.changing_auth(FIRST, b"new", session))
 tpm.digest_is("The policy counts once", session, zeros(session))
-tpm.fails("Again", "POLICY_FAIL/s1", tpm.changing_auth(FIRST, b"newer", session))
-tpm.fails("TPM2_NV_Write by the old value", "AUTH_FAIL/s1", tpm.writing(FIRST, b"y", b"old"))
+tpm.fails("Again: POLICY_FAIL/s1", tpm.changing_auth(FIRST, b"newer", session))
+tpm.fails("TPM2_NV_Write by the old value: AUTH_FAIL/s1", tpm.writing(FIRST, b"y", b"old"))
 tpm.does("By the new one", tpm.writing(FIRST, b"y"))
 tpm.is_now("Its Name is as it was, as no value is in it", FIRST)
 told(session)
@@ -95,8 +95,7 @@ tpm.does(
 )
 says("TPM2_PolicyAuthValue", tpm.auth_value_told(session))
 tpm.fails(
-    "TPM2_NV_ChangeAuth",
-    "POLICY_FAIL/s1",
+    "TPM2_NV_ChangeAuth: POLICY_FAIL/s1",
     tpm.changing_auth(FIRST, b"new", Use(session, demand=AUTH_VALUE)),
 )
 undefine(FIRST)
@@ -106,12 +105,12 @@ tpm.define(
 )
 says("TPM2_PolicyRestart", tpm.restart(session))
 says("TPM2_PolicyCommandCode of TPM2_NV_Write", tpm.command_code(session, CC.NV_Write))
-tpm.fails("TPM2_NV_ChangeAuth", "POLICY_CC/s1", tpm.changing_auth(FIRST, b"new", session))
+tpm.fails("TPM2_NV_ChangeAuth: POLICY_CC/s1", tpm.changing_auth(FIRST, b"new", session))
 tpm.does("TPM2_NV_Write", tpm.writing(FIRST, b"x", session))
 undefine(FIRST)
 tpm.define("One without a policy", area(FIRST, BY_VALUE))
 told(session)
-tpm.fails("TPM2_NV_ChangeAuth", "AUTH_UNAVAILABLE", tpm.changing_auth(FIRST, b"new", session))
+tpm.fails("TPM2_NV_ChangeAuth: AUTH_UNAVAILABLE", tpm.changing_auth(FIRST, b"new", session))
 says("TPM2_PolicyRestart", tpm.restart(session))
 undefine(FIRST)
 
@@ -146,21 +145,18 @@ for algorithm, name in HASHES:
     told(session)
     wrong = tpm.changing_auth(FIRST, b"", session)
     tpm.fails(
-        "No size, half of one, and a size that is cut",
-        "INSUFFICIENT/p1",
+        "No size, half of one, and a size that is cut: INSUFFICIENT/p1",
         *(wrong.but(parameters=it) for it in (b"", b"\0", b"\0\1", b"\0\x20" + bytes(31))),
     )
     tpm.fails(
-        "33 bytes, whole or cut",
-        "SIZE/p1",
+        "33 bytes, whole or cut: SIZE/p1",
         wrong.but(parameters=sized(bytes(33))),
         wrong.but(parameters=number(33, 2)),
     )
-    tpm.fails("A byte behind it", "SIZE", wrong.but(parameters=sized(b"a") + b"\0"))
+    tpm.fails("A byte behind it: SIZE", wrong.but(parameters=sized(b"a") + b"\0"))
     if algorithm == SHA1:
         tpm.fails(
-            "21 and 32 bytes",
-            "SIZE/p1",
+            "21 and 32 bytes: SIZE/p1",
             tpm.changing_auth(FIRST, b"a" * 21, session),
             tpm.changing_auth(FIRST, b"a" * 32, session),
         )
@@ -186,8 +182,7 @@ def both_told(demand):
 
 both_told(AUTH_VALUE)
 tpm.fails(
-    "A wrong hmac",
-    "AUTH_FAIL/s1",
+    "A wrong hmac: AUTH_FAIL/s1",
     tpm.changing_auth(FIRST, b"new", Use(aes, demand=AUTH_VALUE)).but_entry(1, hmac=bytes(32)),
 )
 tpm.does(
@@ -202,8 +197,7 @@ tpm.does(
 tpm.does("TPM2_NV_Write by it", tpm.writing(FIRST, b"x"))
 both_told(PASSWORD)
 tpm.fails(
-    "By a wrong password",
-    "AUTH_FAIL/s1",
+    "By a wrong password: AUTH_FAIL/s1",
     tpm.changing_auth(FIRST, b"new", Use(aes, demand=PASSWORD)).but_entry(1, hmac=b"x"),
 )
 tpm.does("By the right one", tpm.changing_auth(FIRST, b"open", Use(aes, demand=PASSWORD)))
@@ -228,10 +222,9 @@ script.chapter("Handles.")
 told(session)
 right = tpm.changing_auth(FIRST, b"new", b"")
 tpm.fails(
-    "What is no index: the owner, PCR 0, an object and a session",
-    "VALUE/h1",
+    "What is no index: the owner, PCR 0, an object and a session: VALUE/h1",
     *(right.but(handles=[it]) for it in (RH_OWNER, 0, 0x8000_0000, 0x8100_0000, aes.handle)),
 )
-tpm.fails("An index that is not defined", "HANDLE/h1", right.but(handles=[THIRD]))
-tpm.fails("Without sessions", "AUTH_MISSING", right.but(entries=[]))
+tpm.fails("An index that is not defined: HANDLE/h1", right.but(handles=[THIRD]))
+tpm.fails("Without sessions: AUTH_MISSING", right.but(entries=[]))
 script.write()

@@ -1,4 +1,4 @@
-"""Writes tests/nv/nv_counters.tpm: counters, which never go back."""
+"""Writes nv_counters.tpm: counters, which never go back."""
 
 from tpmsim.caller import BY_OWNER, area, counter
 from tpmsim.standard import RH_OWNER, SHA1, number
@@ -35,13 +35,12 @@ script.startup()
 define("TPM2_NV_DefineSpace of 01000002", SECOND)
 assert tpm.publics[SECOND].attributes == 0x0002_0012
 tpm.fails(
-    "TPM2_NV_Read before the first TPM2_NV_Increment",
-    "NV_UNINITIALIZED",
+    "TPM2_NV_Read before the first TPM2_NV_Increment: NV_UNINITIALIZED",
     tpm.reading(SECOND, 8, by=RH_OWNER),
 )
 count("Three times TPM2_NV_Increment", SECOND, 3, times=3)
 define_again("It is defined again", SECOND)
-tpm.fails("TPM2_NV_Read", "NV_UNINITIALIZED", tpm.reading(SECOND, 8, by=RH_OWNER))
+tpm.fails("TPM2_NV_Read: NV_UNINITIALIZED", tpm.reading(SECOND, 8, by=RH_OWNER))
 count("TPM2_NV_Increment: it goes on behind 3", SECOND, 4)
 assert script.last.response == bytes.fromhex(
     "8002 0000001D 00000000 0000000A 0008 0000000000000004 0000 01 0000"
@@ -80,12 +79,12 @@ count("It begins behind the largest", FIRST, 11)
 script.chapter("Its bytes are read as those of any index.")
 tpm.read("The last byte", FIRST, b"\x0b", offset=7, by=RH_OWNER)
 tpm.read("Four in the middle", FIRST, bytes(4), offset=2, by=RH_OWNER)
-tpm.fails("Past the end", "NV_RANGE", tpm.reading(FIRST, 2, offset=7, by=RH_OWNER))
+tpm.fails("Past the end: NV_RANGE", tpm.reading(FIRST, 2, offset=7, by=RH_OWNER))
 
 script.chapter("What is no counter does not count.")
 tpm.define("An ordinary index of eight bytes", area(THIRD, BY_OWNER))
 tpm.does("TPM2_NV_Write of 255", tpm.writing(THIRD, number(255, 8), by=RH_OWNER))
-tpm.fails("TPM2_NV_Increment", "ATTRIBUTES/h2", tpm.incrementing(THIRD, by=RH_OWNER))
+tpm.fails("TPM2_NV_Increment: ATTRIBUTES/h2", tpm.incrementing(THIRD, by=RH_OWNER))
 define_again("01000001 again", FIRST)
 count("TPM2_NV_Increment: the ordinary index does not matter", FIRST, 12)
 
@@ -95,7 +94,7 @@ tpm.does("TPM2_NV_UndefineSpace", tpm.undefining(FOURTH))
 tpm.define("A counter with WRITE_STCLEAR", lockable)
 count("TPM2_NV_Increment", FOURTH, 13)
 tpm.does("TPM2_NV_WriteLock", tpm.write_locking(FOURTH, by=RH_OWNER))
-tpm.fails("TPM2_NV_Increment", "NV_LOCKED", tpm.incrementing(FOURTH, by=RH_OWNER))
+tpm.fails("TPM2_NV_Increment: NV_LOCKED", tpm.incrementing(FOURTH, by=RH_OWNER))
 tpm.read("It is read as before", FOURTH, number(13, 8), by=RH_OWNER)
 script.power()
 script.startup()

@@ -1,4 +1,4 @@
-"""Writes tests/nv/nv_first_index.tpm: an index is defined, written and read, byte by byte."""
+"""Writes nv_first_index.tpm: an index is defined, written and read, byte by byte."""
 
 from tpmsim.caller import BY_VALUE, area
 from tpmsim.standard import RH_OWNER
@@ -27,9 +27,9 @@ defining = spelled(
     "0001 61 000E 01000001 000B 00040004 0000 0008",
 )
 tpm.define("TPM2_NV_DefineSpace by the owner, whose value is empty", PUBLIC, auth=b"a")
-tpm.fails("The same again", "NV_DEFINED", defining)
+tpm.fails("The same again: NV_DEFINED", defining)
 tpm.is_now("TPM2_NV_ReadPublic, which needs no authorization", FIRST)
-tpm.fails("TPM2_NV_Read before the first write", "NV_UNINITIALIZED", tpm.reading(FIRST, 8))
+tpm.fails("TPM2_NV_Read before the first write: NV_UNINITIALIZED", tpm.reading(FIRST, 8))
 
 tpm.does(
     'TPM2_NV_Write of a byte, 5A, at offset 2, by the password "a"',
@@ -41,14 +41,13 @@ assert script.last.response == bytes.fromhex(
 )
 tpm.is_now("TPM2_NV_ReadPublic: it has WRITTEN now, and so another Name", FIRST)
 tpm.fails(
-    "TPM2_NV_Write of eight bytes at offset 1", "NV_RANGE", tpm.writing(FIRST, bytes(8), offset=1)
+    "TPM2_NV_Write of eight bytes at offset 1: NV_RANGE", tpm.writing(FIRST, bytes(8), offset=1)
 )
 tpm.fails(
-    "TPM2_NV_WriteLock, without WRITEDEFINE and WRITE_STCLEAR",
-    "ATTRIBUTES/h2",
+    "TPM2_NV_WriteLock, without WRITEDEFINE and WRITE_STCLEAR: ATTRIBUTES/h2",
     tpm.write_locking(FIRST),
 )
-tpm.fails("TPM2_NV_ReadLock, without READ_STCLEAR", "ATTRIBUTES/h2", tpm.read_locking(FIRST))
+tpm.fails("TPM2_NV_ReadLock, without READ_STCLEAR: ATTRIBUTES/h2", tpm.read_locking(FIRST))
 tpm.read("It is as it was", FIRST, b"\xff\xff\x5a\xff\xff\xff\xff\xff")
 
 script.chapter("It is written piece by piece.")
@@ -71,15 +70,14 @@ for what, size, offset in (
     tpm.read(what, FIRST, WHOLE[offset : offset + size], offset=offset)
 tpm.fails(
     "TPM2_NV_Read past the end: of nine bytes, of eight at 1, of one at 8, of none at 9, and of "
-    "1,024 at FFFF",
-    "NV_RANGE",
+    "1,024 at FFFF: NV_RANGE",
     *(
         tpm.reading(FIRST, size, offset=offset)
         for size, offset in ((9, 0), (8, 1), (1, 8), (0, 9), (1024, 0xFFFF))
     ),
 )
 tpm.fails(
-    "TPM2_NV_Write past the end: of nine bytes, of one at 8, and of none at 9 and at FFFF",
+    "TPM2_NV_Write past the end: of nine bytes, of one at 8, and of none at 9 and at FFFF: "
     "NV_RANGE",
     *(
         tpm.writing(FIRST, bytes(size), offset=offset)
@@ -89,25 +87,23 @@ tpm.fails(
 
 script.chapter("Passwords, and the owner, who has neither OWNERWRITE nor OWNERREAD.")
 tpm.fails(
-    "A wrong password of what is protected from guessing",
-    "AUTH_FAIL/s1",
-    tpm.reading(FIRST, 8, b"b"),
+    "A wrong password of what is protected from guessing: AUTH_FAIL/s1", tpm.reading(FIRST, 8, b"b")
 )
-tpm.fails("The empty password", "AUTH_FAIL/s1", tpm.writing(FIRST, b"x", b""))
+tpm.fails("The empty password: AUTH_FAIL/s1", tpm.writing(FIRST, b"x", b""))
 tpm.read("The right one with zeros behind it", FIRST, WHOLE, b"a\0\0")
-tpm.fails("TPM2_NV_Read by the owner", "NV_AUTHORIZATION", tpm.reading(FIRST, 8, by=RH_OWNER))
-tpm.fails("TPM2_NV_Write by the owner", "NV_AUTHORIZATION", tpm.writing(FIRST, b"x", by=RH_OWNER))
-tpm.fails("No sessions", "AUTH_MISSING", tpm.reading(FIRST, 8).but(entries=[]))
+tpm.fails("TPM2_NV_Read by the owner: NV_AUTHORIZATION", tpm.reading(FIRST, 8, by=RH_OWNER))
+tpm.fails("TPM2_NV_Write by the owner: NV_AUTHORIZATION", tpm.writing(FIRST, b"x", by=RH_OWNER))
+tpm.fails("No sessions: AUTH_MISSING", tpm.reading(FIRST, 8).but(entries=[]))
 
 script.chapter("It outlives a power cycle.")
 script.power()
-tpm.fails("TPM2_NV_Read before TPM2_Startup", "INITIALIZE", tpm.reading(FIRST, 8))
+tpm.fails("TPM2_NV_Read before TPM2_Startup: INITIALIZE", tpm.reading(FIRST, 8))
 script.startup()
 tpm.read("TPM2_NV_Read", FIRST, WHOLE)
 tpm.is_now("TPM2_NV_ReadPublic", FIRST)
 tpm.does("TPM2_NV_UndefineSpace by the owner", tpm.undefining(FIRST))
 gone = tpm.index_public(FIRST)
-tpm.fails("TPM2_NV_ReadPublic", "HANDLE/h1", gone)
+tpm.fails("TPM2_NV_ReadPublic: HANDLE/h1", gone)
 tpm.define("It is defined again, and empty", PUBLIC)
-tpm.fails("TPM2_NV_Read", "NV_UNINITIALIZED", tpm.reading(FIRST, 8))
+tpm.fails("TPM2_NV_Read: NV_UNINITIALIZED", tpm.reading(FIRST, 8))
 script.write()

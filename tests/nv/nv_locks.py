@@ -1,4 +1,4 @@
-"""Writes tests/nv/nv_locks.tpm: TPM2_NV_WriteLock, TPM2_NV_ReadLock, and what starts make of them."""
+"""Writes nv_locks.tpm: TPM2_NV_WriteLock, TPM2_NV_ReadLock, and what starts make of them."""
 
 from tpmsim.caller import BY_OWNER, area, bits, extended
 from tpmsim.standard import CC, RH_OWNER, frames
@@ -39,7 +39,7 @@ def read_lock(what="TPM2_NV_ReadLock"):
 
 
 def not_written(what="TPM2_NV_Write", outcome="NV_LOCKED"):
-    tpm.fails(what, outcome, tpm.writing(FIRST, DATA, by=RH_OWNER))
+    tpm.fails(f"{what}: {outcome}", tpm.writing(FIRST, DATA, by=RH_OWNER))
 
 
 def read(what="TPM2_NV_Read"):
@@ -47,7 +47,7 @@ def read(what="TPM2_NV_Read"):
 
 
 def not_read(what="TPM2_NV_Read", outcome="NV_LOCKED"):
-    tpm.fails(what, outcome, tpm.reading(FIRST, 8, by=RH_OWNER))
+    tpm.fails(f"{what}: {outcome}", tpm.reading(FIRST, 8, by=RH_OWNER))
 
 
 def define(attributes, make=area):
@@ -63,11 +63,11 @@ def refused_locks():
     script.chapter("What may be locked: neither attribute says what the other does.")
     for attributes in (0, CLEARED, READ_CLEAR, READ_CLEAR | CLEARED):
         define(attributes)
-        tpm.fails("TPM2_NV_WriteLock", "ATTRIBUTES/h2", tpm.write_locking(FIRST, by=RH_OWNER))
+        tpm.fails("TPM2_NV_WriteLock: ATTRIBUTES/h2", tpm.write_locking(FIRST, by=RH_OWNER))
         undefine()
     for attributes in (0, CLEARED, DEFINE, WRITE_CLEAR, DEFINE | WRITE_CLEAR):
         define(attributes)
-        tpm.fails("TPM2_NV_ReadLock", "ATTRIBUTES/h2", tpm.read_locking(FIRST, by=RH_OWNER))
+        tpm.fails("TPM2_NV_ReadLock: ATTRIBUTES/h2", tpm.read_locking(FIRST, by=RH_OWNER))
         undefine()
 
 
@@ -205,14 +205,13 @@ def power_cycles():
     write()
     write_lock()
     script.power()
-    tpm.fails("TPM2_NV_ReadPublic", "INITIALIZE", tpm.index_public(FIRST))
+    tpm.fails("TPM2_NV_ReadPublic: INITIALIZE", tpm.index_public(FIRST))
     script.power()
     script.startup()
     tpm.is_now("After two power cycles and a start", FIRST, cleared=WRITTEN | WRITE_LOCKED)
     write()
     script.command(
-        "TPM2_Startup(CLEAR) on a device that is started",
-        "INITIALIZE",
+        "TPM2_Startup(CLEAR) on a device that is started: INITIALIZE",
         frames.command(CC.Startup, frames.number(0, 2)),
     )
     tpm.is_now("Changes nothing", FIRST)

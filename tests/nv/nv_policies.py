@@ -1,4 +1,4 @@
-"""Writes tests/nv/nv_policies.tpm: indices that are written and read by policy sessions."""
+"""Writes nv_policies.tpm: indices that are written and read by policy sessions."""
 
 from tpmsim.caller import BY_OWNER, BY_POLICY, Use, area
 from tpmsim.standard import CC, CONTINUE_SESSION, DECRYPT, ENCRYPT, RH_OWNER, SHA1, SHA256, digest
@@ -21,7 +21,7 @@ tpm = ScriptCaller(script)
 
 
 def says(what, prepared):
-    tpm.says(what, "SUCCESS", prepared)
+    tpm.says(f"{what}: SUCCESS", prepared)
 
 
 def undefine(*indices):
@@ -40,10 +40,10 @@ def demands():
             FIRST, BY_POLICY, algorithm=algorithm, auth_policy=after_auth_value(algorithm)
         )
         tpm.define("An index that a policy alone may use", public, auth=b"a")
-        tpm.fails("TPM2_NV_Write by the password", "AUTH_UNAVAILABLE", tpm.writing(FIRST, DATA))
-        tpm.fails("By the owner", "NV_AUTHORIZATION", tpm.writing(FIRST, DATA, by=RH_OWNER))
+        tpm.fails("TPM2_NV_Write by the password: AUTH_UNAVAILABLE", tpm.writing(FIRST, DATA))
+        tpm.fails("By the owner: NV_AUTHORIZATION", tpm.writing(FIRST, DATA, by=RH_OWNER))
         session = tpm.policy("A policy session", algorithm=algorithm)
-        tpm.fails("Without an assertion", "POLICY_FAIL/s1", tpm.writing(FIRST, DATA, session))
+        tpm.fails("Without an assertion: POLICY_FAIL/s1", tpm.writing(FIRST, DATA, session))
         for demand, name, prepare in (
             (AUTH_VALUE, "TPM2_PolicyAuthValue", tpm.auth_value_told),
             (PASSWORD, "TPM2_PolicyPassword", tpm.password_told),
@@ -52,11 +52,11 @@ def demands():
             says(name, prepare(session))
             wrong = tpm.writing(FIRST, DATA, use())
             tpm.fails(
-                "TPM2_NV_Write by a wrong value", "AUTH_FAIL/s1", wrong.but_entry(1, hmac=b"wrong")
+                "TPM2_NV_Write by a wrong value: AUTH_FAIL/s1", wrong.but_entry(1, hmac=b"wrong")
             )
             tpm.does("TPM2_NV_Write", tpm.writing(FIRST, DATA, use()))
             tpm.digest_is("It counts once", session, zeros(session))
-            tpm.fails("TPM2_NV_Read", "POLICY_FAIL/s1", tpm.reading(FIRST, 8, use()))
+            tpm.fails("TPM2_NV_Read: POLICY_FAIL/s1", tpm.reading(FIRST, 8, use()))
             says(name, prepare(session))
             tpm.read("TPM2_NV_Read", FIRST, DATA, use())
         undefine(FIRST)
@@ -64,8 +64,7 @@ def demands():
         tpm.define("The index again", public, auth=b"a")
         says("TPM2_PolicyAuthValue", tpm.auth_value_told(other))
         tpm.fails(
-            "TPM2_NV_Write by it",
-            "POLICY_FAIL/s1",
+            "TPM2_NV_Write by it: POLICY_FAIL/s1",
             tpm.writing(FIRST, DATA, Use(other, demand=AUTH_VALUE)),
         )
         undefine(FIRST)
@@ -102,16 +101,14 @@ def availability():
             if is_reading == writes:
                 says("TPM2_PolicyAuthValue", tpm.auth_value_told(session))
                 tpm.fails(
-                    f"{name} by the policy",
-                    "AUTH_UNAVAILABLE",
+                    f"{name} by the policy: AUTH_UNAVAILABLE",
                     prepare(Use(session, demand=AUTH_VALUE)),
                 )
                 says("TPM2_PolicyRestart", tpm.restart(session))
             else:
-                tpm.fails(f"{name} by the password", "AUTH_UNAVAILABLE", prepare(b"a"))
+                tpm.fails(f"{name} by the password: AUTH_UNAVAILABLE", prepare(b"a"))
                 tpm.fails(
-                    "By a wrong one, or an HMAC session",
-                    "AUTH_UNAVAILABLE",
+                    "By a wrong one, or an HMAC session: AUTH_UNAVAILABLE",
                     prepare(b"x"),
                     prepare(hmac),
                 )
@@ -120,7 +117,7 @@ def availability():
     script.chapter("With all attributes and without a policy.")
     tpm.define("The index", area(FIRST, nv.WRITES | nv.READS | LOCKS), auth=b"a")
     for name, _, prepare in COMMANDS:
-        tpm.fails(f"{name} by a policy session", "AUTH_UNAVAILABLE", prepare(session))
+        tpm.fails(f"{name} by a policy session: AUTH_UNAVAILABLE", prepare(session))
     for name, _, prepare in USES:
         tpm.does(f"{name} by the password", prepare(b"a"))
     says("TPM2_PolicyRestart of the session that was told", tpm.restart(told))
@@ -166,19 +163,19 @@ def by_code_and_pcrs():
 
     by_value = lambda: Use(session, demand=AUTH_VALUE)
     writer()
-    tpm.fails("TPM2_NV_Read by the writer's", "POLICY_CC/s1", tpm.reading(FIRST, 8, by_value()))
+    tpm.fails("TPM2_NV_Read by the writer's: POLICY_CC/s1", tpm.reading(FIRST, 8, by_value()))
     tpm.does("TPM2_NV_Write", tpm.writing(FIRST, DATA, by_value()))
     reader()
-    tpm.fails("TPM2_NV_Write by the reader's", "POLICY_CC/s1", tpm.writing(FIRST, DATA, session))
+    tpm.fails("TPM2_NV_Write by the reader's: POLICY_CC/s1", tpm.writing(FIRST, DATA, session))
     tpm.read("TPM2_NV_Read", FIRST, DATA, session)
     reader()
     tpm.does("PCR 10 is extended", tpm.event(b"program", b"", pcr=10))
-    tpm.fails("TPM2_NV_Read", "PCR_CHANGED", tpm.reading(FIRST, 8, session))
+    tpm.fails("TPM2_NV_Read: PCR_CHANGED", tpm.reading(FIRST, 8, session))
     says("TPM2_PolicyRestart", tpm.restart(session))
     says("TPM2_PolicyPCR of PCR 10", tpm.pcrs(session, chosen))
     says("TPM2_PolicyCommandCode of TPM2_NV_Read", tpm.command_code(session, CC.NV_Read))
-    tpm.says("TPM2_PolicyOR", "VALUE/p1", tpm.branches(session, to_write, to_read))
-    tpm.fails("TPM2_NV_Read", "POLICY_FAIL/s1", tpm.reading(FIRST, 8, session))
+    tpm.says("TPM2_PolicyOR: VALUE/p1", tpm.branches(session, to_write, to_read))
+    tpm.fails("TPM2_NV_Read: POLICY_FAIL/s1", tpm.reading(FIRST, 8, session))
     says("TPM2_PolicyRestart", tpm.restart(session))
     writer()
     tpm.does("TPM2_NV_Write is as before", tpm.writing(FIRST, DATA[::-1], by_value()))
@@ -193,7 +190,7 @@ def by_locality():
     tpm.define("The index", public)
     session = tpm.policy("A policy session")
     says("TPM2_PolicyLocality", tpm.locality(session, 0b10))
-    tpm.fails("TPM2_NV_Write at locality 0", "LOCALITY", tpm.writing(FIRST, DATA, session))
+    tpm.fails("TPM2_NV_Write at locality 0: LOCALITY", tpm.writing(FIRST, DATA, session))
     script.locality_is(1)
     tpm.does("At locality 1", tpm.writing(FIRST, DATA, session))
     script.locality_is(0)
@@ -221,7 +218,7 @@ def bound_and_encrypting():
     tpm.does(
         "It ends with the command", tpm.writing(FIRST, DATA, Use(session, 0, demand=AUTH_VALUE))
     )
-    tpm.says("It is no more", "REFERENCE_H0", tpm.get_digest(session))
+    tpm.says("It is no more: REFERENCE_H0", tpm.get_digest(session))
     undefine(FIRST)
 
 
@@ -239,24 +236,20 @@ def who_authorizes():
         "The third, whose policy is zeros, asks for no assertion", tpm.writing(THIRD, DATA, session)
     )
     says("TPM2_PolicyAuthValue", tpm.auth_value_told(session))
-    tpm.fails("The third by another digest", "POLICY_FAIL/s1", tpm.writing(THIRD, DATA, by_value()))
+    tpm.fails("The third by another digest: POLICY_FAIL/s1", tpm.writing(THIRD, DATA, by_value()))
     tpm.fails(
-        "The first, by the second",
-        "NV_AUTHORIZATION",
+        "The first, by the second: NV_AUTHORIZATION",
         tpm.writing(FIRST, DATA, by_value(), by=SECOND),
     )
     tpm.fails(
-        "The first, by the owner",
-        "AUTH_UNAVAILABLE",
+        "The first, by the owner: AUTH_UNAVAILABLE",
         tpm.writing(FIRST, DATA, by_value(), by=RH_OWNER),
     )
     tpm.does("The first, by itself", tpm.writing(FIRST, DATA, by_value()))
     trial = tpm.trial("A trial session")
     says("TPM2_PolicyAuthValue", tpm.auth_value_told(trial))
-    tpm.fails("By it", "ATTRIBUTES/s1", tpm.writing(FIRST, DATA, trial))
-    tpm.fails(
-        "Also where nothing can", "ATTRIBUTES/s1", tpm.writing(FIRST, DATA, trial, by=RH_OWNER)
-    )
+    tpm.fails("By it: ATTRIBUTES/s1", tpm.writing(FIRST, DATA, trial))
+    tpm.fails("Also where nothing can: ATTRIBUTES/s1", tpm.writing(FIRST, DATA, trial, by=RH_OWNER))
     tpm.does("The first is undefined: its policy is nobody's", tpm.undefining(FIRST))
     says("TPM2_PolicyAuthValue", tpm.auth_value_told(session))
     tpm.does("The second", tpm.writing(SECOND, DATA, by_value()))

@@ -1,4 +1,4 @@
-"""Writes tests/nv/nv_read_public.tpm: public areas of indices, and the Names that change with them."""
+"""Writes nv_read_public.tpm: public areas of indices, and the Names that change with them."""
 
 from tpmsim.caller import BY_OWNER, BY_VALUE, Use, area, counter, extended
 from tpmsim.standard import CONTINUE_SESSION, ENCRYPT, RH_NULL, RH_OWNER, digest, digest_bytes
@@ -59,20 +59,18 @@ plain = tpm.start("A session that is bound to nothing", bind=RH_NULL)
 encrypting = tpm.start("One that is bound to the other index, with AES", bind=SECOND, aes=True)
 tpm.is_now("With both", SECOND, plain, encrypting)
 tpm.is_now("The public area encrypted", SECOND, Use(encrypting, CONTINUE_SESSION | ENCRYPT), plain)
-tpm.fails("With a password", "HANDLE/s1", tpm.index_public(SECOND, b"a"))
+tpm.fails("With a password: HANDLE/s1", tpm.index_public(SECOND, b"a"))
 tpm.fails(
-    "With decrypt, where no parameter is",
-    "ATTRIBUTES/s1",
+    "With decrypt, where no parameter is: ATTRIBUTES/s1",
     tpm.index_public(SECOND, plain).but_entry(1, attributes=CONTINUE_SESSION | frames.DECRYPT),
 )
 tpm.fails(
-    "A wrong hmac, which is no try of the index's value, but the session's key was made of that",
+    "A wrong hmac, which is no try of the index's value, but the session's key was made of that: "
     "AUTH_FAIL/s1",
     tpm.index_public(SECOND, encrypting).but_entry(1, hmac=bytes(32)),
 )
 tpm.fails(
-    "And of the session without a key",
-    "BAD_AUTH/s1",
+    "And of the session without a key: BAD_AUTH/s1",
     tpm.index_public(SECOND, plain).but_entry(1, hmac=bytes(32)),
 )
 tpm.is_now("And it ends with the command", SECOND, Use(plain, 0))
@@ -80,14 +78,12 @@ tpm.is_now("And it ends with the command", SECOND, Use(plain, 0))
 script.chapter("Handles.")
 right = tpm.index_public(SECOND)
 tpm.fails(
-    "What is no index: the owner, PCR 0, an object, a persistent one and a session",
-    "VALUE/h1",
+    "What is no index: the owner, PCR 0, an object, a persistent one and a session: VALUE/h1",
     *(right.but(handles=[it]) for it in (RH_OWNER, 0, 0x8000_0000, 0x8100_0000, encrypting.handle)),
 )
 tpm.fails(
-    "Indices that are not defined",
-    "HANDLE/h1",
+    "Indices that are not defined: HANDLE/h1",
     *(right.but(handles=[it]) for it in (0x0100_0000, 0x0100_0003, 0x01FF_FFFF)),
 )
-tpm.fails("A byte behind the handle", "SIZE", right.but(parameters=b"\0"))
+tpm.fails("A byte behind the handle: SIZE", right.but(parameters=b"\0"))
 script.write()

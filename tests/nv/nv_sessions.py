@@ -1,4 +1,4 @@
-"""Writes tests/nv/nv_sessions.tpm: commands on indices by HMAC sessions."""
+"""Writes nv_sessions.tpm: commands on indices by HMAC sessions."""
 
 from tpmsim.caller import BY_OWNER, BY_VALUE, Use, area, bits, counter, extended, flipped
 from tpmsim.standard import CC, CONTINUE_SESSION, DECRYPT, ENCRYPT, RH_NULL, RH_OWNER, SHA1, SHA256
@@ -21,7 +21,7 @@ tpm = ScriptCaller(script)
 
 def flush(*held):
     for each in held:
-        tpm.says("A session is flushed" if each is held[0] else "", "SUCCESS", tpm.flush(each))
+        tpm.says("A session is flushed: SUCCESS" if each is held[0] else "SUCCESS", tpm.flush(each))
 
 
 def undefine(*indices):
@@ -45,16 +45,15 @@ def unbound():
             tpm.does("The second", change())
             wrong = change()
             tpm.fails(
-                "A wrong hmac",
-                "AUTH_FAIL/s1",
+                "A wrong hmac: AUTH_FAIL/s1",
                 wrong.but_entry(1, hmac=flipped(wrong.entries[0].hmac)),
             )
-            tpm.fails("None", "AUTH_FAIL/s1", wrong.but_entry(1, hmac=b""))
+            tpm.fails("None: AUTH_FAIL/s1", wrong.but_entry(1, hmac=b""))
             tpm.does("TPM2_NV_Read", tpm.reading(index, 8, session))
             tpm.does("TPM2_NV_WriteLock", tpm.write_locking(index, session))
             tpm.does("TPM2_NV_ReadLock", tpm.read_locking(index, session))
-            tpm.fails("Another change", "NV_LOCKED", change())
-            tpm.fails("TPM2_NV_Read", "NV_LOCKED", tpm.reading(index, 8, session))
+            tpm.fails("Another change: NV_LOCKED", change())
+            tpm.fails("TPM2_NV_Read: NV_LOCKED", tpm.reading(index, 8, session))
             tpm.does("TPM2_NV_UndefineSpace", tpm.undefining(index, session))
         flush(session)
 
@@ -65,18 +64,17 @@ def names():
     session = tpm.start("A session")
     before = tpm.writing(FIRST, DATA, session)
     tpm.does("TPM2_NV_Write by the password", tpm.writing(FIRST, DATA))
-    tpm.fails("By the session, as it was prepared before", "AUTH_FAIL/s1", before)
+    tpm.fails("By the session, as it was prepared before: AUTH_FAIL/s1", before)
     tpm.does("With the Name of now", tpm.writing(FIRST, DATA, session))
     tpm.define("Another index with the same value", area(SECOND, BY_VALUE), auth=b"a")
     prepared = tpm.writing(FIRST, DATA, session)
     tpm.fails(
-        "An hmac for the first, sent with the handle of the second",
-        "AUTH_FAIL/s1",
+        "An hmac for the first, sent with the handle of the second: AUTH_FAIL/s1",
         prepared.but(handles=[FIRST, SECOND]),
         prepared.but(handles=[SECOND, FIRST]),
         prepared.but(handles=[SECOND, SECOND]),
     )
-    tpm.fails("With other data", "AUTH_FAIL/s1", prepared.but(parameters=frames.nv_write(DATA, 1)))
+    tpm.fails("With other data: AUTH_FAIL/s1", prepared.but(parameters=frames.nv_write(DATA, 1)))
     tpm.does("As it was prepared", prepared)
     flush(session)
     undefine(FIRST, SECOND)
@@ -109,33 +107,27 @@ def bound():
     tpm.does("TPM2_NV_Write of the second", tpm.writing(SECOND, DATA, session))
     tpm.does("TPM2_NV_Write of the first", tpm.writing(FIRST, DATA, session))
     tpm.fails(
-        "A wrong hmac on the second, which has NO_DA, is a try at the first",
-        "AUTH_FAIL/s1",
+        "A wrong hmac on the second, which has NO_DA, is a try at the first: AUTH_FAIL/s1",
         tpm.writing(SECOND, DATA, session).but_entry(1, hmac=bytes(32)),
     )
     other = tpm.start("A session that is bound to the second", bind=SECOND)
     tpm.fails(
-        "A wrong hmac by it on the second is none",
-        "BAD_AUTH/s1",
+        "A wrong hmac by it on the second is none: BAD_AUTH/s1",
         tpm.writing(SECOND, DATA, other).but_entry(1, hmac=bytes(32)),
     )
     tpm.fails(
-        "On the first it is",
-        "AUTH_FAIL/s1",
+        "On the first it is: AUTH_FAIL/s1",
         tpm.writing(FIRST, DATA, other).but_entry(1, hmac=bytes(32)),
     )
     tpm.fails(
-        "A wrong hmac by the first session on TPM_RH_OWNER",
-        "AUTH_FAIL/s1",
+        "A wrong hmac by the first session on TPM_RH_OWNER: AUTH_FAIL/s1",
         tpm.undefining(FIRST, session).but_entry(1, hmac=bytes(32)),
     )
     tpm.fails(
-        "And by the second",
-        "BAD_AUTH/s1",
-        tpm.undefining(FIRST, other).but_entry(1, hmac=bytes(32)),
+        "And by the second: BAD_AUTH/s1", tpm.undefining(FIRST, other).but_entry(1, hmac=bytes(32))
     )
-    tpm.fails("A wrong password of the second", "BAD_AUTH/s1", tpm.reading(SECOND, 1, b"x"))
-    tpm.fails("Of the first", "AUTH_FAIL/s1", tpm.reading(FIRST, 1, b"x"))
+    tpm.fails("A wrong password of the second: BAD_AUTH/s1", tpm.reading(SECOND, 1, b"x"))
+    tpm.fails("Of the first: AUTH_FAIL/s1", tpm.reading(FIRST, 1, b"x"))
     flush(session, other)
     undefine(FIRST, SECOND)
 
@@ -208,20 +200,17 @@ def encryption():
         ),
     ):
         tpm.fails(
-            what,
-            "ATTRIBUTES/s1",
+            f"{what}: ATTRIBUTES/s1",
             *(it.but_entry(1, attributes=CONTINUE_SESSION | attribute) for it in commands),
         )
     none = tpm.start("A session without AES", bind=FIRST)
     tpm.fails(
-        "It cannot encrypt",
-        "SYMMETRIC/s1",
+        "It cannot encrypt: SYMMETRIC/s1",
         tpm.writing(FIRST, DATA, none).but_entry(1, attributes=DECRYPTS),
         tpm.reading(FIRST, 8, none).but_entry(1, attributes=ENCRYPTS),
     )
     tpm.fails(
-        "Data that are cut, and decrypted",
-        "INSUFFICIENT/p1",
+        "Data that are cut, and decrypted: INSUFFICIENT/p1",
         tpm.prepare(CC.NV_Write, [FIRST, FIRST], b"\0\4abc", Use(session, DECRYPTS)),
     )
     flush(session, plain, none, owner)
@@ -234,7 +223,7 @@ def others():
     tpm.define("An index", area(FIRST, BY_VALUE), auth=b"a")
     handles, parameters = frames.start_auth_session(bytes(16), FIRST)
     start = tpm.prepare(CC.StartAuthSession, handles, parameters)
-    tpm.fails("Bound to what is not there", "HANDLE/h2", start.but(handles=[RH_NULL, SECOND]))
+    tpm.fails("Bound to what is not there: HANDLE/h2", start.but(handles=[RH_NULL, SECOND]))
     session = tpm.start("A session that is bound to the index", bind=FIRST)
     secret = tpm.policy("A policy session")
     tpm.accepted(
@@ -242,14 +231,13 @@ def others():
     )
     tpm.does("TPM2_NV_Write by it", tpm.writing(FIRST, DATA, session))
     tpm.accepted("TPM2_PolicySecret: it has another Name", tpm.secret(secret, session, of=FIRST))
-    tpm.fails("A wrong password", "AUTH_FAIL/s1", tpm.secret(secret, b"x", of=FIRST))
+    tpm.fails("A wrong password: AUTH_FAIL/s1", tpm.secret(secret, b"x", of=FIRST))
     flush(session, secret)
     only = area(SECOND, BY_OWNER | Attribute.AUTHWRITE)
     tpm.define("An index that its value can only write", only, auth=b"a")
     secret = tpm.policy("A policy session")
     tpm.fails(
-        "TPM2_PolicySecret asks for what TPM2_NV_Read does",
-        "AUTH_UNAVAILABLE",
+        "TPM2_PolicySecret asks for what TPM2_NV_Read does: AUTH_UNAVAILABLE",
         tpm.secret(secret, b"a", of=SECOND),
     )
     flush(secret)
@@ -272,22 +260,22 @@ def sent_again():
         """Each time with the same bytes and the same random bytes."""
         script.chapter(f"{what}.")
         script.entropy(seed)
-        response = tpm.says("TPM2_StartAuthSession", "SUCCESS", start)
+        response = tpm.says("TPM2_StartAuthSession: SUCCESS", start)
         answer = tpm.received(start, response)
         return tpm.started(answer, nonce, RH_NULL, SHA256, frames.SE_HMAC)
 
     session = start_session("A session that is bound to nothing")
     write = tpm.writing(FIRST, b"again...", session)
     tpm.does("TPM2_NV_Write by it, with continueSession", write)
-    tpm.fails("The same buffer again", "AUTH_FAIL/s1", write)
+    tpm.fails("The same buffer again: AUTH_FAIL/s1", write)
     tpm.read("TPM2_NV_Read", FIRST, b"again...", b"a")
     tpm.does("TPM2_NV_Write of something else", tpm.writing(FIRST, b"other...", b"a"))
     flush(session)
-    tpm.fails("The same buffer without its session", "REFERENCE_S0", write)
+    tpm.fails("The same buffer without its session: REFERENCE_S0", write)
     session = start_session("The start with the same bytes, and the same random bytes")
     tpm.does("The same buffer is a new one to this session", write)
     tpm.read("TPM2_NV_Read: it was written again", FIRST, b"again...", b"a")
-    tpm.fails("And once more", "AUTH_FAIL/s1", write)
+    tpm.fails("And once more: AUTH_FAIL/s1", write)
     flush(session)
     script.fresh()
     undefine(FIRST)

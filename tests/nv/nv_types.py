@@ -1,4 +1,4 @@
-"""Writes tests/nv/nv_types.tpm: indices of each type, and the commands that do not fit it."""
+"""Writes nv_types.tpm: indices of each type, and the commands that do not fit it."""
 
 from tpmsim.caller import BY_OWNER, area, bits, counter, extended
 from tpmsim.standard import RH_OWNER, digest, number
@@ -50,7 +50,7 @@ TYPES = (
 def others(index, change):
     for what, each in CHANGES:
         if each != change:
-            tpm.fails(what, "ATTRIBUTES/h2", each(index))
+            tpm.fails(f"{what}: ATTRIBUTES/h2", each(index))
 
 
 script.startup()
@@ -59,8 +59,7 @@ for index, (name, make, change, value) in enumerate(TYPES, FIRST):
     tpm.define("TPM2_NV_DefineSpace", make(index, BY_OWNER))
     others(index, change)
     tpm.fails(
-        "TPM2_NV_Read: it is not written yet",
-        "NV_UNINITIALIZED",
+        "TPM2_NV_Read: it is not written yet: NV_UNINITIALIZED",
         tpm.reading(index, len(value), by=RH_OWNER),
     )
     tpm.is_now("It has none of the attributes of later", index)
@@ -71,9 +70,8 @@ for index, (name, make, change, value) in enumerate(TYPES, FIRST):
     others(index, change)
     tpm.read("It is as it was", index, value, by=RH_OWNER)
     tpm.fails(
-        "TPM2_NV_WriteLock, which none of the attributes allows",
-        "ATTRIBUTES/h2",
+        "TPM2_NV_WriteLock, which none of the attributes allows: ATTRIBUTES/h2",
         tpm.write_locking(index, by=RH_OWNER),
     )
-    tpm.fails("Nor TPM2_NV_ReadLock", "ATTRIBUTES/h2", tpm.read_locking(index, by=RH_OWNER))
+    tpm.fails("Nor TPM2_NV_ReadLock: ATTRIBUTES/h2", tpm.read_locking(index, by=RH_OWNER))
 script.write()

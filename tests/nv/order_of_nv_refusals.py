@@ -1,4 +1,4 @@
-"""Writes tests/nv/order_of_nv_refusals.tpm: many faults at once, repaired one by one."""
+"""Writes order_of_nv_refusals.tpm: many faults at once, repaired one by one."""
 
 from tpmsim.caller import BY_OWNER, BY_POLICY, BY_VALUE, Use, area, bits, counter, extended
 from tpmsim.standard import CC, DECRYPT, Entry, RH_LOCKOUT, RH_OWNER, RH_PLATFORM, SHA1
@@ -44,8 +44,7 @@ def handles_in_order(code, handles):
             if len(text) == 4 and absent != RH_LOCKOUT and not is_of_kind(absent):
                 continue
             script.command(
-                f"Handle {place}. {what}, and no sessions",
-                outcome,
+                f"Handle {place}. {what}, and no sessions: {outcome}",
                 command(code, before + text, frames.NO_SESSIONS),
             )
 
@@ -55,31 +54,28 @@ def general_refusals(code, handles, cut, uses):
     handles_in_order(code, handles)
     text = b"".join(number(it, 4) for it in handles)
     if code.authorized:
-        script.command("No sessions", "AUTH_MISSING", command(code, text + cut))
+        script.command("No sessions: AUTH_MISSING", command(code, text + cut))
     script.command(
-        "An area of eight bytes",
-        "AUTHSIZE",
+        "An area of eight bytes: AUTHSIZE",
         command(code, text + entries_area(bytes(8)) + cut, frames.SESSIONS),
     )
     prepared = tpm.prepare(code, handles, cut, *uses)
     last = len(uses)
     tpm.refused(
-        "A wrong first entry, and the last one is not there",
-        f"REFERENCE_S{last - 1}",
+        f"A wrong first entry, and the last one is not there: REFERENCE_S{last - 1}",
         prepared.but(entries=[*wrong(prepared, 1).entries[:-1], ABSENT_SESSION]),
     )
     is_first = handle_kinds.IS_OF_KIND[code.handles[0].kind]
     if code.authorized and is_first(BY_OTHERS) and code != CC.NV_ChangeAuth:
         unavailable = tpm.prepare(code, [BY_OTHERS, *handles[1:]], cut, *uses)
         tpm.refused(
-            "Both entries are wrong, on an index that no password can use",
-            "AUTH_UNAVAILABLE",
+            "Both entries are wrong, on an index that no password can use: AUTH_UNAVAILABLE",
             wrong(unavailable, 1, last),
         )
     if last > 1:
         refused = "AUTH_FAIL/s1" if handle_kinds.is_index(handles[0]) else "BAD_AUTH/s1"
-        tpm.refused("Both entries are wrong", refused, wrong(prepared, 1, last))
-    tpm.refused("The last one is", f"BAD_AUTH/s{last}", wrong(prepared, last))
+        tpm.refused(f"Both entries are wrong: {refused}", wrong(prepared, 1, last))
+    tpm.refused(f"The last one is: BAD_AUTH/s{last}", wrong(prepared, last))
 
 
 def in_order(code, uses, *cases):
@@ -90,7 +86,7 @@ def in_order(code, uses, *cases):
         if outcome == "SUCCESS":
             tpm.does(what, prepared)
         else:
-            tpm.refused(what, outcome, prepared)
+            tpm.refused(f"{what}: {outcome}", prepared)
 
 
 def changes(code, name, index, locked, parameters, faults=(), ranges=()):
@@ -154,7 +150,7 @@ def define_space():
         case("2,048 bytes, for which there is no space", "NV_SPACE", defined(NEW), none),
         case("With nothing wrong", "SUCCESS", defined(NEW, size=4), none),
     )
-    tpm.says("It is undefined", "SUCCESS", tpm.undefining(NEW))
+    tpm.says("It is undefined: SUCCESS", tpm.undefining(NEW))
 
 
 def undefine_space():
@@ -175,9 +171,7 @@ def read_public():
     general_refusals(CC.NV_ReadPublic, [ORDINARY], b"\0", [Use(session)])
     wrong_size = tpm.index_public(ORDINARY, session).handles
     tpm.refused(
-        "A byte behind the handle",
-        "SIZE",
-        tpm.prepare(CC.NV_ReadPublic, wrong_size, b"\0", session),
+        "A byte behind the handle: SIZE", tpm.prepare(CC.NV_ReadPublic, wrong_size, b"\0", session)
     )
     tpm.is_now("With nothing wrong", ORDINARY, session)
 
@@ -234,67 +228,61 @@ def change_auth():
     def prepared(parameters, *uses, index=CHANGED):
         return tpm.prepare(code, [index], parameters, *uses)
 
-    def refused(what, outcome, each):
-        tpm.refused(what, outcome, each)
+    def refused(words, each):
+        tpm.refused(words, each)
 
     cut = new[:-1]
-    refused("No sessions", "AUTH_MISSING", prepared(cut))
+    refused("No sessions: AUTH_MISSING", prepared(cut))
     both = prepared(cut, Use(told, shows_empty_key=True), hides)
     refused(
-        "The last entry is not there",
-        "REFERENCE_S1",
+        "The last entry is not there: REFERENCE_S1",
         both.but(entries=[wrong(both, 1).entries[0], ABSENT_SESSION]),
     )
     trial = tpm.trial("A trial session")
     refused(
-        "A trial session, on an index without a policy",
-        "ATTRIBUTES/s1",
+        "A trial session, on an index without a policy: ATTRIBUTES/s1",
         wrong(prepared(cut, Use(trial, shows_empty_key=True), hides, index=ORDINARY), 1, 2),
     )
-    refused("A password", "AUTH_UNAVAILABLE", wrong(prepared(cut, VALUE, hides), 1, 2))
+    refused("A password: AUTH_UNAVAILABLE", wrong(prepared(cut, VALUE, hides), 1, 2))
     refused(
-        "A policy session, on an index without a policy",
-        "AUTH_UNAVAILABLE",
+        "A policy session, on an index without a policy: AUTH_UNAVAILABLE",
         wrong(prepared(cut, Use(told, shows_empty_key=True), hides, index=ORDINARY), 1, 2),
     )
-    tpm.says("TPM2_PolicyPCR of no PCRs", "SUCCESS", tpm.pcrs(told, []))
+    tpm.says("TPM2_PolicyPCR of no PCRs: SUCCESS", tpm.pcrs(told, []))
     tpm.says(
-        "TPM2_PolicyCommandCode of TPM2_NV_Write", "SUCCESS", tpm.command_code(told, CC.NV_Write)
+        "TPM2_PolicyCommandCode of TPM2_NV_Write: SUCCESS", tpm.command_code(told, CC.NV_Write)
     )
-    tpm.says("TPM2_PolicyLocality of locality 1", "SUCCESS", tpm.locality(told, 2))
+    tpm.says("TPM2_PolicyLocality of locality 1: SUCCESS", tpm.locality(told, 2))
     tpm.does("A PCR is extended", tpm.event(b"", b""))
 
     def all_wrong():
         return wrong(prepared(cut, Use(told, shows_empty_key=True), hides), 1, 2)
 
-    refused("A PCR has changed, and another code is recorded", "PCR_CHANGED", all_wrong())
-    tpm.says("TPM2_PolicyRestart", "SUCCESS", tpm.restart(told))
+    refused("A PCR has changed, and another code is recorded: PCR_CHANGED", all_wrong())
+    tpm.says("TPM2_PolicyRestart: SUCCESS", tpm.restart(told))
     tpm.says(
-        "TPM2_PolicyCommandCode of TPM2_NV_Write", "SUCCESS", tpm.command_code(told, CC.NV_Write)
+        "TPM2_PolicyCommandCode of TPM2_NV_Write: SUCCESS", tpm.command_code(told, CC.NV_Write)
     )
-    tpm.says("TPM2_PolicyLocality of locality 1", "SUCCESS", tpm.locality(told, 2))
-    refused("Another code, and another locality", "POLICY_CC/s1", all_wrong())
-    tpm.says("TPM2_PolicyRestart", "SUCCESS", tpm.restart(told))
-    tpm.says("TPM2_PolicyLocality of locality 1", "SUCCESS", tpm.locality(told, 2))
-    refused("No code, and another locality", "POLICY_FAIL/s1", all_wrong())
+    tpm.says("TPM2_PolicyLocality of locality 1: SUCCESS", tpm.locality(told, 2))
+    refused("Another code, and another locality: POLICY_CC/s1", all_wrong())
+    tpm.says("TPM2_PolicyRestart: SUCCESS", tpm.restart(told))
+    tpm.says("TPM2_PolicyLocality of locality 1: SUCCESS", tpm.locality(told, 2))
+    refused("No code, and another locality: POLICY_FAIL/s1", all_wrong())
     tpm.says(
-        "TPM2_PolicyCommandCode of TPM2_NV_ChangeAuth",
-        "SUCCESS",
+        "TPM2_PolicyCommandCode of TPM2_NV_ChangeAuth: SUCCESS",
         tpm.command_code(told, CC.NV_ChangeAuth),
     )
-    refused("Another locality, and another digest", "LOCALITY", all_wrong())
+    refused("Another locality, and another digest: LOCALITY", all_wrong())
     script.locality_is(1)
-    refused("Another digest", "POLICY_FAIL/s1", all_wrong())
-    tpm.says("TPM2_PolicyRestart", "SUCCESS", tpm.restart(told))
+    refused("Another digest: POLICY_FAIL/s1", all_wrong())
+    tpm.says("TPM2_PolicyRestart: SUCCESS", tpm.restart(told))
     tpm.says(
-        "TPM2_PolicyCommandCode of TPM2_NV_ChangeAuth",
-        "SUCCESS",
+        "TPM2_PolicyCommandCode of TPM2_NV_ChangeAuth: SUCCESS",
         tpm.command_code(told, CC.NV_ChangeAuth),
     )
-    refused("Both hmacs are wrong", "BAD_AUTH/s1", all_wrong())
+    refused("Both hmacs are wrong: BAD_AUTH/s1", all_wrong())
     refused(
-        "The last one is",
-        "BAD_AUTH/s2",
+        "The last one is: BAD_AUTH/s2",
         wrong(prepared(cut, Use(told, shows_empty_key=True), hides), 2),
     )
     for what, outcome, parameters in (
@@ -303,7 +291,7 @@ def change_auth():
         ("A byte behind it", "SIZE", new + b"\0"),
         ("21 bytes", "SIZE/p1", new),
     ):
-        refused(what, outcome, prepared(parameters, Use(told, shows_empty_key=True), hides))
+        refused(f"{what}: {outcome}", prepared(parameters, Use(told, shows_empty_key=True), hides))
     good = prepared(sized(b"a" * 20), Use(told, shows_empty_key=True), hides)
     tpm.does("With nothing wrong", good)
     script.locality_is(0)

@@ -1,4 +1,4 @@
-"""Writes tests/objects/create.tpm: TPM2_Create, which wraps a new object for its parent."""
+"""Writes create.tpm: TPM2_Create, which wraps a new object for its parent."""
 
 from tpmsim.caller import HERE, OPEN, STORES, Use, hmac_key, sealed, storage_key
 from tpmsim.model import object_rules
@@ -27,40 +27,35 @@ def under(handle, *uses):
 script.startup()
 script.chapter("parentHandle.")
 refused(
-    "No object's handle: TPM_RH_OWNER, TPM_RH_NULL, PCR 0, an NV index, sessions",
-    "VALUE/h1",
+    "No object's handle: TPM_RH_OWNER, TPM_RH_NULL, PCR 0, an NV index, sessions: VALUE/h1",
     *map(under, (RH_OWNER, RH_NULL, 0, 0x0100_0000, 0x0200_0000, 0x0300_0000, 0x7F00_0000)),
 )
 refused(
-    "A transient object, while there is none",
-    "REFERENCE_H0",
+    "A transient object, while there is none: REFERENCE_H0",
     *map(under, (0x8000_0000, 0x8000_0007, 0x8000_0008, 0x80FF_FFFF)),
 )
 refused(
-    "A persistent object, while there is none",
-    "HANDLE/h1",
+    "A persistent object, while there is none: HANDLE/h1",
     *map(under, (0x8100_0000, 0x8180_0000, 0x81FF_FFFF)),
 )
 parent = tpm.create_primary(
     'A storage key, whose value is "parent"', RH_OWNER, storage_key(), user_auth=b"parent"
 )
 refused(
-    "Another number is still not there",
-    "REFERENCE_H0",
+    "Another number is still not there: REFERENCE_H0",
     *(under(it, b"parent") for it in (0x8000_0001, 0x8000_0007, 0x8001_0000)),
 )
 script.command(
-    "It has to be authorized: no sessions (tag 8001)",
-    "AUTH_MISSING",
+    "It has to be authorized: no sessions (tag 8001): AUTH_MISSING",
     frames.command(CC.Create, number(parent, 4)),
 )
-refused("By another password", "BAD_AUTH/s1", under(parent, b"Parent"))
+refused("By another password: BAD_AUTH/s1", under(parent, b"Parent"))
 guarded = tpm.create_primary(
     "A storage key without noDA",
     RH_OWNER,
     storage_key(attributes=HERE | STORES | Attribute.USER_WITH_AUTH),
 )
-refused("By another password", "AUTH_FAIL/s1", under(guarded, b"Parent"))
+refused("By another password: AUTH_FAIL/s1", under(guarded, b"Parent"))
 tpm.create("By the right one, the empty one", guarded, sealed(), data=b"x")
 tpm.flush_objects("It is flushed", guarded)
 
@@ -81,7 +76,7 @@ for what, public, data in (
     ),
 ):
     handle = tpm.create_primary(what, RH_OWNER, public, data=data)
-    refused("As a parent", "TYPE/h1", under(handle))
+    refused("As a parent: TYPE/h1", under(handle))
     tpm.flush_objects("It is flushed", handle)
 
 script.chapter("What is created is new, as its seed is drawn: the same template twice.")
@@ -89,7 +84,7 @@ first = tpm.create("Sealed data", parent, sealed(), data=b"secret")
 second = tpm.create("Once more", parent, sealed(), data=b"secret")
 assert first.public.unique != second.public.unique
 again = tpm.child(parent, sealed(), data=b"secret")
-tpm.says("With the same random bytes it is the same", "SUCCESS", again, again)
+tpm.says("With the same random bytes it is the same: SUCCESS", again, again)
 
 script.chapter(
     "The random bytes are drawn from the front: a key, where none is given, then the seed, and "
@@ -108,7 +103,7 @@ for what, public, data, key_bytes in (
     ("A storage key", storage_key(), b"", 16),
     ("A storage key, and nameAlg SHA-1", storage_key(SHA1), b"", 16),
 ):
-    answer = tpm.says(what, "SUCCESS", tpm.child(parent, public, data=data))
+    answer = tpm.says(f"{what}: SUCCESS", tpm.child(parent, public, data=data))
     fields = Fields(answer[14:])
     private, made = Fields(fields.sized()), object_rules.Parameters(fields.data)
     made = made.structure(object_rules.read_public)
@@ -141,7 +136,7 @@ prepared = tpm.child(
     pcrs=16 * [(SHA256, range(24))],
 )
 response = tpm.script.command(
-    "TPM2_Create with three sessions, of which the last ends", "SUCCESS", prepared.buffer()
+    "TPM2_Create with three sessions, of which the last ends: SUCCESS", prepared.buffer()
 )
 tpm.received(prepared, response)
 assert [it.nonce_tpm for it in long] == [RANDOM[at : at + 32] for at in (80, 112, 144)]
@@ -197,13 +192,12 @@ tpm.create(
     data=b"d" * 128,
     outside_info=b"o" * 34,
 )
-refused("129 bytes of data", "SIZE/p1", tpm.child(parent, sealed(), data=bytes(129)))
+refused("129 bytes of data: SIZE/p1", tpm.child(parent, sealed(), data=bytes(129)))
 refused(
-    "35 bytes of outsideInfo",
-    "SIZE/p3",
+    "35 bytes of outsideInfo: SIZE/p3",
     tpm.child(parent, sealed(), data=b"x", outside_info=bytes(35)),
 )
-refused("17 banks", "SIZE/p4", tpm.child(parent, sealed(), data=b"x", pcrs=17 * [(SHA1, [])]))
+refused("17 banks: SIZE/p4", tpm.child(parent, sealed(), data=b"x", pcrs=17 * [(SHA1, [])]))
 whole = under(parent)
-refused("A byte behind creationPCR", "SIZE", whole.but(parameters=whole.parameters + b"\0"))
+refused("A byte behind creationPCR: SIZE", whole.but(parameters=whole.parameters + b"\0"))
 script.write()

@@ -1,4 +1,4 @@
-"""Writes tests/objects/create_primary.tpm: TPM2_CreatePrimary, and what it answers."""
+"""Writes create_primary.tpm: TPM2_CreatePrimary, and what it answers."""
 
 from tpmsim.caller import HERE, OPEN, hmac_key, sealed, storage_key
 from tpmsim.standard import ALG_NULL, CC, RH_ENDORSEMENT, RH_LOCKOUT, RH_NULL, RH_OWNER
@@ -28,8 +28,8 @@ def creates(what, hierarchy, public, **more):
     return tpm.create_primary(what, hierarchy, public, **more)
 
 
-def refused(what, outcome, hierarchy, public, *uses, **more):
-    tpm.says(what, outcome, tpm.primary(hierarchy, public, *uses, **more))
+def refused(words, hierarchy, public, *uses, **more):
+    tpm.says(words, tpm.primary(hierarchy, public, *uses, **more))
 
 
 script.startup()
@@ -41,30 +41,27 @@ script.chapter(
 )
 jefe = "0008 0000 0004 4A656665 0010 0008 000B 00040440 0000 0005 000B 0000 0000 00000000"
 script.command(
-    "TPM2_CreatePrimary in TPM_RH_OWNER: the object is 80000000",
-    "SUCCESS",
+    "TPM2_CreatePrimary in TPM_RH_OWNER: the object is 80000000: SUCCESS",
     on_handle(CC.CreatePrimary, RH_OWNER, bytes.fromhex(jefe)),
 )
 FIRST = 0x8000_0000
 answer = script.command(
-    'TPM2_HMAC of "what do ya want for nothing?" with SHA-256, which is test case 2 of RFC 4231',
+    'TPM2_HMAC of "what do ya want for nothing?" with SHA-256, which is test case 2 of RFC 4231: '
     "SUCCESS",
     on_handle(CC.HMAC, FIRST, sized(QUESTION) + number(SHA256, 2)),
 )
 assert mac(SHA256, b"Jefe", QUESTION) in answer
 script.command(
-    "With SHA-1, which is not its scheme's",
-    "VALUE/p2",
+    "With SHA-1, which is not its scheme's: VALUE/p2",
     on_handle(CC.HMAC, FIRST, sized(QUESTION) + number(SHA1, 2)),
 )
-script.command("TPM2_Unseal: it is a key", "ATTRIBUTES/h1", on_handle(CC.Unseal, FIRST))
-tpm.says("It is flushed", "SUCCESS", tpm.flush(FIRST))
+script.command("TPM2_Unseal: it is a key: ATTRIBUTES/h1", on_handle(CC.Unseal, FIRST))
+tpm.says("It is flushed: SUCCESS", tpm.flush(FIRST))
 
 script.chapter("primaryHandle.")
 tpm.says(
     "No hierarchy that has objects: TPM_RH_LOCKOUT, TPM_RS_PW, PCR 0, an NV index, sessions, "
-    "objects",
-    "VALUE/h1",
+    "objects: VALUE/h1",
     *(
         tpm.primary(it, storage_key())
         for it in (
@@ -74,12 +71,11 @@ tpm.says(
     ),
 )
 script.command(
-    "It has to be authorized: no sessions (tag 8001)",
-    "AUTH_MISSING",
+    "It has to be authorized: no sessions (tag 8001): AUTH_MISSING",
     frames.command(CC.CreatePrimary, number(RH_OWNER, 4)),
 )
 tpm.accepted('The value of TPM_RH_OWNER is "owner"', tpm.change_auth(RH_OWNER, b"owner", b""))
-refused("By the empty password", "BAD_AUTH/s1", RH_OWNER, storage_key(), b"")
+refused("By the empty password: BAD_AUTH/s1", RH_OWNER, storage_key(), b"")
 session = tpm.start("An HMAC session")
 by_session = tpm.create_primary(
     "By that session", RH_OWNER, storage_key(), session, user_auth=b"abc"
@@ -153,10 +149,9 @@ for locality in (4, 1, 0):
     same.append((tpm.names[handle], tpm.creation_data))
     tpm.flush_objects("It is flushed", handle)
 assert len({name for name, _ in same}) == 1 and len({data for _, data in same}) == 8
-refused("35 bytes of outsideInfo", "SIZE/p3", RH_OWNER, storage_key(), outside_info=bytes(35))
+refused("35 bytes of outsideInfo: SIZE/p3", RH_OWNER, storage_key(), outside_info=bytes(35))
 refused(
-    "16 banks, the most that there may be, and one more",
-    "SIZE/p4",
+    "16 banks, the most that there may be, and one more: SIZE/p4",
     RH_OWNER,
     storage_key(),
     pcrs=17 * [(SHA1, [])],
@@ -164,7 +159,7 @@ refused(
 creates("16 of them", RH_OWNER, storage_key(), pcrs=16 * [(SHA256, [23])])
 tpm.flush_objects("It is flushed", FIRST)
 whole = tpm.primary(RH_OWNER, storage_key())
-tpm.says("A byte behind creationPCR", "SIZE", whole.but(parameters=whole.parameters + b"\0"))
+tpm.says("A byte behind creationPCR: SIZE", whole.but(parameters=whole.parameters + b"\0"))
 
 script.chapter("Objects of each type, with data that are given and that are generated.")
 GENERATED = Attribute.SENSITIVE_DATA_ORIGIN
@@ -212,6 +207,6 @@ for algorithm, hash_name in ALGORITHMS:
         Public(SYMCIPHER, algorithm, storage_key().attributes & ~GENERATED),
         data=bytes(range(16)),
     )
-    refused("A ninth object", "OBJECT_MEMORY", RH_OWNER, storage_key())
+    refused("A ninth object: OBJECT_MEMORY", RH_OWNER, storage_key())
     tpm.flush_objects("The eight are flushed", *range(FIRST, FIRST + 8))
 script.write()

@@ -1,4 +1,4 @@
-"""Writes tests/objects/evict_control.tpm: persistent objects, how they come, stay and go."""
+"""Writes evict_control.tpm: persistent objects, how they come, stay and go."""
 
 from tpmsim.caller import HERE, OPEN, STATE, STORES, Use, area, hmac_key, sealed, storage_key
 from tpmsim.caller import wrong
@@ -33,9 +33,9 @@ def evict(asker, handle, wanted):
     return on_handles(CC.EvictControl, [asker, handle], number(wanted, 4))
 
 
-def fails(what, outcome, *commands):
+def fails(words, *commands):
     """By the password: who asks, the object, and the persistent handle."""
-    says(what, outcome, *(evict(*it) for it in commands))
+    says(words, *(evict(*it) for it in commands))
 
 
 def primary(what, hierarchy, template=None):
@@ -52,45 +52,38 @@ def kept_handles(what, *handles):
 def handles_and_parameter(owners):
     script.chapter("The handles and the parameter.")
     handles = number(RH_OWNER, 4) + number(owners, 4)
-    says("No handle", "INSUFFICIENT/h1", command(CC.EvictControl, b""))
+    says("No handle: INSUFFICIENT/h1", command(CC.EvictControl, b""))
     fails(
-        "Who has no persistent objects",
-        "VALUE/h1",
+        "Who has no persistent objects: VALUE/h1",
         *((it, owners, FIRST) for it in (RH_ENDORSEMENT, RH_LOCKOUT, RH_NULL, 0, owners)),
     )
-    says("No object", "INSUFFICIENT/h2", command(CC.EvictControl, handles[:4]))
+    says("No object: INSUFFICIENT/h2", command(CC.EvictControl, handles[:4]))
     fails(
-        "What is no object: PCR 0, an NV index, a session, and a hierarchy",
-        "VALUE/h2",
+        "What is no object: PCR 0, an NV index, a session, and a hierarchy: VALUE/h2",
         *((RH_OWNER, it, FIRST) for it in (0, 0x0100_0000, 0x0200_0000, 0x0300_0000, RH_OWNER)),
     )
-    fails("A transient object that is not there", "REFERENCE_H1", (RH_OWNER, 0x8000_0007, FIRST))
-    fails("A persistent object that is not there", "HANDLE/h2", (RH_OWNER, FIRST, FIRST))
-    says("Without sessions", "AUTH_MISSING", command(CC.EvictControl, handles + number(FIRST, 4)))
+    fails("A transient object that is not there: REFERENCE_H1", (RH_OWNER, 0x8000_0007, FIRST))
+    fails("A persistent object that is not there: HANDLE/h2", (RH_OWNER, FIRST, FIRST))
+    says("Without sessions: AUTH_MISSING", command(CC.EvictControl, handles + number(FIRST, 4)))
     wrong_password = [frames.entry(hmac=b"x")]
     says(
-        "A wrong password, and no parameter",
-        "BAD_AUTH/s1",
+        "A wrong password, and no parameter: BAD_AUTH/s1",
         on_handles(CC.EvictControl, [RH_OWNER, owners], b"", wrong_password),
     )
     says(
-        "The parameter cut",
-        "INSUFFICIENT/p1",
+        "The parameter cut: INSUFFICIENT/p1",
         *(on_handles(CC.EvictControl, [RH_OWNER, owners], bytes([0x81] * it)) for it in (0, 3)),
     )
     fails(
-        "It is no handle of a persistent object",
-        "VALUE/p1",
+        "It is no handle of a persistent object: VALUE/p1",
         *((RH_OWNER, owners, it) for it in (0, owners, 0x8200_0000, 0x0100_0000, 0xFFFF_FFFF)),
     )
     says(
-        "That, and a byte behind it",
-        "VALUE/p1",
+        "That, and a byte behind it: VALUE/p1",
         on_handles(CC.EvictControl, [RH_OWNER, owners], number(owners, 4) + b"\0"),
     )
     says(
-        "A byte behind a right one",
-        "SIZE",
+        "A byte behind a right one: SIZE",
         on_handles(CC.EvictControl, [RH_OWNER, owners], number(FIRST, 4) + b"\0"),
     )
 
@@ -110,21 +103,18 @@ def in_order():
 
     script.chapter("The hierarchy of the object.")
     fails(
-        "The platform has its own alone",
-        "HIERARCHY/h2",
+        "The platform has its own alone: HIERARCHY/h2",
         *((RH_PLATFORM, it, FIRST) for it in (owners, clears, endorsements, nulls)),
         *((RH_PLATFORM, it, LAST) for it in (owners, clears, endorsements, nulls)),
     )
     fails(
-        "The owner has the platform's not, and those of TPM_RH_NULL not",
-        "HIERARCHY/h2",
+        "The owner has the platform's not, and those of TPM_RH_NULL not: HIERARCHY/h2",
         *((RH_OWNER, it, FIRST) for it in (platforms, platforms_clears, nulls)),
         *((RH_OWNER, it, LAST) for it in (platforms, platforms_clears, nulls)),
     )
     script.chapter("stClear, and a wrong range.")
     fails(
-        "An object that a start takes away cannot stay",
-        "ATTRIBUTES/h2",
+        "An object that a start takes away cannot stay: ATTRIBUTES/h2",
         (RH_OWNER, clears, FIRST),
         (RH_OWNER, clears, LAST),
         (RH_PLATFORM, platforms_clears, LAST),
@@ -132,14 +122,12 @@ def in_order():
     )
     script.chapter("The range of handles.")
     fails(
-        "The owner's ends at 817FFFFF",
-        "RANGE/p1",
+        "The owner's ends at 817FFFFF: RANGE/p1",
         *((RH_OWNER, owners, it) for it in (PLATFORMS_FIRST, LAST)),
         *((RH_OWNER, endorsements, it) for it in (PLATFORMS_FIRST, LAST)),
     )
     fails(
-        "The platform's begins behind it",
-        "RANGE/p1",
+        "The platform's begins behind it: RANGE/p1",
         *((RH_PLATFORM, platforms, it) for it in (FIRST, OWNERS_LAST)),
     )
     return owners, endorsements, platforms
@@ -158,15 +146,13 @@ def borders(owners, endorsements, platforms):
     kept_handles("The four", FIRST, OWNERS_LAST, PLATFORMS_FIRST, LAST)
     script.chapter("A persistent object is taken away by its own handle.")
     fails(
-        "The owner takes the platform's not away, by whatever handle",
-        "HIERARCHY/h2",
+        "The owner takes the platform's not away, by whatever handle: HIERARCHY/h2",
         *((RH_OWNER, it, it) for it in (PLATFORMS_FIRST, LAST)),
         (RH_OWNER, LAST, FIRST),
     )
-    fails("The owner's by a handle of the platform", "RANGE/p1", (RH_OWNER, FIRST, LAST))
+    fails("The owner's by a handle of the platform: RANGE/p1", (RH_OWNER, FIRST, LAST))
     fails(
-        "By another handle, whether there is something or not",
-        "HANDLE/h2",
+        "By another handle, whether there is something or not: HANDLE/h2",
         (RH_OWNER, FIRST, OWNERS_LAST),
         (RH_OWNER, FIRST, OTHER),
         (RH_PLATFORM, FIRST, LAST),
@@ -174,20 +160,19 @@ def borders(owners, endorsements, platforms):
         (RH_PLATFORM, LAST, PLATFORMS_FIRST),
     )
     fails(
-        "A handle that is taken",
-        "NV_DEFINED",
+        "A handle that is taken: NV_DEFINED",
         (RH_OWNER, owners, FIRST),
         (RH_OWNER, endorsements, FIRST),
         (RH_PLATFORM, platforms, LAST),
     )
     tpm.remove("The owner takes the last one away", RH_OWNER, OWNERS_LAST)
-    tpm.fails("It is gone", "HANDLE/h1", tpm.public(OWNERS_LAST))
+    tpm.fails("It is gone: HANDLE/h1", tpm.public(OWNERS_LAST))
     kept_handles("Three are left", FIRST, PLATFORMS_FIRST, LAST)
     tpm.remove("The platform takes away what is the owner's", RH_PLATFORM, FIRST)
     tpm.remove("And its own", RH_PLATFORM, PLATFORMS_FIRST)
     tpm.remove("And its own", RH_PLATFORM, LAST)
     kept_handles("None")
-    fails("None is there", "HANDLE/h2", (RH_PLATFORM, LAST, LAST), (RH_OWNER, FIRST, FIRST))
+    fails("None is there: HANDLE/h2", (RH_PLATFORM, LAST, LAST), (RH_OWNER, FIRST, FIRST))
 
 
 def places():
@@ -201,17 +186,16 @@ def places():
     tpm.keep("One of the platform", RH_PLATFORM, platforms, LAST)
     kept_handles("They are there, and the transient ones beside them", *handles)
     fails(
-        "One more, of either",
-        "NV_SPACE",
+        "One more, of either: NV_SPACE",
         (RH_OWNER, transient, OTHER),
         (RH_PLATFORM, platforms, PLATFORMS_FIRST),
     )
-    fails("At a handle that is taken", "NV_DEFINED", (RH_OWNER, transient, FIRST))
-    fails("In the wrong range", "RANGE/p1", (RH_OWNER, transient, LAST))
+    fails("At a handle that is taken: NV_DEFINED", (RH_OWNER, transient, FIRST))
+    fails("In the wrong range: RANGE/p1", (RH_OWNER, transient, LAST))
     script.chapter("They take no place of a transient object, and no NV index takes one of theirs.")
     for count in range(6):
         primary("Six more transient ones" if not count else "", RH_OWNER)
-    tpm.fails("The ninth", "OBJECT_MEMORY", tpm.primary(RH_OWNER, storage_key()))
+    tpm.fails("The ninth: OBJECT_MEMORY", tpm.primary(RH_OWNER, storage_key()))
     tpm.define("An NV index", area(size=2048))
     tpm.does("It is undefined", tpm.undefining(0x0100_0001))
     tpm.remove("One is taken away", RH_OWNER, handles[5])
@@ -233,7 +217,7 @@ def use():
     tpm.keep("It stays as 81000000", RH_OWNER, root, FIRST)
     assert tpm.read_public("The same public area and names", FIRST) == (public, qualified)
     tpm.flush_objects("The transient one is flushed", root)
-    tpm.fails("The persistent one cannot be", "VALUE/p1", tpm.flush(FIRST))
+    tpm.fails("The persistent one cannot be: VALUE/p1", tpm.flush(FIRST))
     secret = tpm.create(
         "TPM2_Create under the persistent one",
         FIRST,
@@ -267,24 +251,24 @@ def use():
 def restarts():
     script.chapter("After a power cycle.")
     script.power()
-    tpm.fails("Before TPM2_Startup", "INITIALIZE", tpm.public(OTHER))
+    tpm.fails("Before TPM2_Startup: INITIALIZE", tpm.public(OTHER))
     script.startup()
     tpm.unseal("TPM2_Unseal by the password", OTHER, b"a secret", b"pin")
     session = tpm.start("A session that is bound to it, with AES", OTHER, aes=True)
     tpm.unseal("TPM2_Unseal by it, encrypted", OTHER, b"a secret", Use(session, ENCRYPTING))
-    tpm.fails("A wrong hmac", "AUTH_FAIL/s1", wrong(tpm.unsealing(OTHER, session)))
-    tpm.fails("A wrong password", "AUTH_FAIL/s1", tpm.unsealing(OTHER, b"nip"))
+    tpm.fails("A wrong hmac: AUTH_FAIL/s1", wrong(tpm.unsealing(OTHER, session)))
+    tpm.fails("A wrong password: AUTH_FAIL/s1", tpm.unsealing(OTHER, b"nip"))
     policy = tpm.policy("A policy session")
     tpm.accepted("TPM2_PolicySecret of it", tpm.secret(policy, b"pin", of=OTHER))
     made = tpm.create("TPM2_Create under 81000000", FIRST, sealed(), data=b"another")
     handle = tpm.load("TPM2_Load", FIRST, made)
     tpm.unseal("TPM2_Unseal", handle, b"another")
-    tpm.fails("A third wrong password locks", "AUTH_FAIL/s1", tpm.unsealing(OTHER, b"nip"))
-    tpm.fails("The right one", "LOCKOUT", tpm.unsealing(OTHER, b"pin"))
+    tpm.fails("A third wrong password locks: AUTH_FAIL/s1", tpm.unsealing(OTHER, b"nip"))
+    tpm.fails("The right one: LOCKOUT", tpm.unsealing(OTHER, b"pin"))
     tpm.does("TPM2_DictionaryAttackLockReset", tpm.lock_reset())
     start_again()
     tpm.unseal("It is there", OTHER, b"a secret", b"pin")
-    tpm.fails("What was loaded is not", "REFERENCE_H0", tpm.public(handle))
+    tpm.fails("What was loaded is not: REFERENCE_H0", tpm.public(handle))
 
 
 def start_again():
@@ -301,12 +285,11 @@ def sessions():
     tpm.does('ownerAuth is "owner"', tpm.change_auth(RH_OWNER, b"owner", b""))
     session = tpm.start("An HMAC session, bound to TPM_RH_OWNER", RH_OWNER, aes=True)
     evicting = tpm.evicting(RH_OWNER, handle, wanted, session)
-    tpm.fails("A wrong hmac", "BAD_AUTH/s1", wrong(evicting))
+    tpm.fails("A wrong hmac: BAD_AUTH/s1", wrong(evicting))
     tpm.keep("The right one", RH_OWNER, handle, wanted, session)
     tpm.remove("It takes it away again", RH_OWNER, wanted, session)
     tpm.fails(
-        "Nothing can be encrypted or decrypted",
-        "ATTRIBUTES/s1",
+        "Nothing can be encrypted or decrypted: ATTRIBUTES/s1",
         *(
             tpm.evicting(RH_OWNER, handle, wanted, session).but_entry(1, attributes=it)
             for it in (frames.DECRYPT, frames.ENCRYPT)
@@ -314,14 +297,13 @@ def sessions():
     )
     policy = tpm.policy("A policy session")
     tpm.fails(
-        "No policy authorizes a hierarchy",
-        "AUTH_UNAVAILABLE",
+        "No policy authorizes a hierarchy: AUTH_UNAVAILABLE",
         tpm.evicting(RH_OWNER, handle, wanted, policy),
     )
     tpm.does("ownerAuth is empty", tpm.change_auth(RH_OWNER, b"", b"owner"))
     for kept in (FIRST, OTHER, 0x8100_0002):
         tpm.remove("All are taken away" if kept == FIRST else "", RH_OWNER, kept)
-    tpm.fails("They are gone", "HANDLE/h1", tpm.public(FIRST))
+    tpm.fails("They are gone: HANDLE/h1", tpm.public(FIRST))
     kept_handles("None")
 
 

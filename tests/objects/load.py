@@ -1,4 +1,4 @@
-"""Writes tests/objects/load.tpm: TPM2_Load, which takes what TPM2_Create gave."""
+"""Writes load.tpm: TPM2_Load, which takes what TPM2_Create gave."""
 
 from dataclasses import replace
 
@@ -30,25 +30,22 @@ made = tpm.create(
 
 script.chapter("parentHandle.")
 refused(
-    "No object's handle: TPM_RH_OWNER, TPM_RH_NULL, PCR 0, an NV index, sessions",
-    "VALUE/h1",
+    "No object's handle: TPM_RH_OWNER, TPM_RH_NULL, PCR 0, an NV index, sessions: VALUE/h1",
     *(
         tpm.loading(it, made)
         for it in (RH_OWNER, RH_NULL, 0, 0x0100_0000, 0x0200_0000, 0x0300_0000)
     ),
 )
 refused(
-    "A transient object that is not there",
-    "REFERENCE_H0",
+    "A transient object that is not there: REFERENCE_H0",
     *(tpm.loading(it, made) for it in (0x8000_0001, 0x8000_0008, 0x80FF_FFFF)),
 )
-refused("A persistent object", "HANDLE/h1", tpm.loading(0x8100_0000, made))
+refused("A persistent object: HANDLE/h1", tpm.loading(0x8100_0000, made))
 script.command(
-    "It has to be authorized: no sessions (tag 8001)",
-    "AUTH_MISSING",
+    "It has to be authorized: no sessions (tag 8001): AUTH_MISSING",
     frames.command(CC.Load, number(parent, 4)),
 )
-refused("By the value of the child", "BAD_AUTH/s1", tpm.loading(parent, made, b"child"))
+refused("By the value of the child: BAD_AUTH/s1", tpm.loading(parent, made, b"child"))
 
 script.chapter("An object is loaded as often as there are places.")
 first = tpm.load("TPM2_Load: it is 80000001", parent, made)
@@ -56,21 +53,21 @@ second = tpm.load("Once more: it is 80000002, and has the same Name", parent, ma
 assert (first, second) == (0x8000_0001, 0x8000_0002)
 tpm.unseal('TPM2_Unseal of the first, by "child"', first, b"secret")
 tpm.unseal("Of the second", second, b"secret")
-refused("By the value of the parent", "BAD_AUTH/s1", tpm.unsealing(second, b"parent"))
+refused("By the value of the parent: BAD_AUTH/s1", tpm.unsealing(second, b"parent"))
 tpm.flush_objects("The first is flushed", first)
-refused("It is no more", "REFERENCE_H0", tpm.unsealing(first, b"child"))
+refused("It is no more: REFERENCE_H0", tpm.unsealing(first, b"child"))
 tpm.unseal("The second is", second, b"secret")
 tpm.flush_objects("It is flushed", second)
 session = tpm.start("An HMAC session, bound to the parent", bind=parent, algorithm=SHA1)
 by_session = tpm.load("TPM2_Load by it", parent, made, session)
-refused("Sealed data are no parent", "TYPE/h1", tpm.loading(by_session, made))
+refused("Sealed data are no parent: TYPE/h1", tpm.loading(by_session, made))
 tpm.flush_objects("It is flushed", by_session)
 
 script.chapter("inPrivate belongs to one parent and to one public area.")
 twin = tpm.create_primary(
     "Another primary key", RH_OWNER, storage_key(unique=b"twin"), user_auth=b"parent"
 )
-refused("TPM2_Load under it", "INTEGRITY/p1", tpm.loading(twin, made))
+refused("TPM2_Load under it: INTEGRITY/p1", tpm.loading(twin, made))
 tpm.flush_objects("It is flushed", twin)
 same = tpm.create_primary(
     "The same primary key once more", RH_OWNER, storage_key(), user_auth=b"parent"
@@ -81,7 +78,7 @@ tpm.flush_objects("Both are flushed", loaded, same)
 alien = tpm.create_primary(
     "The same template in TPM_RH_ENDORSEMENT", RH_ENDORSEMENT, storage_key(), user_auth=b"parent"
 )
-refused("TPM2_Load under it", "INTEGRITY/p1", tpm.loading(alien, made))
+refused("TPM2_Load under it: INTEGRITY/p1", tpm.loading(alien, made))
 tpm.flush_objects("It is flushed", alien)
 
 
@@ -102,39 +99,34 @@ for what, changes in (
     ("An HMAC key", {"attributes": HERE | OPEN | Attribute.SIGN, "scheme": SHA256}),
     ("A storage key", {"kind": frames.SYMCIPHER, "attributes": HERE | OPEN | STORES}),
 ):
-    refused(what, "INTEGRITY/p1", with_public(**changes))
+    refused(f"{what}: INTEGRITY/p1", with_public(**changes))
 other = tpm.create("TPM2_Create of the same data", parent, sealed(), data=b"secret")
 refused(
-    "The private area of the one, and the public area of the other",
-    "INTEGRITY/p1",
+    "The private area of the one, and the public area of the other: INTEGRITY/p1",
     tpm.loading(parent, replace(made, public=other.public)),
     tpm.loading(parent, replace(made, private=other.private)),
 )
 
 script.chapter("Sizes.")
 refused(
-    "inPrivate of 257 bytes, whole and cut",
-    "SIZE/p1",
+    "inPrivate of 257 bytes, whole and cut: SIZE/p1",
     tpm.loading(parent, replace(made, private=bytes(257))),
     tpm.loading(parent, made).but(parameters=number(257, 2)),
     tpm.loading(parent, made).but(parameters=b"\xff\xff"),
 )
 refused(
-    "Of 256 bytes, and empty",
-    "INTEGRITY/p1",
+    "Of 256 bytes, and empty: INTEGRITY/p1",
     tpm.loading(parent, replace(made, private=bytes(256))),
     tpm.loading(parent, replace(made, private=b"")),
 )
 whole = tpm.loading(parent, made)
-refused("A byte behind inPublic", "SIZE", whole.but(parameters=whole.parameters + b"\0"))
+refused("A byte behind inPublic: SIZE", whole.but(parameters=whole.parameters + b"\0"))
 refused(
-    "inPrivate reaches beyond the command",
-    "INSUFFICIENT/p1",
+    "inPrivate reaches beyond the command: INSUFFICIENT/p1",
     whole.but(parameters=number(256, 2) + whole.parameters[2:]),
 )
 refused(
-    "inPublic does",
-    "INSUFFICIENT/p2",
+    "inPublic does: INSUFFICIENT/p2",
     whole.but(parameters=sized(made.private) + number(200, 2) + made.public.text),
 )
 longest = tpm.create(
@@ -173,8 +165,8 @@ for what, public, data in (
 script.chapter("Eight objects, and a ninth.")
 for place in range(1, 8):
     assert tpm.load("" if place > 1 else "Seven more", parent, made) == 0x8000_0000 + place
-refused("The ninth", "OBJECT_MEMORY", tpm.loading(parent, made))
+refused("The ninth: OBJECT_MEMORY", tpm.loading(parent, made))
 tpm.flush_objects("The fourth is flushed", 0x8000_0003)
 assert tpm.load("Its place is taken again", parent, made) == 0x8000_0003
-refused("And there is none", "OBJECT_MEMORY", tpm.loading(parent, made))
+refused("And there is none: OBJECT_MEMORY", tpm.loading(parent, made))
 script.write()

@@ -1,4 +1,4 @@
-"""Writes tests/objects/object_policies.tpm: policies that authorize objects, and what each of them asks."""
+"""Writes object_policies.tpm: policies that authorize objects, and what each of them asks."""
 
 from tpmsim.caller import HERE, Use, hmac_key, sealed, storage_key
 from tpmsim.standard import ALG_NULL, CC, CONTINUE_SESSION, DECRYPT, ENCRYPT, RH_ENDORSEMENT
@@ -37,7 +37,7 @@ def sealed_by(what, auth_policy, algorithm=SHA256, attributes=HERE | NO_DA, user
 
 
 def says(what, prepared):
-    tpm.says(what, "SUCCESS", prepared)
+    tpm.says(f"{what}: SUCCESS", prepared)
 
 
 def start_again(session):
@@ -58,28 +58,26 @@ for algorithm, hash_name in ((SHA256, "SHA-256"), (SHA1, "SHA-1")):
     )
     handle = sealed_by('Sealed data whose value is "pin"', AFTER_AUTH_VALUE[algorithm], algorithm)
     session = tpm.policy("A policy session", algorithm=algorithm)
-    tpm.refused("Nothing is asserted", "POLICY_FAIL/s1", tpm.unsealing(handle, session))
+    tpm.refused("Nothing is asserted: POLICY_FAIL/s1", tpm.unsealing(handle, session))
 
     script.chapter("TPM2_PolicyPassword: the hmac is the value itself, and is answered empty.")
     says("TPM2_PolicyPassword", tpm.password_told(session))
     by_password = Use(session, demand=PASSWORD)
     right = tpm.unsealing(handle, by_password)
     tpm.refused(
-        "An empty hmac, as the value is not empty", "BAD_AUTH/s1", right.but_entry(1, hmac=b"")
+        "An empty hmac, as the value is not empty: BAD_AUTH/s1", right.but_entry(1, hmac=b"")
     )
     tpm.refused(
-        "Another value",
-        "BAD_AUTH/s1",
+        "Another value: BAD_AUTH/s1",
         *(right.but_entry(1, hmac=it) for it in (b"pi", b"pin1", b"\0pin", bytes(32))),
     )
     tpm.refused(
-        "An hmac with the value in its key",
-        "BAD_AUTH/s1",
+        "An hmac with the value in its key: BAD_AUTH/s1",
         tpm.unsealing(handle, Use(session, demand=AUTH_VALUE)),
     )
     tpm.unseal("The value, in plain, with continueSession", handle, SECRET, by_password)
     start_again(session)
-    tpm.refused("Once more", "POLICY_FAIL/s1", tpm.unsealing(handle, by_password))
+    tpm.refused("Once more: POLICY_FAIL/s1", tpm.unsealing(handle, by_password))
     says("TPM2_PolicyPassword again", tpm.password_told(session))
     padded = tpm.unsealing(handle, by_password).but_entry(1, hmac=PIN + bytes(29))
     tpm.accepted("The value, and zeros behind it", padded)
@@ -87,16 +85,15 @@ for algorithm, hash_name in ((SHA256, "SHA-256"), (SHA1, "SHA-1")):
     script.chapter("TPM2_PolicyAuthValue: the value is in the key of the hmac and of the answer's.")
     says("TPM2_PolicyAuthValue", tpm.auth_value_told(session))
     by_value = Use(session, demand=AUTH_VALUE)
-    tpm.refused("The value in plain", "BAD_AUTH/s1", tpm.unsealing(handle, by_password))
-    tpm.refused("An empty hmac", "BAD_AUTH/s1", tpm.unsealing(handle, Use(session)))
+    tpm.refused("The value in plain: BAD_AUTH/s1", tpm.unsealing(handle, by_password))
+    tpm.refused("An empty hmac: BAD_AUTH/s1", tpm.unsealing(handle, Use(session)))
     tpm.refused(
-        "One of an empty key",
-        "BAD_AUTH/s1",
+        "One of an empty key: BAD_AUTH/s1",
         tpm.unsealing(handle, Use(session, shows_empty_key=True)),
     )
     tpm.unseal("With continueSession", handle, SECRET, by_value)
     start_again(session)
-    tpm.refused("Once more", "POLICY_FAIL/s1", tpm.unsealing(handle, by_value))
+    tpm.refused("Once more: POLICY_FAIL/s1", tpm.unsealing(handle, by_value))
 
     script.chapter("Of the two the later one counts.")
     VALUE, PLAIN = "TPM2_PolicyAuthValue", "TPM2_PolicyPassword"
@@ -109,20 +106,20 @@ for algorithm, hash_name in ((SHA256, "SHA-256"), (SHA1, "SHA-1")):
         says(names[0], first(session))
         says(names[1], last(session))
         other = by_value if use is by_password else by_password
-        tpm.refused("What the first asks for", "BAD_AUTH/s1", tpm.unsealing(double, other))
+        tpm.refused("What the first asks for: BAD_AUTH/s1", tpm.unsealing(double, other))
         tpm.unseal("What the second asks for", double, SECRET, use)
         tpm.flush_objects("The object is flushed", double)
 
     script.chapter("Without continueSession the session ends.")
     says("TPM2_PolicyPassword", tpm.password_told(session))
     tpm.unseal("By the password", handle, SECRET, Use(session, 0, demand=PASSWORD))
-    tpm.says("It is no more", "REFERENCE_H0", tpm.get_digest(session))
+    tpm.says("It is no more: REFERENCE_H0", tpm.get_digest(session))
 
     script.chapter("A session that is bound to the object.")
     session = tpm.policy("The object is bind", bind=handle, algorithm=algorithm, aes=True)
     says("TPM2_PolicyAuthValue: it is in the key, bound or not", tpm.auth_value_told(session))
     tpm.refused(
-        "An hmac without the value in its key", "BAD_AUTH/s1", tpm.unsealing(handle, Use(session))
+        "An hmac without the value in its key: BAD_AUTH/s1", tpm.unsealing(handle, Use(session))
     )
     tpm.unseal("With it", handle, SECRET, Use(session, demand=AUTH_VALUE))
     script.chapter(
@@ -130,7 +127,7 @@ for algorithm, hash_name in ((SHA256, "SHA-256"), (SHA1, "SHA-1")):
     )
     says("TPM2_PolicyPassword", tpm.password_told(session))
     beside = tpm.random(2, session)
-    tpm.refused("The password there", "BAD_AUTH/s1", beside.but_entry(1, hmac=PIN))
+    tpm.refused("The password there: BAD_AUTH/s1", beside.but_entry(1, hmac=PIN))
     tpm.accepted("The hmac, and it keeps what it was told", beside)
     tpm.digest_is("TPM2_PolicyGetDigest", session, AFTER_AUTH_VALUE[algorithm])
     hidden = Use(session, CONTINUE_SESSION | ENCRYPT, demand=PASSWORD)
@@ -155,9 +152,7 @@ for algorithm, hash_name in ((SHA256, "SHA-256"), (SHA1, "SHA-1")):
     shown = Use(session, shows_empty_key=True, demand=AUTH_VALUE)
     tpm.unseal("With the hmac of an empty key, and it is answered by one", handle, SECRET, shown)
     says("TPM2_PolicyPassword", tpm.password_told(session))
-    tpm.refused(
-        "That, where the password is asked for", "BAD_AUTH/s1", tpm.unsealing(handle, shown)
-    )
+    tpm.refused("That, where the password is asked for: BAD_AUTH/s1", tpm.unsealing(handle, shown))
     by_password = tpm.unsealing(handle, Use(session, demand=PASSWORD))
     tpm.accepted("Three zeros, as the password", by_password.but_entry(1, hmac=bytes(3)))
     says("The session is flushed", tpm.flush(session))
@@ -170,10 +165,9 @@ AFTER_CODE = policy.after_command_code(SHA256, bytes(32), CC.Unseal)
 handle = sealed_by("An object for TPM2_Unseal alone", AFTER_CODE)
 session = tpm.policy("A session that is bound to nothing")
 says("TPM2_PolicyCommandCode", tpm.command_code(session, CC.Unseal))
-tpm.refused("By the value", "BAD_AUTH/s1", tpm.unsealing(handle, Use(session, demand=PASSWORD)))
+tpm.refused("By the value: BAD_AUTH/s1", tpm.unsealing(handle, Use(session, demand=PASSWORD)))
 tpm.refused(
-    "By an hmac with the value in its key",
-    "BAD_AUTH/s1",
+    "By an hmac with the value in its key: BAD_AUTH/s1",
     tpm.unsealing(handle, Use(session, demand=AUTH_VALUE)),
 )
 tpm.unseal("By an empty hmac, as the key is empty", handle, SECRET, session)
@@ -183,7 +177,7 @@ bound = tpm.policy(
     "A session that is bound to TPM_RH_ENDORSEMENT, with AES", bind=RH_ENDORSEMENT, aes=True
 )
 says("TPM2_PolicyCommandCode", tpm.command_code(bound, CC.Unseal))
-tpm.refused("An empty hmac", "BAD_AUTH/s1", tpm.unsealing(handle, bound).but_entry(1, hmac=b""))
+tpm.refused("An empty hmac: BAD_AUTH/s1", tpm.unsealing(handle, bound).but_entry(1, hmac=b""))
 tpm.unseal(
     "The hmac by the session's key; outData is encrypted, with the value in that key",
     handle,
@@ -237,69 +231,66 @@ def wrong(handle, session):
 
 trial = tpm.trial("A trial session")
 tell_all(trial, wrong_hash, CC.Load, 2)
-tpm.says("PCR 16 is reset", "SUCCESS", tpm.reset(b""))
+tpm.says("PCR 16 is reset: SUCCESS", tpm.reset(b""))
 tpm.refused(
-    "A trial session, for either object",
-    "ATTRIBUTES/s1",
-    wrong(handle, trial),
-    wrong(without, trial),
+    "A trial session, for either object: ATTRIBUTES/s1", wrong(handle, trial), wrong(without, trial)
 )
 says("It is flushed", tpm.flush(trial))
 session = tpm.policy("A policy session, with SHA-256")
 tell_all(session, wrong_hash, CC.Load, 2)
-tpm.says("PCR 16 is reset", "SUCCESS", tpm.reset(b""))
-tpm.refused("An object that has no policy", "AUTH_UNAVAILABLE", wrong(without, session))
-tpm.refused("The PCRs have changed", "PCR_CHANGED", wrong(handle, session))
+tpm.says("PCR 16 is reset: SUCCESS", tpm.reset(b""))
+tpm.refused("An object that has no policy: AUTH_UNAVAILABLE", wrong(without, session))
+tpm.refused("The PCRs have changed: PCR_CHANGED", wrong(handle, session))
 says("TPM2_PolicyRestart", tpm.restart(session))
 tell_all(session, wrong_hash, CC.Load, 2)
-tpm.refused("Another command code", "POLICY_CC/s1", wrong(handle, session))
+tpm.refused("Another command code: POLICY_CC/s1", wrong(handle, session))
 says("TPM2_PolicyRestart", tpm.restart(session))
 tell_all(session, wrong_hash, CC.Unseal, 2)
-tpm.refused("Another cpHash", "POLICY_FAIL/s1", wrong(handle, session))
+tpm.refused("Another cpHash: POLICY_FAIL/s1", wrong(handle, session))
 says("TPM2_PolicyRestart", tpm.restart(session))
 tell_all(session, cp_hash_of(handle), CC.Unseal, 2)
-tpm.refused("Another locality", "LOCALITY", wrong(handle, session))
+tpm.refused("Another locality: LOCALITY", wrong(handle, session))
 script.locality_is(1)
-tpm.refused("From that locality: another digest", "POLICY_FAIL/s1", wrong(handle, session))
+tpm.refused("From that locality: another digest: POLICY_FAIL/s1", wrong(handle, session))
 script.locality_is(0)
 says("TPM2_PolicyRestart", tpm.restart(session))
 tell_all(session, cp_hash_of(handle))
-tpm.refused("A wrong hmac", "BAD_AUTH/s1", wrong(handle, session))
+tpm.refused("A wrong hmac: BAD_AUTH/s1", wrong(handle, session))
 tpm.unseal("With nothing wrong", handle, SECRET, session)
 
 script.chapter("Each of them alone.")
 tell_all(session, cp_hash_of(handle))
-tpm.says("PCR 16 is reset", "SUCCESS", tpm.reset(b""))
-tpm.refused("The PCRs have changed", "PCR_CHANGED", tpm.unsealing(handle, session))
+tpm.says("PCR 16 is reset: SUCCESS", tpm.reset(b""))
+tpm.refused("The PCRs have changed: PCR_CHANGED", tpm.unsealing(handle, session))
 says("TPM2_PolicyRestart", tpm.restart(session))
 tell_all(session, wrong_hash)
-tpm.refused("The cpHash is of another command", "POLICY_FAIL/s1", tpm.unsealing(handle, session))
+tpm.refused("The cpHash is of another command: POLICY_FAIL/s1", tpm.unsealing(handle, session))
 says("TPM2_PolicyRestart", tpm.restart(session))
 tell_all(session, cp_hash_of(without))
-tpm.refused("Of another object", "POLICY_FAIL/s1", tpm.unsealing(handle, session))
+tpm.refused("Of another object: POLICY_FAIL/s1", tpm.unsealing(handle, session))
 says("TPM2_PolicyRestart", tpm.restart(session))
 tell_all(session, cp_hash_of(handle))
 for locality in (1, 2, 3, 4):
     script.locality_is(locality)
-    tpm.refused("From another locality", "LOCALITY", tpm.unsealing(handle, session))
+    tpm.refused("From another locality: LOCALITY", tpm.unsealing(handle, session))
 script.locality_is(0)
 tpm.unseal("From locality 0", handle, SECRET, session)
 says("The same assertions in another order: first the code", tpm.command_code(session, CC.Unseal))
 says("Then the PCRs", tpm.pcrs(session, PCR_16))
 says("TPM2_PolicySecret", tpm.secret(session, cp_hash=cp_hash_of(handle)))
 says("TPM2_PolicyLocality", tpm.locality(session, 1))
-tpm.refused("It is another digest", "POLICY_FAIL/s1", tpm.unsealing(handle, session))
+tpm.refused("It is another digest: POLICY_FAIL/s1", tpm.unsealing(handle, session))
 
 script.chapter("The hash of the session is not nameAlg.")
 sha1 = tpm.policy("A session with SHA-1", algorithm=SHA1)
 says("TPM2_PolicyPassword", tpm.password_told(sha1))
 thirty_two = sealed_by("An object with nameAlg SHA-256", AFTER_AUTH_VALUE[SHA256])
 twenty = sealed_by("One with SHA-1", AFTER_AUTH_VALUE[SHA1], SHA1)
-tpm.refused("The first", "POLICY_FAIL/s1", tpm.unsealing(thirty_two, Use(sha1, demand=PASSWORD)))
+tpm.refused("The first: POLICY_FAIL/s1", tpm.unsealing(thirty_two, Use(sha1, demand=PASSWORD)))
 tpm.unseal("The second", twenty, SECRET, Use(sha1, demand=PASSWORD))
 says("TPM2_PolicyRestart", tpm.restart(session))
 says("TPM2_PolicyPassword in the session with SHA-256", tpm.password_told(session))
-tpm.refused("The second", "POLICY_FAIL/s1", tpm.unsealing(twenty, Use(session, demand=PASSWORD)))
+tpm.refused("The second: POLICY_FAIL/s1", tpm.unsealing(twenty, Use(session, demand=PASSWORD)))
 tpm.unseal("The first", thirty_two, SECRET, Use(session, demand=PASSWORD))
 tpm.flush_objects("All are flushed", handle, without, thirty_two, twenty)
 says("A session, too", tpm.flush(sha1))
@@ -311,10 +302,10 @@ after = policy.after_auth_value(
 handle = sealed_by("An object with PCR 16 and TPM2_PolicyPassword in its policy", after)
 by_password = Use(session, demand=PASSWORD)
 says("TPM2_PolicyPCR", tpm.pcrs(session, PCR_16))
-tpm.says("PCR 16 is reset, to what it was", "SUCCESS", tpm.reset(b""))
+tpm.says("PCR 16 is reset, to what it was: SUCCESS", tpm.reset(b""))
 says("TPM2_PolicyPassword", tpm.password_told(session))
 tpm.digest_is("The digest is the right one", session, after)
-tpm.refused("TPM2_Unseal", "PCR_CHANGED", tpm.unsealing(handle, by_password))
+tpm.refused("TPM2_Unseal: PCR_CHANGED", tpm.unsealing(handle, by_password))
 says("TPM2_PolicyRestart", tpm.restart(session))
 says("TPM2_PolicyPCR", tpm.pcrs(session, PCR_16))
 says("TPM2_PolicyPassword", tpm.password_told(session))
@@ -343,11 +334,11 @@ for what, attributes, by_value in (
         if by_value:
             tpm.accepted(words, prepared)
         else:
-            tpm.refused(words, "AUTH_UNAVAILABLE", prepared)
+            tpm.refused(f"{words}: AUTH_UNAVAILABLE", prepared)
     says("TPM2_PolicyCommandCode of TPM2_HMAC", tpm.command_code(session, CC.HMAC))
-    tpm.refused("TPM2_Unseal by this policy", "POLICY_CC/s1", tpm.unsealing(handle, session))
+    tpm.refused("TPM2_Unseal by this policy: POLICY_CC/s1", tpm.unsealing(handle, session))
     tpm.accepted("TPM2_HMAC by this policy", tpm.hmac(handle, b"text", ALG_NULL, session))
-    tpm.refused("Once more", "POLICY_FAIL/s1", tpm.hmac(handle, b"text", ALG_NULL, session))
+    tpm.refused("Once more: POLICY_FAIL/s1", tpm.hmac(handle, b"text", ALG_NULL, session))
     for each in (plain, bound):
         says("An HMAC session is flushed", tpm.flush(each))
     tpm.flush_objects("The object is flushed", handle)
@@ -360,7 +351,7 @@ guarded = tpm.create_primary(
     storage_key(auth_policy=PARENT_POLICY, attributes=storage_key().attributes & ~USER),
     user_auth=b"parent",
 )
-tpm.says("TPM2_Create by the password", "AUTH_UNAVAILABLE", tpm.child(guarded, sealed(), data=b"x"))
+tpm.says("TPM2_Create by the password: AUTH_UNAVAILABLE", tpm.child(guarded, sealed(), data=b"x"))
 by_value = Use(session, demand=AUTH_VALUE)
 says("TPM2_PolicyAuthValue", tpm.auth_value_told(session))
 made = tpm.create("TPM2_Create by the policy", guarded, sealed(), by_value, data=SECRET)
@@ -379,28 +370,27 @@ for what, attributes, outcome in (
     ("Without noDA", 0, "AUTH_FAIL/s1"),
 ):
     handle = sealed_by(what, AFTER_AUTH_VALUE[SHA256], attributes=HERE | USER | attributes)
-    tpm.says("A wrong password", outcome, tpm.unsealing(handle, b"nip"))
+    tpm.says(f"A wrong password: {outcome}", tpm.unsealing(handle, b"nip"))
     plain = tpm.start("An HMAC session")
-    tpm.refused("A wrong hmac", outcome, tpm.unsealing(handle, plain).but_entry(1, hmac=bytes(32)))
+    tpm.refused(
+        f"A wrong hmac: {outcome}", tpm.unsealing(handle, plain).but_entry(1, hmac=bytes(32))
+    )
     says("TPM2_PolicyPassword", tpm.password_told(session))
     tpm.refused(
-        "A wrong password, by the policy",
-        outcome,
+        f"A wrong password, by the policy: {outcome}",
         tpm.unsealing(handle, Use(session, demand=PASSWORD)).but_entry(1, hmac=b"nip"),
     )
     says("TPM2_PolicyRestart", tpm.restart(session))
     says("TPM2_PolicyAuthValue", tpm.auth_value_told(session))
     tpm.refused(
-        "A wrong hmac, by the policy",
-        outcome,
+        f"A wrong hmac, by the policy: {outcome}",
         tpm.unsealing(handle, Use(session, demand=AUTH_VALUE)).but_entry(1, hmac=bytes(32)),
     )
     tpm.unseal("The right one", handle, SECRET, Use(session, demand=AUTH_VALUE))
     says("TPM2_PolicyPassword", tpm.password_told(session))
     says("TPM2_PolicyCommandCode", tpm.command_code(session, CC.Unseal))
     tpm.refused(
-        "What is refused before it is compared is no try",
-        "POLICY_FAIL/s1",
+        "What is refused before it is compared is no try: POLICY_FAIL/s1",
         tpm.unsealing(handle, Use(session, demand=PASSWORD)).but_entry(1, hmac=b"nip"),
     )
     says("TPM2_PolicyRestart", tpm.restart(session))
@@ -420,7 +410,7 @@ for what, attributes, outcome in (
         ("The second: nothing of it has the value in it", unbound, "BAD_AUTH/s1"),
     ):
         says("TPM2_PolicyCommandCode", tpm.command_code(each, CC.Unseal))
-        tpm.refused(words, code, tpm.unsealing(handle, each).but_entry(1, hmac=bytes(32)))
+        tpm.refused(f"{words}: {code}", tpm.unsealing(handle, each).but_entry(1, hmac=bytes(32)))
         tpm.unseal("The right one", handle, SECRET, each)
     for each in (bound, unbound):
         says("A session is flushed", tpm.flush(each))
@@ -448,11 +438,11 @@ tpm.accepted(
     "It ends with the command that asserts in it",
     tpm.secret(session, Use(session, 0, demand=PASSWORD), of=handle),
 )
-tpm.says("It is no more", "REFERENCE_H0", tpm.get_digest(session))
+tpm.says("It is no more: REFERENCE_H0", tpm.get_digest(session))
 target = sealed_by("An object with that secret as its policy", wanted)
 tpm.unseal("TPM2_Unseal of it by the other session", target, SECRET, other)
 start_again(other)
-tpm.refused("Once more", "POLICY_FAIL/s1", tpm.unsealing(target, other))
+tpm.refused("Once more: POLICY_FAIL/s1", tpm.unsealing(target, other))
 trial = tpm.trial("A trial session")
 says("TPM2_PolicyAuthValue in the other", tpm.auth_value_told(other))
 tpm.accepted(
@@ -460,5 +450,5 @@ tpm.accepted(
     tpm.secret(trial, Use(other, demand=AUTH_VALUE), of=handle),
 )
 tpm.digest_is("It is the same digest", trial, wanted)
-tpm.refused("By the trial session itself", "ATTRIBUTES/s1", tpm.secret(trial, trial, of=handle))
+tpm.refused("By the trial session itself: ATTRIBUTES/s1", tpm.secret(trial, trial, of=handle))
 script.write()

@@ -1,4 +1,4 @@
-"""Writes tests/objects/object_sessions.tpm: HMAC sessions that authorize objects, or are bound to them."""
+"""Writes object_sessions.tpm: HMAC sessions that authorize objects, or are bound to them."""
 
 from tpmsim.caller import HERE, Use, hmac_key, sealed, storage_key
 from tpmsim.standard import ALG_NULL, CC, RH_ENDORSEMENT, RH_OWNER, SHA1, SHA256, command, number
@@ -39,39 +39,31 @@ for algorithm, hash_name in ((SHA256, "SHA-256"), (SHA1, "SHA-1")):
     ):
         right = tpm.unsealing(handle, session)
         tpm.refused(
-            f"{what}: without an hmac, and with a wrong one",
-            "BAD_AUTH/s1",
+            f"{what}: without an hmac, and with a wrong one: BAD_AUTH/s1",
             right.but_entry(1, hmac=b""),
             right.but_entry(1, hmac=bytes(32)),
         )
         tpm.accepted("TPM2_Unseal", right)
-        tpm.refused("The same buffer again", "BAD_AUTH/s1", right)
+        tpm.refused("The same buffer again: BAD_AUTH/s1", right)
         tpm.unseal("A new one", handle, SECRET, session)
     with tpm.breaking(key=lambda use, handle: use.session.key + PIN):
         tpm.refused(
-            "By the bound one, with the value in the key",
-            "BAD_AUTH/s1",
-            tpm.unsealing(handle, bound),
+            "By the bound one, with the value in the key: BAD_AUTH/s1", tpm.unsealing(handle, bound)
         )
     tpm.unseal("The bound one authorizes the other object, too", twin, SECRET, bound)
     with tpm.breaking(key=lambda use, handle: use.session.key):
-        tpm.refused(
-            "But with that one's value in the key", "BAD_AUTH/s1", tpm.unsealing(twin, bound)
-        )
+        tpm.refused("But with that one's value in the key: BAD_AUTH/s1", tpm.unsealing(twin, bound))
     tpm.accepted("And a PCR", tpm.reset(bound))
 
     script.chapter("The hash of a command has the object's Name in it, and not its handle.")
     tpm.refused(
-        "An hmac for the one, with the handle of the other",
-        "BAD_AUTH/s1",
+        "An hmac for the one, with the handle of the other: BAD_AUTH/s1",
         tpm.unsealing(handle, unbound).but(handles=[twin]),
     )
     names = dict(tpm.names)
     tpm.names.clear()
     tpm.refused(
-        "An hmac with the handle in place of the Name",
-        "BAD_AUTH/s1",
-        tpm.unsealing(handle, unbound),
+        "An hmac with the handle in place of the Name: BAD_AUTH/s1", tpm.unsealing(handle, unbound)
     )
     tpm.names.update(names)
     again = tpm.load("The object once more, with another handle", parent, made)
@@ -88,7 +80,7 @@ for algorithm, hash_name in ((SHA256, "SHA-256"), (SHA1, "SHA-1")):
     tpm.flush_objects("Both are flushed", handle, again)
     tpm.accepted("The session that is bound to it lives on", tpm.reset(bound))
     tpm.refused(
-        "But there is no object", "REFERENCE_H0", tpm.prepare(CC.Unseal, [handle], b"", bound)
+        "But there is no object: REFERENCE_H0", tpm.prepare(CC.Unseal, [handle], b"", bound)
     )
     stranger = tpm.create_primary(
         "Another object takes the place of one", RH_OWNER, sealed(), user_auth=PIN, data=b"x"
@@ -100,7 +92,7 @@ for algorithm, hash_name in ((SHA256, "SHA-256"), (SHA1, "SHA-1")):
     tpm.unseal("To this it is bound: its key is the session's alone", handle, SECRET, bound)
     tpm.flush_objects("The other is flushed", stranger)
     for each in (unbound, bound, owner):
-        tpm.says("A session is flushed", "SUCCESS", tpm.flush(each))
+        tpm.says("A session is flushed: SUCCESS", tpm.flush(each))
 
 script.chapter("TPM2_StartAuthSession: bind is an object.")
 
@@ -110,11 +102,10 @@ def starting(bind):
 
 
 tpm.says(
-    "One that is not there",
-    "REFERENCE_H1",
+    "One that is not there: REFERENCE_H1",
     *map(starting, (0x8000_0006, 0x8000_0007, 0x8000_0008, 0x80FF_FFFF)),
 )
-tpm.says("A persistent one", "HANDLE/h2", starting(0x8100_0000))
+tpm.says("A persistent one: HANDLE/h2", starting(0x8100_0000))
 for what, public, data in (
     ("A storage key", storage_key(), b""),
     ("An HMAC key with nameAlg SHA-1", hmac_key(SHA1), b"key"),
@@ -164,29 +155,24 @@ for what, target, cases in (
         else:
             prepared = tpm.unsealing(target, session)
         tpm.refused(
-            f"The authorization {what}, by the session that is {name}",
-            f"{outcome}/s1",
+            f"The authorization {what}, by the session that is {name}: {outcome}/s1",
             wrong(prepared),
         )
         tpm.accepted("The right one", prepared)
 tpm.refused(
-    "An entry that authorizes nothing, of the session that is bound to the object",
-    "AUTH_FAIL/s1",
+    "An entry that authorizes nothing, of the session that is bound to the object: AUTH_FAIL/s1",
     wrong(tpm.random(1, to_guarded)),
 )
 tpm.refused(
-    "Of the session that is bound to the one with noDA",
-    "BAD_AUTH/s1",
-    wrong(tpm.random(1, to_open)),
+    "Of the session that is bound to the one with noDA: BAD_AUTH/s1", wrong(tpm.random(1, to_open))
 )
 tpm.flush_objects("The object is flushed", guarded)
 tpm.refused(
-    "It is still a try of the session that was bound to it",
-    "AUTH_FAIL/s1",
+    "It is still a try of the session that was bound to it: AUTH_FAIL/s1",
     wrong(tpm.random(1, to_guarded)),
 )
 for each in (plain, to_guarded, to_open):
-    tpm.says("A session is flushed", "SUCCESS", tpm.flush(each))
+    tpm.says("A session is flushed: SUCCESS", tpm.flush(each))
 
 script.chapter("TPM2_PolicySecret with an object as authHandle.")
 for algorithm, hash_name in ((SHA256, "SHA-256"), (SHA1, "SHA-1")):
@@ -205,8 +191,8 @@ for algorithm, hash_name in ((SHA256, "SHA-256"), (SHA1, "SHA-1")):
         ("A policy session that is not there", "REFERENCE_H1", number(0x0300_000F, 4)),
         ("No sessions (tag 8001)", "AUTH_MISSING", handles[1]),
     ):
-        script.command(what, outcome, command(CC.PolicySecret, handles[0] + handle_text))
-    tpm.says("By a wrong value", "BAD_AUTH/s1", tpm.secret(session, b"nip", of=key))
+        script.command(f"{what}: {outcome}", command(CC.PolicySecret, handles[0] + handle_text))
+    tpm.says("By a wrong value: BAD_AUTH/s1", tpm.secret(session, b"nip", of=key))
     tpm.accepted("By its value", tpm.secret(session, PIN, of=key, policy_ref=b"ref"))
     told = policy.after_secret(SHA256, zeros(session), tpm.names[key], b"ref")
     tpm.digest_is("The Name of the object is in the digest", session, told)
@@ -224,13 +210,12 @@ for algorithm, hash_name in ((SHA256, "SHA-256"), (SHA1, "SHA-1")):
     tpm.flush_objects("The key is flushed", key)
     tpm.unseal("TPM2_Unseal: what was shown counts", target, SECRET, session)
     tpm.says(
-        "The key is no more",
-        "REFERENCE_H0",
+        "The key is no more: REFERENCE_H0",
         tpm.prepare(CC.PolicySecret, [key, session.handle], policy_secret(), b""),
     )
     tpm.flush_objects("The object is flushed", target)
     for each in (session, bound):
-        tpm.says("A session is flushed", "SUCCESS", tpm.flush(each))
+        tpm.says("A session is flushed: SUCCESS", tpm.flush(each))
 
 script.chapter("Three sessions at once.")
 first, second, third = (tpm.start("One with AES", bind=it, aes=True) for it in (handle, twin, 10))

@@ -1,4 +1,4 @@
-"""Writes tests/objects/object_vectors.tpm: objects whose every byte is computed here, step by step.
+"""Writes object_vectors.tpm: objects whose every byte is computed here, step by step.
 
     tools/python.sh tests/objects/object_vectors.py    also prints each step, for tests that want numbers
 
@@ -71,8 +71,7 @@ digest = step("primary ticket digest", hmac_sha256(OWNER_PROOF, proof_text))
 ticket = b"\x80\x21" + OWNER + sized(digest)
 
 answer = script.command(
-    'TPM2_CreatePrimary of a storage key, whose value is "owner key"',
-    "SUCCESS",
+    'TPM2_CreatePrimary of a storage key, whose value is "owner key": SUCCESS',
     on_handle(
         CC.CreatePrimary,
         RH_OWNER,
@@ -82,9 +81,7 @@ answer = script.command(
 assert answer[10:14] == number(0x8000_0000, 4)
 parameters = sized(public) + sized(creation_data) + sized(creation_hash) + ticket + sized(name)
 assert answer[18:-5] == parameters
-answer = script.command(
-    "TPM2_ReadPublic", "SUCCESS", command(CC.ReadPublic, number(0x8000_0000, 4))
-)
+answer = script.command("TPM2_ReadPublic: SUCCESS", command(CC.ReadPublic, number(0x8000_0000, 4)))
 assert answer[10:] == sized(public) + sized(name) + sized(qualified_name)
 
 # Sealed data under it, created with the random bytes 40, 41, 42, .., of which the seed and then the
@@ -125,8 +122,7 @@ def by_password(code, handle, parameters, password):
 script.chapter("The random bytes are 40, 41, 42 and so on.")
 script.entropy(random)
 answer = script.command(
-    'TPM2_Create of sealed data, whose value is "pin"',
-    "SUCCESS",
+    'TPM2_Create of sealed data, whose value is "pin": SUCCESS',
     by_password(
         CC.Create,
         0x8000_0000,
@@ -137,15 +133,12 @@ answer = script.command(
 parameters = sized(private) + sized(public) + sized(creation_data) + sized(creation_hash) + ticket
 assert answer[14:-5] == parameters
 answer = script.command(
-    "TPM2_Load",
-    "SUCCESS",
+    "TPM2_Load: SUCCESS",
     by_password(CC.Load, 0x8000_0000, sized(private) + sized(public), b"owner key"),
 )
 assert answer[10:14] == number(0x8000_0001, 4) and answer[18:-5] == sized(name)
-answer = script.command(
-    "TPM2_ReadPublic", "SUCCESS", command(CC.ReadPublic, number(0x8000_0001, 4))
-)
+answer = script.command("TPM2_ReadPublic: SUCCESS", command(CC.ReadPublic, number(0x8000_0001, 4)))
 assert answer[10:] == sized(public) + sized(name) + sized(qualified_name)
-answer = script.command("TPM2_Unseal", "SUCCESS", by_password(CC.Unseal, 0x8000_0001, b"", b"pin"))
+answer = script.command("TPM2_Unseal: SUCCESS", by_password(CC.Unseal, 0x8000_0001, b"", b"pin"))
 assert answer[14:-5] == sized(data)
 script.write()

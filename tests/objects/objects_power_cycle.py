@@ -1,4 +1,4 @@
-"""Writes tests/objects/objects_power_cycle.tpm: what a power cycle leaves of objects."""
+"""Writes objects_power_cycle.tpm: what a power cycle leaves of objects."""
 
 from tpmsim.caller import hmac_key, sealed, storage_key
 from tpmsim.standard import CC, RH_ENDORSEMENT, RH_NULL, RH_OWNER, RH_PLATFORM, SHA1, frames
@@ -59,18 +59,17 @@ handles = [
     for hierarchy, name in NAMES
 ]
 script.power()
-tpm.says("Before TPM2_Startup", "INITIALIZE", tpm.public(handles[0]))
+tpm.says("Before TPM2_Startup: INITIALIZE", tpm.public(handles[0]))
 script.chapter("A refused TPM2_Startup draws nothing, and starts nothing.")
 script.entropy(bytes(range(128, 192)))
 script.command(
-    "TPM2_Startup(STATE), while no state is saved",
-    "VALUE/p1",
+    "TPM2_Startup(STATE), while no state is saved: VALUE/p1",
     frames.command(CC.Startup, number(1, 2)),
 )
 start("The second start, with other random bytes.", bytes(range(64, 128)))
 tpm.forget(*handles)
-tpm.says("The objects are gone", "REFERENCE_H0", *map(tpm.public, handles))
-tpm.says("They cannot be flushed", "HANDLE/p1", *map(tpm.flush, handles))
+tpm.says("The objects are gone: REFERENCE_H0", *map(tpm.public, handles))
+tpm.says("They cannot be flushed: HANDLE/p1", *map(tpm.flush, handles))
 
 again, _ = primaries()
 for hierarchy, _ in NAMES:
@@ -84,7 +83,7 @@ for hierarchy, name in NAMES:
     handle = tpm.create_primary(f"The storage key in {name}", hierarchy, storage_key())
     loading = tpm.loading(handle, children[hierarchy])
     if hierarchy == RH_NULL:
-        tpm.says("TPM2_Load: it is another one", "INTEGRITY/p1", loading)
+        tpm.says("TPM2_Load: it is another one: INTEGRITY/p1", loading)
     else:
         child = tpm.load("TPM2_Load", handle, children[hierarchy])
         tpm.unseal("TPM2_Unseal", child, b"secret")

@@ -1,4 +1,4 @@
-"""Writes tests/objects/order_of_object_refusals.tpm: many faults at once, repaired one by one."""
+"""Writes order_of_object_refusals.tpm: many faults at once, repaired one by one."""
 
 from tpmsim.caller import HERE, OPEN, Use, hmac_key, sealed, storage_key
 from tpmsim.standard import ALG_NULL, CC, DECRYPT, Entry, RH_LOCKOUT, RH_OWNER, SHA1, SHA256, area
@@ -32,43 +32,37 @@ def general_refusals(code, handle, other_handle, cut, uses):
         return command(code, handle_text + rest, tag)
 
     script.command(
-        "Half a handle, and no sessions (tag 8001)",
-        "INSUFFICIENT/h1",
+        "Half a handle, and no sessions (tag 8001): INSUFFICIENT/h1",
         raw(b"\x80\0", tag=frames.NO_SESSIONS),
     )
     script.command(
-        "A handle of another kind, and no sessions",
-        "VALUE/h1",
+        "A handle of another kind, and no sessions: VALUE/h1",
         raw(number(other_handle, 4), tag=frames.NO_SESSIONS),
     )
     if code != CC.CreatePrimary:
         script.command(
-            "An object that is not there, and no sessions",
-            "REFERENCE_H0",
+            "An object that is not there, and no sessions: REFERENCE_H0",
             raw(number(ABSENT, 4), tag=frames.NO_SESSIONS),
         )
     if code != CC.ReadPublic:
         script.command(
-            "No sessions", "AUTH_MISSING", raw(number(handle, 4), cut, tag=frames.NO_SESSIONS)
+            "No sessions: AUTH_MISSING", raw(number(handle, 4), cut, tag=frames.NO_SESSIONS)
         )
-    script.command(
-        "An area of eight bytes", "AUTHSIZE", raw(number(handle, 4), area(bytes(8)) + cut)
-    )
+    script.command("An area of eight bytes: AUTHSIZE", raw(number(handle, 4), area(bytes(8)) + cut))
     prepared = tpm.prepare(code, [handle], cut, *uses)
     last = len(uses)
     tpm.refused(
-        "A wrong first entry, and the last one is not there",
-        f"REFERENCE_S{last - 1}",
+        f"A wrong first entry, and the last one is not there: REFERENCE_S{last - 1}",
         wrong(prepared, 1).but(entries=[*wrong(prepared, 1).entries[:-1], ABSENT_SESSION]),
     )
     if last > 1:
-        tpm.refused("Both entries are wrong", "BAD_AUTH/s1", wrong(prepared, 1, 2))
-    tpm.refused("The last one is", f"BAD_AUTH/s{last}", wrong(prepared, last))
+        tpm.refused("Both entries are wrong: BAD_AUTH/s1", wrong(prepared, 1, 2))
+    tpm.refused(f"The last one is: BAD_AUTH/s{last}", wrong(prepared, last))
 
 
 def parameters_in_order(code, handle, uses, cases):
     for what, outcome, parameters in cases:
-        tpm.refused(what, outcome, tpm.prepare(code, [handle], parameters, *uses))
+        tpm.refused(f"{what}: {outcome}", tpm.prepare(code, [handle], parameters, *uses))
 
 
 script.startup()
@@ -130,8 +124,7 @@ for code, name, on, uses in (
     )
     if code == CC.Create:
         tpm.refused(
-            "Under what is no parent",
-            "TYPE/h1",
+            "Under what is no parent: TYPE/h1",
             tpm.prepare(
                 code, [handle], LONG_SENSITIVE + wrong_public + none + rest, b"s", DECRYPTS
             ),
@@ -163,7 +156,7 @@ for code, name, on, uses in (
     )
     good = tpm.prepare(code, [on], with_public(sealed(SHA1), GOOD_SENSITIVE), *uses)
     tpm.accepted("With nothing wrong", good)
-tpm.says("The object of the first is flushed", "SUCCESS", tpm.flush(0x8000_0004))
+tpm.says("The object of the first is flushed: SUCCESS", tpm.flush(0x8000_0004))
 
 script.chapter("TPM2_Load, with inPrivate encrypted.")
 uses = [b"parent", DECRYPTS]
@@ -181,8 +174,7 @@ parameters_in_order(
     ),
 )
 tpm.refused(
-    "Under what is no parent",
-    "TYPE/h1",
+    "Under what is no parent: TYPE/h1",
     tpm.prepare(CC.Load, [handle], sized(b"") + sized(WRONG.text), b"s", DECRYPTS),
 )
 parameters_in_order(
@@ -219,16 +211,16 @@ tpm.flush_objects("It is flushed", again)
 
 script.chapter("TPM2_ReadPublic, with a session that authorizes nothing.")
 general_refusals(CC.ReadPublic, key, RH_OWNER, b"\0", [Use(session)])
-tpm.refused("A byte behind the handle", "SIZE", tpm.prepare(CC.ReadPublic, [key], b"\0", session))
+tpm.refused("A byte behind the handle: SIZE", tpm.prepare(CC.ReadPublic, [key], b"\0", session))
 tpm.read_public("With nothing wrong", key, session)
 
 script.chapter("TPM2_Unseal.")
 general_refusals(CC.Unseal, key, RH_OWNER, b"\0", [b"k", Use(session)])
 tpm.refused(
-    "A byte behind the area, of a key", "SIZE", tpm.prepare(CC.Unseal, [key], b"\0", b"k", session)
+    "A byte behind the area, of a key: SIZE", tpm.prepare(CC.Unseal, [key], b"\0", b"k", session)
 )
-tpm.refused("A storage key", "TYPE/h1", tpm.prepare(CC.Unseal, [parent], b"", b"parent", session))
-tpm.refused("An HMAC key", "ATTRIBUTES/h1", tpm.prepare(CC.Unseal, [key], b"", b"k", session))
+tpm.refused("A storage key: TYPE/h1", tpm.prepare(CC.Unseal, [parent], b"", b"parent", session))
+tpm.refused("An HMAC key: ATTRIBUTES/h1", tpm.prepare(CC.Unseal, [key], b"", b"k", session))
 tpm.unseal("With nothing wrong", handle, SECRET, b"s", session)
 
 script.chapter("TPM2_HMAC, with the buffer encrypted.")
@@ -253,6 +245,6 @@ for what, outcome, on, value in (
     ("Sealed data", "KEY/h1", handle, b"s"),
     ("Another hash algorithm than the scheme's", "VALUE/p2", key, b"k"),
 ):
-    tpm.refused(what, outcome, tpm.prepare(CC.HMAC, [on], by_sha1, value, DECRYPTS))
+    tpm.refused(f"{what}: {outcome}", tpm.prepare(CC.HMAC, [on], by_sha1, value, DECRYPTS))
 tpm.accepted("With nothing wrong", tpm.hmac(key, b"text", SHA256, *uses))
 script.write()

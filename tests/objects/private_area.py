@@ -1,4 +1,4 @@
-"""Writes tests/objects/private_area.tpm: private areas that were changed, or that were made outside."""
+"""Writes private_area.tpm: private areas that were changed, or that were made outside."""
 
 from tpmsim.caller import HERE, Made, OPEN, STORES, flipped, hmac_key, sealed, storage_key
 from tpmsim.model import object_rules
@@ -19,7 +19,7 @@ tpm = ScriptCaller(script)
 
 def refused(what, parent, public, *privates):
     made = (Made(it, public, b"") for it in privates)
-    tpm.says(what, "INTEGRITY/p1", *(tpm.loading(parent, it) for it in made))
+    tpm.says(f"{what}: INTEGRITY/p1", *(tpm.loading(parent, it) for it in made))
 
 
 script.startup()
@@ -190,8 +190,8 @@ for algorithm, hash_name in ((SHA1, "SHA-1"), (SHA256, "SHA-256")):
         tpm.unseal("TPM2_Unseal", handle, b"forged")
         session = tpm.start("A session that is bound to it", bind=handle)
         tpm.unseal("TPM2_Unseal by that", handle, b"forged", session)
-        tpm.says("By another value", "BAD_AUTH/s1", tpm.unsealing(handle, b"b"))
-        tpm.says("The session is flushed", "SUCCESS", tpm.flush(session))
+        tpm.says("By another value: BAD_AUTH/s1", tpm.unsealing(handle, b"b"))
+        tpm.says("The session is flushed: SUCCESS", tpm.flush(session))
         tpm.flush_objects("The object is flushed", handle)
     first, second = (
         Made(forge(parent, public, sensitive(auth=it)), public, it) for it in (b"a", b"b")
@@ -204,9 +204,9 @@ for algorithm, hash_name in ((SHA1, "SHA-1"), (SHA256, "SHA-256")):
         "To this the session is not bound: its value is in the key", twin, b"forged", session
     )
     with tpm.breaking(key=lambda use, handle: use.session.key):
-        tpm.refused("Without it", "BAD_AUTH/s1", tpm.unsealing(twin, session))
+        tpm.refused("Without it: BAD_AUTH/s1", tpm.unsealing(twin, session))
     tpm.unseal("To the first it is", handle, b"forged", session)
-    tpm.says("The session is flushed", "SUCCESS", tpm.flush(session))
+    tpm.says("The session is flushed: SUCCESS", tpm.flush(session))
     tpm.flush_objects("The objects are flushed", handle, twin)
     short = sealed(SHA1, unique=b"")
     private = forge(parent, short, sensitive(auth=b"a" * 32))

@@ -1,4 +1,4 @@
-"""Writes tests/objects/read_public.tpm: TPM2_ReadPublic, and the Names that it answers."""
+"""Writes read_public.tpm: TPM2_ReadPublic, and the Names that it answers."""
 
 from tpmsim.caller import Use, hmac_key, sealed, storage_key
 from tpmsim.standard import CC, ENCRYPT, RH_NULL, RH_OWNER, SHA1, SHA256, command, digest, number
@@ -18,22 +18,20 @@ def read(handle):
     return command(CC.ReadPublic, number(handle, 4))
 
 
-script.command("Before TPM2_Startup", "INITIALIZE", read(0x8000_0000))
+script.command("Before TPM2_Startup: INITIALIZE", read(0x8000_0000))
 script.startup()
 script.command(
-    "No object's handle: TPM_RH_OWNER, TPM_RH_NULL, PCR 0, an NV index, sessions",
-    "VALUE/h1",
+    "No object's handle: TPM_RH_OWNER, TPM_RH_NULL, PCR 0, an NV index, sessions: VALUE/h1",
     *map(read, (RH_OWNER, RH_NULL, 0, 0x0100_0000, 0x0200_0000, 0x0300_0000, 0xFFFF_FFFF)),
 )
 script.command(
-    "A transient object, while there is none",
-    "REFERENCE_H0",
+    "A transient object, while there is none: REFERENCE_H0",
     *map(read, (0x8000_0000, 0x8000_0007, 0x8000_0008, 0x80FF_FFFF)),
 )
 script.command(
-    "A persistent object, while there is none", "HANDLE/h1", *map(read, (0x8100_0000, 0x81FF_FFFF))
+    "A persistent object, while there is none: HANDLE/h1", *map(read, (0x8100_0000, 0x81FF_FFFF))
 )
-script.command("Three bytes of a handle", "INSUFFICIENT/h1", command(CC.ReadPublic, b"\x80\0\0"))
+script.command("Three bytes of a handle: INSUFFICIENT/h1", command(CC.ReadPublic, b"\x80\0\0"))
 
 script.chapter("Qualified names: of a primary object, of its child, and of that one's child.")
 qualified_names = {}
@@ -62,25 +60,23 @@ key = tpm.create_primary(
     'An HMAC key, whose value is "a"', RH_OWNER, hmac_key(), user_auth=b"a", data=b"key"
 )
 whole = tpm.public(key)
-tpm.says("A byte behind the handle", "SIZE", whole.but(parameters=b"\0"))
-tpm.says("A password, as it needs none", "HANDLE/s1", tpm.public(key, b"a"))
+tpm.says("A byte behind the handle: SIZE", whole.but(parameters=b"\0"))
+tpm.says("A password, as it needs none: HANDLE/s1", tpm.public(key, b"a"))
 session, other = tpm.start("A session", aes=True), tpm.start("And another")
 tpm.read_public("TPM2_ReadPublic with both", key, session, other)
 tpm.read_public("With outPublic encrypted", key, Use(session, 0x01 | ENCRYPT))
 tpm.refused(
-    "There is no parameter to decrypt",
-    "ATTRIBUTES/s1",
+    "There is no parameter to decrypt: ATTRIBUTES/s1",
     tpm.public(key, session).but_entry(1, attributes=0x21),
 )
 stranger = tpm.create_primary("Another object", RH_OWNER, sealed(), data=b"secret")
 bound = tpm.start("A session that is bound to the HMAC key", bind=key)
 right = tpm.public(key, bound)
 tpm.refused(
-    "With its hmac, which has the Name of the HMAC key in it, for the other object",
-    "BAD_AUTH/s1",
+    "With its hmac, which has the Name of the HMAC key in it, for the other object: BAD_AUTH/s1",
     right.but(handles=[stranger]),
 )
 tpm.read_public("For the right one", key, bound)
 tpm.flush_objects("Both are flushed", key, stranger)
-script.command("They are no more", "REFERENCE_H0", read(key), read(stranger))
+script.command("They are no more: REFERENCE_H0", read(key), read(stranger))
 script.write()

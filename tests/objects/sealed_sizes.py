@@ -1,4 +1,4 @@
-"""Writes tests/objects/sealed_sizes.tpm: what is sealed, loaded and unsealed in encrypted parameters."""
+"""Writes sealed_sizes.tpm: what is sealed, loaded and unsealed in encrypted parameters."""
 
 from tpmsim.caller import Use, hmac_key, sealed, storage_key
 from tpmsim.standard import ALG_NULL, CC, CONTINUE_SESSION, DECRYPT, ENCRYPT, RH_OWNER, SHA1
@@ -36,8 +36,7 @@ for algorithm, hash_name in ((SHA256, "SHA-256"), (SHA1, "SHA-1")):
     prepared = tpm.unsealing(handle, Use(session, OUT))
     response = script.command(
         "TPM2_Unseal authorized by it, with encrypt: the answer is 0080, and 128 bytes that are "
-        "not those that were sealed",
-        "SUCCESS",
+        "not those that were sealed: SUCCESS",
         prepared.buffer(),
         fresh=True,
     )
@@ -65,19 +64,18 @@ for algorithm, hash_name in ((SHA256, "SHA-256"), (SHA1, "SHA-1")):
         tpm.flush_objects("It is flushed", again)
 
     script.chapter("129 bytes.")
-    tpm.says("In plain", "SIZE/p1", tpm.child(parent, sealed(), data=bytes(129)))
+    tpm.says("In plain: SIZE/p1", tpm.child(parent, sealed(), data=bytes(129)))
     long = tpm.child(parent, sealed(), Use(session, IN), data=bytes(129))
-    tpm.refused("Encrypted", "SIZE/p1", long)
+    tpm.refused("Encrypted: SIZE/p1", long)
     with tpm.breaking(encrypted=lambda use, handle, parameters: parameters):
         tpm.refused(
-            "128 bytes that are said to be encrypted, and are not: they are read as something else",
-            "SIZE/p1",
+            "128 bytes that are said to be encrypted, and are not: they are read as something "
+            "else: SIZE/p1",
             tpm.child(parent, sealed(), Use(session, IN), data=data),
         )
     whole = tpm.child(parent, sealed(), data=data).parameters
     tpm.refused(
-        "inSensitive is cut, and encrypted",
-        "INSUFFICIENT/p1",
+        "inSensitive is cut, and encrypted: INSUFFICIENT/p1",
         *(tpm.prepare(CC.Create, [parent], whole[:it], Use(session, IN)) for it in (0, 1, 2, 133)),
     )
 
@@ -139,26 +137,23 @@ for algorithm, hash_name in ((SHA256, "SHA-256"), (SHA1, "SHA-1")):
     tpm.read_public("TPM2_ReadPublic with outPublic encrypted", key, Use(session, OUT))
     tpm.flush_objects("All but the parent are flushed", key, handle)
     for each in (session, bound, unrelated):
-        tpm.says("A session is flushed", "SUCCESS", tpm.flush(each))
+        tpm.says("A session is flushed: SUCCESS", tpm.flush(each))
 
 script.chapter("What cannot be encrypted.")
 plain = tpm.start("A session without AES")
 aes = tpm.start("One with AES", aes=True)
 handle = tpm.create_primary("Sealed data", RH_OWNER, sealed(), data=b"secret")
 tpm.refused(
-    "TPM2_Unseal, encrypted by the one without",
-    "SYMMETRIC/s1",
+    "TPM2_Unseal, encrypted by the one without: SYMMETRIC/s1",
     tpm.unsealing(handle, plain).but_entry(1, attributes=OUT),
 )
 tpm.refused(
-    "TPM2_Unseal has no parameter to decrypt",
-    "ATTRIBUTES/s1",
+    "TPM2_Unseal has no parameter to decrypt: ATTRIBUTES/s1",
     tpm.unsealing(handle, aes).but_entry(1, attributes=IN),
 )
 tpm.refused(
-    "Encrypted twice",
-    "ATTRIBUTES/s2",
+    "Encrypted twice: ATTRIBUTES/s2",
     tpm.unsealing(handle, Use(aes, OUT), plain).but_entry(2, attributes=OUT),
 )
-tpm.refused("By a password", "ATTRIBUTES/s1", tpm.unsealing(handle).but_entry(1, attributes=OUT))
+tpm.refused("By a password: ATTRIBUTES/s1", tpm.unsealing(handle).but_entry(1, attributes=OUT))
 script.write()

@@ -1,4 +1,4 @@
-"""Writes tests/objects/sha1_parent.tpm: parents with nameAlg SHA-1, and what parents hand on."""
+"""Writes sha1_parent.tpm: parents with nameAlg SHA-1, and what parents hand on."""
 
 from tpmsim.caller import OPEN, STORES, hmac_key, sealed, storage_key
 from tpmsim.standard import CC, Fields, RH_ENDORSEMENT, RH_NULL, RH_OWNER, RH_PLATFORM, SHA1
@@ -85,8 +85,7 @@ tpm.unseal("TPM2_Unseal", handle, b"deep")
 _, answered = tpm.read_public("TPM2_ReadPublic", handle)
 assert answered == qualified(above[-1], leaf.public.name, SHA1)
 tpm.says(
-    "It is loaded under its own parent alone",
-    "INTEGRITY/p1",
+    "It is loaded under its own parent alone: INTEGRITY/p1",
     *(tpm.loading(it, leaf) for it in chain[:-1]),
 )
 tpm.flush_objects("The parents are flushed", *chain)
@@ -131,8 +130,7 @@ inner = storage_key(SHA1, attributes=OPEN | STORES | Attribute.FIXED_PARENT)
 made = tpm.create("TPM2_Create of a storage key with fixedParent", primary, inner)
 child = tpm.load("TPM2_Load", primary, made)
 tpm.says(
-    "TPM2_Create under that, with fixedTPM and fixedParent",
-    "ATTRIBUTES/p2",
+    "TPM2_Create under that, with fixedTPM and fixedParent: ATTRIBUTES/p2",
     tpm.child(child, sealed(), data=b"leaf"),
 )
 leaf = tpm.create("With neither of them", child, sealed(attributes=OPEN), data=b"leaf")
@@ -154,6 +152,6 @@ made = tpm.create(
 )
 handle = tpm.load("TPM2_Load", parent, made)
 session = tpm.policy("A policy session with SHA-1", algorithm=SHA1)
-tpm.says("TPM2_PolicyCommandCode", "SUCCESS", tpm.command_code(session, CC.Unseal))
+tpm.says("TPM2_PolicyCommandCode: SUCCESS", tpm.command_code(session, CC.Unseal))
 tpm.unseal("TPM2_Unseal", handle, b"secret", session)
 script.write()

@@ -1,4 +1,4 @@
-"""Writes tests/objects/unseal.tpm: TPM2_Unseal, which gives out what is sealed."""
+"""Writes unseal.tpm: TPM2_Unseal, which gives out what is sealed."""
 
 from tpmsim.caller import HERE, OPEN, hmac_key, sealed, storage_key
 from tpmsim.standard import CC, RH_NULL, RH_OWNER, SHA1, SHA256, SYMCIPHER, frames, number
@@ -15,16 +15,14 @@ refused = tpm.says
 
 script.startup()
 refused(
-    "No object's handle: TPM_RH_OWNER, TPM_RH_NULL, PCR 0, an NV index, sessions",
-    "VALUE/h1",
+    "No object's handle: TPM_RH_OWNER, TPM_RH_NULL, PCR 0, an NV index, sessions: VALUE/h1",
     *map(tpm.unsealing, (RH_OWNER, RH_NULL, 0, 0x0100_0000, 0x0200_0000, 0x0300_0000)),
 )
 refused(
-    "A transient object, while there is none",
-    "REFERENCE_H0",
+    "A transient object, while there is none: REFERENCE_H0",
     *map(tpm.unsealing, (0x8000_0000, 0x8000_0008, 0x80FF_FFFF)),
 )
-refused("A persistent object, while there is none", "HANDLE/h1", tpm.unsealing(0x8100_0000))
+refused("A persistent object, while there is none: HANDLE/h1", tpm.unsealing(0x8100_0000))
 parent = tpm.create_primary("A storage key", RH_OWNER, storage_key())
 
 script.chapter("Data of all sizes.")
@@ -47,16 +45,15 @@ for what, value, passwords, wrong in (
     made = tpm.create(f"{what}: TPM2_Create", parent, sealed(), user_auth=value, data=b"secret")
     handle = tpm.load("TPM2_Load", parent, made)
     tpm.says(
-        "TPM2_Unseal by it, also with zeros behind it",
-        "SUCCESS",
+        "TPM2_Unseal by it, also with zeros behind it: SUCCESS",
         *(tpm.unsealing(handle, it) for it in passwords),
     )
-    refused("By others", "BAD_AUTH/s1", *(tpm.unsealing(handle, it) for it in wrong))
+    refused("By others: BAD_AUTH/s1", *(tpm.unsealing(handle, it) for it in wrong))
     tpm.flush_objects("It is flushed", handle)
 guarded = sealed(attributes=HERE | Attribute.USER_WITH_AUTH)
 made = tpm.create("Without noDA", parent, guarded, data=b"secret")
 handle = tpm.load("TPM2_Load", parent, made)
-refused("TPM2_Unseal by another", "AUTH_FAIL/s1", tpm.unsealing(handle, b"pin"))
+refused("TPM2_Unseal by another: AUTH_FAIL/s1", tpm.unsealing(handle, b"pin"))
 tpm.unseal("By the empty one", handle, b"secret")
 tpm.flush_objects("It is flushed", handle)
 made = tpm.create(
@@ -70,16 +67,14 @@ handle = tpm.load("TPM2_Load", parent, made)
 session = tpm.start("An HMAC session")
 policy = tpm.policy("A policy session")
 refused(
-    "Nothing authorizes it: the right password, and a wrong one",
-    "AUTH_UNAVAILABLE",
+    "Nothing authorizes it: the right password, and a wrong one: AUTH_UNAVAILABLE",
     tpm.unsealing(handle, b"pin"),
     tpm.unsealing(handle, b"nip"),
 )
-tpm.refused("Nor a session", "AUTH_UNAVAILABLE", tpm.unsealing(handle, session))
-tpm.refused("Of either type", "AUTH_UNAVAILABLE", tpm.unsealing(handle, policy))
+tpm.refused("Nor a session: AUTH_UNAVAILABLE", tpm.unsealing(handle, session))
+tpm.refused("Of either type: AUTH_UNAVAILABLE", tpm.unsealing(handle, policy))
 script.command(
-    "It has to be authorized: no sessions (tag 8001)",
-    "AUTH_MISSING",
+    "It has to be authorized: no sessions (tag 8001): AUTH_MISSING",
     frames.command(CC.Unseal, number(handle, 4)),
 )
 tpm.flush_objects("It is flushed", handle)
@@ -100,9 +95,9 @@ for what, public, data, outcome in (
     ),
 ):
     handle = tpm.create_primary(what, RH_OWNER, public, user_auth=b"a", data=data)
-    refused("TPM2_Unseal by another value", "BAD_AUTH/s1", tpm.unsealing(handle, b"b"))
-    refused("By the right one", outcome, tpm.unsealing(handle))
+    refused("TPM2_Unseal by another value: BAD_AUTH/s1", tpm.unsealing(handle, b"b"))
+    refused(f"By the right one: {outcome}", tpm.unsealing(handle))
     whole = tpm.unsealing(handle)
-    refused("With a byte behind", "SIZE", whole.but(parameters=b"\0"))
+    refused("With a byte behind: SIZE", whole.but(parameters=b"\0"))
     tpm.flush_objects("It is flushed", handle)
 script.write()

@@ -1,4 +1,4 @@
-"""Writes tests/pcrs/localities.tpm: each PCR extended and reset from each locality.
+"""Writes localities.tpm: each PCR extended and reset from each locality.
 
 Which PCR changes from where is the table of TPM2_PCR_Extend in docs/table/pcrs.md, once more.
 """

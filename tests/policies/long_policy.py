@@ -1,4 +1,4 @@
-"""Writes tests/policies/long_policy.tpm: a policy of all assertions, in a trial and a policy session."""
+"""Writes long_policy.tpm: a policy of all assertions, in a trial and a policy session."""
 
 from tpmsim.standard import CC, RH_OWNER, SHA1, SHA256, digest, frames, name_of, policy
 from tpmsim.caller.script_caller import HASHES, ScriptCaller, zeros
@@ -23,7 +23,7 @@ def values_digest(algorithm):
 
 def both(what, trial, session, tell):
     """An assertion in the trial session and in the policy session."""
-    tpm.says(what, "SUCCESS", tell(trial), tell(session))
+    tpm.says(f"{what}: SUCCESS", tell(trial), tell(session))
 
 
 script.startup()
@@ -39,11 +39,10 @@ for algorithm, name in HASHES:
 
     given = values_digest(algorithm)
     tpm.says(
-        "TPM2_PolicyPCR in the trial session, with the digest that the values will have",
-        "SUCCESS",
+        "TPM2_PolicyPCR in the trial session, with the digest that the values will have: SUCCESS",
         tpm.pcrs(trial, BANKS, given),
     )
-    tpm.says("In the policy session, without", "SUCCESS", tpm.pcrs(session, BANKS))
+    tpm.says("In the policy session, without: SUCCESS", tpm.pcrs(session, BANKS))
     wanted = policy.after_pcr(algorithm, wanted, frames.selection(*BANKS), given)
 
     both("For the localities 0 and 1", trial, session, lambda it: tpm.locality(it, 3))
@@ -72,12 +71,12 @@ for algorithm, name in HASHES:
     script.chapter("A trial session makes it with nothing being so, and a policy session does not.")
     both("Both from the start", trial, session, tpm.restart)
     future = digest(algorithm, b"values that the PCRs do not have")
-    tpm.says("PCRs of a future", "SUCCESS", tpm.pcrs(trial, BANKS, future))
-    tpm.says("In the policy session", "VALUE/p1", tpm.pcrs(session, BANKS, future))
-    tpm.says("Branches of which it is none", "SUCCESS", tpm.branches(trial, *branches))
-    tpm.says("In the policy session", "VALUE/p1", tpm.branches(session, *branches))
+    tpm.says("PCRs of a future: SUCCESS", tpm.pcrs(trial, BANKS, future))
+    tpm.says("In the policy session: VALUE/p1", tpm.pcrs(session, BANKS, future))
+    tpm.says("Branches of which it is none: SUCCESS", tpm.branches(trial, *branches))
+    tpm.says("In the policy session: VALUE/p1", tpm.branches(session, *branches))
     tpm.digest_is("The trial session's digest", trial, policy.after_or(algorithm, branches))
     tpm.digest_is("The policy session's is zeros yet", session, zeros(session))
     for it in (trial, session):
-        tpm.says("It is flushed", "SUCCESS", tpm.flush(it))
+        tpm.says("It is flushed: SUCCESS", tpm.flush(it))
 script.write()

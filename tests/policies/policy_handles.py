@@ -1,4 +1,4 @@
-"""Writes tests/policies/policy_handles.tpm: the handles of the policy commands, and their entries."""
+"""Writes policy_handles.tpm: the handles of the policy commands, and their entries."""
 
 from tpmsim.caller import flipped
 from tpmsim.standard import CC, RH_ENDORSEMENT, RH_NULL, RH_OWNER, RS_PW, SHA1, SHA256, area, entry
@@ -48,24 +48,22 @@ def by_password(handle, session, parameters, cut=None):
     return frames.command(CC.PolicySecret, text[:cut] + area(entry()) + parameters, frames.SESSIONS)
 
 
-def refused(what, outcome, *buffers):
-    script.command(what, outcome, *buffers)
+def refused(words, *buffers):
+    script.command(words, *buffers)
 
 
 NOTHING = frames.policy_secret()
 refused(
-    "Before TPM2_Startup",
-    "INITIALIZE",
+    "Before TPM2_Startup: INITIALIZE",
     *(plain(code, number(0x0300_0000, 4) + text) for _, code, text in (*COMMANDS, *LATER)),
     by_password(RH_ENDORSEMENT, 0x0300_0000, NOTHING),
 )
 script.startup()
 refused(
-    "While there is no session at all",
-    "REFERENCE_H0",
+    "While there is no session at all: REFERENCE_H0",
     *(plain(code, number(0x0300_0000, 4) + text) for _, code, text in (*COMMANDS, *LATER)),
 )
-refused("TPM2_PolicySecret", "REFERENCE_H1", by_password(RH_ENDORSEMENT, 0x0300_0000, NOTHING))
+refused("TPM2_PolicySecret: REFERENCE_H1", by_password(RH_ENDORSEMENT, 0x0300_0000, NOTHING))
 hmac = tpm.start("An HMAC session, 02000000, whose place no policy session has", RH_OWNER)
 policy = tpm.policy("A policy session, 03000001, bound to TPM_RH_OWNER", bind=RH_OWNER)
 trial = tpm.trial("A trial session, 03000002")
@@ -74,44 +72,37 @@ assert (hmac.handle, policy.handle, trial.handle) == (0x0200_0000, 0x0300_0001, 
 
 def handles_of(name, code, text):
     script.chapter(f"{name}.")
-    refused("No handle", "INSUFFICIENT/h1", plain(code, b""), plain(code, b"\3\0\0"))
+    refused("No handle: INSUFFICIENT/h1", plain(code, b""), plain(code, b"\3\0\0"))
     refused(
-        "A handle of another kind",
-        "VALUE/h1",
+        "A handle of another kind: VALUE/h1",
         *(plain(code, number(it, 4) + text) for it in OTHER_KINDS),
     )
     refused(
-        "A session that is not there, the first where an HMAC session is",
-        "REFERENCE_H0",
+        "A session that is not there, the first where an HMAC session is: REFERENCE_H0",
         *(plain(code, number(it, 4) + text) for it in ABSENT),
     )
     refused(
-        "With sessions (tag 8002), and no authorization area; the handle comes first",
-        "AUTHSIZE",
+        "With sessions (tag 8002), and no authorization area; the handle comes first: AUTHSIZE",
         frames.command(code, number(policy.handle, 4), frames.SESSIONS),
     )
     refused(
-        "The handle comes before it",
-        "REFERENCE_H0",
+        "The handle comes before it: REFERENCE_H0",
         frames.command(code, number(0x0300_0000, 4), frames.SESSIONS),
     )
     refused(
-        "A password, which authorizes nothing here",
-        "HANDLE/s1",
+        "A password, which authorizes nothing here: HANDLE/s1",
         frames.command(code, number(policy.handle, 4) + area(entry()) + text, frames.SESSIONS),
     )
     in_policy = tpm.told(code, policy, text, hmac, policy, trial)
     tpm.refused(
-        "Three sessions, of which the second has a wrong hmac",
-        "BAD_AUTH/s2",
+        "Three sessions, of which the second has a wrong hmac: BAD_AUTH/s2",
         in_policy.but_entry(2, hmac=flipped(in_policy.entries[1].hmac)),
     )
     tpm.accepted("And the right one", in_policy)
     tpm.accepted("The trial session alone", tpm.told(code, trial, text, trial))
-    tpm.says("They are restarted", "SUCCESS", tpm.restart(policy), tpm.restart(trial))
+    tpm.says("They are restarted: SUCCESS", tpm.restart(policy), tpm.restart(trial))
     tpm.says(
-        "Each without sessions (tag 8001), and restarted again",
-        "SUCCESS",
+        "Each without sessions (tag 8001), and restarted again: SUCCESS",
         tpm.told(code, policy, text),
         tpm.told(code, trial, text),
         tpm.restart(policy),
@@ -124,15 +115,13 @@ for command in COMMANDS:
 
 script.chapter("TPM2_PolicySecret, whose first handle needs authorization.")
 refused(
-    "No authHandle",
-    "INSUFFICIENT/h1",
+    "No authHandle: INSUFFICIENT/h1",
     plain(CC.PolicySecret, b""),
     plain(CC.PolicySecret, b"\x40\0\0"),
 )
 refused(
     "An authHandle that is no entity of its own: TPM_RH_NULL, PCR 24, TPM_RS_PW, two other "
-    "permanent handles, sessions, and a number of no kind",
-    "VALUE/h1",
+    "permanent handles, sessions, and a number of no kind: VALUE/h1",
     *(
         by_password(it, policy.handle, NOTHING)
         for it in (
@@ -142,49 +131,40 @@ refused(
     ),
 )
 refused(
-    "It is looked at before policySession is read",
-    "VALUE/h1",
+    "It is looked at before policySession is read: VALUE/h1",
     plain(CC.PolicySecret, number(RH_NULL, 4)),
 )
 refused(
-    "A transient object, while there is none",
-    "REFERENCE_H0",
+    "A transient object, while there is none: REFERENCE_H0",
     by_password(0x8000_0000, policy.handle, NOTHING),
     by_password(0x80FF_FFFF, RH_OWNER, NOTHING),
 )
 refused(
-    "A persistent object, and an NV index, while there are none",
-    "HANDLE/h1",
+    "A persistent object, and an NV index, while there are none: HANDLE/h1",
     by_password(0x8100_0000, policy.handle, NOTHING),
     by_password(0x0100_0000, policy.handle, NOTHING),
 )
 refused(
-    "No policySession",
-    "INSUFFICIENT/h2",
+    "No policySession: INSUFFICIENT/h2",
     plain(CC.PolicySecret, number(RH_OWNER, 4)),
     plain(CC.PolicySecret, number(RH_OWNER, 4) + b"\3\0\0"),
 )
 refused(
-    "A policySession of another kind",
-    "VALUE/h2",
+    "A policySession of another kind: VALUE/h2",
     *(by_password(RH_OWNER, it, NOTHING) for it in OTHER_KINDS),
 )
 refused(
-    "One that is not there", "REFERENCE_H1", *(by_password(RH_OWNER, it, NOTHING) for it in ABSENT)
+    "One that is not there: REFERENCE_H1", *(by_password(RH_OWNER, it, NOTHING) for it in ABSENT)
 )
 refused(
-    "Without sessions (tag 8001), behind the handles",
-    "AUTH_MISSING",
+    "Without sessions (tag 8001), behind the handles: AUTH_MISSING",
     plain(CC.PolicySecret, number(RH_OWNER, 4) + number(policy.handle, 4) + NOTHING),
 )
 refused(
-    "Which are looked at before",
-    "REFERENCE_H1",
+    "Which are looked at before: REFERENCE_H1",
     plain(CC.PolicySecret, number(RH_OWNER, 4) + number(0x0300_0000, 4) + NOTHING),
 )
-tpm.refused(
-    "A second password, which authorizes nothing", "HANDLE/s2", tpm.secret(policy, b"", b"")
-)
+tpm.refused("A second password, which authorizes nothing: HANDLE/s2", tpm.secret(policy, b"", b""))
 tpm.accepted(
     "A password, the HMAC session and the policy session itself",
     tpm.secret(policy, b"", hmac, policy),
@@ -193,14 +173,13 @@ tpm.accepted(
 script.chapter("The place of an HMAC session is no policy session's, and the other way round.")
 other = tpm.start("An HMAC session, 02000003", algorithm=SHA1)
 refused(
-    "TPM2_PolicyGetDigest of 03000003",
-    "REFERENCE_H0",
+    "TPM2_PolicyGetDigest of 03000003: REFERENCE_H0",
     plain(CC.PolicyGetDigest, number(0x0300_0003, 4)),
 )
-tpm.says("It is flushed", "SUCCESS", tpm.flush(other))
+tpm.says("It is flushed: SUCCESS", tpm.flush(other))
 other = tpm.policy("A policy session takes its place", algorithm=SHA1)
 assert other.handle == 0x0300_0003
-tpm.says("Its digest", "SUCCESS", tpm.get_digest(other))
+tpm.says("Its digest: SUCCESS", tpm.get_digest(other))
 
 for command in LATER:
     handles_of(*command)

@@ -1,4 +1,4 @@
-"""Writes tests/policies/policy_nv.tpm: TPM2_PolicyNV, its comparisons, and what it is hashed of."""
+"""Writes policy_nv.tpm: TPM2_PolicyNV, its comparisons, and what it is hashed of."""
 
 import hashlib
 
@@ -37,7 +37,7 @@ def after(session, old, index, operand, offset, operation):
 
 
 def restarted(session, what=""):
-    script.command(what or "TPM2_PolicyRestart", "SUCCESS", tpm.restart(session).buffer())
+    script.command(f"{what or 'TPM2_PolicyRestart'}: SUCCESS", tpm.restart(session).buffer())
 
 
 def holds(what, session, operation, operand, offset=0, index=FIRST, by=RH_OWNER):
@@ -50,8 +50,7 @@ def fails(
     what, session, operation, *operands, offset=0, index=FIRST, by=RH_OWNER, outcome="POLICY"
 ):
     tpm.fails(
-        what,
-        outcome,
+        f"{what}: {outcome}",
         *(
             tpm.comparing(session, index, it, offset=offset, operation=operation, by=by)
             for it in operands
@@ -105,7 +104,7 @@ def the_name_of_now():
     holds("So in the trial session", trial, EQ, bytes(8), index=SECOND)
     tpm.digest_is("It is the same", trial, written)
     for each in (trial, session):
-        tpm.says("It is flushed", "SUCCESS", tpm.flush(each))
+        tpm.says("It is flushed: SUCCESS", tpm.flush(each))
     tpm.does("The index is undefined", tpm.undefining(SECOND))
 
 
@@ -201,7 +200,7 @@ def numbers():
         else:
             holds(what, session, operation, b"", index=SECOND)
             holds("At the end", session, operation, b"", 4, index=SECOND)
-    tpm.says("The session is flushed", "SUCCESS", tpm.flush(session))
+    tpm.says("The session is flushed: SUCCESS", tpm.flush(session))
 
 
 def sizes_and_offsets():
@@ -247,7 +246,7 @@ def sizes_and_offsets():
     fails("", session, EQ, b"", offset=65, index=THIRD, outcome="NV_RANGE")
     fails("At FFFF", session, EQ, bytes(32), b"", offset=0xFFFF, index=THIRD, outcome="NV_RANGE")
     tpm.does("The index is undefined", tpm.undefining(THIRD))
-    tpm.says("The session is flushed", "SUCCESS", tpm.flush(session))
+    tpm.says("The session is flushed: SUCCESS", tpm.flush(session))
 
 
 def types():
@@ -273,7 +272,7 @@ def types():
             fails("It is another", session, EQ, held, index=index)
     for index in (THIRD, FOURTH, 0x0100_0005):
         tpm.does("They are undefined" if index == THIRD else "", tpm.undefining(index))
-    tpm.says("The session is flushed", "SUCCESS", tpm.flush(session))
+    tpm.says("The session is flushed: SUCCESS", tpm.flush(session))
 
 
 def refusals():
@@ -286,24 +285,24 @@ def refusals():
     tpm.does("TPM2_NV_ReadLock", tpm.read_locking(THIRD))
     bad = {"offset": 9, "operation": EQ, "operand": b"x", "index": THIRD}
 
-    def refused(what, outcome, by, **changes):
-        tpm.fails(what, outcome, tpm.comparing(session, **{**bad, **changes}, by=by))
+    def refused(words, by, **changes):
+        tpm.fails(words, tpm.comparing(session, **{**bad, **changes}, by=by))
 
-    refused("By the owner", "NV_AUTHORIZATION", RH_OWNER)
-    refused("By another index", "NV_AUTHORIZATION", FIRST)
-    refused("By the index", "NV_LOCKED", THIRD)
-    refused("By the platform", "NV_LOCKED", RH_PLATFORM)
+    refused("By the owner: NV_AUTHORIZATION", RH_OWNER)
+    refused("By another index: NV_AUTHORIZATION", FIRST)
+    refused("By the index: NV_LOCKED", THIRD)
+    refused("By the platform: NV_LOCKED", RH_PLATFORM)
     script.power()
     script.startup()
     session = tpm.policy("A policy session")
     trial = tpm.trial("A trial session")
     tpm.is_now("It is open", THIRD, cleared=Attribute.READLOCKED)
-    refused("By the platform", "NV_UNINITIALIZED", RH_PLATFORM)
+    refused("By the platform: NV_UNINITIALIZED", RH_PLATFORM)
     tpm.does("It is written", tpm.writing(THIRD, b"x"))
-    refused("Past the end", "NV_RANGE", THIRD)
-    refused("What does not hold", "POLICY", THIRD, offset=1)
+    refused("Past the end: NV_RANGE", THIRD)
+    refused("What does not hold: POLICY", THIRD, offset=1)
     tpm.digest_is("The digest is zeros", session, zeros(session))
-    refused("What holds", "SUCCESS", THIRD, offset=0)
+    refused("What holds: SUCCESS", THIRD, offset=0)
 
     script.chapter("In a trial session none of these stands.")
     tpm.does("TPM2_NV_ReadLock", tpm.read_locking(THIRD))
@@ -321,10 +320,10 @@ def refusals():
         tpm.digest_is("Its digest", trial, old)
     script.chapter("But the authorization does, and so do handles and parameters.")
     right = tpm.comparing(trial, THIRD, b"x")
-    tpm.fails("A wrong password", "AUTH_FAIL/s1", tpm.comparing(trial, THIRD, b"x", b"wrong"))
+    tpm.fails("A wrong password: AUTH_FAIL/s1", tpm.comparing(trial, THIRD, b"x", b"wrong"))
     tpm.define("An index that its value cannot read", area(FOURTH, BY_OWNER | BY_POLICY), auth=b"a")
-    tpm.fails("By it", "AUTH_UNAVAILABLE", tpm.comparing(trial, FOURTH, b"x"))
-    tpm.fails("Without sessions", "AUTH_MISSING", right.but(entries=[]))
+    tpm.fails("By it: AUTH_UNAVAILABLE", tpm.comparing(trial, FOURTH, b"x"))
+    tpm.fails("Without sessions: AUTH_MISSING", right.but(entries=[]))
     for what, outcome, handles in (
         ("authHandle of another kind", "VALUE/h1", [frames.RH_NULL, THIRD, trial.handle]),
         ("authHandle that is not there", "HANDLE/h1", [SECOND + 90, THIRD, trial.handle]),
@@ -333,7 +332,7 @@ def refusals():
         ("policySession of another kind", "VALUE/h3", [THIRD, THIRD, 0x0200_0000]),
         ("policySession that is not there", "REFERENCE_H2", [THIRD, THIRD, 0x0300_000F]),
     ):
-        tpm.fails(what, outcome, right.but(handles=handles))
+        tpm.fails(f"{what}: {outcome}", right.but(handles=handles))
     empty = sized(b"")
     for what, outcome, texts in (
         ("operandB that is cut", "INSUFFICIENT/p1", (b"", b"\0", b"\0\1", b"\0\x20" + bytes(31))),
@@ -348,7 +347,7 @@ def refusals():
         ("And a byte behind it", "VALUE/p3", [frames.policy_nv(b"", 0, 0xC) + b"\0"]),
         ("A byte behind the operation", "SIZE", [frames.policy_nv() + b"\0"]),
     ):
-        tpm.fails(what, outcome, *(right.but(parameters=it) for it in texts))
+        tpm.fails(f"{what}: {outcome}", *(right.but(parameters=it) for it in texts))
     tpm.digest_is("The digest is as it was", trial, old)
     return session, trial
 
@@ -364,8 +363,7 @@ def sessions(session, trial):
     old = after(session, old, FIRST, b"8 bytes.", 0, EQ)
     tpm.digest_is("What is hashed is plain", session, old)
     tpm.fails(
-        "encrypt, where nothing is answered",
-        "ATTRIBUTES/s1",
+        "encrypt, where nothing is answered: ATTRIBUTES/s1",
         tpm.comparing(session, FIRST, b"8", hmac).but_entry(1, attributes=0x41),
     )
     script.chapter("By a policy: the index authorizes itself to the very session that is told.")
@@ -373,19 +371,17 @@ def sessions(session, trial):
     tpm.define("An index", area(0x0100_0005, BY_POLICY, auth_policy=auth_policy), auth=b"a")
     by_value = lambda: Use(session, demand=policy.AUTH_VALUE)
     restarted(session)
-    tpm.says("TPM2_PolicyAuthValue", "SUCCESS", tpm.auth_value_told(session))
+    tpm.says("TPM2_PolicyAuthValue: SUCCESS", tpm.auth_value_told(session))
     tpm.does("TPM2_NV_Write", tpm.writing(0x0100_0005, b"x", by_value()))
-    tpm.says("TPM2_PolicyAuthValue", "SUCCESS", tpm.auth_value_told(session))
+    tpm.says("TPM2_PolicyAuthValue: SUCCESS", tpm.auth_value_told(session))
     tpm.does(
         "TPM2_PolicyNV to the session by itself: it is asserted, and then the session starts again",
         tpm.comparing(session, 0x0100_0005, b"x", by_value()),
     )
     tpm.digest_is("The digest is zeros", session, zeros(session))
-    tpm.says("TPM2_PolicyAuthValue", "SUCCESS", tpm.auth_value_told(session))
+    tpm.says("TPM2_PolicyAuthValue: SUCCESS", tpm.auth_value_told(session))
     tpm.does("To the trial session", tpm.comparing(trial, 0x0100_0005, b"x", by_value()))
-    tpm.fails(
-        "By the trial session", "ATTRIBUTES/s1", tpm.comparing(trial, 0x0100_0005, b"x", trial)
-    )
+    tpm.fails("By the trial session: ATTRIBUTES/s1", tpm.comparing(trial, 0x0100_0005, b"x", trial))
 
 
 script.startup()

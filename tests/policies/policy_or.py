@@ -1,4 +1,4 @@
-"""Writes tests/policies/policy_or.tpm: TPM2_PolicyOR, and of which lists it is."""
+"""Writes policy_or.tpm: TPM2_PolicyOR, and of which lists it is."""
 
 from tpmsim.standard import CC, digest, frames, number, policy, sized
 from tpmsim.caller.script_caller import ScriptCaller, is_trial, zeros
@@ -17,13 +17,13 @@ def other(session, count):
 
 
 def joins(what, session, *branches):
-    tpm.says(what, "SUCCESS", tpm.branches(session, *branches))
+    tpm.does(what, tpm.branches(session, *branches))
     tpm.digest_is("Its digest", session, policy.after_or(session.algorithm, branches))
 
 
 def again(session):
     """As a new one; its digest is zeros."""
-    tpm.says("TPM2_PolicyRestart", "SUCCESS", tpm.restart(session))
+    tpm.says("TPM2_PolicyRestart: SUCCESS", tpm.restart(session))
     return zeros(session)
 
 
@@ -39,7 +39,7 @@ for session in tpm.each_session():
     joins("The last of eight", session, *other(session, 7), again(session))
     joins("The fourth of seven", session, *other(session, 3), again(session), *other(session, 3))
     joins("Two that are the same", session, *2 * [again(session)])
-    tpm.says("TPM2_PolicyAuthValue", "SUCCESS", tpm.auth_value_told(session))
+    tpm.says("TPM2_PolicyAuthValue: SUCCESS", tpm.auth_value_told(session))
     branches = [b"", zeros(session)]
     current = policy.after_auth_value(
         session.algorithm, policy.after_or(session.algorithm, 2 * [zeros(session)])
@@ -78,27 +78,24 @@ for session in tpm.each_session():
             again(session)
             joins(f"{what}, which a trial session does not look at", session, *branches)
         else:
-            tpm.says(what, "VALUE/p1", tpm.branches(session, *branches))
+            tpm.says(f"{what}: VALUE/p1", tpm.branches(session, *branches))
             tpm.digest_is("Its digest is as it was", session, current)
 
     current = again(session)
     tpm.says(
-        "A list of no digests, of one, of nine, and of 2^32 - 1",
-        "SIZE/p1",
+        "A list of no digests, of one, of nine, and of 2^32 - 1: SIZE/p1",
         tpm.branches(session),
         tpm.branches(session, current),
         tpm.branches(session, *9 * [current]),
         tpm.branches(session, current, current, count=0xFFFF_FFFF),
     )
     tpm.says(
-        "The number of one and of nine, and nothing behind it",
-        "SIZE/p1",
+        "The number of one and of nine, and nothing behind it: SIZE/p1",
         raw(session, number(1, 4)),
         raw(session, number(9, 4)),
     )
     tpm.says(
-        "An element of 33 bytes, the first or the second, whole or cut",
-        "SIZE/p1",
+        "An element of 33 bytes, the first or the second, whole or cut: SIZE/p1",
         tpm.branches(session, bytes(33), current),
         tpm.branches(session, current, bytes(33)),
         raw(session, number(2, 4) + number(33, 2)),
@@ -108,20 +105,17 @@ for session in tpm.each_session():
     size = len(sized(current))
     tpm.says(
         "Cut: within the number, before the first element, within its size and its bytes, before "
-        "the second, and within that",
-        "INSUFFICIENT/p1",
+        "the second, and within that: INSUFFICIENT/p1",
         *(raw(session, whole[:it]) for it in (0, 3, 4, 5, 6, 3 + size, 4 + size, 5 + size)),
         raw(session, whole[:-1]),
     )
     tpm.says(
-        "A list that says three and has two",
-        "INSUFFICIENT/p1",
+        "A list that says three and has two: INSUFFICIENT/p1",
         tpm.branches(session, current, current, count=3),
     )
     tpm.says(
         "A byte behind the list, also where the digest is not among it, and a list that says two "
-        "and has three",
-        "SIZE",
+        "and has three: SIZE",
         raw(session, whole + b"\0"),
         raw(session, frames.sized_list(*other(session, 2)) + b"\0"),
         tpm.branches(session, current, current, current, count=2),
@@ -132,20 +126,19 @@ script.chapter("What was recorded before a list stays behind it.")
 session = tpm.policy("A policy session is started")
 cp_hash = digest(session.algorithm, b"a command")
 tpm.says(
-    "A command, localities, PCRs and a cpHash are recorded",
-    "SUCCESS",
+    "A command, localities, PCRs and a cpHash are recorded: SUCCESS",
     tpm.command_code(session, CC.GetRandom),
     tpm.locality(session, 0b01100),
     tpm.pcrs(session, [(frames.SHA256, [0])]),
     tpm.secret(session, cp_hash=cp_hash),
 )
-response = tpm.says("Its digest", "SUCCESS", tpm.get_digest(session))
+response = tpm.says("Its digest: SUCCESS", tpm.get_digest(session))
 current = response[-len(zeros(session)) :]
 joins("The digest is the first of two", session, current, *other(session, 1))
-tpm.says("Another command", "VALUE/p1", tpm.command_code(session, CC.PCR_Read))
-tpm.says("Localities of which none is left", "RANGE/p1", tpm.locality(session, 0b10011))
+tpm.says("Another command: VALUE/p1", tpm.command_code(session, CC.PCR_Read))
+tpm.says("Localities of which none is left: RANGE/p1", tpm.locality(session, 0b10011))
 another = digest(session.algorithm, b"another command")
-tpm.says("Another cpHash", "CPHASH", tpm.secret(session, cp_hash=another))
+tpm.says("Another cpHash: CPHASH", tpm.secret(session, cp_hash=another))
 tpm.accepted("TPM2_PCR_Reset of PCR 16", tpm.reset(b""))
-tpm.says("PCRs, of which one changed", "PCR_CHANGED", tpm.pcrs(session, [(frames.SHA256, [0])]))
+tpm.says("PCRs, of which one changed: PCR_CHANGED", tpm.pcrs(session, [(frames.SHA256, [0])]))
 script.write()

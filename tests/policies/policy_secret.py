@@ -1,4 +1,4 @@
-"""Writes tests/policies/policy_secret.tpm: TPM2_PolicySecret, its parameters and what it is hashed of."""
+"""Writes policy_secret.tpm: TPM2_PolicySecret, its parameters and what it is hashed of."""
 
 from tpmsim.caller import Use, flipped
 from tpmsim.standard import RH_ENDORSEMENT, RH_LOCKOUT, RH_OWNER, RH_PLATFORM, SHA1, SHA256
@@ -33,7 +33,7 @@ def raw(session, text):
 
 
 def restarted(session):
-    tpm.says("TPM2_PolicyRestart", "SUCCESS", tpm.restart(session))
+    tpm.says("TPM2_PolicyRestart: SUCCESS", tpm.restart(session))
 
 
 def digests(session):
@@ -74,11 +74,11 @@ def nonces(session):
         for _ in buffers:
             digest = after(session, digest)
     else:
-        tpm.refused(what, "NONCE/p1", *buffers)
+        tpm.refused(f"{what}: NONCE/p1", *buffers)
     tpm.digest_is("Its digest", session, digest)
     tpm.accepted("The session has a new nonce, by TPM2_GetRandom", tpm.random(1, session))
     if not is_trial(session):
-        tpm.refused("The one before", "NONCE/p1", tpm.secret(session, nonce_tpm=right))
+        tpm.refused("The one before: NONCE/p1", tpm.secret(session, nonce_tpm=right))
     tpm.accepted("The new one", tpm.secret(session, nonce_tpm=session.nonce_tpm))
     tpm.digest_is("Its digest", session, after(session, digest))
 
@@ -88,7 +88,7 @@ def cp_hashes(session):
     one, other = bytes([1]) * size, bytes(size)
     restarted(session)
     tpm.refused(
-        "cpHashA of another size than the session's digests, also where it is in a trial session",
+        "cpHashA of another size than the session's digests, also where it is in a trial session: "
         "SIZE/p2",
         *(tpm.secret(session, cp_hash=bytes(it)) for it in (1, 19, 21, 31) if it != size),
         tpm.secret(session, cp_hash=bytes(52 - size)),
@@ -108,29 +108,26 @@ def cp_hashes(session):
         for _ in buffers:
             digest = after(session, digest)
     else:
-        tpm.refused(what, "CPHASH", *buffers)
+        tpm.refused(f"{what}: CPHASH", *buffers)
     tpm.accepted("The first", tpm.secret(session, cp_hash=one))
     tpm.digest_is("Its digest", session, after(session, digest))
     restarted(session)
     tpm.refused(
-        "One in a command that is refused",
-        "VALUE/p4",
-        tpm.secret(session, cp_hash=one, expiration=1),
+        "One in a command that is refused: VALUE/p4", tpm.secret(session, cp_hash=one, expiration=1)
     )
     if not is_trial(session):
         refused = tpm.secret(session, cp_hash=one, nonce_tpm=b"x")
-        tpm.refused("And by its nonceTPM", "NONCE/p1", refused)
+        tpm.refused("And by its nonceTPM: NONCE/p1", refused)
     tpm.digest_is("The digest is zeros", session, zeros(session))
     tpm.accepted("Zeros as the first one", tpm.secret(session, cp_hash=other))
     if not is_trial(session):
-        tpm.refused("Another", "CPHASH", tpm.secret(session, cp_hash=one))
+        tpm.refused("Another: CPHASH", tpm.secret(session, cp_hash=one))
 
 
 def edges(session):
     restarted(session)
     tpm.refused(
-        "expiration that is not 0, of either sign",
-        "VALUE/p4",
+        "expiration that is not 0, of either sign: VALUE/p4",
         *(tpm.secret(session, expiration=it) for it in (1, 0x100, 0x0100_0000, 0xFFFF_FFFF)),
         tpm.secret(session, expiration=0x8000_0000),
     )
@@ -141,25 +138,22 @@ def edges(session):
         (3, "policyRef", 2 * empty, bytes(4)),
     ):
         tpm.refused(
-            f"{name} that is cut: before its size, within it, and within its bytes",
+            f"{name} that is cut: before its size, within it, and within its bytes: "
             f"INSUFFICIENT/p{place}",
             *(raw(session, before + it) for it in (b"", b"\0", b"\0\1", b"\0\x20" + bytes(31))),
         )
         tpm.refused(
-            "Of 33 bytes, whole or cut",
-            f"SIZE/p{place}",
+            f"Of 33 bytes, whole or cut: SIZE/p{place}",
             raw(session, before + sized(bytes(33)) + behind),
             raw(session, before + number(33, 2)),
             raw(session, before + b"\xff\xff"),
         )
     tpm.refused(
-        "expiration that is cut",
-        "INSUFFICIENT/p4",
+        "expiration that is cut: INSUFFICIENT/p4",
         *(raw(session, 3 * empty + bytes(it)) for it in (0, 1, 3)),
     )
     tpm.refused(
-        "A byte behind them, also where expiration is 1",
-        "SIZE",
+        "A byte behind them, also where expiration is 1: SIZE",
         raw(session, frames.policy_secret() + b"\0"),
         raw(session, frames.policy_secret(expiration=1) + b"\0"),
     )
@@ -176,10 +170,10 @@ for session in tpm.each_session():
 script.chapter("A nonceTPM of 32 bytes, of a session of SHA-256.")
 session = tpm.policy("The session", size=32)
 tpm.accepted("Its nonce", tpm.secret(session, nonce_tpm=session.nonce_tpm))
-tpm.refused("Half of it", "NONCE/p1", tpm.secret(session, nonce_tpm=session.nonce_tpm[:16]))
+tpm.refused("Half of it: NONCE/p1", tpm.secret(session, nonce_tpm=session.nonce_tpm[:16]))
 other = tpm.policy("Another session", size=32)
-tpm.refused("The other's", "NONCE/p1", tpm.secret(session, nonce_tpm=other.nonce_tpm))
-tpm.refused("The other way round", "NONCE/p1", tpm.secret(other, nonce_tpm=session.nonce_tpm))
+tpm.refused("The other's: NONCE/p1", tpm.secret(session, nonce_tpm=other.nonce_tpm))
+tpm.refused("The other way round: NONCE/p1", tpm.secret(other, nonce_tpm=session.nonce_tpm))
 
 tpm.accepted(
     "nonceTPM, cpHashA and policyRef of 32 bytes, and two entries of 32 bytes each behind",
@@ -203,16 +197,16 @@ tpm.accepted(
     "With its nonceTPM of before, as it has the new one behind the command",
     tpm.secret(session, b"", session, nonce_tpm=old),
 )
-tpm.refused("The same again", "NONCE/p1", tpm.secret(session, b"", session, nonce_tpm=old))
+tpm.refused("The same again: NONCE/p1", tpm.secret(session, b"", session, nonce_tpm=old))
 tpm.accepted("With the new one", tpm.secret(session, b"", session, nonce_tpm=session.nonce_tpm))
 twice = after(session, after(session, zeros(session)))
 tpm.digest_is("Its digest", session, twice)
 right = tpm.secret(session, b"", session)
 tpm.refused(
-    "Its hmac is wrong", "BAD_AUTH/s2", right.but_entry(2, hmac=flipped(right.entries[1].hmac))
+    "Its hmac is wrong: BAD_AUTH/s2", right.but_entry(2, hmac=flipped(right.entries[1].hmac))
 )
 tpm.accepted("It ends with the command", tpm.secret(session, b"", Use(session, 0)))
-tpm.says("It is no more", "REFERENCE_H0", tpm.get_digest(session))
+tpm.says("It is no more: REFERENCE_H0", tpm.get_digest(session))
 unbound = tpm.policy("One that is bound to nothing", algorithm=SHA1)
 tpm.accepted("It has neither key nor hmac", tpm.secret(unbound, b"", unbound))
 tpm.accepted(

@@ -1,4 +1,4 @@
-"""Writes tests/policies/policy_secret_authorization.tpm: by what entries TPM2_PolicySecret is authorized."""
+"""Writes policy_secret_authorization.tpm: by what entries TPM2_PolicySecret is authorized."""
 
 from tpmsim.caller import Use, flipped
 from tpmsim.standard import RH_ENDORSEMENT, RH_LOCKOUT, RH_OWNER, RH_PLATFORM, SHA1, SHA256
@@ -52,31 +52,27 @@ for handle, name, value in VALUES:
         accepted("The right password", session, value, of=handle)
         accepted("And with zeros behind it", session, value + b"\0\0", of=handle)
         tpm.refused(
-            "Wrong passwords: none, fewer bytes, more, and that of another",
-            code,
+            f"Wrong passwords: none, fewer bytes, more, and that of another: {code}",
             *(
                 tpm.secret(session, it, of=handle)
                 for it in (b"", value[:-1], value + b"x", b"another")
             ),
         )
         accepted("By the session that is bound to it", session, bound, of=handle)
-        tpm.refused("A wrong hmac of it", code, wrong(tpm.secret(session, bound, of=handle)))
+        tpm.refused(f"A wrong hmac of it: {code}", wrong(tpm.secret(session, bound, of=handle)))
         accepted("By the session that is bound to nothing", session, unbound, of=handle)
         tpm.refused(
-            "A wrong hmac of it, and none",
-            code,
+            f"A wrong hmac of it, and none: {code}",
             wrong(tpm.secret(session, unbound, of=handle)),
             tpm.secret(session, unbound, of=handle).but_entry(1, hmac=b""),
         )
     right = tpm.secret(target, bound, of=handle)
     tpm.refused(
-        "The right hmac, and another policy session than it is of",
-        code,
+        f"The right hmac, and another policy session than it is of: {code}",
         right.but(handles=[handle, trial.handle]),
     )
     tpm.refused(
-        "Another policyRef than it is of",
-        code,
+        f"Another policyRef than it is of: {code}",
         right.but(parameters=tpm.secret(target, policy_ref=b"r").parameters),
     )
     accepted(
@@ -102,10 +98,10 @@ for algorithm, hash_name in HASHES:
     bound = tpm.start(f"An HMAC session of {hash_name}, bound to PCR 7", 7, algorithm=algorithm)
     accepted("By the empty password", target, b"", of=7)
     accepted("By the session that is bound to it", target, bound, of=7)
-    tpm.refused("A wrong hmac of it", "BAD_AUTH/s1", wrong(tpm.secret(target, bound, of=7)))
+    tpm.refused("A wrong hmac of it: BAD_AUTH/s1", wrong(tpm.secret(target, bound, of=7)))
     accepted("By it on another, PCR 8", target, bound, of=8)
 accepted("By the session that is bound to nothing, with no hmac", trial, unbound, of=7)
-tpm.refused("A password", "BAD_AUTH/s1", tpm.secret(target, b"x", of=7))
+tpm.refused("A password: BAD_AUTH/s1", tpm.secret(target, b"x", of=7))
 for session in (target, trial):
     tpm.digest_is("The digest", session, after[session.handle])
 
@@ -116,26 +112,22 @@ accepted(
     "Behind a session, and before the policy session", target, unbound, bound, target, of=RH_OWNER
 )
 tpm.refused(
-    "A wrong hmac behind a password, of a session that is bound to TPM_RH_LOCKOUT",
-    "AUTH_FAIL/s2",
+    "A wrong hmac behind a password, of a session that is bound to TPM_RH_LOCKOUT: AUTH_FAIL/s2",
     wrong(tpm.secret(target, b"owner", bound, of=RH_OWNER), 2),
 )
 tpm.refused(
-    "A wrong one behind it",
-    "BAD_AUTH/s3",
+    "A wrong one behind it: BAD_AUTH/s3",
     wrong(tpm.secret(target, b"owner", bound, target, of=RH_OWNER), 3),
 )
 locked = tpm.policy("A policy session that is bound to TPM_RH_LOCKOUT", bind=RH_LOCKOUT)
 tpm.refused(
-    "A wrong hmac of it, as a further entry",
-    "AUTH_FAIL/s2",
+    "A wrong hmac of it, as a further entry: AUTH_FAIL/s2",
     wrong(tpm.secret(target, b"owner", locked, of=RH_OWNER), 2),
 )
 accepted("A right one", target, b"owner", locked, of=RH_OWNER)
 owned = tpm.policy("One that is bound to TPM_RH_OWNER", bind=RH_OWNER, algorithm=SHA256)
 tpm.refused(
-    "A wrong hmac of it, where the first entry is of TPM_RH_LOCKOUT",
-    "BAD_AUTH/s2",
+    "A wrong hmac of it, where the first entry is of TPM_RH_LOCKOUT: BAD_AUTH/s2",
     wrong(tpm.secret(target, b"lockout", owned, of=RH_LOCKOUT), 2),
 )
 accepted(

@@ -1,4 +1,4 @@
-"""Writes tests/policies/policy_sessions_authorize_nothing.tpm: policy sessions as the first entry."""
+"""Writes policy_sessions_authorize_nothing.tpm: policy sessions as the first entry."""
 
 from tpmsim.caller import Use, flipped
 from tpmsim.standard import CC, CONTINUE_SESSION, DECRYPT, Entry, RH_ENDORSEMENT, RH_LOCKOUT
@@ -44,22 +44,21 @@ for words, session in (
     ("bound to TPM_RH_OWNER", bound),
     ("bound to TPM_RH_LOCKOUT", lockout),
 ):
-    tpm.refused(f"{WHAT}, by the policy session {words}", "AUTH_UNAVAILABLE", *commands(session))
+    tpm.refused(f"{WHAT}, by the policy session {words}: AUTH_UNAVAILABLE", *commands(session))
 for words, session in (("without a key", trial), ("bound to TPM_RH_OWNER", keyed)):
-    tpm.refused(f"{WHAT}, by the trial session {words}", "ATTRIBUTES/s1", *commands(session))
+    tpm.refused(f"{WHAT}, by the trial session {words}: ATTRIBUTES/s1", *commands(session))
 
 script.chapter("Whatever the session was told.")
 for what, told in (
     ("TPM2_PolicyAuthValue", tpm.auth_value_told),
     ("TPM2_PolicyPassword", tpm.password_told),
 ):
-    tpm.says(what, "SUCCESS", told(policy), told(trial))
-    tpm.refused("TPM2_PCR_Reset by the policy session", "AUTH_UNAVAILABLE", tpm.reset(policy))
-    tpm.refused("By the trial session", "ATTRIBUTES/s1", tpm.reset(trial))
+    tpm.says(f"{what}: SUCCESS", told(policy), told(trial))
+    tpm.refused("TPM2_PCR_Reset by the policy session: AUTH_UNAVAILABLE", tpm.reset(policy))
+    tpm.refused("By the trial session: ATTRIBUTES/s1", tpm.reset(trial))
 for session in (policy, trial):
     tpm.says(
-        "TPM2_PolicyCommandCode of another command, and of locality 4",
-        "SUCCESS",
+        "TPM2_PolicyCommandCode of another command, and of locality 4: SUCCESS",
         tpm.command_code(session, CC.Unseal),
         tpm.locality(session, 16),
         tpm.pcrs(session, [(frames.SHA256, [16])]),
@@ -68,28 +67,26 @@ tpm.accepted(
     "PCR 16 changes behind TPM2_PolicyPCR, by the session bound to TPM_RH_OWNER",
     tpm.event(b"abc", hmac),
 )
-tpm.refused("TPM2_PCR_Reset by the policy session", "AUTH_UNAVAILABLE", tpm.reset(policy))
-tpm.refused("By the trial session", "ATTRIBUTES/s1", tpm.reset(trial))
+tpm.refused("TPM2_PCR_Reset by the policy session: AUTH_UNAVAILABLE", tpm.reset(policy))
+tpm.refused("By the trial session: ATTRIBUTES/s1", tpm.reset(trial))
 
 script.chapter("It comes before its own hmac, right or wrong, and before the entries behind.")
 reset = tpm.reset(bound, hmac)
 tpm.refused(
-    "The hmac wrong, left out, and that of the second entry wrong",
-    "AUTH_UNAVAILABLE",
+    "The hmac wrong, left out, and that of the second entry wrong: AUTH_UNAVAILABLE",
     reset.but_entry(1, hmac=flipped(reset.entries[0].hmac)),
     reset.but_entry(1, hmac=b""),
     reset.but_entry(2, hmac=flipped(reset.entries[1].hmac)),
 )
 reset = tpm.reset(keyed, hmac)
 tpm.refused(
-    "The same of the trial session",
-    "ATTRIBUTES/s1",
+    "The same of the trial session: ATTRIBUTES/s1",
     reset.but_entry(1, hmac=flipped(reset.entries[0].hmac)),
     reset.but_entry(1, hmac=b""),
     reset.but_entry(2, hmac=flipped(reset.entries[1].hmac)),
 )
 tpm.refused(
-    "A wrong hmac on TPM_RH_LOCKOUT is no try at its value, as no value is looked at",
+    "A wrong hmac on TPM_RH_LOCKOUT is no try at its value, as no value is looked at: "
     "AUTH_UNAVAILABLE",
     tpm.change_auth(RH_LOCKOUT, b"x", lockout).but_entry(1, hmac=bytes(32)),
 )
@@ -99,36 +96,30 @@ absent = Entry(0x0300_0009, b"", CONTINUE_SESSION, b"")
 for session in (bound, keyed):
     right = tpm.reset(session)
     tpm.refused(
-        "A session that is not there as the second entry",
-        "REFERENCE_S1",
+        "A session that is not there as the second entry: REFERENCE_S1",
         right.but(entries=[*right.entries, absent]),
     )
-    tpm.refused("The same session twice", "HANDLE/s2", right.but(entries=2 * right.entries))
+    tpm.refused("The same session twice: HANDLE/s2", right.but(entries=2 * right.entries))
     tpm.refused(
-        "decrypt, where the first parameter is no sized buffer",
-        "ATTRIBUTES/s1",
+        "decrypt, where the first parameter is no sized buffer: ATTRIBUTES/s1",
         right.but_entry(1, attributes=CONTINUE_SESSION | DECRYPT),
     )
-    tpm.refused("A reserved attribute", "RESERVED_BITS/s1", right.but_entry(1, attributes=0x08))
+    tpm.refused("A reserved attribute: RESERVED_BITS/s1", right.but_entry(1, attributes=0x08))
 for session in (policy, trial):
     tpm.refused(
-        "decrypt in a session without AES, TPM2_PCR_Event",
-        "SYMMETRIC/s1",
+        "decrypt in a session without AES, TPM2_PCR_Event: SYMMETRIC/s1",
         tpm.event(b"abc", Use(session, CONTINUE_SESSION | DECRYPT)),
     )
 tpm.refused(
-    "A parameter that cannot be decrypted comes behind",
-    "AUTH_UNAVAILABLE",
+    "A parameter that cannot be decrypted comes behind: AUTH_UNAVAILABLE",
     tpm.event(b"abc", Use(bound, DECRYPT)).but(parameters=b"\0"),
 )
 tpm.refused(
-    "And in a trial session",
-    "ATTRIBUTES/s1",
+    "And in a trial session: ATTRIBUTES/s1",
     tpm.event(b"abc", Use(keyed, DECRYPT)).but(parameters=b"\0"),
 )
 tpm.refused(
-    "And so do parameters, and LOCALITY of PCR 0",
-    "AUTH_UNAVAILABLE",
+    "And so do parameters, and LOCALITY of PCR 0: AUTH_UNAVAILABLE",
     tpm.reset(policy).but(parameters=b"\0"),
     tpm.reset(policy, pcr=0),
 )

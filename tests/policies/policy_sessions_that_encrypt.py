@@ -1,4 +1,4 @@
-"""Writes tests/policies/policy_sessions_that_encrypt.tpm: policy sessions that authorize nothing."""
+"""Writes policy_sessions_that_encrypt.tpm: policy sessions that authorize nothing."""
 
 from tpmsim.caller import Use, flipped
 from tpmsim.standard import CC, CONTINUE_SESSION, DECRYPT, ENCRYPT, RH_ENDORSEMENT, RH_LOCKOUT
@@ -33,7 +33,7 @@ for algorithm, hash_name in HASHES:
         session = tpm.start(
             "It is started", RH_OWNER, algorithm=algorithm, aes=True, kind=kind, size=20
         )
-        tpm.says("TPM2_PolicyAuthValue", "SUCCESS", tpm.auth_value_told(session))
+        tpm.says("TPM2_PolicyAuthValue: SUCCESS", tpm.auth_value_told(session))
         told = policy.after_auth_value(algorithm, zeros(session))
         tpm.accepted(
             "TPM2_PCR_Event by a password, and the data is encrypted by it",
@@ -58,22 +58,20 @@ for algorithm, hash_name in HASHES:
         )
         right = tpm.event(b"event data", b"", Use(session, DECRYPTS))
         tpm.refused(
-            "A wrong hmac: by a bit, none, and the attribute taken away",
-            "BAD_AUTH/s2",
+            "A wrong hmac: by a bit, none, and the attribute taken away: BAD_AUTH/s2",
             wrong(right, 2),
             right.but_entry(2, hmac=b""),
             right.but_entry(2, attributes=CONTINUE_SESSION),
         )
         with tpm.breaking(key=lambda *_: session.key + b"owner"):
             valued = tpm.event(b"event data", b"", Use(session, DECRYPTS))
-        tpm.refused("ownerAuth in its key", "BAD_AUTH/s2", valued)
+        tpm.refused("ownerAuth in its key: BAD_AUTH/s2", valued)
         tpm.refused(
-            "Parameters that cannot be decrypted",
-            "INSUFFICIENT/p1",
+            "Parameters that cannot be decrypted: INSUFFICIENT/p1",
             tpm.prepare(CC.PCR_Event, [16], b"\0\1", b"", Use(session, DECRYPTS)),
         )
         tpm.accepted("The right one", right)
-        tpm.refused("It is of a nonce that is past", "BAD_AUTH/s2", right)
+        tpm.refused("It is of a nonce that is past: BAD_AUTH/s2", right)
         tpm.digest_is("Its digest is as it was", session, told)
 
         tpm.accepted(
@@ -119,9 +117,9 @@ for algorithm, hash_name in HASHES:
                 of=RH_OWNER,
                 nonce_tpm=flipped(session.nonce_tpm),
             )
-            tpm.refused("Another nonceTPM, decrypted", "NONCE/p1", given)
+            tpm.refused("Another nonceTPM, decrypted: NONCE/p1", given)
         tpm.refused(
-            "encrypt, where no sized buffer is answered: TPM2_PolicyPCR and TPM2_PolicyRestart",
+            "encrypt, where no sized buffer is answered: TPM2_PolicyPCR and TPM2_PolicyRestart: "
             "ATTRIBUTES/s1",
             tpm.pcrs(session, [], b"", [Use(session, ENCRYPTS)]),
             tpm.restart(session, Use(session, ENCRYPTS)),
@@ -130,8 +128,7 @@ for algorithm, hash_name in HASHES:
         tpm.refused(
             "decrypt, where the first parameter is no sized buffer: TPM2_PolicyOR, "
             "TPM2_PolicyGetDigest, TPM2_PolicyRestart, TPM2_PolicyCommandCode, "
-            "TPM2_PolicyLocality, TPM2_PolicyAuthValue and TPM2_PolicyPassword",
-            "ATTRIBUTES/s1",
+            "TPM2_PolicyLocality, TPM2_PolicyAuthValue and TPM2_PolicyPassword: ATTRIBUTES/s1",
             *(
                 tpm.prepare(code, [session.handle], text, session).but_entry(1, attributes=DECRYPTS)
                 for code, text in (
@@ -147,8 +144,7 @@ for algorithm, hash_name in HASHES:
         )
         tpm.refused(
             "encrypt on the others: TPM2_PolicyOR, TPM2_PolicyCommandCode, TPM2_PolicyLocality, "
-            "TPM2_PolicyAuthValue and TPM2_PolicyPassword",
-            "ATTRIBUTES/s1",
+            "TPM2_PolicyAuthValue and TPM2_PolicyPassword: ATTRIBUTES/s1",
             *(
                 tpm.prepare(code, [session.handle], text, session).but_entry(1, attributes=ENCRYPTS)
                 for code, text in (
@@ -181,8 +177,7 @@ for algorithm, hash_name in HASHES:
         )
         shown = tpm.event(b"event data", b"", Use(session, DECRYPTS, shows_empty_key=True))
         tpm.refused(
-            "With a wrong one, and with a byte",
-            "BAD_AUTH/s2",
+            "With a wrong one, and with a byte: BAD_AUTH/s2",
             wrong(shown, 2),
             shown.but_entry(2, hmac=b"\0"),
         )
@@ -195,17 +190,16 @@ for algorithm, hash_name in HASHES:
             tpm.get_digest(session, Use(session, ENCRYPTS)),
         )
         tpm.digest_is("Its digest is zeros", session, zeros(session))
-        tpm.says("It is flushed", "SUCCESS", tpm.flush(session))
+        tpm.says("It is flushed: SUCCESS", tpm.flush(session))
 
 script.chapter("Without AES.")
 plain = tpm.policy("A policy session", bind=RH_OWNER)
 tpm.refused(
-    "decrypt and encrypt",
-    "SYMMETRIC/s1",
+    "decrypt and encrypt: SYMMETRIC/s1",
     tpm.pcrs(plain, [], b"", [Use(plain, DECRYPTS)]),
     tpm.get_digest(plain, Use(plain, ENCRYPTS)),
 )
-tpm.refused("Behind a password", "SYMMETRIC/s2", tpm.event(b"a", b"", Use(plain, DECRYPTS)))
+tpm.refused("Behind a password: SYMMETRIC/s2", tpm.event(b"a", b"", Use(plain, DECRYPTS)))
 
 script.chapter("Started beside others, and with others beside it.")
 first = tpm.policy("A policy session, with AES", bind=RH_OWNER, aes=True)
@@ -230,7 +224,7 @@ tpm.accepted(
 )
 with tpm.breaking(nonces_of_others=lambda *_: []):
     left_out = tpm.change_auth(RH_OWNER, b"owner", third, second, Use(first, DECRYPTS))
-tpm.refused("Where it is left out", "BAD_AUTH/s1", left_out)
+tpm.refused("Where it is left out: BAD_AUTH/s1", left_out)
 
 
 def secret(*uses):
@@ -246,8 +240,8 @@ tpm.accepted("The other way round", secret(Use(first, DECRYPTS), Use(second, ENC
 tpm.accepted("One does both", secret(second, Use(first, DECRYPTS | ENCRYPT)))
 with tpm.breaking(nonces_of_others=lambda *_: [first.nonce_tpm, second.nonce_tpm]):
     turned = secret(Use(first, ENCRYPTS), Use(second, DECRYPTS))
-tpm.refused("In the other order", "BAD_AUTH/s1", turned)
-tpm.says("TPM2_PolicyRestart", "SUCCESS", tpm.restart(first))
+tpm.refused("In the other order: BAD_AUTH/s1", turned)
+tpm.says("TPM2_PolicyRestart: SUCCESS", tpm.restart(first))
 for it, kind in ((first, SE_POLICY), (second, SE_TRIAL)):
     assert it.kind == kind
     tpm.digest_is("Its digest is zeros", it, zeros(it))
@@ -257,12 +251,11 @@ script.wait_each_time()
 locked = tpm.policy("A policy session", bind=RH_LOCKOUT)
 trial = tpm.trial("A trial session, of SHA-1", bind=RH_LOCKOUT, algorithm=SHA1)
 for it in (locked, trial):
-    tpm.refused("Behind a password", "AUTH_FAIL/s2", wrong(tpm.event(b"a", b"", it), 2))
-    tpm.refused("As the first entry", "AUTH_FAIL/s1", wrong(tpm.random(1, it), 1))
+    tpm.refused("Behind a password: AUTH_FAIL/s2", wrong(tpm.event(b"a", b"", it), 2))
+    tpm.refused("As the first entry: AUTH_FAIL/s1", wrong(tpm.random(1, it), 1))
     tpm.accepted("A right one", tpm.random(1, it))
 tpm.refused(
-    "One that is bound to TPM_RH_OWNER, beside them",
-    "BAD_AUTH/s3",
+    "One that is bound to TPM_RH_OWNER, beside them: BAD_AUTH/s3",
     wrong(tpm.random(1, locked, trial, first), 3),
 )
 script.write()

@@ -1,4 +1,4 @@
-"""Writes tests/policies/written_policies.tpm: uses of entities by policies that have branches, and by other
+"""Writes written_policies.tpm: uses of entities by policies that have branches, and by other
 ones, and what is refused of them. tests/python/policy_audit.sh has these policies in words.
 """
 
@@ -85,26 +85,26 @@ def lost_ways_of_disk(session, disk):
     script.chapter("What is refused. A PCR is written behind TPM2_PolicyPCR.")
     asserts("By the system", *system(session), *ends(session))
     tpm.does("TPM2_PCR_Event of PCR 16", tpm.event(b"event", b"", pcr=16))
-    lost("TPM2_Unseal", "PCR_CHANGED", unsealing(demand=AUTH_VALUE))
+    lost("TPM2_Unseal: PCR_CHANGED", unsealing(demand=AUTH_VALUE))
     script.chapter("The value is another.")
     asserts("By the system", tpm.restart(session), *system(session), *ends(session))
     with tpm.breaking(key=lambda *_: b"other"):
         shown = unsealing(demand=AUTH_VALUE)
-    lost("TPM2_Unseal", "BAD_AUTH/s1", shown)
+    lost("TPM2_Unseal: BAD_AUTH/s1", shown)
     script.chapter("The session has counted for one command.")
     asserts("The recovery secret", tpm.restart(session), recovery(session), *ends(session))
     tpm.unseal("TPM2_Unseal", disk, SECRET, session)
-    lost("TPM2_Unseal once more", "POLICY_FAIL/s1", unsealing())
+    lost("TPM2_Unseal once more: POLICY_FAIL/s1", unsealing())
     script.chapter("It is told all but the secret.")
-    tpm.says("TPM2_PolicyOR", "VALUE/p1", ends(session)[0])
+    tpm.says("TPM2_PolicyOR: VALUE/p1", ends(session)[0])
     asserts("TPM2_PolicyCommandCode", ends(session)[1])
-    lost("TPM2_Unseal", "POLICY_FAIL/s1", unsealing())
+    lost("TPM2_Unseal: POLICY_FAIL/s1", unsealing())
     script.chapter("The secret was shown before TPM2_PolicyRestart.")
     other = tpm.policy("Another policy session")
     asserts("The recovery secret, TPM2_PolicyRestart", recovery(other), tpm.restart(other))
-    tpm.says("TPM2_PolicyOR", "VALUE/p1", ends(other)[0])
+    tpm.says("TPM2_PolicyOR: VALUE/p1", ends(other)[0])
     asserts("TPM2_PolicyCommandCode", ends(other)[1])
-    lost("TPM2_Unseal", "POLICY_FAIL/s1", tpm.unsealing(disk, other))
+    lost("TPM2_Unseal: POLICY_FAIL/s1", tpm.unsealing(disk, other))
     tpm.flushed(other)
     for words, shown in (
         ("of the owner", recovery(session, of=RH_OWNER)),
@@ -112,18 +112,18 @@ def lost_ways_of_disk(session, disk):
     ):
         script.chapter(f"The secret is that {words}.")
         asserts("TPM2_PolicyRestart, TPM2_PolicySecret", tpm.restart(session), shown)
-        tpm.says("TPM2_PolicyOR", "VALUE/p1", ends(session)[0])
+        tpm.says("TPM2_PolicyOR: VALUE/p1", ends(session)[0])
         asserts("TPM2_PolicyCommandCode", ends(session)[1])
-        lost("TPM2_Unseal", "POLICY_FAIL/s1", unsealing())
+        lost("TPM2_Unseal: POLICY_FAIL/s1", unsealing())
 
 
 def moved_pcr(session, disk):
     script.chapter("PCR 11 is another at all.")
     tpm.does("TPM2_PCR_Event of PCR 11", tpm.event(b"other", b"", pcr=11))
     asserts("By the system", tpm.restart(session), *system(session))
-    tpm.says("TPM2_PolicyOR", "VALUE/p1", ends(session)[0])
+    tpm.says("TPM2_PolicyOR: VALUE/p1", ends(session)[0])
     asserts("TPM2_PolicyCommandCode", ends(session)[1])
-    lost("TPM2_Unseal", "POLICY_FAIL/s1", tpm.unsealing(disk, Use(session, demand=AUTH_VALUE)))
+    lost("TPM2_Unseal: POLICY_FAIL/s1", tpm.unsealing(disk, Use(session, demand=AUTH_VALUE)))
     script.chapter("The recovery secret still does.")
     asserts("TPM2_PolicySecret", tpm.restart(session), recovery(session), *ends(session))
     tpm.unseal("TPM2_Unseal", disk, SECRET, session)
@@ -187,16 +187,16 @@ def lost_ways_of_update(session, update, index, other, key):
     script.chapter("What is refused. The locality is another.")
     asserts("TPM2_PolicyLocality, PolicyOR", *update.from_locality(session, LOCALITIES_3_AND_4))
     asserts("TPM2_PolicyNV, PolicyOR", compares(session, index), update.end(session))
-    lost("TPM2_Unseal from locality 0", "LOCALITY", tpm.unsealing(key, session))
+    lost("TPM2_Unseal from locality 0: LOCALITY", tpm.unsealing(key, session))
     for words, compared in other_comparisons(session, index, other):
         script.chapter(f"TPM2_PolicyNV with {words}.")
         asserts("TPM2_PolicyRestart", tpm.restart(session), *update.from_locality(session))
         asserts("TPM2_PolicyNV", compared)
-        tpm.says("TPM2_PolicyOR", "VALUE/p1", update.end(session))
-        lost("TPM2_Unseal", "POLICY_FAIL/s1", tpm.unsealing(key, session))
+        tpm.says("TPM2_PolicyOR: VALUE/p1", update.end(session))
+        lost("TPM2_Unseal: POLICY_FAIL/s1", tpm.unsealing(key, session))
     script.chapter("The version is not high enough, for who asks for one of 7.")
     asserts("TPM2_PolicyRestart", tpm.restart(session), *update.from_locality(session))
-    tpm.says("TPM2_PolicyNV", "POLICY", compares(session, index, operand=number(7, 8)))
+    tpm.says("TPM2_PolicyNV: POLICY", compares(session, index, operand=number(7, 8)))
     asserts("TPM2_PolicyRestart", tpm.restart(session))
 
 
@@ -208,7 +208,7 @@ def version_alone(session, index, other):
     handle = tpm.sealed_object("An object with this policy", after_version(index))
     for words, compared in other_comparisons(session, index, other):
         asserts(f"TPM2_PolicyNV with {words}", compared)
-        lost("TPM2_Unseal", "POLICY_FAIL/s1", tpm.unsealing(handle, session))
+        lost("TPM2_Unseal: POLICY_FAIL/s1", tpm.unsealing(handle, session))
         asserts("TPM2_PolicyRestart", tpm.restart(session))
     asserts("TPM2_PolicyNV", compares(session, index))
     tpm.unseal("TPM2_Unseal", handle, SECRET, session)
@@ -220,7 +220,7 @@ def other_policies(session):
     auth_policy = policy.after_cp_hash(SHA256, ZEROS, OF_NO_COMMAND)
     handle = tpm.sealed_object("An object with this policy", auth_policy)
     asserts("TPM2_PolicyCpHash", tpm.cp_hash_told(session, OF_NO_COMMAND))
-    lost("TPM2_Unseal", "POLICY_FAIL/s1", tpm.unsealing(handle, session))
+    lost("TPM2_Unseal: POLICY_FAIL/s1", tpm.unsealing(handle, session))
     asserts("TPM2_PolicyRestart", tpm.restart(session))
     script.chapter("An index is written once.")
     auth_policy = policy.after_nv_written(SHA256, ZEROS, False)
@@ -229,7 +229,7 @@ def other_policies(session):
         asserts("TPM2_PolicyNvWritten of 0", tpm.written_told(session, False))
         writing = tpm.writing(index, VERSION, session)
         if is_lost:
-            lost("TPM2_NV_Write once more", "POLICY_FAIL/s1", writing)
+            lost("TPM2_NV_Write once more: POLICY_FAIL/s1", writing)
         else:
             tpm.does("TPM2_NV_Write", writing)
     asserts("TPM2_PolicyRestart", tpm.restart(session))
@@ -238,9 +238,9 @@ def other_policies(session):
     session = tpm.policy("A policy session of SHA-1", algorithm=SHA1)
     tpm.asserts_code(session)
     tpm.unseal("TPM2_Unseal", of_sha1, SECRET, session)
-    lost("It has counted: TPM2_Unseal", "POLICY_FAIL/s1", tpm.unsealing(of_sha1, session))
+    lost("It has counted: TPM2_Unseal: POLICY_FAIL/s1", tpm.unsealing(of_sha1, session))
     tpm.asserts_code(session, CC.HMAC, "TPM2_HMAC")
-    lost("Another command: TPM2_Unseal", "POLICY_CC/s1", tpm.unsealing(of_sha1, session))
+    lost("Another command: TPM2_Unseal: POLICY_CC/s1", tpm.unsealing(of_sha1, session))
     tpm.sealed_object("An object with a policy that is not in words", AFTER_AUTH_VALUE)
 
 

@@ -48,6 +48,7 @@ unseen 'a full device, and a bad line behind a command' bad_second_line
 unseen 'a full device, and a bad line before any command' bad_first_line
 
 # A pipe that nobody reads.
+# shellcheck disable=SC2094 # it is a pipe
 exec 3<>pipe 4>pipe 3<&-
 unseen 'a pipe that nobody reads' script
 unseen 'a pipe that nobody reads, and no response' empty

@@ -15,6 +15,7 @@ begin() {
 
 # give TEXT: more of the script, as printf takes it.
 give() {
+    # shellcheck disable=SC2059 # it has escapes of printf
     printf "$1" >&3
 }
 

@@ -4,4 +4,5 @@ tests=$(cd "$(dirname "$0")/.." && pwd -P)
 . "$tests/common/typed.sh"
 ln -s "$program" tpmsim
 ln -s "${tests%/*}/tools" tools
+ln -s "${tests%/*}/python" python
 type_lines "${tests%/*}/docs/TUTORIAL.md"

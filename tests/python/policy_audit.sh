@@ -175,6 +175,7 @@ echo 'PolicyCommandCode Unseal' >policies/written_policies/unseal
 
 # trace NAME: what the program prints of a script, in a file.
 trace() {
+    # shellcheck disable=SC2094 # the script is another file
     "$program" run --trace "$(script "$1")" >"$1" 2>/dev/null
 }
 

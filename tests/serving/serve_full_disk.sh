@@ -35,5 +35,6 @@ rm disk/full
 begin 1
 talk 'a disk with room again' 4096 "$startup" "$back"
 ended 'one connection'
+# shellcheck disable=SC2012 # the names are known
 echo "on it: $(ls -A disk | tr '\n' ' ')"
 umount disk

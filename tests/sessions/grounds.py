@@ -1,4 +1,4 @@
-"""Writes tests/sessions/grounds.tpm: each ground on which an entity is authorized, and one use of it."""
+"""Writes grounds.tpm: each ground on which an entity is authorized, and one use of it."""
 
 from dataclasses import dataclass
 from typing import Callable
@@ -42,7 +42,8 @@ HIERARCHIES = {
 script = Script(
     "tests/sessions/grounds.tpm",
     "By what an entity may be authorized: each ground once, and accepted. The same grounds are "
-    "lost in tests/sessions/lost_grounds.tpm. A ground is a password, the hmac of an HMAC session, or a "
+    "lost in tests/sessions/lost_grounds.tpm. A ground is a password, the hmac of an HMAC session, "
+    "or a "
     "policy session whose policy holds.",
 )
 tpm = GroundsCaller(script)

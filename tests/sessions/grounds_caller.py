@@ -61,14 +61,14 @@ class GroundsCaller(ScriptCaller):
     def flushed_new(self, what, primary):
         """A primary object that must be created, and is flushed behind it."""
         handle, _ = self.accepted(what, primary)
-        self.says("", "SUCCESS", self.flush(handle))
+        self.says("SUCCESS", self.flush(handle))
 
     def flushed(self, *those):
         """Sessions, and objects by their handles."""
         objects = [it for it in those if isinstance(it, int)]
         name = "object" if len(objects) == len(those) else "session"
         what = "They are flushed" if len(those) > 1 else f"The {name} is flushed"
-        self.says(what, "SUCCESS", *map(self.flush, those))
+        self.says(f"{what}: SUCCESS", *map(self.flush, those))
         self.forget(*objects)
 
     # What a policy session is told.
@@ -78,7 +78,7 @@ class GroundsCaller(ScriptCaller):
 
     def asserts(self, what, *told):
         """Assertions, in their order."""
-        self.says(what, "SUCCESS", *told)
+        self.says(f"{what}: SUCCESS", *told)
 
     def asserts_code(self, session, code=CC.Unseal, name="TPM2_Unseal"):
         self.asserts(f"TPM2_PolicyCommandCode of {name}", self.command_code(session, code))
@@ -102,12 +102,12 @@ class GroundsCaller(ScriptCaller):
         answer = self.does(f"{what}. TPM2_GetCapability|which answers {tries}", asked)
         assert answer == wanted, what
 
-    def refused_by(self, check, what, outcome, *prepared):
+    def refused_by(self, check, words, *prepared):
         """Sends commands that this check must refuse."""
-        self.fails(what, outcome, *prepared)
+        self.fails(words, *prepared)
         for played in self.script.played[-len(prepared) :]:
-            assert played.outcome.row.check == check, what
+            assert played.outcome.row.check == check, words
 
-    def lost(self, what, outcome, *prepared):
+    def lost(self, words, *prepared):
         """Refused by G9, which looks at the entries that authorize."""
-        self.refused_by("G9", what, outcome, *prepared)
+        self.refused_by("G9", words, *prepared)

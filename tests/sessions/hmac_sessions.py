@@ -1,4 +1,4 @@
-"""Writes tests/sessions/hmac_sessions.tpm: commands that HMAC sessions authorize."""
+"""Writes hmac_sessions.tpm: commands that HMAC sessions authorize."""
 
 from tpmsim.caller import Use, flipped
 from tpmsim.standard import CC, RH_ENDORSEMENT, RH_OWNER, SHA1, SHA256, frames, sized
@@ -29,7 +29,7 @@ def wrong_bytes(session, right):
     """Each part of an authorized TPM2_HierarchyChangeAuth with one bit changed."""
     entry = right.entries[0]
     tpm.refused(
-        "A wrong hmac: in its last byte, in its first, of half the length, and of no bytes",
+        "A wrong hmac: in its last byte, in its first, of half the length, and of no bytes: "
         "BAD_AUTH/s1",
         right.but_entry(1, hmac=flipped(entry.hmac)),
         right.but_entry(1, hmac=flipped(entry.hmac, 0)),
@@ -37,34 +37,29 @@ def wrong_bytes(session, right):
         right.but_entry(1, hmac=b""),
     )
     tpm.refused(
-        "And a byte too long",
-        "BAD_AUTH/s1" if session.algorithm == SHA1 else "SIZE/s1",
+        f"And a byte too long: {'BAD_AUTH' if session.algorithm == SHA1 else 'SIZE'}/s1",
         right.but_entry(1, hmac=entry.hmac + b"\0"),
     )
     tpm.refused(
-        "Another nonce than the one that the hmac is of, and none",
-        "BAD_AUTH/s1",
+        "Another nonce than the one that the hmac is of, and none: BAD_AUTH/s1",
         right.but_entry(1, nonce=flipped(entry.nonce)),
         right.but_entry(1, nonce=b""),
     )
     tpm.refused(
-        "Other attributes, without continueSession",
-        "BAD_AUTH/s1",
+        "Other attributes, without continueSession: BAD_AUTH/s1",
         right.but_entry(1, attributes=ENDS),
     )
     tpm.refused(
-        "Other parameters, one bit of them or one byte less",
-        "BAD_AUTH/s1",
+        "Other parameters, one bit of them or one byte less: BAD_AUTH/s1",
         right.but(parameters=flipped(right.parameters)),
         right.but(parameters=sized(AUTH[:-1])),
     )
     tpm.refused(
-        "Another command, TPM2_PCR_Event, with the handle PCR 16",
-        "BAD_AUTH/s1",
+        "Another command, TPM2_PCR_Event, with the handle PCR 16: BAD_AUTH/s1",
         right.but(code=CC.PCR_Event, handles=[16]),
     )
     tpm.refused(
-        "Another handle, TPM_RH_ENDORSEMENT", "BAD_AUTH/s1", right.but(handles=[RH_ENDORSEMENT])
+        "Another handle, TPM_RH_ENDORSEMENT: BAD_AUTH/s1", right.but(handles=[RH_ENDORSEMENT])
     )
 
 
@@ -82,12 +77,12 @@ for bind, words in (
         right = tpm.change_auth(RH_OWNER, AUTH, session)
         wrong_bytes(session, right)
         tpm.accepted("As it was computed|and the nonces are new, which no refusal did", right)
-        tpm.refused("The same buffer again, of a nonce that is past", "BAD_AUTH/s1", right)
+        tpm.refused("The same buffer again, of a nonce that is past: BAD_AUTH/s1", right)
         tpm.accepted(
             "With the new nonce|and the session ends",
             tpm.change_auth(RH_OWNER, AUTH, Use(session, ENDS)),
         )
-        tpm.refused("It is no more", "REFERENCE_S0", tpm.change_auth(RH_OWNER, AUTH, session))
+        tpm.refused("It is no more: REFERENCE_S0", tpm.change_auth(RH_OWNER, AUTH, session))
 
 script.chapter("What is in the key of an hmac.")
 bound = tpm.start("A session bound to TPM_RH_OWNER", RH_OWNER)
@@ -102,19 +97,17 @@ def with_key(key, build, *arguments):
 
 
 tpm.refused(
-    "Bound to the entity, and its authorization value in the key all the same",
-    "BAD_AUTH/s1",
+    "Bound to the entity, and its authorization value in the key all the same: BAD_AUTH/s1",
     with_key(bound.key + AUTH, tpm.change_auth, RH_OWNER, AUTH, bound),
 )
 tpm.refused(
-    "Bound to another, without the entity's value, and with the value of that other one",
+    "Bound to another, without the entity's value, and with the value of that other one: "
     "BAD_AUTH/s1",
     with_key(other.key, tpm.change_auth, RH_OWNER, AUTH, other),
     with_key(other.key + b"endorsement", tpm.change_auth, RH_OWNER, AUTH, other),
 )
 tpm.refused(
-    "Unbound, without the entity's value, and by no hmac at all",
-    "BAD_AUTH/s1",
+    "Unbound, without the entity's value, and by no hmac at all: BAD_AUTH/s1",
     with_key(b"", tpm.change_auth, RH_OWNER, AUTH, Use(unbound, shows_empty_key=True)),
     with_key(b"", tpm.change_auth, RH_OWNER, AUTH, unbound),
 )
@@ -128,17 +121,16 @@ tpm.accepted("And on PCR 16, whose authorization value is empty", tpm.reset(boun
 
 script.chapter("A refused command leaves the session's nonce, whatever refused it.")
 tried = tpm.reset(bound, pcr=0)
-tpm.refused("TPM2_PCR_Reset of PCR 0, which has a right hmac", "LOCALITY", tried)
+tpm.refused("TPM2_PCR_Reset of PCR 0, which has a right hmac: LOCALITY", tried)
 tpm.refused(
-    "The same without continueSession, and the session does not end",
-    "LOCALITY",
+    "The same without continueSession, and the session does not end: LOCALITY",
     tpm.reset(Use(bound, ENDS), pcr=0),
 )
 tpm.refused(
-    "TPM2_PCR_Event of 1,025 bytes, with a right hmac", "SIZE/p1", tpm.event(bytes(1025), bound)
+    "TPM2_PCR_Event of 1,025 bytes, with a right hmac: SIZE/p1", tpm.event(bytes(1025), bound)
 )
 corrected = tpm.reset(bound)
-tpm.refused("PCR 16 with a wrong hmac", "BAD_AUTH/s1", corrected.but_entry(1, hmac=bytes(32)))
+tpm.refused("PCR 16 with a wrong hmac: BAD_AUTH/s1", corrected.but_entry(1, hmac=bytes(32)))
 tpm.accepted("And with the right one, of the nonce that was there before them", corrected)
 
 script.chapter("Empty keys: an unbound session on an entity whose authorization value is empty.")
@@ -149,19 +141,17 @@ tpm.accepted(
 )
 shown = tpm.reset(Use(unbound, shows_empty_key=True))
 tpm.refused(
-    "A wrong one, here one byte, and with a wrong bit",
-    "BAD_AUTH/s1",
+    "A wrong one, here one byte, and with a wrong bit: BAD_AUTH/s1",
     shown.but_entry(1, hmac=b"\0"),
     shown.but_entry(1, hmac=flipped(shown.entries[0].hmac)),
 )
 tpm.accepted("The right one", shown)
 tpm.refused(
-    "With no hmac where the key is that of a session bound to TPM_RH_OWNER",
-    "BAD_AUTH/s1",
+    "With no hmac where the key is that of a session bound to TPM_RH_OWNER: BAD_AUTH/s1",
     tpm.reset(bound).but_entry(1, hmac=b""),
 )
 to_pcr = tpm.start("A session bound to PCR 16, which has a key, of an empty value", 16)
-tpm.refused("With no hmac", "BAD_AUTH/s1", tpm.reset(to_pcr).but_entry(1, hmac=b""))
+tpm.refused("With no hmac: BAD_AUTH/s1", tpm.reset(to_pcr).but_entry(1, hmac=b""))
 tpm.accepted("With its hmac", tpm.reset(to_pcr))
 tpm.accepted("It ends", tpm.flush(to_pcr))
 
@@ -176,11 +166,10 @@ tpm.accepted(
 )
 wrong = tpm.random(4, other, unbound, bound)
 tpm.refused(
-    "The third with a wrong hmac",
-    "BAD_AUTH/s3",
+    "The third with a wrong hmac: BAD_AUTH/s3",
     wrong.but_entry(3, hmac=flipped(wrong.entries[2].hmac)),
 )
-tpm.refused("The unbound one with a wrong hmac", "BAD_AUTH/s2", wrong.but_entry(2, hmac=bytes(32)))
+tpm.refused("The unbound one with a wrong hmac: BAD_AUTH/s2", wrong.but_entry(2, hmac=bytes(32)))
 tpm.accepted("The right ones", wrong)
 tpm.accepted(
     "TPM2_PCR_Reset by a password, and two sessions beside it", tpm.reset(b"", other, bound)
@@ -188,7 +177,7 @@ tpm.accepted(
 tpm.accepted(
     "Of three the second ends|and the others stay", tpm.random(2, other, Use(unbound, ENDS), bound)
 )
-tpm.refused("The second again", "REFERENCE_S1", tpm.random(2, other, unbound, bound))
+tpm.refused("The second again: REFERENCE_S1", tpm.random(2, other, unbound, bound))
 tpm.accepted("The others", tpm.random(2, other, bound))
 
 script.chapter("Authorization values with trailing zeros count without them.")
@@ -212,9 +201,9 @@ tpm.accepted("TPM2_PCR_Read of PCR 16", tpm.read_pcr(16))
 tpm.accepted("New random bytes, and so a new nonce", tpm.reset(trailing))
 again = tpm.reset(trailing)
 for what in ("Where they stay the same the nonce does too, and a buffer is accepted again", "", ""):
-    tpm.received(again, script.command(what, "SUCCESS", again.buffer()))
+    tpm.received(again, script.command(f"{what}: SUCCESS", again.buffer()))
 tpm.accepted("Once more, and the random bytes are others", again)
-tpm.refused("So it is not accepted again", "BAD_AUTH/s1", again)
+tpm.refused("So it is not accepted again: BAD_AUTH/s1", again)
 
 script.chapter("The longest response that there is, 601 bytes.")
 tpm.accepted(

@@ -1,4 +1,4 @@
-"""Writes tests/sessions/lost_grounds.tpm: each way in which a ground of tests/sessions/grounds.tpm is lost."""
+"""Writes lost_grounds.tpm: each way in which a ground of tests/sessions/grounds.tpm is lost."""
 
 from tpmsim.caller import BY_OWNER, BY_POLICY, BY_VALUE, HERE, Use, flipped, sealed
 from tpmsim.standard import CC, RH_ENDORSEMENT, RH_LOCKOUT, RH_NULL, RH_OWNER, RH_PLATFORM, SHA1
@@ -33,7 +33,8 @@ AT_LOCALITY_0_OR_1 = 0b11
 
 script = Script(
     "tests/sessions/lost_grounds.tpm",
-    "How the grounds of tests/sessions/grounds.tpm are lost: each way is refused, by G9 where nothing else "
+    "How the grounds of tests/sessions/grounds.tpm are lost: each way is refused, by G9 where "
+    "nothing else "
     "is said, and beside it stands the same with the condition met. How a session itself is lost "
     "shows tests/sessions/replays.tpm.",
 )
@@ -46,12 +47,12 @@ lost = tpm.lost
 
 def wrong_passwords(handle):
     script.chapter("PASSWORDS. The password is not the value. Protected is what has no noDA.")
-    lost("A hierarchy", "BAD_AUTH/s1", tpm.change_auth(RH_OWNER, OWNER, b"other"))
+    lost("A hierarchy: BAD_AUTH/s1", tpm.change_auth(RH_OWNER, OWNER, b"other"))
     tpm.does("By the value", tpm.change_auth(RH_OWNER, OWNER, OWNER))
-    lost("A PCR, whose value is empty", "BAD_AUTH/s1", tpm.reset(b"other"))
+    lost("A PCR, whose value is empty: BAD_AUTH/s1", tpm.reset(b"other"))
     tpm.does("By the empty one", tpm.reset(b""))
     lost(
-        "A protected object: another password, a part of the value, more than it, and none",
+        "A protected object: another password, a part of the value, more than it, and none: "
         "AUTH_FAIL/s1",
         *(tpm.unsealing(handle, it) for it in (b"other", PIN[:-1], PIN + b"1", b"")),
     )
@@ -61,14 +62,14 @@ def wrong_passwords(handle):
         ("An index with NO_DA", BY_VALUE | Attribute.NO_DA, "BAD_AUTH/s1"),
     ):
         index = tpm.index(words, attributes)
-        lost("By another password", outcome, tpm.writing(index, DATA, b"other"))
+        lost(f"By another password: {outcome}", tpm.writing(index, DATA, b"other"))
         tpm.does("By the value", tpm.writing(index, DATA))
 
 
 def value_of_no_use(hmac):
     script.chapter("THE VALUE IS OF NO USE. It is right, in a password and in an HMAC session.")
     closed = tpm.sealed_object("An object without userWithAuth", AFTER_UNSEAL)
-    lost("TPM2_Unseal", "AUTH_UNAVAILABLE", tpm.unsealing(closed, PIN), tpm.unsealing(closed, hmac))
+    lost("TPM2_Unseal: AUTH_UNAVAILABLE", tpm.unsealing(closed, PIN), tpm.unsealing(closed, hmac))
     usable = tpm.sealed_object("The same with userWithAuth", AFTER_UNSEAL, HERE | USER)
     tpm.unseal("TPM2_Unseal by the password", usable, SECRET, PIN)
     tpm.unseal("And by the HMAC session", usable, SECRET, hmac)
@@ -77,8 +78,7 @@ def value_of_no_use(hmac):
         "An index with AUTHWRITE and without AUTHREAD", Attribute.AUTHWRITE | BY_OWNER
     )
     lost(
-        "TPM2_NV_Read",
-        "AUTH_UNAVAILABLE",
+        "TPM2_NV_Read: AUTH_UNAVAILABLE",
         tpm.reading(to_write, 8, PIN),
         tpm.reading(to_write, 8, hmac),
     )
@@ -87,8 +87,7 @@ def value_of_no_use(hmac):
         "One with AUTHREAD and without AUTHWRITE", Attribute.AUTHREAD | BY_OWNER
     )
     lost(
-        "TPM2_NV_Write",
-        "AUTH_UNAVAILABLE",
+        "TPM2_NV_Write: AUTH_UNAVAILABLE",
         tpm.writing(to_read, DATA, PIN),
         tpm.writing(to_read, DATA, hmac),
     )
@@ -97,16 +96,14 @@ def value_of_no_use(hmac):
         "One whose policy is the command TPM2_NV_ChangeAuth", BY_VALUE, after_code(CC.NV_ChangeAuth)
     )
     lost(
-        "TPM2_NV_ChangeAuth, which is in the ADMIN role",
-        "AUTH_UNAVAILABLE",
+        "TPM2_NV_ChangeAuth, which is in the ADMIN role: AUTH_UNAVAILABLE",
         tpm.changing_auth(admin, PIN, PIN),
         tpm.changing_auth(admin, PIN, hmac),
     )
     tpm.does("TPM2_NV_Write, in the USER role", tpm.writing(admin, DATA, PIN))
     tpm.refused_by(
         "A1",
-        "The owner, for this index without OWNERREAD, is refused by the command",
-        "NV_AUTHORIZATION",
+        "The owner, for this index without OWNERREAD, is refused by the command: NV_AUTHORIZATION",
         tpm.reading(admin, 8, by=RH_OWNER),
     )
     tpm.read("And not for one that has it", to_read, DATA, by=RH_OWNER)
@@ -127,7 +124,7 @@ def other_texts(index, unbound):
     script.chapter("AN HMAC. It is of another text: here TPM2_NV_Write of a protected index.")
     old = tpm.writing(index, DATA, unbound)
     tpm.does("Right, and the nonceTPM is new", old)
-    lost("With the nonceTPM of before", "AUTH_FAIL/s1", old)
+    lost("With the nonceTPM of before: AUTH_FAIL/s1", old)
     other = tpm.written_index("Another index, with the same attributes", BY_OWNER | BY_VALUE)
     right = tpm.writing(index, DATA, unbound)
     entry = right.entries[0]
@@ -148,7 +145,7 @@ def other_texts(index, unbound):
         ("Another handle, which has another Name", right.but(handles=[other, other])),
         ("Another command, TPM2_NV_Increment", right.but(code=CC.NV_Increment)),
     ):
-        lost(what, "AUTH_FAIL/s1", *bent)
+        lost(f"{what}: AUTH_FAIL/s1", *bent)
     tpm.does("Right, by the nonceTPM that is the same since the first", right)
 
 
@@ -157,26 +154,25 @@ def other_keys(handle, unbound):
     bound = tpm.start("A session bound to the object", handle)
     other = tpm.start("One bound to TPM_RH_ENDORSEMENT", RH_ENDORSEMENT)
     lost(
-        "Unbound, with another value in the key, and with none",
-        "AUTH_FAIL/s1",
+        "Unbound, with another value in the key, and with none: AUTH_FAIL/s1",
         by_key(b"other", handle, unbound),
         by_key(b"", handle, unbound),
     )
     tpm.unseal("With the value", handle, SECRET, unbound)
     lost(
-        "Bound to the object, with the value in the key all the same, and by another session's key",
-        "AUTH_FAIL/s1",
+        "Bound to the object, with the value in the key all the same, and by another session's "
+        "key: AUTH_FAIL/s1",
         by_key(bound.key + PIN, handle, bound),
         by_key(other.key, handle, bound),
     )
     tpm.unseal("By the session key alone", handle, SECRET, bound)
-    lost("Bound to another, without the value", "AUTH_FAIL/s1", by_key(other.key, handle, other))
+    lost("Bound to another, without the value: AUTH_FAIL/s1", by_key(other.key, handle, other))
     tpm.unseal("With it", handle, SECRET, other)
 
     script.chapter("An empty one, where there is a key.")
     for session, words in ((unbound, "the value"), (bound, "the session key")):
         empty = tpm.unsealing(handle, session).but_entry(1, hmac=b"")
-        lost(f"The key is {words}", "AUTH_FAIL/s1", empty)
+        lost(f"The key is {words}: AUTH_FAIL/s1", empty)
     tpm.flushed(bound, other)
 
 
@@ -185,14 +181,14 @@ def lapsed_bindings():
     bound = tpm.start("A session bound to the owner", RH_OWNER)
     tpm.does("ownerAuth is another", tpm.change_auth(RH_OWNER, b"other", OWNER))
     changing = tpm.change_auth, RH_OWNER, OWNER, bound
-    lost("Without the value in the key", "BAD_AUTH/s1", with_key(bound.key, *changing))
+    lost("Without the value in the key: BAD_AUTH/s1", with_key(bound.key, *changing))
     tpm.does("With it, and ownerAuth is as it was", tpm.change_auth(RH_OWNER, OWNER, bound))
     tpm.does("Without it, as it holds again", tpm.change_auth(RH_OWNER, OWNER, bound))
     index = tpm.index("An index that is not written", BY_VALUE)
     to_index = tpm.start("A session bound to it", index)
     tpm.does("TPM2_NV_Write gives it another Name", tpm.writing(index, DATA))
     writing = tpm.writing, index, DATA, to_index
-    lost("Without the value in the key", "AUTH_FAIL/s1", with_key(to_index.key, *writing))
+    lost("Without the value in the key: AUTH_FAIL/s1", with_key(to_index.key, *writing))
     tpm.does("With it", tpm.writing(index, DATA, to_index))
     tpm.flushed(bound, to_index)
 
@@ -204,7 +200,7 @@ def trial_sessions(handle, session):
     script.chapter("A POLICY. The session is a trial session (condition 1).")
     trial = tpm.trial("It is started")
     tpm.asserts_code(trial)
-    lost("TPM2_Unseal by it", "ATTRIBUTES/s1", tpm.unsealing(handle, trial))
+    lost("TPM2_Unseal by it: ATTRIBUTES/s1", tpm.unsealing(handle, trial))
     tpm.asserts_code(session)
     tpm.unseal("By a policy session", handle, SECRET, session)
     tpm.flushed(trial)
@@ -212,11 +208,10 @@ def trial_sessions(handle, session):
 
 def no_policy(openly, session):
     script.chapter("The entity cannot have a policy (condition 2). No policy is asserted here.")
-    lost("An object with an empty authPolicy", "AUTH_UNAVAILABLE", tpm.unsealing(openly, session))
+    lost("An object with an empty authPolicy: AUTH_UNAVAILABLE", tpm.unsealing(openly, session))
     hierarchies = RH_OWNER, RH_ENDORSEMENT, RH_PLATFORM, RH_LOCKOUT
     lost(
-        "The hierarchies, TPM_RH_NULL and a PCR",
-        "AUTH_UNAVAILABLE",
+        "The hierarchies, TPM_RH_NULL and a PCR: AUTH_UNAVAILABLE",
         *(tpm.change_auth(it, OWNER, session) for it in hierarchies),
         tpm.primary(RH_NULL, sealed(), session, data=SECRET),
         tpm.reset(session),
@@ -234,7 +229,7 @@ def no_policy(openly, session):
             if code == authorized:
                 tpm.does(name, prepare())
             else:
-                lost(name, "AUTH_UNAVAILABLE", prepare())
+                lost(f"{name}: AUTH_UNAVAILABLE", prepare())
 
 
 def extending(pcr, *values):
@@ -256,19 +251,19 @@ def changed_pcrs(session):
     def is_lost(words, write):
         told(words)
         tpm.does("", write)
-        lost("TPM2_Unseal", "PCR_CHANGED", tpm.unsealing(handle, session))
+        lost("TPM2_Unseal: PCR_CHANGED", tpm.unsealing(handle, session))
 
     is_lost("TPM2_PCR_Extend of PCR 16", extending(16, value))
     told("no more")
     other = tpm.unsealing(handle, session)
-    lost("TPM2_Unseal|as the digest is another", "POLICY_FAIL/s1", other)
+    lost("TPM2_Unseal: POLICY_FAIL/s1, as the digest is another", other)
     tpm.does("TPM2_PCR_Reset of PCR 16 makes it zeros", tpm.reset(b""))
     is_lost("TPM2_PCR_Reset of PCR 16, which is zeros already", tpm.reset(b""))
     is_lost("TPM2_PCR_Event of PCR 23, which is not selected", tpm.event(b"event", b"", pcr=23))
     is_lost("TPM2_Clear, which writes none", tpm.clearing(RH_PLATFORM))
     tpm.does('ownerAuth is "owner" again', tpm.change_auth(RH_OWNER, OWNER, b""))
     told("what neither writes one nor clears")
-    tpm.says("", "SUCCESS", extending(16), tpm.event(b"event", b"", pcr=RH_NULL))
+    tpm.says("SUCCESS", extending(16), tpm.event(b"event", b"", pcr=RH_NULL))
     tpm.unseal("TPM2_Unseal", handle, SECRET, session)
 
     script.chapter("And behind TPM2_PolicyOR, which leaves of the branch the condition.")
@@ -277,7 +272,7 @@ def changed_pcrs(session):
     both = tpm.pcrs(session, PCR_16), tpm.branches(session, *branches)
     tpm.asserts("TPM2_PolicyPCR and TPM2_PolicyOR", *both)
     tpm.does("TPM2_PCR_Event of PCR 23", tpm.event(b"event", b"", pcr=23))
-    lost("TPM2_Unseal", "PCR_CHANGED", tpm.unsealing(either, session))
+    lost("TPM2_Unseal: PCR_CHANGED", tpm.unsealing(either, session))
     tpm.asserts("Both from the start", tpm.restart(session), *both)
     tpm.unseal("TPM2_Unseal", either, SECRET, session)
     tpm.flushed(handle, either)
@@ -289,20 +284,20 @@ def other_commands(session):
         "An index whose policy is TPM2_NV_Read", BY_POLICY | BY_OWNER, after_code(CC.NV_Read)
     )
     tpm.asserts_code(session, CC.NV_Read, "TPM2_NV_Read")
-    lost("TPM2_NV_Write", "POLICY_CC/s1", tpm.writing(index, DATA, session))
+    lost("TPM2_NV_Write: POLICY_CC/s1", tpm.writing(index, DATA, session))
     tpm.read("TPM2_NV_Read", index, DATA, session)
 
 
 def admin_role(session):
     script.chapter("The ADMIN role, and no command is recorded (condition 5), or another.")
     index = tpm.index("An index whose authPolicy is 32 zeros", BY_POLICY, ZEROS)
-    lost("TPM2_NV_ChangeAuth", "POLICY_FAIL/s1", tpm.changing_auth(index, PIN, session))
+    lost("TPM2_NV_ChangeAuth: POLICY_FAIL/s1", tpm.changing_auth(index, PIN, session))
     tpm.does("TPM2_NV_Write, in the USER role", tpm.writing(index, DATA, session))
     admin = tpm.index(
         "One whose policy is TPM2_NV_ChangeAuth", BY_POLICY, after_code(CC.NV_ChangeAuth)
     )
     tpm.asserts_code(session, CC.NV_Read, "TPM2_NV_Read")
-    lost("TPM2_NV_ChangeAuth", "POLICY_CC/s1", tpm.changing_auth(admin, PIN, session))
+    lost("TPM2_NV_ChangeAuth: POLICY_CC/s1", tpm.changing_auth(admin, PIN, session))
     tpm.restarts(session)
     tpm.asserts_code(session, CC.NV_ChangeAuth, "TPM2_NV_ChangeAuth")
     tpm.does("TPM2_NV_ChangeAuth", tpm.changing_auth(admin, PIN, session))
@@ -324,12 +319,12 @@ def other_cp_hashes(session):
         tpm.does(f"TPM2_PolicySecret with the cpHash of {words}", told)
 
     asserts("TPM2_NV_Write of the first one", before)
-    lost("Other parameters", "POLICY_FAIL/s1", tpm.writing(first, DATA[::-1], session))
-    lost("Another handle", "POLICY_FAIL/s1", tpm.writing(second, DATA, session))
-    lost("Another command", "POLICY_FAIL/s1", tpm.reading(first, 8, session))
+    lost("Other parameters: POLICY_FAIL/s1", tpm.writing(first, DATA[::-1], session))
+    lost("Another handle: POLICY_FAIL/s1", tpm.writing(second, DATA, session))
+    lost("Another command: POLICY_FAIL/s1", tpm.reading(first, 8, session))
     tpm.does("TPM2_NV_Write of the first one", writing())
     asserts("before", before)
-    lost("The same, of the Name that the first write gave it", "POLICY_FAIL/s1", writing())
+    lost("The same, of the Name that the first write gave it: POLICY_FAIL/s1", writing())
     tpm.restarts(session)
     asserts("now", tpm.cp_hash(writing()))
     tpm.does("TPM2_NV_Write", writing())
@@ -342,10 +337,10 @@ def other_written_values(session):
     handle = tpm.sealed_object("An object with it", unwritten)
     asserts = lambda: tpm.asserts("TPM2_PolicyNvWritten of 0", tpm.written_told(session, False))
     asserts()
-    lost("TPM2_Unseal of the object", "POLICY_FAIL/s1", tpm.unsealing(handle, session))
+    lost("TPM2_Unseal of the object: POLICY_FAIL/s1", tpm.unsealing(handle, session))
     tpm.does("TPM2_NV_Write, the first one", tpm.writing(index, DATA, session))
     asserts()
-    lost("The second one", "POLICY_FAIL/s1", tpm.writing(index, DATA, session))
+    lost("The second one: POLICY_FAIL/s1", tpm.writing(index, DATA, session))
     tpm.restarts(session)
     tpm.flushed(handle)
 
@@ -354,9 +349,9 @@ def other_localities(session):
     script.chapter("The command comes from a locality that is not named (condition 7).")
     handle = tpm.sealed_object("An object whose policy is locality 1", AFTER_LOCALITY_1)
     tpm.asserts("TPM2_PolicyLocality of 1", tpm.locality(session, AT_LOCALITY_1))
-    lost("TPM2_Unseal from locality 0", "LOCALITY", tpm.unsealing(handle, session))
+    lost("TPM2_Unseal from locality 0: LOCALITY", tpm.unsealing(handle, session))
     script.locality_is(2)
-    lost("From locality 2", "LOCALITY", tpm.unsealing(handle, session))
+    lost("From locality 2: LOCALITY", tpm.unsealing(handle, session))
     script.locality_is(1)
     tpm.unseal("From locality 1", handle, SECRET, session)
     script.locality_is(0)
@@ -367,13 +362,13 @@ def other_hashes(handle, session):
     script.chapter("The hash of the session is not the nameAlg of the entity (condition 8).")
     by_sha1 = tpm.policy("A policy session of SHA-1", algorithm=SHA1)
     tpm.asserts_code(by_sha1)
-    lost("The nameAlg is SHA-256", "POLICY_FAIL/s1", tpm.unsealing(handle, by_sha1))
+    lost("The nameAlg is SHA-256: POLICY_FAIL/s1", tpm.unsealing(handle, by_sha1))
     of_sha1 = tpm.sealed_object(
         "An object with nameAlg SHA-1", after_code(CC.Unseal, SHA1), algorithm=SHA1
     )
     tpm.unseal("It is authorized", of_sha1, SECRET, by_sha1)
     tpm.asserts_code(session)
-    lost("And not by a session of SHA-256", "POLICY_FAIL/s1", tpm.unsealing(of_sha1, session))
+    lost("And not by a session of SHA-256: POLICY_FAIL/s1", tpm.unsealing(of_sha1, session))
     tpm.unseal("Which authorizes what has its hash", handle, SECRET, session)
     tpm.flushed(by_sha1, of_sha1)
 
@@ -398,7 +393,7 @@ def other_digests(session):
 
     pcrs, localities = tpm.pcrs(session, PCR_16), tpm.locality(session, AT_LOCALITY_0_OR_1)
     all_localities = tpm.locality(session, ALL_LOCALITIES)
-    lost("Nothing is asserted", "POLICY_FAIL/s1", use())
+    lost("Nothing is asserted: POLICY_FAIL/s1", use())
     for what, *told in (
         (
             "PCR 23 in place of PCR 16, both zeros",
@@ -417,10 +412,10 @@ def other_digests(session):
         ("Just the policy, and TPM2_PolicyRestart", pcrs, localities, secret(), nv(), restart),
     ):
         tpm.asserts(what, restart, *told)
-        lost("TPM2_Unseal", "POLICY_FAIL/s1", use())
+        lost("TPM2_Unseal: POLICY_FAIL/s1", use())
     tpm.asserts("Just the policy", pcrs, localities, secret(), nv())
     tpm.does("TPM2_Unseal", use())
-    lost("Once more|as it has counted for one command", "POLICY_FAIL/s1", use())
+    lost("Once more: POLICY_FAIL/s1, as it has counted for one command", use())
     tpm.flushed(handle)
     return compared
 
@@ -430,14 +425,14 @@ def session_keys(session):
     handle = tpm.sealed_object("An object whose authPolicy is 32 zeros", ZEROS)
     bound = tpm.policy("A policy session bound to TPM_RH_OWNER, which has a key", bind=RH_OWNER)
     right = tpm.unsealing(handle, bound)
-    lost("By no hmac", "BAD_AUTH/s1", right.but_entry(1, hmac=b""))
+    lost("By no hmac: BAD_AUTH/s1", right.but_entry(1, hmac=b""))
     with_value = by_key(bound.key + PIN, handle, bound)
-    lost("With the value of the object in the key", "BAD_AUTH/s1", with_value)
+    lost("With the value of the object in the key: BAD_AUTH/s1", with_value)
     tpm.unseal("By its key", handle, SECRET, bound)
-    lost("With the nonceTPM of before", "BAD_AUTH/s1", right)
+    lost("With the nonceTPM of before: BAD_AUTH/s1", right)
     tpm.unseal("With that of now", handle, SECRET, bound)
     shown = by_key(b"other", handle, session)
-    lost("An unbound session, whose key is empty: by another key", "BAD_AUTH/s1", shown)
+    lost("An unbound session, whose key is empty: by another key: BAD_AUTH/s1", shown)
     tpm.unseal("By none", handle, SECRET, session)
     tpm.flushed(bound)
     return handle
@@ -452,17 +447,17 @@ def demands(session):
     by_value = lambda: tpm.unsealing(handle, Use(session, demand=AUTH_VALUE))
     by_nothing = lambda: tpm.unsealing(handle, Use(session, shows_empty_key=True))
     tpm.asserts_password(session)
-    lost("It is empty", "AUTH_FAIL/s1", by_password().but_entry(1, hmac=b""))
-    lost("It is another value", "AUTH_FAIL/s1", by_password().but_entry(1, hmac=b"other"))
-    lost("It is an hmac, with the value in its key", "AUTH_FAIL/s1", by_value())
+    lost("It is empty: AUTH_FAIL/s1", by_password().but_entry(1, hmac=b""))
+    lost("It is another value: AUTH_FAIL/s1", by_password().but_entry(1, hmac=b"other"))
+    lost("It is an hmac, with the value in its key: AUTH_FAIL/s1", by_value())
     tpm.does("It is the value", by_password())
 
     script.chapter("TPM2_PolicyAuthValue: the value is not in the key of the hmac.")
     tpm.asserts_value(session)
-    lost("There is no hmac", "AUTH_FAIL/s1", by_value().but_entry(1, hmac=b""))
-    lost("The hmac is by the session key alone, which is empty", "AUTH_FAIL/s1", by_nothing())
-    lost("Another value is in the key", "AUTH_FAIL/s1", by_key(b"other", handle, session))
-    lost("The value is there in plain", "AUTH_FAIL/s1", by_password())
+    lost("There is no hmac: AUTH_FAIL/s1", by_value().but_entry(1, hmac=b""))
+    lost("The hmac is by the session key alone, which is empty: AUTH_FAIL/s1", by_nothing())
+    lost("Another value is in the key: AUTH_FAIL/s1", by_key(b"other", handle, session))
+    lost("The value is there in plain: AUTH_FAIL/s1", by_password())
     tpm.does("The value is in the key", by_value())
     return handle
 
@@ -473,13 +468,12 @@ def locked(openly, demanding, undemanding, hmac, session):
     bound = tpm.start("A session bound to the object", openly)
     tpm.set_protection("maxTries is 1, and there were more", 1, 1000, 1)
     lost(
-        "By the password, by an unbound session and by the bound one",
-        "LOCKOUT",
+        "By the password, by an unbound session and by the bound one: LOCKOUT",
         *(tpm.unsealing(openly, it) for it in (PIN, hmac, bound)),
     )
     use = lambda: tpm.unsealing(demanding, Use(session, demand=AUTH_VALUE))
     tpm.asserts_value(session)
-    lost("By a policy that demands the value", "LOCKOUT", use())
+    lost("By a policy that demands the value: LOCKOUT", use())
     tpm.asserts("TPM2_PolicyRestart", tpm.restart(session))
     tpm.unseal("By a policy that demands none", undemanding, SECRET, session)
     tpm.does("TPM2_DictionaryAttackLockReset", tpm.lock_reset())
@@ -502,7 +496,7 @@ def asked_once(session, compared):
     tpm.does("TPM2_PolicyNV", told)
     tpm.does("Other data are written", tpm.writing(compared, DATA[::-1], by=RH_OWNER))
     tpm.unseal("TPM2_Unseal", handle, SECRET, session)
-    tpm.refused_by("A5", "TPM2_PolicyNV once more", "POLICY", told)
+    tpm.refused_by("A5", "TPM2_PolicyNV once more: POLICY", told)
     handle = tpm.sealed_object(
         "An object whose policy is the owner's value", after_secret(name_of(RH_OWNER))
     )
@@ -510,7 +504,7 @@ def asked_once(session, compared):
     tpm.does("TPM2_PolicySecret", told)
     tpm.does("ownerAuth is another", tpm.change_auth(RH_OWNER, b"other", OWNER))
     tpm.unseal("TPM2_Unseal", handle, SECRET, session)
-    lost("TPM2_PolicySecret once more", "BAD_AUTH/s1", told)
+    lost("TPM2_PolicySecret once more: BAD_AUTH/s1", told)
 
 
 script.startup()

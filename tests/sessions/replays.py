@@ -1,4 +1,4 @@
-"""Writes tests/sessions/replays.tpm: commands that were accepted, and are sent again byte for byte."""
+"""Writes replays.tpm: commands that were accepted, and are sent again byte for byte."""
 
 from dataclasses import replace
 
@@ -33,7 +33,7 @@ def with_random(what, seed, prepared):
     """Sends a command that must be accepted, with these random bytes; its answer."""
     script.chapter(f"{what}: SUCCESS.")
     script.entropy(seed)
-    return tpm.received(prepared, script.command("", "SUCCESS", prepared.buffer()))
+    return tpm.received(prepared, script.command("SUCCESS", prepared.buffer()))
 
 
 class Start:
@@ -66,9 +66,9 @@ class Start:
 # Sending again.
 
 
-def again(what, outcome, prepared, check="G9"):
+def again(words, prepared, check="G9"):
     """Sends a command again, which this check must refuse."""
-    tpm.refused_by(check, what, outcome, prepared)
+    tpm.refused_by(check, words, prepared)
 
 
 def accepted_again(what, prepared):
@@ -98,24 +98,24 @@ def protected():
     start = Start("TPM2_StartAuthSession of an HMAC session, bound to nothing")
     session = start.session
     first = accepted("TPM2_NV_Write by it, and it goes on", write(session))
-    again("The same again", "AUTH_FAIL/s1", first)
+    again("The same again: AUTH_FAIL/s1", first)
     tpm.tries_are("That is a failed try", 1)
     tpm.does("A refusal has left the nonce, by which another is accepted", write(session))
     tpm.tries_are("It takes no try away", 1)
-    again("The first again, two nonces later", "AUTH_FAIL/s1", first)
-    again("And once more", "AUTH_FAIL/s1", first)
+    again("The first again, two nonces later: AUTH_FAIL/s1", first)
+    again("And once more: AUTH_FAIL/s1", first)
     tpm.tries_are("Three failed tries, as many as maxTries", 3)
     right = write(session, OTHER_DATA)
-    again("The index is locked: the first again", "LOCKOUT", first)
-    again("And one by the nonce of now", "LOCKOUT", right)
+    again("The index is locked: the first again: LOCKOUT", first)
+    again("And one by the nonce of now: LOCKOUT", right)
     tpm.tries_are("Neither is a try", 3)
     script.wait(RECOVERY)
     tpm.tries_are("recoveryTime later one try is forgiven", 2)
-    again("The first again", "AUTH_FAIL/s1", first)
+    again("The first again: AUTH_FAIL/s1", first)
     tpm.tries_are("It is locked again", 3)
     unlocked()
     tpm.does("What LOCKOUT has refused was no use, and is accepted now", right)
-    again("But not again", "AUTH_FAIL/s1", right)
+    again("But not again: AUTH_FAIL/s1", right)
     unlocked()
     return start, first
 
@@ -132,7 +132,7 @@ def not_counted(session, to_endorsement):
         ),
         ("TPM2_PCR_Event by a session with a key", lambda: tpm.event(b"event", to_endorsement)),
     ):
-        again("The same again", "BAD_AUTH/s1", accepted(what, prepare()))
+        again("The same again: BAD_AUTH/s1", accepted(what, prepare()))
     tpm.tries_are("There is no failed try", 0)
 
 
@@ -140,10 +140,10 @@ def counted_otherwise(session):
     script.chapter("LOCKOUTAUTH. A wrong entry closes it for lockoutRecovery.")
     tpm.does('It is "lockout"', tpm.change_auth(RH_LOCKOUT, LOCKOUT_AUTH, b""))
     first = accepted("TPM2_DictionaryAttackLockReset by the session", tpm.lock_reset(session))
-    again("The same again", "AUTH_FAIL/s1", first)
+    again("The same again: AUTH_FAIL/s1", first)
     tpm.tries_are("It is no failed try", 0)
-    again("But lockoutAuth is closed: the same again", "LOCKOUT", first)
-    again("And the password", "LOCKOUT", tpm.lock_reset())
+    again("But lockoutAuth is closed: the same again: LOCKOUT", first)
+    again("And the password: LOCKOUT", tpm.lock_reset())
     script.wait(RECOVERY)
     tpm.does("lockoutRecovery later, the password", tpm.lock_reset())
 
@@ -153,10 +153,10 @@ def counted_otherwise(session):
     )
     bound = tpm.start("TPM2_StartAuthSession", FIRST)
     first = accepted("TPM2_NV_Write of the index", write(bound))
-    again("The same again", "AUTH_FAIL/s1", first)
+    again("The same again: AUTH_FAIL/s1", first)
     tpm.tries_are("A failed try", 1)
     first = accepted("TPM2_GetRandom, where it authorizes nothing", tpm.random(2, bound))
-    again("The same again", "AUTH_FAIL/s1", first, "G10")
+    again("The same again: AUTH_FAIL/s1", first, "G10")
     tpm.tries_are("A failed try", 2)
     unlocked()
     tpm.flushed(bound)
@@ -189,22 +189,22 @@ def other_places(session, to_endorsement):
             lambda: tpm.reading(FIRST, 8, VALUE, Use(aes, ENCRYPTS)),
         ),
     ):
-        again("The same again", outcome, accepted(what, prepare()), "G10")
+        again(f"The same again: {outcome}", accepted(what, prepare()), "G10")
     decrypting = accepted(
         "TPM2_NV_Write, and the session decrypts",
         tpm.writing(FIRST, OTHER_DATA, VALUE, Use(aes, DECRYPTS)),
     )
     tpm.does("Other data are written", write(VALUE))
-    again("What decrypts again", "BAD_AUTH/s2", decrypting, "G10")
+    again("What decrypts again: BAD_AUTH/s2", decrypting, "G10")
     tpm.read("The data are as they were", FIRST, DATA, VALUE)
     first = accepted("TPM2_GetRandom: the first entry authorizes nothing", tpm.random(2, aes))
-    again("The same again", "BAD_AUTH/s1", first, "G10")
+    again("The same again: BAD_AUTH/s1", first, "G10")
     tpm.tries_are("None of these was a failed try", 0)
     both = accepted(
         "TPM2_NV_Write by a session, and another one decrypts",
         tpm.writing(FIRST, DATA, session, Use(aes, DECRYPTS)),
     )
-    again("The same again|which the first entry refuses", "AUTH_FAIL/s1", both)
+    again("The same again: AUTH_FAIL/s1, which the first entry refuses", both)
     tpm.tries_are("And that is a failed try", 1)
     unlocked()
     tpm.flushed(aes, unbound)
@@ -216,7 +216,7 @@ def compared_with_nothing(session):
     accepted_again("The same again, and PCR 16 is extended twice", first)
     shown = tpm.event(b"event", Use(session, shows_empty_key=True))
     tpm.does("By an hmac of the empty key", shown)
-    again("The same again", "BAD_AUTH/s1", shown)
+    again("The same again: BAD_AUTH/s1", shown)
     by_password = accepted("TPM2_NV_Write by the password", write(VALUE))
     accepted_again("The same again", by_password)
 
@@ -246,9 +246,9 @@ def policy_sessions():
     bound = start.session
     tpm.does("TPM2_NV_Write", write(bound, index=zeros))
     first = accepted("TPM2_NV_Write, now that it is written", write(bound, index=zeros))
-    again("The same again", "BAD_AUTH/s1", first)
+    again("The same again: BAD_AUTH/s1", first)
     tpm.restarts(bound)
-    again("The same again|as TPM2_PolicyRestart gives no nonce back", "BAD_AUTH/s1", first)
+    again("The same again: BAD_AUTH/s1, as TPM2_PolicyRestart gives no nonce back", first)
     unsent = write(bound, index=zeros)
     tpm.restarts(bound)
     tpm.does("It takes none away either: what was not sent yet", unsent)
@@ -259,19 +259,19 @@ def policy_sessions():
     )
     tpm.asserts_value(bound)
     first = accepted("TPM2_NV_Write", write(Use(bound, demand=AUTH_VALUE), index=value))
-    again("The same again|as nothing was told", "POLICY_FAIL/s1", first)
+    again("The same again: POLICY_FAIL/s1, as nothing was told", first)
     tpm.asserts_value(bound)
-    again("The same again", "AUTH_FAIL/s1", first)
+    again("The same again: AUTH_FAIL/s1", first)
     tpm.tries_are("The index is protected: a failed try", 1)
     tpm.restarts(bound)
     tpm.asserts_value(bound)
-    again("And behind TPM2_PolicyRestart", "AUTH_FAIL/s1", first)
+    again("And behind TPM2_PolicyRestart: AUTH_FAIL/s1", first)
     tpm.tries_are("Another one", 2)
     tpm.restarts(bound)
     unlocked()
     tpm.asserts_password(bound)
     first = accepted("TPM2_NV_Write", write(Use(bound, demand=PASSWORD), index=value))
-    again("The same again|as nothing was told", "POLICY_FAIL/s1", first)
+    again("The same again: POLICY_FAIL/s1, as nothing was told", first)
     tpm.asserts_password(bound)
     accepted_again("The same again|as a password has no nonce", first)
 
@@ -292,17 +292,17 @@ def new_starts(start, first):
     )
     session = start.session
     tpm.flushed(session)
-    again("The first TPM2_NV_Write again|as there is no session", "REFERENCE_S0", first, "G8")
+    again("The first TPM2_NV_Write again: REFERENCE_S0, as there is no session", first, "G8")
     start.again()
     accepted_again("The first TPM2_NV_Write again", first)
-    again("And once more", "AUTH_FAIL/s1", first)
+    again("And once more: AUTH_FAIL/s1", first)
     tpm.tries_are("That is a failed try", 1)
 
     tpm.flushed(session)
 
     script.chapter("Other bytes.")
     start.otherwise("With other random bytes", OTHER_SEED)
-    again("The first again", "AUTH_FAIL/s1", first)
+    again("The first again: AUTH_FAIL/s1", first)
     tpm.flushed(session)
     start.otherwise(
         "With another nonceCaller, which is in no key of an unbound session", nonce=tpm.nonce()
@@ -311,26 +311,26 @@ def new_starts(start, first):
     unlocked()
     tpm.flushed(session)
     other = tpm.policy("A policy session is started in its place")
-    again("The first again|as this is no HMAC session", "REFERENCE_S0", first, "G8")
+    again("The first again: REFERENCE_S0, as this is no HMAC session", first, "G8")
     elsewhere = start.sent("The same bytes, which start it in another place", SEED, start.nonce)
     assert replace(elsewhere, handle=session.handle) == start.at_first
-    again("The first again|as its handle is of no session", "REFERENCE_S0", first, "G8")
+    again("The first again: REFERENCE_S0, as its handle is of no session", first, "G8")
     tpm.flushed(other, elsewhere)
 
     script.chapter("A bound session, whose key is of its nonceCaller and of the value.")
     bound = Start("TPM2_StartAuthSession, bound to TPM_RH_OWNER", RH_OWNER)
     event = accepted("TPM2_PCR_Event", tpm.event(b"event", bound.session))
-    again("The same again", "BAD_AUTH/s1", event)
+    again("The same again: BAD_AUTH/s1", event)
     tpm.flushed(bound.session)
     bound.again()
     accepted_again("The same again", event)
     tpm.flushed(bound.session)
     bound.otherwise("With another nonceCaller", nonce=tpm.nonce())
-    again("The same again", "BAD_AUTH/s1", event)
+    again("The same again: BAD_AUTH/s1", event)
     tpm.flushed(bound.session)
     tpm.does("ownerAuth is another", tpm.change_auth(RH_OWNER, b"other", OWNER))
     bound.otherwise("With the same bytes")
-    again("The same again", "BAD_AUTH/s1", event)
+    again("The same again: BAD_AUTH/s1", event)
     tpm.flushed(bound.session)
     tpm.does("ownerAuth is as it was", tpm.change_auth(RH_OWNER, OWNER, b"other"))
     bound.again()
@@ -346,7 +346,7 @@ def new_names(start):
     first = accepted("TPM2_NV_Write", write(start.session, index=index))
     tpm.flushed(start.session)
     start.again()
-    again("The same again", "AUTH_FAIL/s1", first)
+    again("The same again: AUTH_FAIL/s1", first)
     tpm.does("It is undefined", tpm.undefining(index))
     tpm.define("And defined as it was", public, auth=VALUE)
     accepted_again("The same again", first)
@@ -365,10 +365,10 @@ def repeated_nonces(start):
     with_random("Another, by which the nonce becomes what it was", OTHER_SEED, first)
     with_random("The same again", OTHER_SEED, first)
     accepted_again("And once more, with random bytes of its own", first)
-    again("And once more", "AUTH_FAIL/s1", first)
+    again("And once more: AUTH_FAIL/s1", first)
     with_random("TPM2_NV_Write, with the random bytes of before", OTHER_SEED, write(session))
     accepted_again("The same again, of a nonce that was past", first)
-    again("And once more", "AUTH_FAIL/s1", first)
+    again("And once more: AUTH_FAIL/s1", first)
     unlocked()
     tpm.flushed(session)
 
@@ -379,20 +379,20 @@ def power_cycles(start, first):
     told = tpm.policy("A policy session beside it")
     for kind, words in ((CLEAR, "CLEAR"), (STATE, "STATE")):
         accepted_again("The first TPM2_NV_Write of the protected index", first)
-        again("The same again", "AUTH_FAIL/s1", first)
+        again("The same again: AUTH_FAIL/s1", first)
         tpm.does(f"TPM2_Shutdown({words})", tpm.shutting_down(kind))
         script.power()
-        again("The same again|as the device is not started", "INITIALIZE", first, "G5")
+        again("The same again: INITIALIZE, as the device is not started", first, "G5")
         tpm.start_up(f"TPM2_Startup({words})", kind)
-        again("The same again|as the session is gone", "REFERENCE_S0", first, "G8")
+        again("The same again: REFERENCE_S0, as the session is gone", first, "G8")
         tpm.refused_by(
-            "G6", "TPM2_PolicyGetDigest of the policy session", "REFERENCE_H0", tpm.get_digest(told)
+            "G6", "TPM2_PolicyGetDigest of the policy session: REFERENCE_H0", tpm.get_digest(told)
         )
         tpm.tries_are("The failed try is kept, and there is no other", 1)
         unlocked()
         start.again()
     accepted_again("The first TPM2_NV_Write again", first)
-    again("And once more", "AUTH_FAIL/s1", first)
+    again("And once more: AUTH_FAIL/s1", first)
     unlocked()
 
 
@@ -401,10 +401,10 @@ def ended_sessions(start, to_endorsement):
     tpm.flushed(start.session)
     start.again()
     last = accepted("TPM2_NV_Write", write(Use(start.session, ENDS)))
-    again("The same again", "REFERENCE_S0", last, "G8")
+    again("The same again: REFERENCE_S0", last, "G8")
     start.again()
     accepted_again("The same again", last)
-    again("And once more", "REFERENCE_S0", last, "G8")
+    again("And once more: REFERENCE_S0", last, "G8")
     for what, outcome, uses in (
         ("In the second entry", "REFERENCE_S1", [VALUE]),
         ("In the third entry", "REFERENCE_S2", [VALUE, to_endorsement]),
@@ -412,7 +412,7 @@ def ended_sessions(start, to_endorsement):
         start.again()
         uses = [*uses, Use(start.session, ENDS)]
         last = accepted(what, tpm.writing(FIRST, DATA, *uses))
-        again("The same again", outcome, last, "G8")
+        again(f"The same again: {outcome}", last, "G8")
     tpm.tries_are("None of these was a failed try", 0)
 
 
@@ -421,13 +421,13 @@ def refused_before(to_endorsement):
         "WHAT WAS REFUSED can be sent again until it is accepted: a refusal makes no nonce new."
     )
     reset = tpm.reset(to_endorsement, pcr=20)
-    again("TPM2_PCR_Reset of PCR 20 from locality 0", "LOCALITY", reset, "A1")
-    again("The same again", "LOCALITY", reset, "A1")
+    again("TPM2_PCR_Reset of PCR 20 from locality 0: LOCALITY", reset, "A1")
+    again("The same again: LOCALITY", reset, "A1")
     script.locality_is(4)
     accepted_again("The same from locality 4", reset)
-    again("And once more", "BAD_AUTH/s1", reset)
+    again("And once more: BAD_AUTH/s1", reset)
     script.locality_is(0)
-    again("From locality 0", "BAD_AUTH/s1", reset)
+    again("From locality 0: BAD_AUTH/s1", reset)
 
 
 script.startup()

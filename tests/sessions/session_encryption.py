@@ -1,4 +1,4 @@
-"""Writes tests/sessions/session_encryption.tpm: first parameters and first answers that sessions encrypt."""
+"""Writes session_encryption.tpm: first parameters and first answers that sessions encrypt."""
 
 from tpmsim.caller import Use, flipped
 from tpmsim.standard import CC, CONTINUE_SESSION, DECRYPT, ENCRYPT, RH_ENDORSEMENT, RH_OWNER, SHA1
@@ -92,13 +92,13 @@ tpm.accepted(
 )
 with others_are():
     left_out = tpm.change_auth(RH_OWNER, b"owner", session, Use(other, DECRYPTS))
-tpm.refused("Where it is left out", "BAD_AUTH/s1", left_out)
+tpm.refused("Where it is left out: BAD_AUTH/s1", left_out)
 with others_are(other, other):
     twice = tpm.change_auth(RH_OWNER, b"owner", session, Use(other, DECRYPTS))
-tpm.refused("Where it stands twice", "BAD_AUTH/s1", twice)
+tpm.refused("Where it stands twice: BAD_AUTH/s1", twice)
 with others_are(session):
     own = tpm.change_auth(RH_OWNER, b"owner", session, Use(other, DECRYPTS))
-tpm.refused("Where the first entry's own stands in its place", "BAD_AUTH/s1", own)
+tpm.refused("Where the first entry's own stands in its place: BAD_AUTH/s1", own)
 tpm.accepted(
     "As the third entry of three",
     tpm.change_auth(RH_OWNER, b"owner", session, third, Use(other, DECRYPTS)),
@@ -113,13 +113,12 @@ tpm.accepted(
 )
 with others_are(session):
     own = tpm.change_auth(RH_OWNER, b"owner", Use(session, DECRYPTS), other)
-tpm.refused("With its own nonce once more", "BAD_AUTH/s1", own)
+tpm.refused("With its own nonce once more: BAD_AUTH/s1", own)
 right = tpm.event(b"event data", session, Use(other, DECRYPTS), third)
 with others_are(other):
     everywhere = tpm.event(b"event data", session, Use(other, DECRYPTS), third)
 tpm.refused(
-    "The second entry's hmac has no other nonce",
-    "BAD_AUTH/s2",
+    "The second entry's hmac has no other nonce: BAD_AUTH/s2",
     right.but(
         entries=[right.entries[0], everywhere.entries[1], right.entries[2]],
         parameters=right.parameters,
@@ -130,8 +129,7 @@ tpm.accepted(
     "It ends as it decrypts", tpm.change_auth(RH_OWNER, b"owner", session, Use(other, DECRYPT))
 )
 tpm.refused(
-    "And is no more",
-    "REFERENCE_S1",
+    "And is no more: REFERENCE_S1",
     tpm.change_auth(RH_OWNER, b"owner", session, Use(other, DECRYPTS)),
 )
 
@@ -143,8 +141,7 @@ tpm.accepted("The third of three, which ends", tpm.random(32, session, third, Us
 with others_are(third):
     foreign = tpm.random(32, session, Use(third, ENCRYPTS))
 tpm.refused(
-    "No other nonce stands in the first entry's hmac, as it authorizes nothing",
-    "BAD_AUTH/s1",
+    "No other nonce stands in the first entry's hmac, as it authorizes nothing: BAD_AUTH/s1",
     foreign,
 )
 tpm.accepted("Without", tpm.random(32, session, Use(third, ENCRYPTS)))
@@ -175,47 +172,39 @@ def changing(parameters, *uses):
 
 tpm.refused(
     "decrypt, and the first parameter is cut: no size, half of it, or fewer bytes, also where it "
-    "says too many",
-    "INSUFFICIENT/p1",
+    "says too many: INSUFFICIENT/p1",
     *(
         changing(it, Use(session, DECRYPTS))
         for it in (b"", b"\0", b"\0\x01", b"\0\x20" + bytes(31), b"\0\x21" + bytes(32), b"\xff\xff")
     ),
 )
 tpm.refused(
-    "Without decrypt a size that says too many is a fault of its own",
-    "SIZE/p1",
+    "Without decrypt a size that says too many is a fault of its own: SIZE/p1",
     changing(b"\0\x21" + bytes(32), session),
     changing(b"\xff\xff", session),
 )
 tpm.refused(
-    "decrypt, and the first parameter is whole and too long",
-    "SIZE/p1",
+    "decrypt, and the first parameter is whole and too long: SIZE/p1",
     changing(sized(bytes(33)), Use(session, DECRYPTS)),
     changing(sized(b"owner" + bytes(28)), b"owner", Use(session, DECRYPTS)),
     tpm.event(bytes(1025), Use(session, DECRYPTS)),
 )
 tpm.refused(
-    "TPM2_StartAuthSession with 33 bytes",
-    "SIZE/p1",
+    "TPM2_StartAuthSession with 33 bytes: SIZE/p1",
     tpm.prepare(CC.StartAuthSession, *frames.start_auth_session(bytes(33)), Use(session, DECRYPTS)),
 )
 tpm.refused(
-    "A byte behind the first parameter, which is not encrypted",
-    "SIZE",
+    "A byte behind the first parameter, which is not encrypted: SIZE",
     changing(sized(b"owner") + b"\0", Use(session, DECRYPTS)),
 )
 wrong = tpm.change_auth(RH_OWNER, b"owner", Use(session, DECRYPTS))
 tpm.refused(
-    "One bit of the encrypted bytes, which the hmac is of",
-    "BAD_AUTH/s1",
+    "One bit of the encrypted bytes, which the hmac is of: BAD_AUTH/s1",
     wrong.but(parameters=flipped(wrong.parameters)),
 )
-tpm.refused("The same bytes in plain", "BAD_AUTH/s1", wrong.but(parameters=sized(b"owner")))
+tpm.refused("The same bytes in plain: BAD_AUTH/s1", wrong.but(parameters=sized(b"owner")))
 tpm.refused(
-    "The attribute decrypt taken away",
-    "BAD_AUTH/s1",
-    wrong.but_entry(1, attributes=CONTINUE_SESSION),
+    "The attribute decrypt taken away: BAD_AUTH/s1", wrong.but_entry(1, attributes=CONTINUE_SESSION)
 )
 tpm.accepted("The right one, with the nonce that no refusal changed", wrong)
 tpm.accepted('ownerAuth is still "owner"', tpm.change_auth(RH_OWNER, b"owner", b"owner"))

@@ -1,4 +1,4 @@
-"""Writes tests/sessions/callers_in_turn.tpm and two more scripts, of three callers of one device, of
+"""Writes callers_in_turn.tpm and two more scripts, of three callers of one device, of
 which each does one thing: the first measures into PCR 10 and reads it; the second has data unsealed
 by a policy on PCR 10; and the third writes an NV index in an HMAC session, and sends one command
 again. They take turns, or take them the other way round, or come one after another:
@@ -48,7 +48,7 @@ class Stage:
         device.tell = lambda event: None
         answered = device.execute(prepared.buffer(), 0, self.script.random)
         if answered.refused:
-            caller.fails(what, answered.refused, prepared)
+            caller.fails(f"{what}: {answered.refused}", prepared)
             return None
         return caller.does(what, prepared)
 
@@ -59,17 +59,17 @@ def extending(caller, handle):
 
 def measuring(stage, caller):
     """PCR 10 is extended by zeros, and read; and late it is extended again."""
-    caller.says("The first caller extends PCR 10 by zeros", "SUCCESS", extending(caller, 10))
+    caller.says("The first caller extends PCR 10 by zeros: SUCCESS", extending(caller, 10))
     yield
     for _ in range(2):
         reading = caller.prepare(CC.PCR_Read, [], selection(*CHOSEN))
-        response = caller.says("The first caller reads PCR 10", "SUCCESS", reading)
+        response = caller.says("The first caller reads PCR 10: SUCCESS", reading)
         assert response.endswith(stage.history.pcrs.values[SHA256, 10])
         yield
         on_null = "The first caller extends TPM_RH_NULL, which changes nothing"
-        caller.says(on_null, "SUCCESS", extending(caller, RH_NULL))
+        caller.says(f"{on_null}: SUCCESS", extending(caller, RH_NULL))
         yield
-    caller.says("The first caller extends PCR 10 again", "SUCCESS", extending(caller, 10))
+    caller.says("The first caller extends PCR 10 again: SUCCESS", extending(caller, 10))
     yield
 
 
@@ -103,9 +103,9 @@ def replaying(stage, caller):
     writing = caller.writing(index, b"8 bytes.", session)
     caller.does("The third caller writes in the session", writing)
     yield
-    caller.fails("The third caller sends the same buffer again", "AUTH_FAIL/s1", writing)
+    caller.fails("The third caller sends the same buffer again: AUTH_FAIL/s1", writing)
     yield
-    caller.says("The third caller flushes the session", "SUCCESS", caller.flush(session))
+    caller.says("The third caller flushes the session: SUCCESS", caller.flush(session))
     yield
 
 

@@ -1,4 +1,4 @@
-"""Writes tests/sessions/xor_sessions.tpm: sessions that mask, instead of encrypting, by TPM_ALG_XOR.
+"""Writes xor_sessions.tpm: sessions that mask, instead of encrypting, by TPM_ALG_XOR.
 
 Each mask is computed here by hashlib and hmac alone, with nothing of sessions.py: what goes in is
 masked by hand, and what comes back is compared as the bytes that are answered.
@@ -241,7 +241,7 @@ for name, made_by, demand, in_key in (
             data=b"behind a policy",
         ),
     )
-    tpm.says(name, "SUCCESS", made_by(told))
+    tpm.says(f"{name}: SUCCESS", made_by(told))
     masked(
         "TPM2_Unseal: its value is in the key of the mask, whatever the policy demands",
         tpm.unsealing(by_policy, Use(told, ENCRYPTS, demand=demand)),
@@ -278,17 +278,15 @@ def of_size(size):
 LONGEST = COMMAND_BYTES - len(of_size(0))
 assert (LONGEST, len(of_size(LONGEST))) == (4067, 4096)
 for size in (1025, LONGEST):
-    script.command(f"TPM2_PCR_Event of {size:,} bytes", "SIZE/p1", of_size(size), fresh=True)
-script.command("And of one byte more", "COMMAND_SIZE", of_size(LONGEST + 1), fresh=True)
+    script.command(f"TPM2_PCR_Event of {size:,} bytes: SIZE/p1", of_size(size), fresh=True)
+script.command("And of one byte more: COMMAND_SIZE", of_size(LONGEST + 1), fresh=True)
 room = COMMAND_BYTES - len(tpm.event(b"", Use(session, DECRYPTS)).buffer())
 tpm.refused(
-    f"With a nonce and an hmac, of {room:,} bytes",
-    "SIZE/p1",
+    f"With a nonce and an hmac, of {room:,} bytes: SIZE/p1",
     tpm.event(bytes(room), Use(session, DECRYPTS)),
 )
 tpm.refused(
-    "What is cut cannot be unmasked: no size, half of it, and a byte too few",
-    "INSUFFICIENT/p1",
+    "What is cut cannot be unmasked: no size, half of it, and a byte too few: INSUFFICIENT/p1",
     *(
         tpm.prepare(CC.PCR_Event, [16], it, Use(session, DECRYPTS))
         for it in (b"", b"\0", number(21, 2) + bytes(20), number(LONGEST, 2) + bytes(1024))
@@ -298,38 +296,32 @@ masking("Of 1,024 bytes", tpm.event(bytes(1024), Use(session, DECRYPTS)), bytes(
 
 script.chapter("What is refused, with right hmacs.")
 tpm.refused(
-    "TPM_ALG_XOR of SHA-1 for a session of SHA-256",
-    "HASH/p4",
+    "TPM_ALG_XOR of SHA-1 for a session of SHA-256: HASH/p4",
     tpm.prepare(CC.StartAuthSession, *frames.start_auth_session(bytes(16), xor=SHA1)),
 )
 assert script.last.response == bytes.fromhex("80010000000a000004c3")
 right = tpm.event(b"event data", Use(session, DECRYPTS))
 tpm.refused(
-    "One bit of the masked bytes, which the hmac is of",
-    "BAD_AUTH/s1",
+    "One bit of the masked bytes, which the hmac is of: BAD_AUTH/s1",
     right.but(parameters=flipped(right.parameters)),
 )
-tpm.refused("The same bytes in plain", "BAD_AUTH/s1", right.but(parameters=sized(b"event data")))
+tpm.refused("The same bytes in plain: BAD_AUTH/s1", right.but(parameters=sized(b"event data")))
 tpm.refused(
-    "The attribute decrypt taken away",
-    "BAD_AUTH/s1",
-    right.but_entry(1, attributes=CONTINUE_SESSION),
+    "The attribute decrypt taken away: BAD_AUTH/s1", right.but_entry(1, attributes=CONTINUE_SESSION)
 )
 tpm.refused(
-    "A second session that unmasks",
-    "ATTRIBUTES/s2",
+    "A second session that unmasks: ATTRIBUTES/s2",
     tpm.event(b"event data", Use(session, DECRYPTS), Use(other, DECRYPTS)),
 )
 tpm.refused(
-    "decrypt and encrypt where there is no such buffer",
-    "ATTRIBUTES/s1",
+    "decrypt and encrypt where there is no such buffer: ATTRIBUTES/s1",
     tpm.reset(Use(session, DECRYPTS)),
     tpm.reset(Use(session, ENCRYPTS)),
     tpm.event(b"event data", Use(session, ENCRYPTS)),
 )
 masking("No refusal has changed its nonce", right, b"event data")
 plain = tpm.start("A session without a cipher", RH_OWNER)
-tpm.refused("It masks nothing", "SYMMETRIC/s1", tpm.event(b"event data", Use(plain, DECRYPTS)))
+tpm.refused("It masks nothing: SYMMETRIC/s1", tpm.event(b"event data", Use(plain, DECRYPTS)))
 
 script.chapter("The cipher of an object is AES, and no TPM_ALG_XOR.")
 template = storage_key().text
@@ -343,8 +335,7 @@ for words, cipher in (
     text = template.replace(frames.symmetric(aes=True), cipher)
     parameters = frames.creation(frames.sensitive_create(), sized(text))
     tpm.refused(
-        f"A storage key with TPM_ALG_XOR and {words}",
-        "SYMMETRIC/p2",
+        f"A storage key with TPM_ALG_XOR and {words}: SYMMETRIC/p2",
         tpm.prepare(CC.CreatePrimary, [RH_OWNER], parameters, OWNER_AUTH),
     )
 script.write()

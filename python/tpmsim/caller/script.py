@@ -3,6 +3,7 @@
 import hashlib
 import os
 import pathlib
+import re
 import textwrap
 
 from tpmsim.caller.outputs import POWER, Played, Printed, write_outputs
@@ -16,6 +17,21 @@ RANDOM_BYTES = 256
 
 # So many bytes of each command's `entropy` line that no two nonces of a command are the same.
 SEED_BYTES = 7
+
+# An outcome in words: behind a colon, and before what follows a comma.
+SUCCESS = "SUCCESS"
+OUTCOME = re.compile(r"(?:^|: )([A-Z][A-Z0-9_]+)(/[hps][1-9])?(?=,|$)")
+
+
+def told_outcome(words: str) -> tuple[str, str, str]:
+    """The one outcome that words name, and the words before it and behind it. ValueError where they
+    name none, or more than one.
+    """
+    named = [it for it in OUTCOME.finditer(words) if it[1] == SUCCESS or it[1] in frames.CODES]
+    if len(named) != 1:
+        raise ValueError(f"these words name {len(named)} outcomes: {words}")
+    (found,) = named
+    return words[: found.start()], found[1] + (found[2] or ""), words[found.end() :]
 
 
 class Script:
@@ -75,15 +91,16 @@ class Script:
         self.entropy(hashlib.sha256(b"entropy %d" % self.seeds).digest()[:SEED_BYTES])
 
     def command(
-        self, what: str, outcome: str, *buffers: bytes, fresh: bool = False, as_bytes: bool = False
+        self, words: str, *buffers: bytes, fresh: bool = False, as_bytes: bool = False
     ) -> bytes:
-        """Commands that have one outcome, and the last one's response. In the comment the outcome
-        stands behind `what`, or before what follows a `|`; with no words the last comment goes on.
+        """Commands that come to the one outcome which their words name behind a colon, and the last
+        one's response. The words are a comment; where they have the outcome alone, the last comment
+        goes on. ValueError where a command comes to something else.
         """
-        if what:
-            before, bar, after = what.partition("|")
-            number = "" if outcome == "SUCCESS" else f" ({frames.code_of(outcome):03X})"
-            self.chapter(f"{before}: {outcome}{number}{', ' + after if bar else ''}.")
+        before, outcome, after = told_outcome(words)
+        if before:
+            number = "" if outcome == SUCCESS else f" ({frames.code_of(outcome):03X})"
+            self.chapter(f"{before}: {outcome}{number}{after}.")
         if fresh:
             self.fresh()
         for buffer in buffers:
@@ -91,17 +108,15 @@ class Script:
                 self.let_pass(self.pause)
             self.lines.append(line_in_bytes(buffer) if as_bytes else line(buffer))
             answered = self.device.execute(buffer, self.locality, self.random, self.elapsed)
-            refused = answered.refused
-            if (refused or "SUCCESS") != outcome:
-                raise ValueError(f"{self.path.name}, {what}: it is {refused or 'a success'}")
+            if (answered.refused or SUCCESS) != outcome:
+                raise ValueError(f"{self.path.name}, {words}: it is {answered.refused or SUCCESS}")
             self.played.append(Played(answered, self.locality, self.elapsed))
             self.elapsed = 0
         return self.last.response
 
     def startup(self) -> bytes:
-        return self.command(
-            "TPM2_Startup(CLEAR)", "SUCCESS", frames.command(CC.Startup, frames.number(0, 2))
-        )
+        startup = frames.command(CC.Startup, frames.number(0, 2))
+        return self.command("TPM2_Startup(CLEAR): SUCCESS", startup)
 
     def allow_tries(self) -> None:
         """For a script of wrong authorization values that is not about dictionary attack
@@ -109,8 +124,7 @@ class Script:
         """
         self.command(
             "TPM2_DictionaryAttackParameters: maxTries and recoveryTime are 1,000, lockoutRecovery "
-            "is 1, so that the wrong tries of this script do not lock anything",
-            "SUCCESS",
+            "is 1, so that the wrong tries of this script do not lock anything: SUCCESS",
             frames.on_handle(
                 CC.DictionaryAttackParameters,
                 frames.RH_LOCKOUT,

@@ -42,10 +42,10 @@ class Accepted:
     """
 
     code: int
-    handles: list
-    names: list
-    protections: list
-    uses: list
+    handles: list[int]
+    names: list[bytes]
+    protections: list[str | None]
+    uses: list[Use]
     parameters: bytes
     random: bytes
     drawn: int
@@ -80,9 +80,9 @@ class Pcrs:
     the last shutdown found.
     """
 
-    values: dict = field(default_factory=started_values)
+    values: dict[tuple[int, int], bytes] = field(default_factory=started_values)
     updates: int = 0
-    saved: dict = field(default_factory=started_values)
+    saved: dict[tuple[int, int], bytes] = field(default_factory=started_values)
 
     def set(self, bank: int, pcr: int, value: bytes) -> None:
         self.values[bank, pcr] = value
@@ -105,7 +105,7 @@ class Pcrs:
             self.saved = dict(self.values)
         elif it.code == CC.Clear:
             self.updates += 1
-        elif pcr == RH_NULL:
+        elif pcr is None or pcr == RH_NULL:
             pass
         elif it.code == CC.PCR_Extend:
             self.extend(pcr, self.digests(it.read().next()))
@@ -141,7 +141,7 @@ WITHOUT_VALUES = dict.fromkeys(
 
 @dataclass
 class AuthValues:
-    values: dict = field(default_factory=dict)
+    values: dict[int, bytes] = field(default_factory=dict)
 
     def of(self, handle: int) -> bytes:
         return self.values.get(handle, b"")
@@ -177,8 +177,8 @@ def defined_index(it: Accepted) -> int:
 
 @dataclass
 class Counters:
-    values: dict = field(default_factory=dict)
-    all: list = field(default_factory=list)
+    values: dict[int, int] = field(default_factory=dict)
+    all: list[int] = field(default_factory=list)
     largest: int = 0
 
     def command(self, it: Accepted) -> None:
@@ -217,7 +217,7 @@ class Sessions:
     the command.
     """
 
-    live: dict = field(default_factory=dict)
+    live: dict[int, LiveSession] = field(default_factory=dict)
 
     def power_cycle(self) -> None:
         self.live = {}

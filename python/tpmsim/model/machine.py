@@ -513,4 +513,6 @@ class Model(
 
 
 # Each command is the method of its name.
-ROWS: dict[CC, Callable] = {it: getattr(Model, it.method_name) for it in CC}
+ROWS: dict[CC, Callable[[Model, Request], Answer]] = {
+    it: getattr(Model, it.method_name) for it in CC
+}

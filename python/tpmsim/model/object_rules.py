@@ -78,7 +78,7 @@ class Template:
     data: bytes
     public: Public
     outside_info: bytes
-    pcrs: list
+    pcrs: list[tuple[int, list[int]]]
 
     @property
     def sensitive_text(self) -> bytes:

@@ -10,7 +10,6 @@ and what stands on it has no reader of its own and no second file to be shipped 
 from __future__ import annotations
 
 import enum
-import functools
 import re
 from dataclasses import dataclass
 
@@ -247,7 +246,7 @@ class CC(enum.IntEnum):
     def has(self, fact: Fact) -> bool:
         return fact in self.facts
 
-    @functools.cached_property
+    @property
     def authorized(self) -> int:
         """How many of its handles need authorization."""
         return sum(it.is_authorized for it in self.handles)
@@ -256,12 +255,12 @@ class CC(enum.IntEnum):
     def answers_handle(self) -> bool:
         return bool(self.answered_handles)
 
-    @functools.cached_property
+    @property
     def takes_sized(self) -> bool:
         """Whether its first parameter is a sized buffer, which a session can decrypt."""
         return begins_with_buffer(self.parameters)
 
-    @functools.cached_property
+    @property
     def answers_sized(self) -> bool:
         """Whether the first parameter that it answers is one, which a session can encrypt."""
         return begins_with_buffer(self.answered_parameters)

@@ -71,8 +71,9 @@ class Public:
     auth_policy: bytes = b""
     data_size: int = NUMBER_BYTES
 
-    def has(self, attribute: Attribute) -> bool:
-        return bool(self.attributes & attribute)
+    def has(self, attributes: int) -> bool:
+        """Whether it has one of these."""
+        return bool(self.attributes & attributes)
 
     @property
     def kind(self) -> int:

@@ -41,8 +41,9 @@ class Public:
     scheme: int = ALG_NULL
     unique: bytes = b""
 
-    def has(self, attribute: Attribute) -> bool:
-        return bool(self.attributes & attribute)
+    def has(self, attributes: int) -> bool:
+        """Whether it has one of these."""
+        return bool(self.attributes & attributes)
 
     @property
     def text(self) -> bytes:

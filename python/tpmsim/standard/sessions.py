@@ -2,7 +2,7 @@
 
 import hashlib
 import hmac
-from typing import Any, Callable, Iterable
+from typing import Callable, Iterable
 
 from tpmsim.standard import aes
 from tpmsim.standard.aes_tables import encrypt_block
@@ -126,7 +126,7 @@ def decrypted(
     return aes.cfb_decrypt(*key_and_block(algorithm, key, newer, older), data, block_cipher)
 
 
-def on_first_buffer(change: Callable[..., Any], parameters: bytes) -> bytes:
+def on_first_buffer(change: Callable[[bytes], bytes], parameters: bytes) -> bytes:
     """Parameters whose first is a sized buffer, with its bytes changed, and not its size."""
     size = int.from_bytes(parameters[:2], "big")
     return parameters[:2] + change(parameters[2 : 2 + size]) + parameters[2 + size :]
