@@ -15,7 +15,13 @@ BY_CHANCE = {
 }
 
 # Codes that only other TPMs answer.
-OTHER_CODES = {0x081: "ASYMMETRIC", 0x09B: "ECC_POINT", 0x0A3: "EXPIRED", 0x103: "SEQUENCE"}
+OTHER_CODES = {
+    0x124: "AUTH_TYPE",
+    0x081: "ASYMMETRIC",
+    0x09B: "ECC_POINT",
+    0x0A3: "EXPIRED",
+    0x103: "SEQUENCE",
+}
 
 
 @dataclass(frozen=True)

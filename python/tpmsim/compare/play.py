@@ -6,14 +6,17 @@ from tpmsim.compare.differences import Difference, between, code_word
 from tpmsim.compare.reference import Received, Reference, parsed
 from tpmsim.compare.translation import NotComparable, Translation
 from tpmsim.caller.entries import Prepared
-from tpmsim.device.base import Executed, Transport, Unsupported
+from tpmsim.device import FileDevice, SimulatorDevice, Transport, Unsupported
+from tpmsim.device.base import Executed
+from tpmsim.device.told import MOST_MILLISECONDS
 from tpmsim.model.general import Command
 from tpmsim.model.player import Player
 from tpmsim.standard import frames
 from tpmsim.standard.commands import CC, NUMBERED
-from tpmsim.standard.frames import CONTINUE_SESSION, NV, PERSISTENT, POLICY_SESSION, SHA1
+from tpmsim.standard.frames import COMMAND_BYTES, CONTINUE_SESSION, Entry, HEADER_BYTES, NV
+from tpmsim.standard.frames import PERSISTENT, POLICY_SESSION, SHA1
 from tpmsim.standard.frames import SHA256, TRANSIENT
-from tpmsim.standard.handle_kinds import is_session
+from tpmsim.standard.handle_kinds import is_policy, is_session
 from tpmsim.standard.values import read_all
 
 # What a command changes beside its handles, so that a later difference follows from it.
@@ -71,7 +74,7 @@ class Comparison:
         self.translation = Translation(self.here)
         self.player = Player()
         self.causes: dict[object, int] = {}
-        self.line, self.locality = 0, 0
+        self.line, self.locality, self.waited = 0, 0, 0
 
     # Lines.
 
@@ -87,10 +90,21 @@ class Comparison:
                 self.power()
             else:
                 self.player.play(text)
-                if word == b"wait" and self.player.elapsed >= LEAST_WAIT:
-                    self.causes.setdefault(GUESSES, self.line)
+                if word == b"wait":
+                    self.waited += int(argument)
         self.state()
         return self.report
+
+    def send(self, buffer: bytes) -> bytes:
+        """Where the other TPM has the host's time, guesses are forgotten here alone."""
+        waited, self.waited = min(self.waited, MOST_MILLISECONDS), 0
+        try:
+            if waited:
+                self.other.wait(waited)
+        except Unsupported:
+            if waited >= LEAST_WAIT:
+                self.causes.setdefault(GUESSES, self.line)
+        return self.other.execute(buffer).response
 
     def power(self) -> None:
         self.here.power_cycle()
@@ -103,22 +117,37 @@ class Comparison:
         try:
             prepared = self.translation.command(buffer)
             self.be_at(self.player.locality)
+            sent = prepared.buffer() if isinstance(prepared, Prepared) else prepared
+            if not self.can_be_sent(sent):
+                raise Unsupported("the channel there ends a command by the size that it says")
         except NotComparable as why:
-            self.report.not_comparable.append((self.line, why.words, why.line))
-            self.lose(asked, self.execute(buffer), why.line)
+            self.skip(asked, self.execute(buffer), why.words, why.line)
             return
         except Unsupported as why:
-            self.report.not_comparable.append((self.line, str(why), self.line))
-            self.lose(asked, self.execute(buffer), self.line)
+            self.skip(asked, self.execute(buffer), str(why), self.line)
             return
-        sent = prepared.buffer() if isinstance(prepared, Prepared) else prepared
-        response = self.other.execute(sent).response
+        is_made_elsewhere = asked is not None and self.translation.is_made_elsewhere(asked)
+        response = self.send(sent)
         session = self.here.encrypting(asked) if asked else None
         event = self.execute(buffer)
-        here = Received()
-        if asked and not any(event.response[6:10]):
+        is_done, here = not any(event.response[6:10]), Received()
+        if is_done and is_made_elsewhere and any(response[6:10]):
+            self.skip(asked, event, "a private area that was not answered", self.line)
+            return
+        if is_done and asked:
             here = self.here.received(asked, event.response, session)
         self.compare(asked, prepared, here, event, response)
+
+    def skip(self, asked: Command | None, event: Executed, words: str, line: int) -> None:
+        """What cannot be compared was executed here alone."""
+        self.report.not_comparable.append((self.line, words, line))
+        self.lose(asked, event, line)
+
+    def can_be_sent(self, buffer: bytes) -> bool:
+        """A stream has no end of a command but its size; Microsoft's protocol and a file have."""
+        if isinstance(self.other, (FileDevice, SimulatorDevice)):
+            return True
+        return HEADER_BYTES <= len(buffer) == int.from_bytes(buffer[2:6], "big") <= COMMAND_BYTES
 
     def be_at(self, locality: int) -> None:
         if locality != self.locality:
@@ -204,9 +233,21 @@ class Comparison:
         elif asked.code == CC.EvictControl:
             kept = [it for it in self.here.model.objects if it >> 24 == PERSISTENT]
             lost.update({it: line for it in kept if it not in self.known()})
-        for _, entry, _ in asked.places():
-            if is_session(entry.handle) and not entry.attributes & CONTINUE_SESSION:
-                self.flush(self.translation.handles.pop(entry.handle, None))
+        if asked.handles and is_policy(asked.handles[-1]):
+            self.translation.tied[asked.handles[-1]] = line
+        for _, entry, handle in asked.places():
+            if is_session(entry.handle):
+                self.keep_step(entry, handle)
+
+    def keep_step(self, entry: Entry, handle: int | None) -> None:
+        """A session that was used here alone ends there too, or has its starting state there too."""
+        handles = self.translation.handles
+        if not entry.attributes & CONTINUE_SESSION:
+            self.flush(handles.pop(entry.handle, None))
+        elif handle is not None and is_policy(entry.handle) and entry.handle in handles:
+            restart = frames.number(handles[entry.handle], 4)
+            self.other.execute(frames.command(CC.PolicyRestart, restart))
+            self.translation.untie(entry.handle)
 
     def known(self) -> set[int]:
         return {*self.translation.known.names, *self.translation.lost}

@@ -33,7 +33,7 @@ def parsed(buffer: bytes) -> Command | None:
             entries.append(Entry(area.number(4), area.sized(), area.number(1), area.sized()))
     except Short:
         return None
-    return Command(code, handles, entries, fields.data)
+    return Command(code, handles, entries, fields.data) if entries else None
 
 
 @dataclass(frozen=True)

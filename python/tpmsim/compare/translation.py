@@ -16,6 +16,8 @@ from tpmsim.standard.values import VALUES, read_all
 # A value that is shorter could stand in a command by chance.
 LEAST_VALUE = 8
 
+TIED = "a Name of an object is in its policy"
+
 
 class NotComparable(Exception):
     """Why a command cannot be made anew, in words, and the line of the script that it comes of."""
@@ -36,11 +38,12 @@ class Translation:
         self.values: dict[bytes, bytes] = {}
         self.private_auths: dict[bytes, bytes] = {}
         self.tied: dict[int, int] = {}
+        self.hashed: dict[int, int] = {}
 
     def power_cycle(self) -> None:
         for handle in [it for it in self.handles if is_session(it) or first_byte(it) == 0x80]:
             del self.handles[handle]
-        self.sessions, self.tied = {}, {}
+        self.sessions, self.tied, self.hashed = {}, {}, {}
         self.lost = {it: line for it, line in self.lost.items() if first_byte(it) in (1, 0x81)}
 
     # Commands.
@@ -56,7 +59,10 @@ class Translation:
         if asked is None:
             return buffer
         handles = [self.handle(it) for it in asked.handles]
+        if asked.code == CC.PolicyGetDigest and asked.handles[0] in self.tied:
+            raise NotComparable(TIED, self.tied[asked.handles[0]])
         parameters = self.parameters(asked, self.here.plain(asked))
+        self.check_hashed(asked, handles, parameters)
         uses = [self.use(asked, *it) for it in asked.places()]
         prepared = Prepared(asked.code, handles, parameters, uses, [])
         for place, use in enumerate(uses, 1):
@@ -66,6 +72,24 @@ class Translation:
                     prepared.parameters = self.known.encrypted(use, handle, parameters)
         prepared.entries = [self.entry(asked, prepared, *it) for it in asked.places()]
         return prepared
+
+    def check_hashed(self, asked: Command, handles: list[int], parameters: bytes) -> None:
+        """A cpHash names this command alone, and another one where Names or parameters differ."""
+        names = [self.known.name(it) for it in handles]
+        if (names, parameters) == (self.here.model.names(asked), asked.parameters):
+            return
+        for _, entry, handle in asked.places():
+            if entry.handle in self.hashed and handle is not None:
+                raise NotComparable(TIED, self.hashed[entry.handle])
+
+    def is_made_elsewhere(self, asked: Command) -> bool:
+        """Whether a command loads what no answer was: the script has it of the device's own seeds."""
+        if asked.code != CC.Load:
+            return False
+        try:
+            return Fields(self.here.plain(asked)).sized() not in self.values
+        except Short:
+            return False
 
     @staticmethod
     def has_buffer(parameters: bytes) -> bool:
@@ -78,8 +102,10 @@ class Translation:
         if session is None or entry.handle not in self.here.model.sessions:
             return entry.hmac
         if entry.handle in self.tied and handle is not None:
-            raise NotComparable("a Name of an object is in its policy", self.tied[entry.handle])
-        demand = self.here.model.sessions[entry.handle].policy.demand
+            raise NotComparable(TIED, self.tied[entry.handle])
+        demand = None
+        if handle is not None:
+            demand = self.here.model.sessions[entry.handle].policy.demand
         return Use(session, entry.attributes, entry.nonce, demand=demand)
 
     def entry(
@@ -164,7 +190,10 @@ class Translation:
             except WrongResponse as words:
                 wrong.append(str(words))
         parameters = self.known.plain_answer(prepared, parameters)
-        self.known.note_answer(prepared, request, handle, parameters)
+        try:
+            self.known.note_answer(prepared, request, handle, parameters)
+        except KeyError:
+            pass  # a Name by a hash algorithm that there is only there
         answer.fields = read_all(prepared.code.answered_parameters, parameters)
         answer.wrong = "; ".join(wrong) or None
         self.note_auth(prepared, request, answer)
@@ -202,7 +231,7 @@ class Translation:
         self.end_sessions(asked)
 
     def start(self, prepared: Prepared, there: Received) -> None:
-        asked = read_all(CC.StartAuthSession.parameters, prepared.parameters)
+        asked = read_all(CC.StartAuthSession.parameters, there.request)
         answer = there.handle, frames.sized(there.fields["nonceTPM"])
         session = self.known.started(
             *(answer, asked["nonceCaller"], prepared.handles[1], asked["authHash"]),
@@ -214,17 +243,23 @@ class Translation:
         """A policy in which a Name stands that the other TPM's things do not have, or a cpHash."""
         session = asked.handles[-1]
         if asked.code == CC.PolicyRestart:
-            self.tied.pop(session, None)
+            self.untie(session)
         names = [self.here.model.name(it) for it in asked.handles[:-1]]
-        others = [self.known.name(it) for it in prepared.handles[:-1]]
-        if names != others or read_all(asked.code.parameters, there.request).get("cpHashA"):
+        if names != [self.known.name(it) for it in prepared.handles[:-1]]:
             self.tied[session] = line
+        elif read_all(asked.code.parameters, there.request).get("cpHashA"):
+            self.hashed[session] = line
+
+    def untie(self, session: int) -> None:
+        """What a policy session was told counts no more."""
+        self.tied.pop(session, None)
+        self.hashed.pop(session, None)
 
     def undefining(self, there: Received) -> bytes:
         """The command that takes away what TPM2_NV_DefineSpace defined there."""
         fields = Fields(there.request)
         fields.sized()
-        index = nv.Public.read(fields.sized()).index
+        index = int.from_bytes(fields.sized()[:4], "big")
         self.known.forget(index)
         return frames.on_handles(CC.NV_UndefineSpace, [frames.RH_OWNER, index])
 
@@ -235,4 +270,4 @@ class Translation:
             if not entry.attributes & CONTINUE_SESSION:
                 self.sessions.pop(self.handles.pop(entry.handle, 0), None)
             elif handle is not None:
-                self.tied.pop(entry.handle, None)
+                self.untie(entry.handle)
