@@ -181,12 +181,13 @@ class Devices(unittest.TestCase):
             device.execute(bytes(40_000))
 
     def test_readme(self):
-        """Its first lines run, and print what they say."""
-        printed, code = io.StringIO(), (PACKAGE / "README.md").read_text("utf-8").split("```")[1]
+        """Its examples run, and print what they say."""
+        printed, codes = io.StringIO(), (PACKAGE / "README.md").read_text("utf-8").split("```")
         with contextlib.redirect_stdout(printed):
-            exec(code.removeprefix("python"), {})
-        random, refused = printed.getvalue().splitlines()
-        self.assertEqual((len(random), refused), (8, "POLICY_FAIL s1 G9"))
+            for code in (codes[1], codes[3]):
+                exec(code.removeprefix("python"), {})
+        random, other, refused = printed.getvalue().splitlines()
+        self.assertEqual((len(random), len(other), refused), (8, 8, "POLICY_FAIL s1 G9"))
 
 
 class Documented(unittest.TestCase):

@@ -34,7 +34,7 @@ CAUSES = (
         "it is taken, and its HMAC is compared",
     ),
     Cause(
-        "The update counter: it starts at 20 there, and PCR 16 and 23 do not count",
+        "The update counter: it starts at 20 there, and what is written to PCR 16 does not count",
         r"pcrUpdateCounter|code PCR_CHANGED success",
         "Part 3, 22.4 and 23.7",
         f"it counts every bank value that is written ({DECISIONS})",
@@ -88,6 +88,12 @@ CAUSES = (
         "a refused command changes nothing of it",
     ),
     Cause(
+        "PCR 0 begins with the locality of TPM2_Startup",
+        r"pcrValues 0+ 0+[1-4]$",
+        "Part 3, 9.3",
+        "every PCR below 17 begins as zeros",
+    ),
+    Cause(
         "A handle of nothing: VALUE or HANDLE there",
         r" code (REFERENCE_H\d|HANDLE/h\d|HANDLE/p\d) ",
         "Part 3, 5.4",
@@ -119,7 +125,7 @@ CAUSES = (
         "TPM2_GetCapability: other properties, attributes of commands and capabilities",
         r"^GetCapability |^the state, by GetCapability capabilityData Capability\(capability=6",
         "Part 3, 30.2",
-        "what [the table](table/general.md) lists",
+        "what [the table](table/capabilities.md) lists",
     ),
     Cause(
         "The clock is not safe behind a power cycle without TPM2_Shutdown",
