@@ -42,7 +42,7 @@ CAUSES = (
     Cause(
         "The localities of PCR 17 to 22, and of TPM2_Startup(STATE)",
         r"^(PCR_Extend|PCR_Reset|Startup) code (success LOCALITY|LOCALITY success)",
-        "Part 1, 17.9; Part 3, 9.3",
+        "Part 1, 17; Part 3, 9.3",
         "those of [the table](table/pcrs.md); a start is taken from each locality",
     ),
     Cause(
@@ -60,13 +60,13 @@ CAUSES = (
     Cause(
         "How many indices and persistent objects there are, and how large",
         r"^(NV_DefineSpace|EvictControl) code (NV_SPACE success|success (NV_SPACE|SIZE/p2))",
-        "Part 1, 37.2",
+        "Part 1, 37",
         "[the limits of the table](table/nv.md)",
     ),
     Cause(
         "The private area and tickets are made by SHA-512 there, and sizes follow",
         r"outPrivate|Ticket ",
-        "Part 1, 27.3",
+        "Part 1, 27",
         "SHA-256, the longest digest here",
     ),
     Cause(
@@ -103,7 +103,7 @@ CAUSES = (
         "A power cycle without TPM2_Shutdown counts as a failed try there, where a protected value was"
         " used before it",
         r" code success LOCKOUT$",
-        "Part 1, 19.8",
+        "Part 1, 19; Part 3, 25",
         "wrong entries count, and nothing else",
     ),
     Cause(
@@ -130,7 +130,7 @@ CAUSES = (
     Cause(
         "The clock is not safe behind a power cycle without TPM2_Shutdown",
         r"currentTime ",
-        "Part 1, 36.3",
+        "Part 1, 36",
         "it is kept at each change, and always safe",
     ),
     Cause("Commands that are served there alone", r"code COMMAND_CODE ", "Part 3", MISSING),
