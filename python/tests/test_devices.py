@@ -147,7 +147,12 @@ class Devices(unittest.TestCase):
             tpm = Caller(device)
             tpm.start_up()
             tpm.send(tpm.change_auth(RH_OWNER, b"owner", b""))
-            self.assertEqual(device.save(), path.read_bytes())
+            kept = path.read_bytes()
+            self.assertEqual(device.save(), kept)
+            device.wait(5)
+            tpm.call("ReadClock")
+            self.assertEqual(path.read_bytes(), kept, "the clock alone is saved at the end")
+        self.assertNotEqual(path.read_bytes(), kept)
         with Device(path) as device:
             Caller(device).start_up()
             with self.assertRaises(Refused):
