@@ -17,7 +17,11 @@ from tpmsim.caller import Caller, Refused
 from tpmsim.device import BadImage, ChildDevice, Device, DeviceEnded, LibraryDevice, ModelDevice
 from tpmsim.device import ServedDevice, SimulatorDevice, StartedSwtpm, Unsupported
 from tpmsim.device.child import program_found
+from tpmsim.device.image_file import but_clock
+from tpmsim.model.image import image
+from tpmsim.model.machine import Model
 from tpmsim.model.player import played
+from tpmsim.model.protection import Lockout
 from tpmsim.standard import RH_OWNER
 from programs import running, simulator
 from twenty import TwentyTests
@@ -126,7 +130,6 @@ class OverSwtpm(TwentyTests, unittest.TestCase):
 
     # A session that neither authorizes nor encrypts is refused there: ATTRIBUTES/s1.
     test_end_of_a_session = differs(TwentyTests.test_end_of_a_session)
-    test_snapshot = differs(TwentyTests.test_snapshot)
     test_wrong_hmac_of_a_response = differs(TwentyTests.test_wrong_hmac_of_a_response)
 
     # TPM2_PCR_Event answers digests of all banks there, also of those without PCRs.
@@ -158,6 +161,17 @@ class Devices(unittest.TestCase):
             with self.assertRaises(Refused):
                 tpm.device = device
                 tpm.send(tpm.change_auth(RH_OWNER, b"", b""))
+
+    def test_image_but_its_clock(self):
+        model = Model()
+        model.auth_values[RH_OWNER] = b"owner"
+        before = but_clock(image(model))
+        model.clock = 2**64 - 1
+        self.assertEqual(but_clock(image(model)), before)
+        for change in {"reset_count": 2**31}, {"lockout": Lockout(is_closed=True)}:
+            vars(model).update(change)
+            self.assertNotEqual(but_clock(image(model)), before)
+            before = but_clock(image(model))
 
     def test_image_of_one_device(self):
         """A file is one device's at a time, and what is no image stays as it is."""
