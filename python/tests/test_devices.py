@@ -17,7 +17,11 @@ from tpmsim.caller import Caller, Refused
 from tpmsim.device import BadImage, ChildDevice, Device, DeviceEnded, LibraryDevice, ModelDevice
 from tpmsim.device import ServedDevice, SimulatorDevice, StartedSwtpm, Unsupported
 from tpmsim.device.child import program_found
+from tpmsim.device.image_file import but_clock
+from tpmsim.model.image import image
+from tpmsim.model.machine import Model
 from tpmsim.model.player import played
+from tpmsim.model.protection import Lockout
 from tpmsim.standard import RH_OWNER
 from programs import running, simulator
 from twenty import TwentyTests
@@ -126,7 +130,6 @@ class OverSwtpm(TwentyTests, unittest.TestCase):
 
     # A session that neither authorizes nor encrypts is refused there: ATTRIBUTES/s1.
     test_end_of_a_session = differs(TwentyTests.test_end_of_a_session)
-    test_snapshot = differs(TwentyTests.test_snapshot)
     test_wrong_hmac_of_a_response = differs(TwentyTests.test_wrong_hmac_of_a_response)
 
     # TPM2_PCR_Event answers digests of all banks there, also of those without PCRs.
@@ -147,12 +150,28 @@ class Devices(unittest.TestCase):
             tpm = Caller(device)
             tpm.start_up()
             tpm.send(tpm.change_auth(RH_OWNER, b"owner", b""))
-            self.assertEqual(device.save(), path.read_bytes())
+            kept = path.read_bytes()
+            self.assertEqual(device.save(), kept)
+            device.wait(5)
+            tpm.call("ReadClock")
+            self.assertEqual(path.read_bytes(), kept, "the clock alone is saved at the end")
+        self.assertNotEqual(path.read_bytes(), kept)
         with Device(path) as device:
             Caller(device).start_up()
             with self.assertRaises(Refused):
                 tpm.device = device
                 tpm.send(tpm.change_auth(RH_OWNER, b"", b""))
+
+    def test_image_but_its_clock(self):
+        model = Model()
+        model.auth_values[RH_OWNER] = b"owner"
+        before = but_clock(image(model))
+        model.clock = 2**64 - 1
+        self.assertEqual(but_clock(image(model)), before)
+        for change in {"reset_count": 2**31}, {"lockout": Lockout(is_closed=True)}:
+            vars(model).update(change)
+            self.assertNotEqual(but_clock(image(model)), before)
+            before = but_clock(image(model))
 
     def test_image_of_one_device(self):
         """A file is one device's at a time, and what is no image stays as it is."""
@@ -181,12 +200,13 @@ class Devices(unittest.TestCase):
             device.execute(bytes(40_000))
 
     def test_readme(self):
-        """Its first lines run, and print what they say."""
-        printed, code = io.StringIO(), (PACKAGE / "README.md").read_text("utf-8").split("```")[1]
+        """Its examples run, and print what they say."""
+        printed, codes = io.StringIO(), (PACKAGE / "README.md").read_text("utf-8").split("```")
         with contextlib.redirect_stdout(printed):
-            exec(code.removeprefix("python"), {})
-        random, refused = printed.getvalue().splitlines()
-        self.assertEqual((len(random), refused), (8, "POLICY_FAIL s1 G9"))
+            for code in (codes[1], codes[3]):
+                exec(code.removeprefix("python"), {})
+        random, other, refused = printed.getvalue().splitlines()
+        self.assertEqual((len(random), len(other), refused), (8, 8, "POLICY_FAIL s1 G9"))
 
 
 class Documented(unittest.TestCase):

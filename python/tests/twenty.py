@@ -167,12 +167,13 @@ class TwentyTests:
 
     def test_snapshot(self):
         """Sessions and objects come back, with their nonces, however often."""
-        handle, session = self.tpm.create_primary(sealed(), data=b"data"), self.tpm.session()
+        handle = self.tpm.create_primary(sealed(), data=b"data")
+        session = self.tpm.session(RH_OWNER)
         nonce, before = session.nonce_tpm, self.tpm.device.snapshot()
         for _ in range(2):
             session.nonce_tpm = nonce
-            self.tpm.call("GetRandom", uses=[session], bytesRequested=1)
-            self.assertEqual(self.tpm.send(self.tpm.unsealing(handle))["outData"], b"data")
+            unsealed = self.tpm.send(self.tpm.unsealing(handle, session))
+            self.assertEqual(unsealed["outData"], b"data")
             self.tpm.device.power_cycle()
             self.tpm.device.restore(before)
 
