@@ -14,7 +14,7 @@
 #
 # NAME.tpm is run as `PROGRAM run NAME.tpm`, or as `tpmsim_lists <NAME.tpm`, and NAME.sh as `sh
 # NAME.sh PROGRAM`. A shell test whose name begins with lists_ is run with tpmsim_lists alone, one
-# whose name begins with library_, attached_ or swtpm_ with dist/libtpmsim.a, and all others with the
+# whose name begins with library_ or attached_ with dist/libtpmsim.a, and all others with the
 # other programs.
 # NAME.out is what standard output must be, NAME.err what standard error must be (no file: empty),
 # and NAME.status the exit status (no file: 0). Where there is a NAME.trace, NAME.tpm is run as
@@ -92,7 +92,7 @@ done
 # is_of_library TEST: whether it is a test of the library, or of what is attached by it.
 is_of_library() {
     case $1 in
-    */library_*.sh | */attached_*.sh | */swtpm_*.sh) true ;;
+    */library_*.sh | */attached_*.sh) true ;;
     *) false ;;
     esac
 }
