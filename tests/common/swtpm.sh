@@ -7,7 +7,7 @@ echo '#include <libtpms/tpm_library.h>' | cc -E - >"$room/found" 2>&1 ||
     skip 'there is no libtpms/tpm_library.h (Debian: libtpms-dev)'
 TPMSIM_ARCHIVE=$(readlink -f "$program")
 export TPMSIM_ARCHIVE
-unset TPMSIM_COMPLETE CFLAGS
+unset CFLAGS
 assemble=$tests/../dist/tpmsim
 sanitizers='-g -fsanitize=address,undefined -fno-sanitize-recover=all'
 

@@ -1,6 +1,6 @@
 # The words by which a device is attached, each right one and wrong ones: attached/ask.c is the
 # caller.
-tests=$(cd "$(dirname "$0")" && pwd -P)
+tests=$(cd "$(dirname "$0")/.." && pwd -P)
 . "$tests/common/cases.sh"
 . "$tests/common/library.sh"
 . "$tests/common/attached.sh"

@@ -8,7 +8,7 @@ if [ -z "${own_mounts:-}" ]; then
             own_mounts=yes exec unshare $user --mount sh "$0" "$@"
     done
 fi
-tests=$(cd "$(dirname "$0")" && pwd -P)
+tests=$(cd "$(dirname "$0")/.." && pwd -P)
 . "$tests/common/cases.sh"
 . "$tests/common/library.sh"
 . "$tests/common/attached.sh"

@@ -1,7 +1,7 @@
 # The states of libtpms.so.0 in the hands of a caller in swtpm's place: a device that goes on in another
 # process, the journal in its volatile state, states of other devices, and states with each byte turned,
 # cut, or set at the wrong time. swtpm/caller.c is the caller.
-tests=$(cd "$(dirname "$0")" && pwd -P)
+tests=$(cd "$(dirname "$0")/.." && pwd -P)
 . "$tests/common/cases.sh"
 . "$tests/common/swtpm.sh"
 one=0000000000000000000000000000000000000000000000000000000000000001

@@ -1,5 +1,5 @@
 # The sentences and the words of docs/ATTACHED.md are those of the sources.
-tests=$(cd "$(dirname "$0")" && pwd -P)
+tests=$(cd "$(dirname "$0")/.." && pwd -P)
 . "$tests/common/cases.sh"
 page=$tests/../docs/ATTACHED.md
 attached=$tests/../attached

@@ -1,6 +1,6 @@
 # The journal of a kept device is a script: `tpmsim run` answers by it what the device answered, on
 # the image in its second line. attached/ask.c is the caller.
-tests=$(cd "$(dirname "$0")" && pwd -P)
+tests=$(cd "$(dirname "$0")/.." && pwd -P)
 . "$tests/common/cases.sh"
 . "$tests/common/library.sh"
 . "$tests/common/attached.sh"

@@ -1,6 +1,6 @@
 # What may stand at the paths of a kept device, and what is refused: links, pipes, folders and
 # sockets. Nothing of it is changed. attached/ask.c is the caller.
-tests=$(cd "$(dirname "$0")" && pwd -P)
+tests=$(cd "$(dirname "$0")/.." && pwd -P)
 . "$tests/common/cases.sh"
 . "$tests/common/library.sh"
 . "$tests/common/attached.sh"

@@ -1,6 +1,6 @@
 # What tools/attached.sh makes: the same bytes each time, with two names that are seen, and a line
 # where something is missing.
-tests=$(cd "$(dirname "$0")" && pwd -P)
+tests=$(cd "$(dirname "$0")/.." && pwd -P)
 . "$tests/common/cases.sh"
 . "$tests/common/library.sh"
 . "$tests/common/attached.sh"

@@ -1,5 +1,5 @@
 # What a kept device makes is its user's alone, whatever the umask is. attached/ask.c is the caller.
-tests=$(cd "$(dirname "$0")" && pwd -P)
+tests=$(cd "$(dirname "$0")/.." && pwd -P)
 . "$tests/common/cases.sh"
 . "$tests/common/library.sh"
 . "$tests/common/attached.sh"

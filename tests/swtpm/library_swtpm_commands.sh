@@ -1,6 +1,6 @@
 # libtpms.so.0 in the hands of a caller in swtpm's place: power, commands, localities, what is stored when,
 # stores that fail, and what is told of the TPM. swtpm/caller.c is the caller.
-tests=$(cd "$(dirname "$0")" && pwd -P)
+tests=$(cd "$(dirname "$0")/.." && pwd -P)
 . "$tests/common/cases.sh"
 . "$tests/common/swtpm.sh"
 one=0000000000000000000000000000000000000000000000000000000000000001

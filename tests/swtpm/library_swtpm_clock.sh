@@ -1,6 +1,6 @@
 # The time of a device under swtpm, as the host's clock stands: in one process, and in another one whose
 # host's clock is ahead, behind, or so far behind that the state is refused. common/clock.c is the clock.
-tests=$(cd "$(dirname "$0")" && pwd -P)
+tests=$(cd "$(dirname "$0")/.." && pwd -P)
 . "$tests/common/cases.sh"
 . "$tests/common/swtpm.sh"
 cc -shared -fPIC -o "$room/clock.so" "$tests/common/clock.c" || exit 1

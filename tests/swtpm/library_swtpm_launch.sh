@@ -1,7 +1,7 @@
 # A dynamic launch of a device under swtpm, by TPM_IO_Hash_Start, Data and End: PCR 17 has to be what
 # Python's hashlib says for texts of each length that SHA-1 and SHA-256 fill blocks by. swtpm/caller.c is
 # the caller.
-tests=$(cd "$(dirname "$0")" && pwd -P)
+tests=$(cd "$(dirname "$0")/.." && pwd -P)
 . "$tests/common/cases.sh"
 . "$tests/common/swtpm.sh"
 one=0000000000000000000000000000000000000000000000000000000000000001

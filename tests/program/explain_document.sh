@@ -1,5 +1,5 @@
 # The lines of docs/EXPLAIN.md that are to be typed: each prints what stands below it there.
-tests=$(cd "$(dirname "$0")" && pwd -P)
+tests=$(cd "$(dirname "$0")/.." && pwd -P)
 . "$tests/common/cases.sh"
 . "$tests/common/typed.sh"
 needs python3

@@ -1,6 +1,6 @@
 # Processes that hold a kept device, killed 300 times at random moments: attached/kills.c is the
 # caller.
-tests=$(cd "$(dirname "$0")" && pwd -P)
+tests=$(cd "$(dirname "$0")/.." && pwd -P)
 . "$tests/common/cases.sh"
 . "$tests/common/library.sh"
 . "$tests/common/attached.sh"

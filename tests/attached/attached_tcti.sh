@@ -1,5 +1,5 @@
 # The module for libtss2: attached/client.c loads it and calls it as libtss2 does.
-tests=$(cd "$(dirname "$0")" && pwd -P)
+tests=$(cd "$(dirname "$0")/.." && pwd -P)
 . "$tests/common/cases.sh"
 . "$tests/common/library.sh"
 . "$tests/common/attached.sh"

@@ -1,6 +1,6 @@
 # What libtpms.so.0 records where TPMSIM_RECORD asks for it: a journal of each time of power, which the
 # program plays; and a record that cannot be begun or written. swtpm/caller.c is the caller.
-tests=$(cd "$(dirname "$0")" && pwd -P)
+tests=$(cd "$(dirname "$0")/.." && pwd -P)
 . "$tests/common/cases.sh"
 . "$tests/common/swtpm.sh"
 one=0000000000000000000000000000000000000000000000000000000000000001

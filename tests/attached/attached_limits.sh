@@ -1,5 +1,5 @@
 # A full disk, and a process without descriptors: attached/limits.c is the caller.
-tests=$(cd "$(dirname "$0")" && pwd -P)
+tests=$(cd "$(dirname "$0")/.." && pwd -P)
 . "$tests/common/cases.sh"
 . "$tests/common/library.sh"
 . "$tests/common/attached.sh"

@@ -1,7 +1,7 @@
 # tpmsim-swtpm, which is swtpm for libvirt too, and swtpm_setup: with a program in swtpm's place that
 # tells how it was started. What tools/attached_swtpm.sh makes is made of the same bytes each time, and
 # what it lacks is told.
-tests=$(cd "$(dirname "$0")" && pwd -P)
+tests=$(cd "$(dirname "$0")/.." && pwd -P)
 . "$tests/common/cases.sh"
 . "$tests/common/swtpm.sh"
 program=$room/swtpm/tpmsim-swtpm
