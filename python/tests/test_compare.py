@@ -20,13 +20,18 @@ SCRIPTS = (
 )
 
 
+def script(name):
+    """The bytes of the script of a name, in whichever folder of tests/ it is."""
+    return next(TESTS.glob(f"*/{name}.tpm")).read_bytes()
+
+
 class OtherSeeds(unittest.TestCase):
     """Sessions are computed anew rightly: fresh seeds and nonces, and the same answers."""
 
     def test_nothing_differs(self):
         for name in SCRIPTS:
             with self.subTest(name), Device() as other:
-                report = Comparison(other).play((TESTS / f"{name}.tpm").read_bytes())
+                report = Comparison(other).play(script(name))
                 self.assertEqual(report.differences, [])
                 self.assertLess(len(report.not_comparable), report.commands / 4)
 
@@ -62,7 +67,7 @@ class Others(unittest.TestCase):
     def test_swtpm(self):
         """Each of its differences has a known cause."""
         with StartedSwtpm() as other:
-            report = Comparison(other).play((TESTS / "passwords.tpm").read_bytes())
+            report = Comparison(other).play(script("passwords"))
         own = [it for it in report.differences if it.follows is None]
         self.assertTrue(own)
         self.assertNotIn(None, [cause_of(it) for it in own])

@@ -27,7 +27,7 @@ The other one may be `swtpm:path=..`, `swtpm:host=..,port=..`, `mssim:host=..,po
 `device:/dev/tpmrm0` too. This page is made of the scripts of tests/ and examples/:
 
 ```sh
-PYTHONPATH=python python3 -m tpmsim.compare.page tests/*.tpm examples/*.tpm > docs/OTHER_TPMS.md
+PYTHONPATH=python python3 -m tpmsim.compare.page tests/*/*.tpm examples/*.tpm > docs/OTHER_TPMS.md
 ```
 
 Of {commands} commands in {scripts} scripts {own} are answered otherwise, and {follow} more only as an
