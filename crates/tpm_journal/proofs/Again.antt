@@ -1,5 +1,5 @@
 -- A text that was written of a live device, followed again.
-use Rattle.std.proofs.Common.{◌≡◌, ◌≢◌, ℕ, ◌+◌, Bool, true, false, List, [], ◌∷◌, ◌++◌, length, map, take, drop, Option, Some, None, Result, Ok, Err, refl, ap, sym, subst, ◌∙◌, append_assoc, append-nil}
+use Rattle.std.proofs.Common.{◌≡◌, ℕ, ◌+◌, false, List, [], ◌∷◌, ◌++◌, length, map, drop, Option, Some, None, Result, Ok, Err, refl, ap, sym, subst, ◌∙◌, append_assoc, append-nil}
 use Rattle.std.specs.List.{AllByRecursion}
 use Rattle.std.proofs.lemmas.List.{length-take-le, take-append-drop}
 use Rattle.tpm_record.specs.Cycle.{cycled}
@@ -16,7 +16,7 @@ use Rattle.tpm_image.proofs.RecordLaws.{record_again, record_image}
 use Rattle.tpm_bytes.proofs.Fields.{ok_is}
 use Rattle.tpm_journal_text.specs.Entry.{IsEntry, PlainEntry, entry_text, sum_after}
 use Rattle.tpm_journal_text.specs.Head.{head_sum, head_text}
-use Rattle.tpm_journal_text.specs.Journal.{IsCutOff, IsDamaged, entries_text, sum_after_all}
+use Rattle.tpm_journal_text.specs.Journal.{IsCutOff, entries_text, sum_after_all}
 use Rattle.tpm_journal_text.specs.Sum.{sum_of}
 use Rattle.tpm_journal_text.proofs.HeadStanding.{same_head}
 use Rattle.tpm_journal_text.proofs.Parsing.{behind_front, cut_off_is_no_entry, others_are_more}
@@ -41,8 +41,7 @@ lives_again ignores old [] new lives = lives
 lives_again ignores old (e ∷ entries) new lives =
     let c = lives.0 in
     let x = lives.1 in
-    let same : e ≡ entry_of old c x = lives.4 in
-    (
+    let same : e ≡ entry_of old c x = lives.4 in (
       x,
       subst (λ (f : PlainEntry). Executes false old (event_of f) x) (sym same) (ignores old c x lives.2),
       sym (ap (λ (f : PlainEntry). f.answered) same),
@@ -87,11 +86,10 @@ same_run old new mid (one ∷ executions) (e ∷ entries) leads events answers =
     let event = ap (first_or (event_of e)) events in
     let seen : one.seen ≡ answers.0 = leads.1.exactly refl ∙ ap (step old) event ∙ sym (answers.1.exactly refl) in
     let next = same_run answers.0.after new mid executions entries (subst (λ (x : Stepped). Leads false x.after executions new) seen leads.2)
-        (ap rest_of events) answers.3 in
-    (
+    (ap rest_of events) answers.3 in (
       next.0,
       ap (λ (n : ℕ). n ∷ map response_sum executions) (ap (λ (x : Stepped). sum_of x.response) seen ∙ answers.2)
-      ∙ ap (λ (l : List ℕ). e.answered ∷ l) next.1,
+          ∙ ap (λ (l : List ℕ). e.answered ∷ l) next.1,
     )
 
 -- a text that ends in less than an entry is followed to its end, where the device answers as it says
@@ -117,15 +115,15 @@ followed_again before old final new entries rest text followed after replays are
     let r = replays.repeats in
     let left = drop followed.taken text in
     let whole : entries_text before.sum entries ++ rest ≡ entries_text before.sum r.entries ++ left =
-        sym t ∙ sym (take-append-drop followed.taken text) ∙ ap (λ (l : List ℕ). l ++ left) r.front in
+    sym t ∙ sym (take-append-drop followed.taken text) ∙ ap (λ (l : List ℕ). l ++ left) r.front in
     let found = others_are_more before.sum entries r.entries rest left are r.are whole cut in
     let more = found.0 in
     let parts = answers_parts old r.entries more final (subst (λ (l : List PlainEntry). Answers old l final) found.2 answers) in
     let run = same_run old new parts.0 r.executions r.entries r.leads r.events parts.1 in
     let sum_is : after.sum ≡ sum_after_all before.sum r.entries = ap (λ (j : Journal). j.sum) r.journal ∙ journal_sum before r.entries in
     let end = ended followed.fault (sum_after_all before.sum r.entries) (map response_sum r.executions) (map answer_said r.entries) more rest left
-        r.answers run.1 (subst (λ (s : ℕ). EndsIn followed.fault s left) sum_is replays.ends) found.3 found.1
-        (subst (λ (s : ℕ). IsCutOff s rest) (ap (sum_after_all before.sum) found.2 ∙ sum_parts before.sum r.entries more) cut) in
+    r.answers run.1 (subst (λ (s : ℕ). EndsIn followed.fault s left) sum_is replays.ends) found.3 found.1
+    (subst (λ (s : ℕ). IsCutOff s rest) (ap (sum_after_all before.sum) found.2 ∙ sum_parts before.sum r.entries more) cut) in
     let all : entries ≡ r.entries = found.2 ∙ ap (λ (l : List PlainEntry). r.entries ++ l) end.1 ∙ append-nil r.entries in
     let last : final ≡ parts.0 = subst (λ (l : List PlainEntry). Answers parts.0 l final) end.1 parts.2 in
     record {
@@ -141,7 +139,6 @@ module _ (clock : ℕ) (r : Record) (entries : List PlainEntry) (rest : List ℕ
     (begins : BeginsWith text clock (image_text Two (kept_of r)) (entries_text (head_sum clock (image_text Two (kept_of r))) entries ++ rest))
     (are : AllByRecursion IsEntry entries) (cut : IsCutOff (sum_after_all (head_sum clock (image_text Two (kept_of r))) entries) rest)
     (answers : Answers (cycled r) entries final) where
-
   heads_same : (other : ℕ) (bytes behind : List ℕ) → BeginsWith text other bytes behind → (clock ≡ other) × (image_text Two (kept_of r) ≡ bytes)
   heads_same other bytes behind others =
       same_head clock other (image_text Two (kept_of r)) bytes _ behind begins.has others.has (sym begins.is ∙ others.is)
@@ -155,24 +152,23 @@ module _ (clock : ℕ) (r : Record) (entries : List PlainEntry) (rest : List ℕ
       let same = heads_same reads.clock reads.image reads.rest reads.begins in
       let kept : reads.kept ≡ kept_of r = ok_is {E = ImageFault} reads.kept (kept_of r) (sym reads.is_image ∙ ap image_of (sym same.1) ∙ told) in
       let behind : reads.rest ≡ entries_text (head_sum clock (image_text Two (kept_of r))) entries ++ rest =
-          behind_front (head_text clock (image_text Two (kept_of r))) reads.rest _
-          (ap (λ (n : ℕ). head_text n (image_text Two (kept_of r)) ++ reads.rest) same.0
-          ∙ ap (λ (l : List ℕ). head_text reads.clock l ++ reads.rest) same.1 ∙ sym reads.begins.is ∙ begins.is) in
+      behind_front (head_text clock (image_text Two (kept_of r))) reads.rest _
+      (ap (λ (n : ℕ). head_text n (image_text Two (kept_of r)) ++ reads.rest) same.0
+      ∙ ap (λ (l : List ℕ). head_text reads.clock l ++ reads.rest) same.1 ∙ sym reads.begins.is ∙ begins.is) in
       let replays : Replays false (journal_begun clock (image_text Two (kept_of r))) (cycled r) reads.rest followed journal new =
-          subst (λ (k : NonVolatile). Replays false (journal_begun clock (image_text Two (kept_of r))) (powered_on k) reads.rest followed journal new) kept
-          (subst (λ (l : List ℕ). Replays false (journal_begun clock l) (powered_on reads.kept) reads.rest followed journal new) (sym same.1)
-          (subst (λ (n : ℕ). Replays false (journal_begun n reads.image) (powered_on reads.kept) reads.rest followed journal new) (sym same.0) reads.replays)) in
+      subst (λ (k : NonVolatile). Replays false (journal_begun clock (image_text Two (kept_of r))) (powered_on k) reads.rest followed journal new) kept
+      (subst (λ (l : List ℕ). Replays false (journal_begun clock l) (powered_on reads.kept) reads.rest followed journal new) (sym same.1)
+      (subst (λ (n : ℕ). Replays false (journal_begun n reads.image) (powered_on reads.kept) reads.rest followed journal new) (sym same.0) reads.replays)) in
       followed_again (journal_begun clock (image_text Two (kept_of r))) (cycled r) final new entries rest reads.rest followed journal replays are behind cut answers
 
   pub opened_again : (result : Result Opened OpenFault) (new : Record) → OpensJournal text result new → IsOpenedAgain clock (image_text Two (kept_of r)) entries final result new
   opened_again (Ok opened) new opens =
       let again = read_again opens.followed opened.journal new opens.reads in
-      let same = heads_same opens.reads.clock opens.reads.image opens.reads.rest opens.reads.begins in
-      (
+      let same = heads_same opens.reads.clock opens.reads.image opens.reads.rest opens.reads.begins in (
         again.leads,
         opens.size ∙ ap (λ (n : ℕ). length (head_text n opens.reads.image) + opens.followed.taken) (sym same.0)
-        ∙ ap (λ (l : List ℕ). length (head_text clock l) + opens.followed.taken) (sym same.1)
-        ∙ ap (λ (n : ℕ). length (head_text clock (image_text Two (kept_of r))) + n) again.taken,
+            ∙ ap (λ (l : List ℕ). length (head_text clock l) + opens.followed.taken) (sym same.1)
+            ∙ ap (λ (n : ℕ). length (head_text clock (image_text Two (kept_of r))) + n) again.taken,
         again.journal,
       )
   opened_again (Err fault.NoJournal) new opens = absurd (opens _ _ _ begins)

@@ -2,3 +2,4 @@ pub mod Repeating
 pub mod ReadHeads
 pub mod Again
 pub mod Histories
+pub mod Commands

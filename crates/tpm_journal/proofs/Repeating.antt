@@ -1,9 +1,9 @@
 -- Entries that are executed one after another.
-use Rattle.std.proofs.Common.{◌≡◌, ◌≢◌, ℕ, ◌+◌, ◌≤◌, ◌<◌, Bool, List, [], ◌∷◌, ◌++◌, length, map, take, drop, Option, Some, None, refl, ap, sym, subst, ◌∙◌, append_assoc, arith, length-append, length-drop}
+use Rattle.std.proofs.Common.{◌≡◌, ◌≢◌, ℕ, ◌+◌, ◌≤◌, ◌<◌, Bool, List, [], ◌∷◌, ◌++◌, length, map, take, drop, Option, Some, None, refl, ap, sym, ◌∙◌, append_assoc, arith, length-drop}
 use Rattle.std.specs.List.{AllByRecursion}
 use Rattle.std.proofs.lemmas.List.{drop-take, length-take-le, map-append, take-append-drop, take-append-le}
 use Rattle.tpm_record.specs.Record.{Record}
-use Rattle.tpm_history.specs.Executions.{Execution, Leads}
+use Rattle.tpm_history.specs.Executions.{Execution}
 use Rattle.tpm_history.proofs.PowerCycles.{leads_on}
 use Rattle.tpm_journal_text.specs.Entry.{IsEntry, PlainEntry, entry_text, sum_after}
 use Rattle.tpm_journal_text.specs.Journal.{IsCutOff, IsDamaged, entries_text, sum_after_all}
@@ -45,7 +45,7 @@ take_further : (n m : ℕ) (text : List ℕ) → n + m ≤ length text → take 
 take_further n m text within =
     let short : n ≤ length (take (n + m) text) = omega (arith, length-take-le (n + m) text within) in
     let front : take n (take (n + m) text) ≡ take n text =
-        sym (take-append-le n (take (n + m) text) (drop (n + m) text) short) ∙ ap (take n) (take-append-drop (n + m) text) in
+    sym (take-append-le n (take (n + m) text) (drop (n + m) text) short) ∙ ap (take n) (take-append-drop (n + m) text) in
     sym (take-append-drop n (take (n + m) text))
     ∙ ap (λ (l : List ℕ). l ++ drop n (take (n + m) text)) front
     ∙ ap (λ (l : List ℕ). take n text ++ l) (drop-take n m text)
@@ -60,7 +60,6 @@ performs_at can before old left text size after new Holds is p = rw (← is) p
 module _ (can : Bool) (before : Journal) (old : Record) (text : List ℕ) (taken : ℕ) (mid : Journal) (here : Record)
     (size : ℕ) (after : Journal) (new : Record) (Holds : ℕ → ℕ → Type 0)
     (r : Repeats can before old text taken None mid here) (p : Performs can mid here (drop taken text) size after new Holds) where
-
   one : Execution
   one = record { before = here; event = event_of p.entry; seen = p.seen }
 

@@ -1,7 +1,7 @@
 -- The parts of a head, by their places in its mark and in its text.
-use Rattle.std.proofs.Common.{◌≡◌, ℕ, ◌+◌, ◌*◌, ◌<◌, ◌≤◌, ◌^◌, List, [], ◌∷◌, ◌++◌, length, take, drop, refl, ap, sym, ◌∙◌, append_assoc, arith, length-append}
+use Rattle.std.proofs.Common.{◌≡◌, ℕ, ◌*◌, List, [], ◌∷◌, ◌++◌, length, take, drop, refl, ap, sym, ◌∙◌, append_assoc, arith, length-append}
 use Rattle.std.specs.Prelude.{codes}
-use Rattle.std.specs.Int.{w32, w64, from_be_bytes, to_be_bytes}
+use Rattle.std.specs.Int.{w32, w64, from_be_bytes}
 use Rattle.std.proofs.lemmas.List.{take_at, drop_at}
 use Rattle.std.proofs.lemmas.Nat.{from_be_bytes-to_be_bytes_4, from_be_bytes-to_be_bytes_8}
 use Rattle.hex.specs.Hex.{encode_lower, lower_digits}
@@ -10,7 +10,7 @@ use Rattle.tpm_bytes.specs.Reading.{AreBytes}
 use Rattle.tpm_journal_text.specs.Head.{HasHead, head_mark, head_size, head_sum, head_text, head_word}
 use Rattle.tpm_journal_text.specs.Marked.{marked_line}
 use Rattle.tpm_journal_text.specs.Places.{HeadStands}
-use Rattle.tpm_journal_text.specs.Sum.{offset_basis, sum_from, sum_of}
+use Rattle.tpm_journal_text.specs.Sum.{offset_basis, sum_from}
 use Rattle.tpm_journal_text.proofs.Bytes.{all_small}
 use Rattle.tpm_journal_text.proofs.Pieces.{front_of, hex_same, line_length, line_same}
 
@@ -71,8 +71,8 @@ pub head_stands : (clock : ℕ) (image mark text rest : List ℕ) → HasHead cl
     → HeadStands clock image mark text
 head_stands clock image mark text rest has many are line t =
     let same : mark ≡ head_mark clock image =
-        line_same head_word mark (head_mark clock image) (sum_from offset_basis mark) (head_sum clock image) are (head_mark_bytes clock image)
-        (many ∙ sym (head_mark_many clock image)) (sym line ∙ head_line_stands clock image text rest t) in
+    line_same head_word mark (head_mark clock image) (sum_from offset_basis mark) (head_sum clock image) are (head_mark_bytes clock image)
+    (many ∙ sym (head_mark_many clock image)) (sym line ∙ head_line_stands clock image text rest t) in
     record {
       has = has;
       clock_told = ap (λ (l : List ℕ). from_be_bytes w64 (take 8 l)) same ∙ clock_is clock image has;
@@ -92,9 +92,8 @@ same_head clock other image bytes x y has others same =
     let line = head_line_stands clock image text x refl in
     let a = head_stands clock image mark text x has (head_mark_many clock image) (head_mark_bytes clock image) line refl in
     let b = head_stands other bytes mark text y others (head_mark_many clock image) (head_mark_bytes clock image) line same in
-    let many : length image ≡ length bytes = sym a.count_told ∙ b.count_told in
-    (
+    let many : length image ≡ length bytes = sym a.count_told ∙ b.count_told in (
       sym a.clock_told ∙ b.clock_told,
       hex_same image bytes has.are_bytes others.are_bytes
-      (sym a.image_told ∙ ap (λ (n : ℕ). take (2 * n) (drop 79 text)) many ∙ b.image_told),
+          (sym a.image_told ∙ ap (λ (n : ℕ). take (2 * n) (drop 79 text)) many ∙ b.image_told),
     )

@@ -1,16 +1,13 @@
 -- A text is read in one way alone.
-use Rattle.std.proofs.Common.{◌≡◌, ℕ, ◌+◌, ◌*◌, ◌<◌, ◌≤◌, inl, inr, Bool, true, false, List, [], ◌∷◌, ◌++◌, length, take, drop, max, refl, ap, sym, subst, ◌∙◌, append_assoc, arith, length-append}
-use Rattle.std.specs.Prelude.{codes}
+use Rattle.std.proofs.Common.{◌≡◌, ℕ, ◌+◌, ◌*◌, inl, inr, Bool, true, false, List, [], ◌∷◌, ◌++◌, length, take, drop, max, refl, ap, sym, subst, ◌∙◌, append_assoc, arith, length-append}
 use Rattle.std.specs.List.{AllByRecursion}
 use Rattle.std.proofs.lemmas.List.{drop_at}
-use Rattle.hex.specs.Hex.{encode_lower, lower_digits}
-use Rattle.hex.proofs.HexLemmas.{length-encode_with}
-use Rattle.tpm_journal_text.specs.Entry.{IsEntry, PlainEntry, buffer_size, drawn_size, entry_size, entry_text, executing_lines, flag, mark_line, mark_of, setting_lines, shown, sum_after}
+use Rattle.tpm_journal_text.specs.Entry.{IsEntry, PlainEntry, entry_size, entry_text, flag, mark_of, sum_after}
 use Rattle.tpm_journal_text.specs.Journal.{IsCutOff, entries_text, sum_after_all}
 use Rattle.tpm_journal_text.specs.Places.{Stands}
 use Rattle.tpm_journal_text.proofs.Damage.{same_mark}
 use Rattle.tpm_journal_text.proofs.Pieces.{hex_same}
-use Rattle.tpm_journal_text.proofs.Standing.{buffer_told, drawn_told, entry_text_many, line_stands, mark_bytes, mark_many, stands}
+use Rattle.tpm_journal_text.proofs.Standing.{entry_text_many, line_stands, mark_bytes, mark_many, stands}
 
 -- ---- one entry
 
@@ -50,12 +47,12 @@ one_stands e f mark text a b =
     let drawn_many : length e.drawn ≡ length f.drawn = sym a.drawn_size ∙ b.drawn_size in
     let buffer_many : length e.buffer ≡ length f.buffer = sym a.buffer_size ∙ b.buffer_size in
     let drawn : e.drawn ≡ f.drawn =
-        hex_same e.drawn f.drawn a.is.drawn_bytes b.is.drawn_bytes
-        (sym a.drawn ∙ ap (λ (n : ℕ). take (2 * n) (drop 102 text)) drawn_many ∙ b.drawn) in
+    hex_same e.drawn f.drawn a.is.drawn_bytes b.is.drawn_bytes
+    (sym a.drawn ∙ ap (λ (n : ℕ). take (2 * n) (drop 102 text)) drawn_many ∙ b.drawn) in
     let buffer : e.buffer ≡ f.buffer =
-        hex_same e.buffer f.buffer a.is.buffer_bytes b.is.buffer_bytes
-        (sym a.buffer ∙ ap (λ (n : ℕ). take (2 * n) (drop (102 + 2 * max 1 (length e.drawn) + 5) text)) buffer_many
-        ∙ ap (λ (n : ℕ). take (2 * length f.buffer) (drop (102 + 2 * max 1 n + 5) text)) drawn_many ∙ b.buffer) in
+    hex_same e.buffer f.buffer a.is.buffer_bytes b.is.buffer_bytes
+    (sym a.buffer ∙ ap (λ (n : ℕ). take (2 * n) (drop (102 + 2 * max 1 (length e.drawn) + 5) text)) buffer_many
+    ∙ ap (λ (n : ℕ). take (2 * length f.buffer) (drop (102 + 2 * max 1 n + 5) text)) drawn_many ∙ b.buffer) in
     fields_same e f (sym a.elapsed ∙ b.elapsed) (sym a.locality ∙ b.locality) (flag_same e.completes f.completes (sym a.completes ∙ b.completes))
     drawn buffer (sym a.answered ∙ b.answered)
 
@@ -64,8 +61,8 @@ pub same_entry : (sum : ℕ) (e f : PlainEntry) (x y : List ℕ) → IsEntry e �
 same_entry sum e f x y is other same =
     let text = entry_text sum e ++ x in
     let marks : mark_of e ≡ mark_of f =
-        same_mark sum text (mark_of e) (mark_of f) (mark_many e) (mark_bytes e) (line_stands sum e text x refl)
-        (mark_many f) (mark_bytes f) (line_stands sum f text y same) in
+    same_mark sum text (mark_of e) (mark_of f) (mark_many e) (mark_bytes e) (line_stands sum e text x refl)
+    (mark_many f) (mark_bytes f) (line_stands sum f text y same) in
     let one : e ≡ f = one_stands e f (mark_of e) text (stands sum e (mark_of e) text x is refl refl) (stands sum f (mark_of e) text y other marks same) in
     (one, behind_front (entry_text sum e) x y (same ∙ ap (λ (g : PlainEntry). entry_text sum g ++ y) (sym one)))
 
@@ -78,7 +75,7 @@ cut_off_is_no_entry sum e rest text is t cut =
       | inl short ↦ omega (arith, short, many, both, size)
       | inr found ↦
           let same : found.0 ≡ mark_of e =
-              same_mark sum text found.0 (mark_of e) found.1.count found.1.bytes found.1.line (mark_many e) (mark_bytes e) (line_stands sum e text rest t) in
+          same_mark sum text found.0 (mark_of e) found.1.count found.1.bytes found.1.line (mark_many e) (mark_bytes e) (line_stands sum e text rest t) in
           let sizes : entry_size found.0 ≡ entry_size (mark_of e) = ap entry_size same in
           omega (arith, found.2, sizes, size, many, both)
     ]
@@ -95,11 +92,11 @@ others_are_more sum [] (f ∷ others) rest left are others_are same cut =
     (same ∙ append_assoc (entry_text sum f) (entries_text (sum_after sum f) others) left) cut)
 others_are_more sum (e ∷ entries) (f ∷ others) rest left are others_are same cut =
     let one = same_entry sum e f (entries_text (sum_after sum e) entries ++ rest) (entries_text (sum_after sum f) others ++ left) are.0 others_are.0
-        (sym (append_assoc (entry_text sum e) (entries_text (sum_after sum e) entries) rest) ∙ same
-        ∙ append_assoc (entry_text sum f) (entries_text (sum_after sum f) others) left) in
+    (sym (append_assoc (entry_text sum e) (entries_text (sum_after sum e) entries) rest) ∙ same
+    ∙ append_assoc (entry_text sum f) (entries_text (sum_after sum f) others) left) in
     let next : entries_text (sum_after sum f) entries ++ rest ≡ entries_text (sum_after sum f) others ++ left =
-        ap (λ (g : PlainEntry). entries_text (sum_after sum g) entries ++ rest) (sym one.0) ∙ one.1 in
+    ap (λ (g : PlainEntry). entries_text (sum_after sum g) entries ++ rest) (sym one.0) ∙ one.1 in
     let end : IsCutOff (sum_after_all (sum_after sum f) entries) rest =
-        subst (λ (g : PlainEntry). IsCutOff (sum_after_all (sum_after sum g) entries) rest) one.0 cut in
+    subst (λ (g : PlainEntry). IsCutOff (sum_after_all (sum_after sum g) entries) rest) one.0 cut in
     let found = others_are_more (sum_after sum f) entries others rest left are.1 others_are.1 next end in
     (found.0, found.1, ap (λ (g : PlainEntry). g ∷ entries) one.0 ∙ ap (λ (l : List PlainEntry). f ∷ l) found.2, found.3)

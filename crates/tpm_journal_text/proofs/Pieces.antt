@@ -1,5 +1,5 @@
 -- Pieces of a text, by their places.
-use Rattle.std.proofs.Common.{◌≡◌, ◌≢◌, ℕ, ◌*◌, ◌+◌, List, [], ◌∷◌, ◌++◌, length, take, drop, Result, Ok, Err, IsErr, refl, ap, sym, ◌∙◌, append_assoc, arith, length-append, take_all}
+use Rattle.std.proofs.Common.{◌≡◌, ℕ, ◌*◌, ◌+◌, List, [], ◌∷◌, ◌++◌, length, take, drop, Result, Ok, IsErr, refl, ap, sym, ◌∙◌, append_assoc, arith, length-append, take_all}
 use Rattle.std.specs.Prelude.{MatchResult, true, nat_eq}
 use Rattle.std.specs.Cmp.Lexicographic.{pointwise}
 use Rattle.std.specs.Int.{w64, to_be_bytes}
@@ -18,8 +18,8 @@ pub piece_in : (front piece back text : List ℕ) (size place count : ℕ) → t
     → length front ≡ place → length piece ≡ count → take count (drop place text) ≡ piece
 piece_in front piece back text size place count e at of =
     let whole : text ≡ front ++ (piece ++ (back ++ drop size text)) =
-        sym (take-append-drop size text) ∙ ap (λ (t : List ℕ). t ++ drop size text) e
-        ∙ append_assoc (front ++ piece) back (drop size text) ∙ append_assoc front piece (back ++ drop size text) in
+    sym (take-append-drop size text) ∙ ap (λ (t : List ℕ). t ++ drop size text) e
+    ∙ append_assoc (front ++ piece) back (drop size text) ∙ append_assoc front piece (back ++ drop size text) in
     ap (λ (t : List ℕ). take count (drop place t)) whole
     ∙ rw (drop_at front (piece ++ (back ++ drop size text)) place at, take_at piece (back ++ drop size text) count of) refl
 

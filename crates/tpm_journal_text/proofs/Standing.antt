@@ -1,13 +1,13 @@
 -- The parts of an entry, by their places in its mark and in its text.
-use Rattle.std.proofs.Common.{◌≡◌, ℕ, ◌+◌, ◌*◌, ◌<◌, ◌≤◌, ◌^◌, List, [], ◌∷◌, ◌++◌, length, take, drop, max, slice_index, refl, ap, sym, ◌∙◌, append_assoc, arith, length-append}
+use Rattle.std.proofs.Common.{◌≡◌, ℕ, ◌+◌, ◌*◌, ◌<◌, List, [], ◌∷◌, ◌++◌, length, take, drop, max, slice_index, refl, ap, sym, ◌∙◌, append_assoc, arith, length-append}
 use Rattle.std.specs.Prelude.{codes}
-use Rattle.std.specs.Int.{w8, w16, w32, w64, from_be_bytes, to_be_bytes}
+use Rattle.std.specs.Int.{w32, w64, from_be_bytes}
 use Rattle.std.proofs.lemmas.List.{take_at, drop_at}
 use Rattle.std.proofs.lemmas.Nat.{from_be_bytes-to_be_bytes_2, from_be_bytes-to_be_bytes_4, from_be_bytes-to_be_bytes_8}
 use Rattle.hex.specs.Hex.{encode_lower, encode_with, lower_digits}
 use Rattle.hex.proofs.HexLemmas.{length-encode_with}
 use Rattle.tpm_journal_text.specs.Entry.{IsEntry, PlainEntry, buffer_size, drawn_size, entry_size, entry_text, executing_lines, flag, mark_line, mark_of, setting_lines, shown, ten_digits}
-use Rattle.tpm_journal_text.specs.Sum.{sum_from, sum_of}
+use Rattle.tpm_journal_text.specs.Sum.{sum_from}
 use Rattle.tpm_bytes.specs.Reading.{AreBytes}
 use Rattle.tpm_journal_text.proofs.Bytes.{all_small}
 use Rattle.tpm_journal_text.specs.Places.{Stands}
@@ -98,14 +98,14 @@ stands sum e mark text rest is m t =
     let after_drawn = codes "\ncmd " ++ (encode_lower e.buffer ++ (10 ∷ [] ++ rest)) in
     let drawn = encode_lower (shown e.drawn) in
     let place : length (before_drawn sum e ++ drawn ++ codes "\ncmd ") ≡ 102 + 2 * max 1 (length e.drawn) + 5 =
-        let a = length-append (before_drawn sum e ++ drawn) (codes "\ncmd ") in
-        let b = length-append (before_drawn sum e) drawn in
-        let c = length-encode_with lower_digits (shown e.drawn) in
-        omega (arith, a, b, c, before_many sum e, shown_many e.drawn) in
+    let a = length-append (before_drawn sum e ++ drawn) (codes "\ncmd ") in
+    let b = length-append (before_drawn sum e) drawn in
+    let c = length-encode_with lower_digits (shown e.drawn) in
+    omega (arith, a, b, c, before_many sum e, shown_many e.drawn) in
     let split : text ≡ before_drawn sum e ++ (drawn ++ after_drawn) = t ∙ parts sum e rest in
     let further : text ≡ (before_drawn sum e ++ drawn ++ codes "\ncmd ") ++ (encode_lower e.buffer ++ (10 ∷ [] ++ rest)) =
-        split ∙ sym (append_assoc (before_drawn sum e) drawn after_drawn)
-        ∙ sym (append_assoc (before_drawn sum e ++ drawn) (codes "\ncmd ") (encode_lower e.buffer ++ (10 ∷ [] ++ rest))) in
+    split ∙ sym (append_assoc (before_drawn sum e) drawn after_drawn)
+    ∙ sym (append_assoc (before_drawn sum e ++ drawn) (codes "\ncmd ") (encode_lower e.buffer ++ (10 ∷ [] ++ rest))) in
     record {
       is = is;
       elapsed = ap (λ (l : List ℕ). from_be_bytes w32 (take 4 l)) m ∙ elapsed_told e is;

@@ -103,7 +103,11 @@ impl<'a> Entry<'a> {
         ensures value { result.now ≡ shown self.now.drawn.now }
         ensures size { length result.now ≡ max 1 (length self.now.drawn.now) }
     {
-        if self.drawn.is_empty() { b"\0" } else { self.drawn }
+        if self.drawn.is_empty() {
+            b"\0"
+        } else {
+            self.drawn
+        }
     }
 
     /// Puts the lines that give the command its random bytes and execute it at a place of a room,

@@ -6,7 +6,9 @@ ghost use Rattle.tpm_journal_text.specs.Head.{HasHead, IsHeadOf, head_text, imag
 ghost use Rattle.tpm_journal_text.specs.Places.{HeadStands};
 ghost use Rattle.tpm_bytes.specs.Reading.{AreBytes};
 
-use crate::head::{HEAD_ROOM, HEAD_WORD, Head, IMAGE_ROOM, MARK_LINE_SIZE, MARK_SIZE, head_size, write_head};
+use crate::head::{
+    HEAD_ROOM, HEAD_WORD, Head, IMAGE_ROOM, MARK_LINE_SIZE, MARK_SIZE, head_size, write_head,
+};
 use crate::marked::read_marked_line;
 use crate::reading::{begins_with, read_hex};
 use crate::sum::OFFSET_BASIS;

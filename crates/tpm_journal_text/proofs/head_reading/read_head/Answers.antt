@@ -23,11 +23,11 @@ returns-in_default-image_behind-clause-only c clock bytes rest has t =
 pub returns-then-not-begins_with-clause-only : goal.returns-then-not-begins_with-clause-only
 returns-then-not-begins_with-clause-only c clock bytes rest has t =
     let at = head_stands clock bytes c.read_marked_line.new.bytes c.args.text.now rest has (search rules) c.read_marked_line.ensures.bytes
-        (c.in-Some.ensures.found.1 ∙ ap (marked_line head_word c.read_marked_line.new.bytes) c.in-Some.ensures.found.0) t in
+    (c.in-Some.ensures.found.1 ∙ ap (marked_line head_word c.read_marked_line.new.bytes) c.in-Some.ensures.found.0) t in
     let image = c.in-Some-image_behind.ensures.again clock bytes at in
     let front = c.write_head-sum.ensures.written
-        ∙ ap (λ (n : ℕ). head_text n c.in-Some-image_behind.image.now) (c.clock_of-clock.ensures ∙ at.clock_told)
-        ∙ ap (head_text clock) image in
+    ∙ ap (λ (n : ℕ). head_text n c.in-Some-image_behind.image.now) (c.clock_of-clock.ensures ∙ at.clock_told)
+    ∙ ap (head_text clock) image in
     let yes : c.begins_with.result ≡ true = c.begins_with.ensures.no rest (t ∙ ap (λ (l : List ℕ). l ++ rest) (sym front)) in
     let no : c.begins_with.result ≡ false = c.if-not-begins_with.true in
     let both : true ≡ false = sym yes ∙ no in
@@ -36,5 +36,5 @@ returns-then-not-begins_with-clause-only c clock bytes rest has t =
 pub returns-clause-only : goal.returns-clause-only
 returns-clause-only c clock bytes rest has t =
     let at = head_stands clock bytes c.read_marked_line.new.bytes c.args.text.now rest has (search rules) c.read_marked_line.ensures.bytes
-        (c.in-Some.ensures.found.1 ∙ ap (marked_line head_word c.read_marked_line.new.bytes) c.in-Some.ensures.found.0) t in
+    (c.in-Some.ensures.found.1 ∙ ap (marked_line head_word c.read_marked_line.new.bytes) c.in-Some.ensures.found.0) t in
     (c.clock_of-clock.ensures ∙ at.clock_told, c.in-Some-image_behind.ensures.again clock bytes at)
