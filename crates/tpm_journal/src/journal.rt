@@ -8,7 +8,7 @@ ghost use Rattle.tpm_image.specs.Saving.{PutsFront};
 ghost use Rattle.tpm_image.specs.declared.version.Version.TheVariants.{Two};
 ghost use Rattle.tpm_journal.specs.Command.{command_at, elapsed_of, entry_of, given};
 ghost use Rattle.tpm_journal.specs.State.{journal_after, journal_begun};
-ghost use Rattle.tpm_journal_text.specs.Entry.{entry_text};
+ghost use Rattle.tpm_journal_text.specs.Entry.{IsEntry, entry_text};
 ghost use Rattle.tpm_journal_text.specs.Head.{head_text, image_limit};
 ghost use Rattle.tpm_machine.specs.State.{state_of};
 ghost use Rattle.tpm_record.specs.Cycle.{cycled};
@@ -108,6 +108,12 @@ impl Journal {
             take result room.new
             ≡ entry_text self.old.sum (entry_of (state_of K.record_of machine.old) c x) }
         ensures fits { result ≤ length room.new }
+
+        // What is written is an entry, and so can be read again.
+        ensures entry { let c = command_at buffer.now (locality_number locality)
+            (elapsed_of now_ms self.old.time) random.now in
+            let x = outcome_step (state_of K.record_of machine.new) outcome.new in
+            IsEntry (entry_of (state_of K.record_of machine.old) c x) }
         ensures journal { let c = command_at buffer.now (locality_number locality)
             (elapsed_of now_ms self.old.time) random.now in
             let x = outcome_step (state_of K.record_of machine.new) outcome.new in
