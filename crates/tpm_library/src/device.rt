@@ -1,6 +1,6 @@
 //! A device in memory of its own.
 
-ghost use Rattle.std.specs.Prelude.{◌≡◌, ◌∷◌, [], IfOk, IfSome, drop, false, true};
+ghost use Rattle.std.specs.Prelude.{◌≡◌, ◌∷◌, [], IfOk, IfSome, drop, false, replicate, true};
 ghost use Rattle.tpm_history.specs.Follows.{After, Follows};
 ghost use Rattle.tpm_history.specs.History.{History, PowerCycled};
 ghost use Rattle.tpm_image.specs.Image.{IsImage, image_text};
@@ -18,15 +18,18 @@ ghost use Rattle.tpm_library.specs.State.{command_seen, cycle_seen, record_of};
 
 use std::alloc::Global;
 use tpm_image::{ImageFault, fault_of, open_into, save_into};
+use tpm_journal::{Followed, Journal, OpenFault};
 use tpm_machine::Machine;
 use tpm_record::SlotKeep;
 use tpm_step::{Event, Outcome};
+use tpm_types::Locality;
 
 /// A device, and the outcome of its latest event, which the next one's is written over.
 #[derive(Drop)]
 pub struct Device {
     machine: Machine<SlotKeep>,
     outcome: Outcome,
+    journal: Journal,
 }
 
 /// What a command is told beside its response.
@@ -55,6 +58,7 @@ impl Device {
         let device = Device {
             machine,
             outcome: Outcome::empty(),
+            journal: Journal { sum: 0, time: 0 },
         };
         match Box::new(alloc, device) {
             Ok(device) => Some(device),
@@ -113,5 +117,77 @@ impl Device {
             room.new }
     {
         save_into(&self.machine, room)
+    }
+
+    /// Cycles power, and writes the head of the new journal to the front of a room that has as many
+    /// bytes. Gives how many bytes it has, also where there is no room and nothing is done.
+    pub fn begin_journal(&mut self, now_ms: u64, room: &mut [u8]) -> usize {
+        self.journal
+            .begin(&mut self.machine, now_ms, &mut self.outcome, room)
+    }
+
+    /// The device of a journal, and how many bytes its head and its entries have; none where memory
+    /// is refused.
+    pub fn open_journal(
+        alloc: Global,
+        text: &[u8],
+        taken: &mut usize,
+    ) -> Option<Result<Box<Device>, OpenFault>> {
+        let mut device = Device::manufacture(alloc, &[0; 256])?;
+        match device.open_in_place(text) {
+            Ok(size) => {
+                *taken = size;
+                Some(Ok(device))
+            }
+            Err(fault) => Some(Err(fault)),
+        }
+    }
+
+    /// Opens the device of a journal where a new device of zeros lies.
+    fn open_in_place(&mut self, text: &[u8]) -> Result<usize, OpenFault>
+        requires { record_of self.old ≡ manufactured (replicate 256 0) }
+    {
+        let opened = tpm_journal::opening::open(&mut self.machine, text, &mut self.outcome)?;
+        self.journal = opened.journal;
+        Ok(opened.taken)
+    }
+
+    /// Executes the entries of a text that was added behind the journal.
+    pub fn follow(&mut self, text: &[u8]) -> Followed {
+        self.journal.follow(&mut self.machine, text, &mut self.outcome)
+    }
+
+    /// Executes a command by the host's clock, writes its response to the front of this room and its
+    /// entry to the front of the other, and gives how many bytes the entry has.
+    pub fn execute_at(
+        &mut self,
+        buffer: &[u8],
+        locality: Locality,
+        now_ms: u64,
+        random: &[u8; 256],
+        response: &mut [u8; 4096],
+        answered: &mut Answered,
+        record: &mut [u8; 9216],
+    ) -> usize {
+        let size = self.journal.execute(
+            &mut self.machine,
+            buffer,
+            locality,
+            now_ms,
+            random,
+            &mut self.outcome,
+            record,
+        );
+        let text = self.outcome.response.as_slice();
+        let (front, _) = response.split_at_mut(text.len());
+        front.copy_from_slice(text);
+        let drawn = self.machine.drawn();
+        *answered = Answered {
+            size: text.len(),
+            drawn,
+            code: self.outcome.row.code,
+            check: self.outcome.row.check,
+        };
+        size
     }
 }

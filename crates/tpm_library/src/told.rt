@@ -4,6 +4,7 @@ ghost use Rattle.std.specs.Prelude.{◌≡◌};
 ghost use Rattle.tpm_library.specs.Told.{fault_number};
 
 use tpm_image::ImageFault;
+use tpm_journal::{FollowFault, OpenFault};
 
 /// The call is done.
 pub const DONE: u8 = 0;
@@ -29,5 +30,25 @@ pub fn fault_number(fault: ImageFault) -> u8
         ImageFault::Digest => 8,
         ImageFault::Body => 9,
         ImageFault::NoMemory => NO_MEMORY,
+    }
+}
+
+/// No head of a journal stands at the front of a text.
+pub const NO_JOURNAL: u8 = 10;
+
+/// The number of why a text was not followed to its end.
+pub fn follow_number(fault: FollowFault) -> u8 {
+    match fault {
+        FollowFault::Damaged => 11,
+        FollowFault::Otherwise => 12,
+    }
+}
+
+/// The number of why a text was not opened as a journal.
+pub fn open_number(fault: OpenFault) -> u8 {
+    match fault {
+        OpenFault::NoJournal => NO_JOURNAL,
+        OpenFault::Image(fault) => fault_number(fault),
+        OpenFault::Follow(fault) => follow_number(fault),
     }
 }

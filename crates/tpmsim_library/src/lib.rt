@@ -125,3 +125,57 @@ pub extern "C" fn tpmsim_free(alloc: Global, holder: &mut Holder)
 {
     tpm_library::free(alloc, holder);
 }
+
+/// Cycles power, and writes the head of the device's new journal to a room, if that has as many
+/// bytes.
+#[unsafe(no_mangle)]
+pub extern "C" fn tpmsim_journal_begin(
+    alloc: Global,
+    holder: &mut Holder,
+    now_ms: u64,
+    room: &mut [u8],
+) -> usize {
+    tpm_library::journal::begin(alloc, holder, now_ms, room)
+}
+
+/// Opens the device of a journal, in place of the holder's own.
+#[unsafe(no_mangle)]
+pub extern "C" fn tpmsim_journal_open(
+    alloc: Global,
+    holder: &mut Holder,
+    text: &[u8],
+    taken: &mut usize,
+) -> u8 {
+    tpm_library::journal::open(alloc, holder, text, taken)
+}
+
+/// Executes the entries of a text that was added behind what the device executed.
+#[unsafe(no_mangle)]
+pub extern "C" fn tpmsim_journal_follow(
+    alloc: Global,
+    holder: &mut Holder,
+    text: &[u8],
+    taken: &mut usize,
+) -> u8 {
+    tpm_library::journal::follow(alloc, holder, text, taken)
+}
+
+/// Executes a command by the host's clock, and writes its entry.
+#[unsafe(no_mangle)]
+pub extern "C" fn tpmsim_journal_execute(
+    alloc: Global,
+    holder: &mut Holder,
+    buffer: &[u8],
+    locality: u8,
+    now_ms: u64,
+    _completes: u8,
+    random: &[u8; 256],
+    response: &mut [u8; 4096],
+    answered: &mut Answered,
+    record: &mut [u8; 9216],
+    record_size: &mut usize,
+) -> u8 {
+    tpm_library::journal::execute(
+        alloc, holder, buffer, locality, now_ms, random, response, answered, record, record_size,
+    )
+}
