@@ -1,5 +1,5 @@
 -- A text that was written of a live device, followed again.
-use Rattle.std.proofs.Common.{◌≡◌, ◌≢◌, ℕ, ◌+◌, Bool, true, false, List, [], ◌∷◌, ◌++◌, length, map, take, drop, Option, Some, None, Result, Ok, Err, refl, ap, sym, subst, ◌∙◌, append_assoc, append-nil}
+use Rattle.std.proofs.Common.{◌≡◌, ℕ, ◌+◌, false, List, [], ◌∷◌, ◌++◌, length, map, drop, Option, Some, None, Result, Ok, Err, refl, ap, sym, subst, ◌∙◌, append_assoc, append-nil}
 use Rattle.std.specs.List.{AllByRecursion}
 use Rattle.std.proofs.lemmas.List.{length-take-le, take-append-drop}
 use Rattle.tpm_record.specs.Cycle.{cycled}
@@ -16,7 +16,7 @@ use Rattle.tpm_image.proofs.RecordLaws.{record_again, record_image}
 use Rattle.tpm_bytes.proofs.Fields.{ok_is}
 use Rattle.tpm_journal_text.specs.Entry.{IsEntry, PlainEntry, entry_text, sum_after}
 use Rattle.tpm_journal_text.specs.Head.{head_sum, head_text}
-use Rattle.tpm_journal_text.specs.Journal.{IsCutOff, IsDamaged, entries_text, sum_after_all}
+use Rattle.tpm_journal_text.specs.Journal.{IsCutOff, entries_text, sum_after_all}
 use Rattle.tpm_journal_text.specs.Sum.{sum_of}
 use Rattle.tpm_journal_text.proofs.HeadStanding.{same_head}
 use Rattle.tpm_journal_text.proofs.Parsing.{behind_front, cut_off_is_no_entry, others_are_more}

@@ -3,3 +3,4 @@ pub mod ReadHeads
 pub mod Again
 pub mod Histories
 pub mod Ignoring
+pub mod Commands

@@ -1,9 +1,9 @@
 -- Entries that are executed one after another.
-use Rattle.std.proofs.Common.{◌≡◌, ◌≢◌, ℕ, ◌+◌, ◌≤◌, ◌<◌, Bool, List, [], ◌∷◌, ◌++◌, length, map, take, drop, Option, Some, None, refl, ap, sym, subst, ◌∙◌, append_assoc, arith, length-append, length-drop}
+use Rattle.std.proofs.Common.{◌≡◌, ◌≢◌, ℕ, ◌+◌, ◌≤◌, ◌<◌, Bool, List, [], ◌∷◌, ◌++◌, length, map, take, drop, Option, Some, None, refl, ap, sym, ◌∙◌, append_assoc, arith, length-drop}
 use Rattle.std.specs.List.{AllByRecursion}
 use Rattle.std.proofs.lemmas.List.{drop-take, length-take-le, map-append, take-append-drop, take-append-le}
 use Rattle.tpm_record.specs.Record.{Record}
-use Rattle.tpm_history.specs.Executions.{Execution, Leads}
+use Rattle.tpm_history.specs.Executions.{Execution}
 use Rattle.tpm_history.proofs.PowerCycles.{leads_on}
 use Rattle.tpm_journal_text.specs.Entry.{IsEntry, PlainEntry, entry_text, sum_after}
 use Rattle.tpm_journal_text.specs.Journal.{IsCutOff, IsDamaged, entries_text, sum_after_all}

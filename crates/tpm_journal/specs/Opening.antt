@@ -1,5 +1,5 @@
 -- A text that is opened as a journal.
-use Rattle.std.specs.Prelude.{◌≡◌, ◌+◌, ℕ, false, List, ◌++◌, length, Result, Ok, Err, Option, Some, None}
+use Rattle.std.specs.Prelude.{◌≡◌, ◌+◌, ℕ, false, List, ◌++◌, length, Result, Ok, Err, Some, None}
 use Rattle.tpm_image.specs.Image.{image_of}
 use Rattle.tpm_image.specs.NonVolatile.{NonVolatile, powered_on}
 use Rattle.tpm_journal_text.specs.Entry.{PlainEntry}

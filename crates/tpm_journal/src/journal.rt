@@ -8,9 +8,10 @@ ghost use Rattle.tpm_image.specs.Saving.{PutsFront};
 ghost use Rattle.tpm_image.specs.declared.version.Version.TheVariants.{Two};
 ghost use Rattle.tpm_journal.specs.Command.{command_at, elapsed_of, entry_of, given};
 ghost use Rattle.tpm_journal.specs.State.{journal_after, journal_begun};
-ghost use Rattle.tpm_journal_text.specs.Entry.{entry_text};
+ghost use Rattle.tpm_journal_text.specs.Entry.{IsEntry, entry_text};
 ghost use Rattle.tpm_journal_text.specs.Head.{head_text, image_limit};
-ghost use Rattle.tpm_machine.specs.State.{state_of};
+ghost use Rattle.tpm_machine.specs.Drawn.{drawn_by};
+ghost use Rattle.tpm_machine.specs.State.{latest_drawn, state_of};
 ghost use Rattle.tpm_record.specs.Cycle.{cycled};
 ghost use Rattle.tpm_step.specs.Events.{Cycled};
 ghost use Rattle.tpm_step.specs.Execution.{Executes};
@@ -108,6 +109,16 @@ impl Journal {
             take result room.new
             ≡ entry_text self.old.sum (entry_of (state_of K.record_of machine.old) c x) }
         ensures fits { result ≤ length room.new }
+        ensures drawn { let c = command_at buffer.now (locality_number locality)
+            (elapsed_of now_ms self.old.time) random.now in
+            latest_drawn machine.new
+            ≡ drawn_by (state_of K.record_of machine.old) (given c) outcome.new.row.check }
+
+        // What is written is an entry, and so can be read again.
+        ensures entry { let c = command_at buffer.now (locality_number locality)
+            (elapsed_of now_ms self.old.time) random.now in
+            let x = outcome_step (state_of K.record_of machine.new) outcome.new in
+            IsEntry (entry_of (state_of K.record_of machine.old) c x) }
         ensures journal { let c = command_at buffer.now (locality_number locality)
             (elapsed_of now_ms self.old.time) random.now in
             let x = outcome_step (state_of K.record_of machine.new) outcome.new in

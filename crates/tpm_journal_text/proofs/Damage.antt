@@ -1,8 +1,8 @@
 -- What is damaged: no entry stands at the front of a text that is long enough.
-use Rattle.std.proofs.Common.{◌≡◌, ℕ, ◌+◌, ◌*◌, ◌<◌, ◌≤◌, inl, inr, List, ◌++◌, length, take, ap, sym, ◌∙◌, arith}
+use Rattle.std.proofs.Common.{◌≡◌, ℕ, ◌≤◌, inl, inr, List, ◌++◌, length, take, ap, sym, ◌∙◌, arith}
 use Rattle.tpm_bytes.specs.Reading.{AreBytes}
-use Rattle.tpm_journal_text.specs.Entry.{IsEntry, PlainEntry, entry_size, entry_text, entry_word, mark_line, mark_of}
-use Rattle.tpm_journal_text.specs.Journal.{BeginsWithMark, IsCutOff, IsDamaged}
+use Rattle.tpm_journal_text.specs.Entry.{PlainEntry, entry_size, entry_text, entry_word, mark_line, mark_of}
+use Rattle.tpm_journal_text.specs.Journal.{IsDamaged}
 use Rattle.tpm_journal_text.specs.Places.{Stands}
 use Rattle.tpm_journal_text.specs.Sum.{sum_from}
 use Rattle.tpm_journal_text.proofs.Pieces.{line_same}

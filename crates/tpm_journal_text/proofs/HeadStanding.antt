@@ -1,7 +1,7 @@
 -- The parts of a head, by their places in its mark and in its text.
-use Rattle.std.proofs.Common.{◌≡◌, ℕ, ◌+◌, ◌*◌, ◌<◌, ◌≤◌, ◌^◌, List, [], ◌∷◌, ◌++◌, length, take, drop, refl, ap, sym, ◌∙◌, append_assoc, arith, length-append}
+use Rattle.std.proofs.Common.{◌≡◌, ℕ, ◌*◌, List, [], ◌∷◌, ◌++◌, length, take, drop, refl, ap, sym, ◌∙◌, append_assoc, arith, length-append}
 use Rattle.std.specs.Prelude.{codes}
-use Rattle.std.specs.Int.{w32, w64, from_be_bytes, to_be_bytes}
+use Rattle.std.specs.Int.{w32, w64, from_be_bytes}
 use Rattle.std.proofs.lemmas.List.{take_at, drop_at}
 use Rattle.std.proofs.lemmas.Nat.{from_be_bytes-to_be_bytes_4, from_be_bytes-to_be_bytes_8}
 use Rattle.hex.specs.Hex.{encode_lower, lower_digits}
@@ -10,7 +10,7 @@ use Rattle.tpm_bytes.specs.Reading.{AreBytes}
 use Rattle.tpm_journal_text.specs.Head.{HasHead, head_mark, head_size, head_sum, head_text, head_word}
 use Rattle.tpm_journal_text.specs.Marked.{marked_line}
 use Rattle.tpm_journal_text.specs.Places.{HeadStands}
-use Rattle.tpm_journal_text.specs.Sum.{offset_basis, sum_from, sum_of}
+use Rattle.tpm_journal_text.specs.Sum.{offset_basis, sum_from}
 use Rattle.tpm_journal_text.proofs.Bytes.{all_small}
 use Rattle.tpm_journal_text.proofs.Pieces.{front_of, hex_same, line_length, line_same}
 

@@ -1,16 +1,13 @@
 -- A text is read in one way alone.
-use Rattle.std.proofs.Common.{◌≡◌, ℕ, ◌+◌, ◌*◌, ◌<◌, ◌≤◌, inl, inr, Bool, true, false, List, [], ◌∷◌, ◌++◌, length, take, drop, max, refl, ap, sym, subst, ◌∙◌, append_assoc, arith, length-append}
-use Rattle.std.specs.Prelude.{codes}
+use Rattle.std.proofs.Common.{◌≡◌, ℕ, ◌+◌, ◌*◌, inl, inr, Bool, true, false, List, [], ◌∷◌, ◌++◌, length, take, drop, max, refl, ap, sym, subst, ◌∙◌, append_assoc, arith, length-append}
 use Rattle.std.specs.List.{AllByRecursion}
 use Rattle.std.proofs.lemmas.List.{drop_at}
-use Rattle.hex.specs.Hex.{encode_lower, lower_digits}
-use Rattle.hex.proofs.HexLemmas.{length-encode_with}
-use Rattle.tpm_journal_text.specs.Entry.{IsEntry, PlainEntry, buffer_size, drawn_size, entry_size, entry_text, executing_lines, flag, mark_line, mark_of, setting_lines, shown, sum_after}
+use Rattle.tpm_journal_text.specs.Entry.{IsEntry, PlainEntry, entry_size, entry_text, flag, mark_of, sum_after}
 use Rattle.tpm_journal_text.specs.Journal.{IsCutOff, entries_text, sum_after_all}
 use Rattle.tpm_journal_text.specs.Places.{Stands}
 use Rattle.tpm_journal_text.proofs.Damage.{same_mark}
 use Rattle.tpm_journal_text.proofs.Pieces.{hex_same}
-use Rattle.tpm_journal_text.proofs.Standing.{buffer_told, drawn_told, entry_text_many, line_stands, mark_bytes, mark_many, stands}
+use Rattle.tpm_journal_text.proofs.Standing.{entry_text_many, line_stands, mark_bytes, mark_many, stands}
 
 -- ---- one entry
 

@@ -1,6 +1,6 @@
 //! The sum of bytes: FNV-1a of 64 bits.
 
-ghost use Rattle.std.specs.Prelude.{◌≡◌};
+ghost use Rattle.std.specs.Prelude.{◌≡◌, [], codes};
 ghost use Rattle.tpm_journal_text.specs.Sum.{sum_from, sum_of};
 
 /// The sum of no bytes.
@@ -25,3 +25,11 @@ pub fn sum_of(bytes: &[u8]) -> u64
 {
     sum_from(OFFSET_BASIS, bytes)
 }
+
+/// The sums that FNV's authors publish of no bytes, of `a` and of `foobar`. The function does
+/// nothing.
+pub fn published_sums()
+    ensures none { sum_of [] ≡ 0xcbf29ce484222325 }
+    ensures a { sum_of (codes "a") ≡ 0xaf63dc4c8601ec8c }
+    ensures foobar { sum_of (codes "foobar") ≡ 0x85944171f73967e8 }
+{}

@@ -1,4 +1,4 @@
-use Rattle.std.proofs.Common.{◌≡◌, ◌++◌, List, ℕ, length, ap, ◌∙◌}
+use Rattle.std.proofs.Common.{◌++◌, List, ℕ, length, ap, ◌∙◌}
 use Rattle.std.proofs.lemmas.List.{drop-replicate}
 use Rattle.tpm_journal.proofs.following.padded.Goals as goal
 

@@ -1,4 +1,4 @@
-use Rattle.std.proofs.Common.{◌≡◌, take_all, sym}
+use Rattle.std.proofs.Common.{take_all, sym}
 use Rattle.tpm_journal.proofs.journal.cut.Goals as goal
 
 pub returns-then-buffer-le-ENTRY_LIMIT : goal.returns-then-buffer-le-ENTRY_LIMIT

@@ -1,4 +1,4 @@
-use Rattle.std.proofs.Common.{rules, ◌≡◌, ◌+◌, ℕ, ap}
+use Rattle.std.proofs.Common.{◌+◌, ℕ, ap}
 use Rattle.tpm_journal.proofs.ReadHeads.{begins, head_many, not_opened, read_so}
 use Rattle.tpm_journal.proofs.opening.open.Goals as goal
 

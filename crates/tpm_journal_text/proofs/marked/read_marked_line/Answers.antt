@@ -1,4 +1,4 @@
-use Rattle.std.proofs.Common.{◌≡◌, ℕ, ◌*◌, List, length, take, drop, true, false, ap, sym, ◌∙◌, arith}
+use Rattle.std.proofs.Common.{◌≡◌, ℕ, ◌*◌, List, length, take, true, false, ap, sym, ◌∙◌, arith}
 use Rattle.std.specs.Result.{is_err}
 use Rattle.tpm_journal_text.specs.Marked.{marked_line, marked_size}
 use Rattle.tpm_journal_text.specs.Sum.{sum_from}

@@ -1,4 +1,4 @@
-use Rattle.std.proofs.Common.{◌≡◌, length, take, ap, refl, ◌∙◌}
+use Rattle.std.proofs.Common.{length, take, ap, refl, ◌∙◌}
 use Rattle.std.proofs.lemmas.List.{take_at}
 use Rattle.tpm_journal_text.proofs.Pieces.{same_is_equal}
 use Rattle.tpm_journal_text.proofs.reading.begins_with.Goals as goal

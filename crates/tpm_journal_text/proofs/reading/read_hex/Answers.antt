@@ -1,4 +1,4 @@
-use Rattle.std.proofs.Common.{◌≡◌, ◌*◌, length, take, ap, ◌∙◌}
+use Rattle.std.proofs.Common.{◌*◌, length, take, ap, ◌∙◌}
 use Rattle.tpm_journal_text.proofs.Pieces.{digits_read}
 use Rattle.tpm_journal_text.proofs.reading.read_hex.Goals as goal
 

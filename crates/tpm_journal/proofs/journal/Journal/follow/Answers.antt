@@ -1,4 +1,4 @@
-use Rattle.std.proofs.Common.{rules, ◌≡◌, ◌≢◌, ℕ, arith, length-drop}
+use Rattle.std.proofs.Common.{arith}
 use Rattle.tpm_journal.proofs.Repeating.{performs_at, performs_some, repeats_more, repeats_none, repeats_otherwise}
 use Rattle.tpm_journal.proofs.journal.Journal.follow.Goals as goal
 
