@@ -1,5 +1,6 @@
 # Every link of every document leads to a file, and every #anchor to a heading of it. Then documents
-# with links that lead nowhere are told of, each by its line.
+# with links that lead nowhere are told of, each by its line. The page of each command and of each
+# general check leads to its definition and its code.
 tests=$(cd "$(dirname "$0")/.." && pwd -P)
 . "$tests/common/cases.sh"
 needs git
@@ -44,3 +45,10 @@ cat >bad.md <<'END'
 break](deep/other.md#the-same-2) [here](#none)
 END
 follow --count . bad.md
+
+echo '== commands and general checks, and how many of them lead to their definition and code'
+cat "$top"/docs/table/*.md | awk '
+    /^## (TPM2_.* \([0-9A-F]+\)|G[0-9]+: )/ { sections++; waits = 1; next }
+    /^## / { waits = 0 }
+    waits && /^Definition: \[.*\]\(.*\.antt\) Code: \[.*\]\(.*\.rt\)$/ { lead++; waits = 0 }
+    END { print sections, lead + 0 }'
