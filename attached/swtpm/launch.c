@@ -40,7 +40,7 @@ void find_launch(const uint8_t *journal, size_t size) {
         const uint8_t *line = journal, *newline = memchr(line, '\n', (size_t)(end - line));
         size_t length = (size_t)((newline == NULL ? end : newline) - line);
         if (length == 5 && memcmp(line, "loc ", 4) == 0) locality = (uint8_t)(line[4] - '0');
-        bool is_empty = length == 3 && memcmp(line, "cmd", 3) == 0;
+        bool is_empty = length == 4 && memcmp(line, "cmd ", 4) == 0;
         if (is_empty && locality == HARDWARE) was_launched = true;
         if (is_empty && locality == TRUSTED_SYSTEM) was_launched = false;
         journal = line + length + 1;

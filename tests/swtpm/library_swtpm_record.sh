@@ -10,7 +10,7 @@ umask 0
 
 # power_on_of RECORD: the image that a record begins with.
 power_on_of() {
-    sed -n 's/^# image \(.*\)/\1/p' "$1" | python3 -c \
+    sed -n '2s/^# //p' "$1" | python3 -c \
         'import sys; sys.stdout.buffer.write(bytes.fromhex(sys.stdin.read()))'
 }
 

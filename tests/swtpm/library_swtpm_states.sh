@@ -58,7 +58,7 @@ label 'the journal in it'
 sed -n '/^wait\|^loc\|^cmd/p' volatile | sed 's/^wait [0-9]*$/wait/' | uniq -c
 sed '$!d' volatile
 printf 'cmd 8001000000140000017e00000001000b03000011\n' | cat volatile - >journal
-sed -n 's/^# image \(.*\)/\1/p' volatile | python3 -c \
+sed -n '2s/^# //p' volatile | python3 -c \
     'import sys; sys.stdout.buffer.write(bytes.fromhex(sys.stdin.read()))' >power_on
 "$assemble" run --image power_on journal | tail -n 1
 
