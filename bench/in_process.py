@@ -46,9 +46,7 @@ class Program:
     """The program that has both devices."""
 
     def __init__(self, path: str) -> None:
-        process = subprocess.Popen(
-            [path], stdin=subprocess.PIPE, stdout=subprocess.PIPE, text=True
-        )
+        process = subprocess.Popen([path], stdin=subprocess.PIPE, stdout=subprocess.PIPE, text=True)
         assert process.stdin and process.stdout
         self.lines, self.answers = process.stdin, process.stdout
 

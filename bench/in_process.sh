@@ -25,6 +25,6 @@ compile stack "$top/tests/library/stack.c" -pthread
 compile devices "$top/tests/library/devices.c"
 
 "$top/tools/python.sh" "$top/bench/in_process.py" "$folder/in_process" "$@"
-"$top/tools/python.sh" "$top/tests/library/scripts.py" --figures "$top/tests" "$folder/stack"
+"$top/tools/python.sh" "$top/tests/library/scripts.py" --figures "$folder/stack"
 "$folder/devices" 1000 figures
 wc -c "$dist/libtpmsim.a" "$dist/libtpmsim.so.0"

@@ -30,18 +30,18 @@ allocations() {
         sed -n 's/.*total heap usage: \([0-9,]*\) allocs.*/\1/p'
 }
 
-for kind in cmd do; do
+for kind in cmd 'do'; do
     "$top/bench/script.sh" 1000000 "$kind" >"$folder/$kind"
     : >"$folder/seconds.$kind"
 done
 for _ in 1 2 3 4 5 6 7 8 9 10; do
-    for kind in cmd do; do
+    for kind in cmd 'do'; do
         seconds "$kind" >>"$folder/seconds.$kind"
     done
 done
 cmp "$folder/answers.cmd" "$folder/answers.do"
 
-for kind in cmd do; do
+for kind in cmd 'do'; do
     least=$(sort -n "$folder/seconds.$kind" | head -n 1)
     each=$((($(instructions "$kind" 3000) - $(instructions "$kind" 1000)) / 2000))
     echo "$kind: $least s for 1,000,000 GetRandom lines, $each instructions a line," \

@@ -14,8 +14,8 @@ import sys
 
 from tpmsim.caller import BY_VALUE, Use, area
 from tpmsim.standard import CC, RH_NULL, RH_OWNER, SHA256, lines, number
-from script_caller import FIRST, ScriptCaller
-from script import Script
+from tpmsim.caller.script_caller import FIRST, ScriptCaller
+from tpmsim.caller.script import Script
 
 PCR = 0x10
 DATA = bytes(64)
@@ -49,7 +49,7 @@ prepared = {
     "extend": lambda: extending(caller, use),
 }[kind]()
 buffer = prepared.buffer()
-script.command("", "SUCCESS", buffer)
-script.command("", "SUCCESS", buffer)
+script.command("SUCCESS", buffer)
+script.command("SUCCESS", buffer)
 kept = [it for it in script.lines if it.startswith(("cmd", "do ", "entropy"))]
 print("\n".join([in_hex(it) for it in kept[:-2]] + [in_hex(kept[-1])] * count))

@@ -12,8 +12,8 @@ import sys
 
 from tpmsim.caller import hmac_key, sealed, storage_key
 from tpmsim.standard import RH_OWNER, SHA256
-from script_caller import ScriptCaller
-from script import Script
+from tpmsim.caller.script_caller import ScriptCaller
+from tpmsim.caller.script import Script
 
 SECRET = bytes(range(32))
 

@@ -12,8 +12,8 @@ import sys
 
 from tpmsim.caller import Use
 from tpmsim.standard import RH_OWNER
-from script_caller import ScriptCaller
-from script import Script
+from tpmsim.caller.script_caller import ScriptCaller
+from tpmsim.caller.script import Script
 
 script = Script("bench", "")
 caller = ScriptCaller(script)
@@ -22,8 +22,8 @@ script.entropy(b"\xbb")
 script.fresh = lambda: None
 session = caller.start("A session", RH_OWNER)
 buffer = caller.reset(Use(session)).buffer()
-script.command("", "SUCCESS", buffer)
-script.command("", "SUCCESS", buffer)
+script.command("SUCCESS", buffer)
+script.command("SUCCESS", buffer)
 lines = [line for line in script.lines if line.startswith(("cmd", "do ", "entropy"))]
 print("\n".join(lines[:-2]))
 for _ in range(int(sys.argv[1])):

@@ -24,7 +24,7 @@
    - No pointer is NULL, not even with a size of 0. What a pointer leads to has the bytes that are
      said here, lies there during the call alone, and does not overlap what another one leads to,
      nor the handle.
-   - There are 64 KB of stack for each call.
+   - There are 64 KB of stack for each call, and 128 KB for tpmsim_journal_open.
    - malloc, realloc and free are the C library's, or others that keep its promises, of one
      allocator. A device takes some 45 KB, once. No call is made from a signal handler, nor
      in a forked child of a process with threads.
@@ -68,8 +68,19 @@ enum tpmsim_told {
     TPMSIM_IMAGE_VERSION = 6,
     TPMSIM_IMAGE_LENGTH = 7,
     TPMSIM_IMAGE_DIGEST = 8,
-    TPMSIM_IMAGE_BODY = 9
+    TPMSIM_IMAGE_BODY = 9,
+    /* Why a text is no journal, or was not followed to its end: no head stands at its front; as many
+       bytes as a record says that it has are no record; the device answered the last record that
+       was taken otherwise than it says. */
+    TPMSIM_NO_JOURNAL = 10,
+    TPMSIM_DAMAGED = 11,
+    TPMSIM_OTHERWISE = 12,
+    /* A completing layer was asked for, which this library does not have. */
+    TPMSIM_NO_COMPLETION = 13
 };
+
+/* Enough for each record of a journal. */
+enum { TPMSIM_RECORD_ROOM = 9216 };
 
 /* What a command is told beside its response. */
 typedef struct tpmsim_answered {
@@ -129,6 +140,37 @@ size_t tpmsim_save(tpmsim *device, uint8_t *room, size_t size);
    TPMSIM_DONE; TPMSIM_IMAGE_SHORT to TPMSIM_IMAGE_BODY where the bytes are no image, and
    TPMSIM_NO_MEMORY where they are one. */
 uint8_t tpmsim_open(tpmsim *device, const uint8_t *image, size_t size);
+
+/* Cycles the power of the device, and writes the head of its new journal to the front of `room`, if
+   that has room for all of it; else nothing is done.
+
+   How many bytes the head has, written or not, at most 56,802; 0 where there is no device. */
+size_t tpmsim_journal_begin(tpmsim *device, uint64_t now_ms, uint8_t *room, size_t size);
+
+/* Opens the device of a journal, in place of the handle's own, which is freed. `taken` says how many
+   bytes the head and the whole records have; what is behind them was cut off.
+
+   TPMSIM_DONE; TPMSIM_NO_JOURNAL, TPMSIM_DAMAGED, TPMSIM_OTHERWISE; TPMSIM_IMAGE_SHORT to
+   TPMSIM_IMAGE_BODY where the image of the head is none; TPMSIM_NO_MEMORY. */
+uint8_t tpmsim_journal_open(tpmsim *device, const uint8_t *text, size_t size, size_t *taken);
+
+/* Executes the whole records of a text that was added behind what this device executed. Whatever is
+   told but TPMSIM_NO_DEVICE, the device has executed the records of `taken` bytes.
+
+   TPMSIM_DONE, TPMSIM_DAMAGED, TPMSIM_OTHERWISE, TPMSIM_NO_DEVICE. */
+uint8_t tpmsim_journal_follow(tpmsim *device, const uint8_t *text, size_t size, size_t *taken);
+
+/* Executes a command as tpmsim_execute does, by the host's clock in milliseconds, and writes its
+   record, which the caller adds to the journal before it gives the response out. A buffer of more
+   than 4,097 bytes is cut to as many, which are refused alike. `completes` is 0: anything else asks
+   for a completing layer.
+
+   TPMSIM_DONE, TPMSIM_NO_COMPLETION, TPMSIM_NO_LOCALITY, TPMSIM_NO_DEVICE. */
+uint8_t tpmsim_journal_execute(tpmsim *device, const uint8_t *buffer, size_t size,
+                               uint8_t locality, uint64_t now_ms, uint8_t completes,
+                               const uint8_t random[256], uint8_t response[4096],
+                               tpmsim_answered *answered, uint8_t record[TPMSIM_RECORD_ROOM],
+                               size_t *record_size);
 
 /* Frees the device, if there is one. The handle has none then, and may be used again. */
 void tpmsim_free(tpmsim *device);

@@ -25,4 +25,4 @@ fi
 top=$(CDPATH='' cd "$(dirname "$0")/.." && pwd -P) || exit 1
 program=${PROGRAM:-$(cd "$top" && . tools/program.sh)} || exit 1
 program=$(cd "$(dirname "$program")" && pwd -P)/$(basename "$program") || exit 1
-exec "$top/tools/python.sh" "$top/tests/outside/audit/sweep.py" "$program" "$@"
+exec "$top/tools/python.sh" "$top/tests/python/sweep.py" "$program" "$@"

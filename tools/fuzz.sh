@@ -40,4 +40,4 @@ if ! are_words "$@"; then
 fi
 program=${PROGRAM:-$(cd "$top" && . tools/program.sh)} || exit 1
 program=$(cd "$(dirname "$program")" && pwd -P)/$(basename "$program") || exit 1
-exec "$top/tools/python.sh" "$top/tests/outside/scripts/fuzz.py" "$program" "$@"
+exec "$top/tools/python.sh" "$top/tests/at_random/fuzz.py" "$program" "$@"

@@ -39,6 +39,7 @@ in=21 out=41 both=61
 
 # tool WORDS..: runs a tool, for at most ten seconds.
 tool() {
+    # shellcheck disable=SC2145 # the first word ends the name of the tool
     if timeout 10 "tss$@" >output 2>&1; then
         echo "ok: tss$*"
     else
@@ -52,6 +53,7 @@ tool() {
 refused() {
     code=$1
     shift
+    # shellcheck disable=SC2145 # the first word ends the name of the tool
     if ! timeout 10 "tss$@" >output 2>&1 && grep -q "rc $code" output; then
         echo "ok: tss$*: $code"
     else
@@ -100,6 +102,7 @@ refused 0000099d nvwrite -ha 01000002 -if record -se0 03000002 1
 tool nvread -ha 01000002 -sz 8 -of back
 same record back
 tool policyrestart -ha 03000002
+# shellcheck disable=SC2238 # it is a file
 head -c 32 data >hash
 tool policycphash -ha 03000002 -cp hash
 tail -c 32 data >other

@@ -1,7 +1,7 @@
 #!/bin/sh
 # Kills a served device at random moments while connections come one after another, and looks at the
-# image that is left behind each kill, as tests/killed.sh does a few times. Then it does so as often to
-# a device that is served with --save-each, straight behind a response, as tests/save_each.sh does. It
+# image that is left behind each kill, as tests/serving/killed.sh does a few times. Then it does so as often to
+# a device that is served with --save-each, straight behind a response, as tests/serving/save_each.sh does. It
 # is no part of the gate. Needs python3.
 #
 #   tools/kills.sh               1,000 kills, of seed 1

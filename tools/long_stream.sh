@@ -1,6 +1,6 @@
 #!/bin/sh
 # Sends very many commands to a served device in one connection, and reads the responses meanwhile, as
-# tests/serve_clients.sh does for five million bytes. It is no part of the gate. Needs python3.
+# tests/serving/serve_clients.sh does for five million bytes. It is no part of the gate. Needs python3.
 #
 #   tools/long_stream.sh          100 million bytes of commands
 #   tools/long_stream.sh 500      500 million

@@ -20,6 +20,7 @@ is_good() {
     fault="$shipped is for Linux on x86-64 alone"
     [ "$(uname -sm)" = 'Linux x86_64' ] || return 1
     fault="$shipped was proved of other sources than these"
+    # shellcheck disable=SC2119 # those of tpmsim
     is_proved sources "$(sources_checksum)" || return 1
     fault="$shipped is not the program that $proved names"
     is_proved program "$(checksum <"$shipped")" || return 1

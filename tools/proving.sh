@@ -9,7 +9,7 @@ copy_crates() {
     mkdir -p "$1/crates" && cp HANDLES "$1" || return 1
     for crate in $crates; do
         tar cf - --exclude=out --exclude=must-fail "crates/$crate" | (cd "$1" && tar xf -) &&
-            grep "^$crate[ :]" crates.txt >>"$1/crates.txt" || return 1
+            grep "^${crate}[ :]" crates.txt >>"$1/crates.txt" || return 1
     done
 }
 

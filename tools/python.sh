@@ -1,11 +1,13 @@
 #!/bin/sh
-# Runs python3 with the package under python/ and the programs under tests/outside/scripts to be
-# found, as the programs in Python under tests/, tools/ and bench/ need it:
+# Runs python3 with the package under python/ and the programs under tests/ to be found, as those
+# in Python under tests/, tools/ and bench/ need it:
 #
-#   tools/python.sh tests/outside/scripts/create.py
+#   tools/python.sh tests/objects/create.py
 set -u
 
 top=$(CDPATH='' cd "$(dirname "$0")/.." && pwd -P) || exit 1
-PYTHONPATH=$top/python:$top/tests/outside/scripts
+PYTHONPATH=$top/python:$top
 export PYTHONPATH
-exec python3 -B "$@"
+# What Python compiles is not kept in the repository.
+[ -n "${PYTHONPYCACHEPREFIX:-}" ] || export PYTHONDONTWRITEBYTECODE=1
+exec python3 "$@"

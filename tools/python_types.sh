@@ -1,6 +1,7 @@
 #!/bin/sh
-# Checks the package under python/: its types by mypy, its names by pyflakes, its form by black, and
-# its unit tests by pytest, with its plugin. It is no part of the gate, and needs Debian's packages
+# Checks the package under python/: its types by mypy, of most of it by `mypy --strict`, its names
+# by pyflakes, its form by black, and its unit tests by pytest, with its plugin. The programs under
+# tests/, examples/ and bench/ are checked for names and form too. It is no part of the gate, and needs Debian's packages
 # mypy, pyflakes3, black and python3-pytest. The status is 1 where one of them finds something.
 set -u
 
@@ -16,8 +17,13 @@ PYTHONDONTWRITEBYTECODE=1
 export PYTHONPATH PYTHONDONTWRITEBYTECODE
 status=0
 mypy --cache-dir "$work/mypy" || status=1
-pyflakes3 tpmsim tests "$top/tests/outside" "$top/tests/common" "$top/tests/library" \
-    "$top/bench" || status=1
+for package in standard model policies caller; do
+    set -- "$@" -p "tpmsim.$package"
+done
+mypy --strict --cache-dir "$work/mypy" "$@" || status=1
+pyflakes3 tpmsim tests "$top/tests" "$top/examples" "$top/bench" || status=1
 /usr/bin/black --quiet --check . || status=1
+# The programs beside the tests have the form of the package.
+/usr/bin/black --quiet --check --config pyproject.toml "$top/tests" "$top/examples" || status=1
 pytest-3 -q -p no:cacheprovider -p tpmsim.pytest_plugin tests || status=1
 exit "$status"

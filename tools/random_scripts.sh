@@ -22,7 +22,7 @@ differ=0
 seed=$first
 while [ "$seed" -le "$last" ]; do
     script=$folder/$seed
-    "$top/tools/python.sh" "$top/tests/outside/scripts/random_script.py" "$seed" "$count" "$folder" || exit 1
+    "$top/tools/python.sh" "$top/tests/at_random/random_script.py" "$seed" "$count" "$folder" || exit 1
     "$program" run "$script.tpm" >"$script.given"
     if cmp "$script.out" "$script.given"; then
         agree=$((agree + 1))

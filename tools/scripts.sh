@@ -3,148 +3,99 @@
 # programs that `rt ci` leaves and with the one in dist/, and compares what comes of them with the
 # files beside them. Then it runs the scripts that are to end well with tpmsim_lists, which keeps
 # the device's state in lists and not in fixed places, for the same bytes over both keeps; and the
-# shell tests of that program; and those of the library, over the one in dist/. Where nothing was
-# built here, what is in dist/ is run alone; that takes a minute, and needs no `rt`.
+# shell tests of that program; and those of the library and of what is attached by it, over the one
+# in dist/. Where nothing was built here, what is in dist/ is run alone; that takes a minute, and
+# needs no `rt`.
 #
 #   tools/scripts.sh                   all of them
 #   tools/scripts.sh pcr_extend files  these
+#   tools/scripts.sh 'nv/*' 'front*'   those of the folder tests/nv, and those whose names begin so
+#   JOBS=1 tools/scripts.sh            one after another, and not one on each processor
 #
 # NAME.tpm is run as `PROGRAM run NAME.tpm`, or as `tpmsim_lists <NAME.tpm`, and NAME.sh as `sh
 # NAME.sh PROGRAM`. A shell test whose name begins with lists_ is run with tpmsim_lists alone, one
-# whose name begins with library_ with dist/libtpmsim.a, and all others with the other programs.
+# whose name begins with library_ or attached_ with dist/libtpmsim.a, and all others with the
+# other programs.
 # NAME.out is what standard output must be, NAME.err what standard error must be (no file: empty),
 # and NAME.status the exit status (no file: 0). Where there is a NAME.trace, NAME.tpm is run as
 # `PROGRAM run --trace NAME.tpm` too, which is a further test, and NAME.trace is what standard
 # output must be. A shell test that cannot run here ends with status 77, and prints one line, its
-# reason: it is skipped, and so counted, as is one whose program is not there. The last line is `N
-# passed, M failed`, and behind that `, K skipped` where a test was.
+# reason: it is skipped, and so counted, as is one whose program is not there. What is said stands
+# in the order of programs and of tests, whichever ends first. The last line is `N passed, M
+# failed`, and behind that `, K skipped` where a test was.
 set -u
 
 top=$(CDPATH='' cd "$(dirname "$0")/.." && pwd -P) || exit 1
 out=$top/crates/tpmsim/out
 lists=$top/crates/tpmsim_lists/out/tpmsim_lists
 library=$top/dist/libtpmsim.a
+jobs=${JOBS:-$(getconf _NPROCESSORS_ONLN)}
 work=$(mktemp -d) || exit 1
 trap 'rm -rf "$work"' EXIT
-: >"$work/empty"
-passed=0
-failed=0
-skipped=0
+mkdir "$work/told" || exit 1
+# The tests share what Python compiles.
+export PYTHONPYCACHEPREFIX="$work/python"
+: >"$work/queue"
+number=0
 
-fail() {
-    echo "FAILED: $1"
-    failed=$((failed + 1))
+# The tests that take longest begin first, then the other shell tests, and then the scripts.
+longest=' starved front library_scripts audit bent_lines images policy_audit torn launcher '
+
+# say WORDS: a line that stands between what is said of tests.
+say() {
+    number=$((number + 1))
+    echo >>"$work/queue"
+    echo "$1" >"$work/told/$number"
+}
+
+# check TEST PROGRAM WANTED [OPTION]: a test that is to be played.
+check() {
+    number=$((number + 1))
+    printf '%s\t%s\t%s\t%s\n' "$1" "$2" "$3" "${4:-}" >>"$work/queue"
+    name=${1##*/}
+    case $1,$longest in
+    *.sh,*" ${name%.sh} "*) echo "$number" >>"$work/longest" ;;
+    *.sh,*) echo "$number" >>"$work/long" ;;
+    *) echo "$number" >>"$work/short" ;;
+    esac
 }
 
 skip() {
-    echo "skipped: $1: $2"
-    skipped=$((skipped + 1))
+    say "skipped: $1: $2"
 }
 
-# first_difference TEST WANTED: the first line of standard output that differs from what is wanted,
-# and of a script the line that it comes of. Each cmd and do line prints a line, in a trace two, and
-# there `power` prints one.
-first_difference() {
-    awk -v test="${1#"$top/"}" -v out="${2#"$top/"}" '
-        BEGIN { traces = out ~ /trace$/ }
-        FILENAME == ARGV[1] {
-            prints = 0
-            if (test ~ /tpm$/ && /^(cmd|do)( |$)/) prints = traces ? 2 : 1
-            if (test ~ /tpm$/ && /^power$/) prints = traces ? 1 : 0
-            while (prints-- > 0) line[++lines] = test ":" FNR ": " $0
-            next
-        }
-        FILENAME == ARGV[2] { wanted[++wanted_lines] = $0; next }
-        { given[++given_lines] = $0 }
-        END {
-            most = wanted_lines > given_lines ? wanted_lines : given_lines
-            for (n = 1; n <= most; n++) if (wanted[n] "" != given[n] "") break
-            print "    " (n <= lines ? line[n] : out ":" n)
-            print "        wanted: " (n <= wanted_lines ? wanted[n] : "no more")
-            print "        given:  " (n <= given_lines ? given[n] : "no more")
-        }
-    ' "$1" "$2" "$work/output"
-}
-
-# status_of TEST: the exit status that is wanted.
-status_of() {
-    if [ -f "${1%.*}.status" ]; then cat "${1%.*}.status"; else echo 0; fi
-}
-
-# name_of PROGRAM: by what it is told, which is its path for the one in dist/.
-name_of() {
+# is_test PATH: whether it is a test; what tests/common has is none.
+is_test() {
     case $1 in
-    */dist/*) echo "${1#"$top/"}" ;;
-    *) echo "${1##*/}" ;;
+    "$top/tests/common/"*) false ;;
+    *) [ -f "$1" ] ;;
     esac
-}
-
-# is_skipped TEST STATUS: whether a test that ended so was skipped, and gave its reason.
-is_skipped() {
-    case $1,$2 in
-    *.sh,77) [ "$(grep -c . "$work/output")" -eq 1 ] && [ "$(wc -l <"$work/output")" -eq 1 ] ;;
-    *) false ;;
-    esac
-}
-
-# run TEST PROGRAM [OPTION]: runs a test with a program.
-run() {
-    case $1,$2 in
-    *.sh,*) timeout 300 sh "$1" "$2" </dev/null ;;
-    *,"$lists") timeout 120 "$2" <"$1" ;;
-    *) timeout 120 "$2" run ${3:+"$3"} "$1" </dev/null ;;
-    esac
-}
-
-# check TEST PROGRAM WANTED [OPTION]: counts a test that is run with a program, and says what
-# differs from the file of what is wanted.
-check() {
-    base=${1%.*}
-    named="${1#"$top/"} with $(name_of "$2")${4:+ $4}"
-    if [ ! -f "$3" ]; then
-        fail "$named: ${3#"$top/"} is not there"
-        return
-    fi
-    status=0
-    run "$1" "$2" "${4:-}" >"$work/output" 2>"$work/error" || status=$?
-    if is_skipped "$1" "$status"; then
-        skip "$named" "$(cat "$work/output")"
-        return
-    fi
-    wanted_status=$(status_of "$1")
-    wanted_error=$work/empty
-    [ ! -f "$base.err" ] || wanted_error=$base.err
-
-    if [ "$status" = "$wanted_status" ] && cmp -s "$3" "$work/output" &&
-        cmp -s "$wanted_error" "$work/error"; then
-        echo "ok: $named"
-        passed=$((passed + 1))
-        return
-    fi
-    fail "$named"
-    cmp -s "$3" "$work/output" || first_difference "$1" "$3"
-    [ "$status" = "$wanted_status" ] || echo "    status wanted: $wanted_status, given: $status"
-    cmp -s "$wanted_error" "$work/error" || {
-        echo "    standard error wanted: $(cat "$wanted_error")"
-        echo "    standard error given:  $(cat "$work/error")"
-    }
 }
 
 if [ "$#" -eq 0 ]; then
-    set -- "$top"/tests/*.tpm "$top"/tests/*.sh "$top"/examples/*.tpm
-else
-    for name do
-        shift
-        found=
-        for test in "$top/tests/$name.tpm" "$top/tests/$name.sh" "$top/examples/$name.tpm"; do
-            if [ -f "$test" ]; then
-                set -- "$@" "$test"
-                found=yes
-            fi
-        done
-        [ -n "$found" ] || fail "$name: there is no such test"
-    done
+    set -- '*'
 fi
+for name do
+    shift
+    found=
+    # shellcheck disable=SC2086,SC2231 # a name may be a pattern
+    for test in "$top/tests/"$name.sh "$top/tests/"*/$name.sh "$top/tests/"$name.tpm \
+        "$top/tests/"*/$name.tpm "$top/examples/"$name.tpm; do
+        if is_test "$test"; then
+            set -- "$@" "$test"
+            found=yes
+        fi
+    done
+    [ -n "$found" ] || say "FAILED: $name: there is no such test"
+done
+
+# is_of_library TEST: whether it is a test of the library, or of what is attached by it.
+is_of_library() {
+    case $1 in
+    */library_*.sh | */attached_*.sh) true ;;
+    *) false ;;
+    esac
+}
 
 # Whether the program in dist/ is of the sources as they stand.
 shipped_is_of_sources() (
@@ -153,7 +104,7 @@ shipped_is_of_sources() (
 
 # missing PROGRAM: says so, where others were built here.
 missing() {
-    [ ! -x "$out/tpmsim" ] || echo "${1#"$top/"} is not there"
+    [ ! -x "$out/tpmsim" ] || say "${1#"$top/"} is not there"
 }
 
 programs=0
@@ -163,36 +114,43 @@ for program in "$out/tpmsim" "$out/tpmsim.by-rattle" "$top/dist/tpmsim"; do
         continue
     fi
     if [ "$program" = "$top/dist/tpmsim" ] && ! shipped_is_of_sources; then
-        echo 'dist/tpmsim is not run: it was proved of other sources than these'
+        say 'dist/tpmsim is not run: it was proved of other sources than these'
         continue
     fi
     programs=$((programs + 1))
     for test do
         case $test in
-        */lists_*.sh | */library_*.sh) continue ;;
+        */lists_*.sh) continue ;;
         esac
+        ! is_of_library "$test" || continue
         check "$test" "$program" "${test%.*}.out"
         case $test in
         *.tpm) [ ! -f "${test%.*}.trace" ] || check "$test" "$program" "${test%.*}.trace" --trace ;;
         esac
     done
 done
-[ "$programs" -gt 0 ] || fail 'no program was there to be run'
+[ "$programs" -gt 0 ] || say 'FAILED: no program was there to be run'
 
-if [ -x "$lists" ]; then
-    for test do
-        case $test,$(status_of "$test") in
-        *.tpm,0 | */lists_*.sh,*) check "$test" "$lists" "${test%.*}.out" ;;
-        esac
-    done
-else
-    missing "$lists"
-    for test do
-        case $test in
-        */lists_*.sh) skip "${test#"$top/"}" 'tpmsim_lists was not built here' ;;
-        esac
-    done
-fi
+# ends_well SCRIPT: whether it is to.
+ends_well() {
+    [ ! -f "${1%.*}.status" ] || [ "$(cat "${1%.*}.status")" -eq 0 ]
+}
+
+[ -x "$lists" ] || missing "$lists"
+for test do
+    case $test in
+    */lists_*.sh)
+        if [ -x "$lists" ]; then
+            check "$test" "$lists" "${test%.*}.out"
+        else
+            skip "${test#"$top/"}" 'tpmsim_lists was not built here'
+        fi
+        ;;
+    *.tpm)
+        [ ! -x "$lists" ] || ! ends_well "$test" || check "$test" "$lists" "${test%.*}.out"
+        ;;
+    esac
+done
 
 # Whether the library in dist/ is of the sources as they stand, and the one that was proved.
 library_is_proved() (
@@ -209,14 +167,45 @@ missing_library() {
 
 why=$(missing_library)
 for test do
-    case $test,$why in
-    */library_*.sh,) check "$test" "$library" "${test%.*}.out" ;;
-    */library_*.sh,*) skip "${test#"$top/"}" "$why" ;;
-    esac
+    is_of_library "$test" || continue
+    if [ -z "$why" ]; then
+        check "$test" "$library" "${test%.*}.out"
+    else
+        skip "${test#"$top/"}" "$why"
+    fi
 done
 
+# Shows what is told of the next tests, as far as it is.
+next=1
+show() {
+    while [ -f "$work/told/$next" ]; do
+        cat "$work/told/$next"
+        next=$((next + 1))
+    done
+}
+
+# The shell tests begin first, which take longest.
+touch "$work/longest" "$work/long" "$work/short"
+cat "$work/longest" "$work/long" "$work/short" |
+    xargs -r -P "$jobs" -n 1 sh "$top/tools/lib/one_test.sh" "$work" |
+    {
+        show
+        while read -r _; do show; done
+        while [ "$next" -le "$number" ]; do
+            [ -f "$work/told/$next" ] || echo "FAILED: test $next was not played" >"$work/told/$next"
+            show
+        done
+    }
+
+# count WORD: how many tests were told with this word.
+count() {
+    find "$work/told" -type f -exec cat {} + | grep -c "^$1: "
+}
+
 [ -x "$out/tpmsim" ] || echo 'No proof was run: nothing was proved and built here.'
-counts="$passed passed, $failed failed"
+failed=$(count FAILED)
+skipped=$(count skipped)
+counts="$(count ok) passed, $failed failed"
 [ "$skipped" -eq 0 ] || counts="$counts, $skipped skipped"
 echo "$counts"
 [ "$failed" -eq 0 ]

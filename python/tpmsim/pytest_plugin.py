@@ -34,7 +34,7 @@ def tpm_saved(request: pytest.FixtureRequest, tmp_path: Path) -> Iterator[Caller
         yield caller_of(request, device)
 
 
-@pytest.hookimpl(hookwrapper=True)
+@pytest.hookimpl(hookwrapper=True)  # type: ignore[misc]
 def pytest_runtest_makereport(item: pytest.Item) -> Generator[None, Any, None]:
     report = (yield).get_result()
     if report.failed:

@@ -2,9 +2,9 @@
 
     tools/python.sh tests/common/bent_lines.py PROGRAM
 
-Of each command the line of assemble.lines is taken, which begins with one of each. For each way to bend a token
-there is a line: how many bent lines there are, how many buffers and faults come of them, and how
-many differ from what the program says. Each difference has a line too, which begins with DIFFERS.
+Of each command the line of assemble.lines is taken, which begins with one of each. For each way to
+bend a token, which is done to every third of them, there is a line: how many bent lines there are,
+how many buffers and faults come of them, and how many differ from what the program says. Each difference has a line too, which begins with DIFFERS.
 Then some of them stand in scripts, and lines of scripts have bytes of other kinds at each place.
 """
 
@@ -24,6 +24,9 @@ from tpmsim.standard import lines
 TESTS = pathlib.Path(__file__).resolve().parent.parent
 AT_ONCE = 4
 STARTUP, STARTED = b"do Startup 0\n", "80010000000a00000000\n"
+
+# Each way bends one in so many tokens, beginning at the next one each time.
+EACH = 3
 
 # One in so many bent lines that are none stands in a script of its own, between two commands.
 SAMPLED = 5
@@ -123,15 +126,19 @@ BENDS |= {
 
 def first_lines():
     """Of each command the first line of assemble.lines, where each has one."""
-    lines_of = (TESTS / "assemble.lines").read_bytes().split(b"\n# ")[0].splitlines()[1:]
+    lines_of = (TESTS / "lines/assemble.lines").read_bytes().split(b"\n# ")[0].splitlines()[1:]
     return sorted(line for line in lines_of if line)
 
 
-def bent(line, bend):
-    """The line, bent in a way at one of its tokens after the other."""
-    tokens = line.split(b" ")
-    for at, token in enumerate(tokens):
-        yield b" ".join(bend(tokens[:at], token, tokens[at + 1 :]))
+def bent(first, bend, begin=0, step=1):
+    """The lines, bent in a way at one of their tokens after the other, or at one in so many of all
+    tokens from a place on.
+    """
+    places = (
+        (tokens, at) for tokens in (it.split(b" ") for it in first) for at in range(len(tokens))
+    )
+    for tokens, at in itertools.islice(places, begin, None, step):
+        yield b" ".join(bend(tokens[:at], tokens[at], tokens[at + 1 :]))
 
 
 # `tpmsim asm`.
@@ -259,15 +266,15 @@ def main(program):
     print(f"{len(first)} commands, {sum(len(it.split(b' ')) for it in first)} tokens")
     tried = []
     with concurrent.futures.ThreadPoolExecutor(AT_ONCE) as pool:
-        for name, bend in BENDS.items():
-            bent_lines = [it for line in first for it in bent(line, bend)]
+        for number, (name, bend) in enumerate(BENDS.items()):
+            bent_lines = list(bent(first, bend, number % EACH, EACH))
             try_bend(pool, program, name, bent_lines)
             tried += bent_lines
         once = list(dict.fromkeys(tried))
         bad = [it for it in once if not is_line(it)]
         try_faults(pool, program, "bent lines that are none", bad[::SAMPLED])
         # A NUL cannot stand in a word of a command line.
-        nul = [it for line in first for it in bent(line, functools.partial(replaced, b"\0"))]
+        nul = list(bent(first, functools.partial(replaced, b"\0")))
         try_faults(pool, program, "lines with a NUL in place of a token", nul)
         try_answers(program, [it for it in once if is_line(it)])
         for name, put in BYTES.items():

@@ -2,9 +2,10 @@
 # a line what came of it. A test is given the program's path, and reads this file first.
 LC_ALL=C
 # shellcheck disable=SC2154 # a test names its folder before it reads this file
-PYTHONPATH=${tests%/*}/python:$tests/outside/scripts
-PYTHONDONTWRITEBYTECODE=1
-export LC_ALL PYTHONPATH PYTHONDONTWRITEBYTECODE
+PYTHONPATH=${tests%/*}/python:${tests%/*}
+export LC_ALL PYTHONPATH
+# What Python compiles, tools/scripts.sh has in a folder for all tests; else it is not kept.
+[ -n "${PYTHONPYCACHEPREFIX:-}" ] || export PYTHONDONTWRITEBYTECODE=1
 
 [ "$#" -eq 1 ] || { echo "usage: sh $0 PROGRAM" >&2; exit 2; }
 room=$(mktemp -d) || exit 1
@@ -26,6 +27,13 @@ needs() {
     for tool do
         command -v "$tool" >"$room/found" || skip "there is no $tool"
     done
+}
+
+# script NAME: the path of a script of tests/.
+script() {
+    name_of_script=$1
+    set -- "$tests"/*/"$name_of_script.tpm"
+    echo "$1"
 }
 
 # TPM2_Startup(CLEAR), which is answered SUCCESS (80010000000a00000000), and INITIALIZE

@@ -16,14 +16,14 @@ import pathlib
 import socket
 import sys
 
-import client
+from tests.common import client
 
 from tpmsim.model import image
 from tpmsim.model.machine import Model
 from tpmsim.standard import lines
-import image_bodies
-import image_versions
-from bent_bodies import Bender
+from tests.images import image_bodies
+from tests.images import image_versions
+from tests.images.bent_bodies import Bender
 
 STATUS_OF_FAULT, FAULT = 4, "tpmsim: image "
 EXTEND = "PCR_Extend {} pw:- sha1:a9993e364706816aba3e25717850c26c9cd0d89d"
@@ -34,6 +34,10 @@ SEED, BENT = 1, 300
 DEFAULTS = [1, 10_000]
 XORS = 0x01, 0x80
 MOST_LEFT = 100
+
+# Of the long series the program is given the first texts, and then one in so many, which divides no
+# number of ways to change a byte. The library is given all of them.
+FIRST, STEP = 100, 11
 
 # The clock of the device whose image is damaged: the milliseconds that really passed are not told.
 CLOCK = 0x0102_0304
@@ -89,8 +93,10 @@ class Program:
 
 
 class Comparison:
-    def __init__(self, program):
-        self.program, self.agree, self.differ = program, 0, 0
+    """Of a long series it takes the first texts, and of the others one in each `step`."""
+
+    def __init__(self, program, step):
+        self.program, self.step, self.agree, self.differ = program, step, 0, 0
         self.saved = set()
 
     def count(self, agrees, words, text):
@@ -116,6 +122,9 @@ class Comparison:
         faults = collections.Counter(self.fault_of(f"{name}, {words}", it) for words, it in texts)
         told = ", ".join(f"{count:,} {fault}" for fault, count in sorted(faults.items()))
         print(f"{name}: {sum(faults.values()):,} texts: {told}", flush=True)
+
+    def series(self, name, texts):
+        self.kind(name, (it for at, it in enumerate(texts) if at < FIRST or at % self.step == 0))
 
     def is_saved_again(self, words, text):
         """Whether what is opened from an image has that image, or the same one of version 2; each
@@ -171,10 +180,10 @@ def bent(device, seed, count, version=image.VERSION_2):
 
 def damage(comparison, text):
     comparison.kind("the image", [("whole", text)])
-    comparison.kind("its proper prefixes", prefixes(text))
+    comparison.series("its proper prefixes", prefixes(text))
     head, rest = range(image.HEAD_BYTES), range(image.HEAD_BYTES, len(text))
-    comparison.kind("a byte of its head, in all ways", changed(text, head, in_all_ways()))
-    comparison.kind("a byte behind, in three ways", changed(text, rest, in_some_ways()))
+    comparison.series("a byte of its head, in all ways", changed(text, head, in_all_ways()))
+    comparison.series("a byte behind, in three ways", changed(text, rest, in_some_ways()))
     longer = ((f"of {count} bytes", text + bytes(count)) for count in (1, 32, 1 << 16, 1 << 20))
     comparison.kind("it with bytes behind it", longer)
 
@@ -199,7 +208,7 @@ def in_the_gate(comparison):
         comparison.kind(f"{words}, bent", bent(it, SEED, BENT))
     old = image.image(device, image.VERSION_1)
     comparison.kind("it in version 1", [("whole", old)])
-    comparison.kind("its proper prefixes", prefixes(old))
+    comparison.series("its proper prefixes", prefixes(old))
     comparison.kind("its body in version 1, bent", bent(device, SEED, BENT, image.VERSION_1))
     comparison.kind("version 2, a bit of its limits changed", image_versions.with_other_limits())
     comparison.kind("version 2, of 42 to 73 bytes", image_versions.without_state())
@@ -216,7 +225,7 @@ def of_a_full_device(comparison, seed, count):
     damage(comparison, image.image(image_bodies.largest()))
     old = image.image(image_bodies.largest(image.VERSION_1), image.VERSION_1)
     comparison.kind("the largest of version 1", [("whole", old)])
-    comparison.kind("its proper prefixes", prefixes(old))
+    comparison.series("its proper prefixes", prefixes(old))
     device = image_bodies.FULL
     comparison.kind("the body of a full device, bent", bent(device, seed, count))
     before = comparison.agree
@@ -227,8 +236,8 @@ def of_a_full_device(comparison, seed, count):
     print(f"{different:,} images among these: {again:,} saved again as they were")
 
 
-def main(program, mode):
-    comparison = Comparison(program)
+def main(program, mode, step=1):
+    comparison = Comparison(program, step)
     if mode[:1] == ["full"]:
         seed, count = (int(it) for it in (mode[1:] + DEFAULTS[len(mode) - 1 :]))
         of_a_full_device(comparison, seed, count)
@@ -239,4 +248,4 @@ def main(program, mode):
 
 
 if __name__ == "__main__":
-    main(Program(os.path.abspath(sys.argv[1])), sys.argv[2:])
+    main(Program(os.path.abspath(sys.argv[1])), sys.argv[2:], 1 if sys.argv[2:] else STEP)

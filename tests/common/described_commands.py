@@ -318,12 +318,12 @@ def nv_attributes(program: Program, codes: list[CC]) -> Iterator[Asked]:
             yield Asked(f"{code.name} is authorized by {it:08x}", wanted, is_able)
 
 
-# What tests/saved_state.tpm shows, in which each command succeeds between a shutdown and a start.
+# What tests/general/saved_state.tpm shows, in which each command succeeds between a shutdown and a start.
 
 
 def saved_state(program: Program) -> list[tuple[CC, str, str]]:
     """Its events: the command, or None for a power cycle; its check; and the response."""
-    script = (TESTS / "saved_state.tpm").read_text("ascii").splitlines()
+    script = (TESTS / "general/saved_state.tpm").read_text("ascii").splitlines()
     printed = iter(program.run(script, "--trace"))
     events = []
     for line in printed:
@@ -433,7 +433,7 @@ def with_answer(code: CC, kind: Kind) -> dict:
 
 
 def with_fact(code: CC, fact: Fact) -> dict:
-    return {"facts": code.facts ^ fact}
+    return {"facts": tuple({*code.facts} ^ {fact})}
 
 
 @dataclass(frozen=True)

@@ -10,10 +10,10 @@ import pathlib
 import subprocess
 import sys
 
-HERE = pathlib.Path(__file__).resolve().parent
-TOP = HERE.parent.parent
 from tpmsim.model import image, player, streams
 from tpmsim.model.machine import Model
+
+import places
 
 PROGRAM = sys.argv[1]
 IMAGE = pathlib.Path("image")
@@ -21,13 +21,11 @@ SECONDS = 20
 
 # Scripts whose devices change in all that is kept.
 SCRIPTS = [
-    *sorted((TOP / "examples").glob("*.tpm")),
-    *(
-        TOP / "tests" / f"{name}.tpm"
-        for name in (
-            "clear evict_control lockout_commands nv_counters nv_large objects_power_cycle"
-            " power_cycle saved_state startup_state what_stays"
-        ).split()
+    *sorted(places.EXAMPLES.glob("*.tpm")),
+    *map(
+        places.script,
+        "clear evict_control lockout_commands nv_counters nv_large objects_power_cycle power_cycle"
+        " saved_state startup_state what_stays".split(),
     ),
 ]
 

@@ -2,7 +2,6 @@
 # `room`. A client in Python sends the commands, and prints each response on a line.
 needs python3
 client=$tests/common/client.py
-export PYTHONDONTWRITEBYTECODE=1
 
 # bytes_of COUNT OCTAL: so many bytes of this value.
 bytes_of() {

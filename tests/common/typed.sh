@@ -17,7 +17,7 @@ type_lines() {
             next
         }
         typed == "" { next }
-        /^> / { print substr($0, 3) >(typed ".typed"); next }
+        /^>( |$)/ { print substr($0, 3) >(typed ".typed"); next }
         { print >(typed ".wanted") }
     ' "$1"
 

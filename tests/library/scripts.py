@@ -1,10 +1,10 @@
 """Scripts over the library:
 
-    tools/python.sh scripts.py TESTS STACK PLAYER..     compares
-    tools/python.sh scripts.py --figures TESTS STACK    tells how much stack each call takes
-    tools/python.sh scripts.py --lines SCRIPT           prints a script without words, for play.c
+    tools/python.sh scripts.py STACK PLAYER..     compares
+    tools/python.sh scripts.py --figures STACK    tells how much stack each call takes
+    tools/python.sh scripts.py --lines SCRIPT     prints a script without words, for play.c
 
-Each script of the folder TESTS, and of the examples beside it, that is to end well is played by
+Each script of tests/ and of the examples that is to end well is played by
 each PLAYER, which play.c is the source of. What one prints has to be what stands in the files
 beside the script, and what the device in Python tells of the same commands: each response, row and
 count of random bytes that were drawn, and the images at the end. STACK, of stack.c, plays them too,
@@ -19,6 +19,7 @@ from collections.abc import Iterator
 from tpmsim.model.image import image, open_image
 from tpmsim.model.machine import Model, Outcome
 from tpmsim.model.player import Player
+from tests.common import places
 
 SECONDS = 60
 MEMORY, ACTIONS = 255, 20
@@ -166,16 +167,15 @@ def ends_well(script: pathlib.Path) -> bool:
     return not status.exists() or status.read_text("ascii").strip() == "0"
 
 
-def scripts_of(tests: pathlib.Path) -> Iterator[Script]:
-    found = sorted([*tests.glob("*.tpm"), *(tests.parent / "examples").glob("*.tpm")])
-    for path in found:
+def scripts() -> Iterator[Script]:
+    for path in places.scripts():
         if ends_well(path):
             yield Script(path)
 
 
-def compare(tests: pathlib.Path, program: str, players: list[str]) -> None:
+def compare(program: str, players: list[str]) -> None:
     stack, count = Stack(program), 0
-    for script in scripts_of(tests):
+    for script in scripts():
         for player in players:
             script.check(player)
         stack.play(script)
@@ -191,13 +191,13 @@ def main() -> None:
     match sys.argv[1:]:
         case ["--lines", path]:
             print(Script(pathlib.Path(path)).plain, end="")
-        case ["--figures", tests, program]:
+        case ["--figures", program]:
             stack = Stack(program)
-            for script in scripts_of(pathlib.Path(tests)):
+            for script in scripts():
                 stack.play(script)
             print("\n".join(stack.figures()))
-        case [tests, program, *players]:
-            compare(pathlib.Path(tests), program, players)
+        case [program, *players]:
+            compare(program, players)
 
 
 main()

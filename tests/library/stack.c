@@ -9,7 +9,7 @@
 #include <pthread.h>
 #include <sys/mman.h>
 
-enum { STACK_BYTES = 512 * 1024 };
+enum { STACK_BYTES = 512 * 1024, BLOCK_BYTES = 1024 };
 enum call { NOTHING, MANUFACTURE, EXECUTE, POWER_CYCLE, SAVE, OPEN, FREE, CALLS };
 static const char *const NAMES[CALLS] = {"nothing", "manufacture", "execute", "power_cycle",
                                          "save",    "open",        "free"};
@@ -39,6 +39,16 @@ static void *called(void *place) {
     return NULL;
 }
 
+/* How many bytes of the stack are painted still, from its far end on: first whole blocks. */
+static size_t painted_bytes(void) {
+    static uint8_t painted[BLOCK_BYTES];
+    size_t at = 0;
+    memset(painted, FILLED, BLOCK_BYTES);
+    while (at < STACK_BYTES && memcmp(stack + at, painted, BLOCK_BYTES) == 0) at += BLOCK_BYTES;
+    while (at < STACK_BYTES && stack[at] == FILLED) at++;
+    return at;
+}
+
 /* Runs a call, counts the bytes of its stack, and paints them again. */
 static void run(enum call call) {
     pthread_t thread;
@@ -49,8 +59,7 @@ static void run(enum call call) {
              pthread_join(thread, NULL) == 0,
          "there is no thread");
     pthread_attr_destroy(&attributes);
-    size_t at = 0;
-    while (at < STACK_BYTES && stack[at] == FILLED) at++;
+    size_t at = painted_bytes();
     if (STACK_BYTES - at > most[call]) {
         most[call] = STACK_BYTES - at;
         if (call == EXECUTE) most_code = answered.code;

@@ -1,4 +1,5 @@
 pub mod Held
 pub mod State
 pub mod Told
+pub mod Journal
 pub mod Version

@@ -1,7 +1,11 @@
 -- The numbers that calls answer.
-use Rattle.std.specs.Prelude.{◌≡◌, ℕ, Option, Some, Result, Ok, Err}
+use Rattle.std.specs.Prelude.{◌≡◌, ℕ, Option, Some, None, Result, Ok, Err}
 use Rattle.tpm_image.specs.declared.fault.ImageFault.{ImageFault}
 use Rattle.tpm_image.specs.declared.fault.ImageFault.TheVariants as fault
+use Rattle.tpm_journal.specs.declared.following.FollowFault.{FollowFault}
+use Rattle.tpm_journal.specs.declared.following.FollowFault.TheVariants as follow
+use Rattle.tpm_journal.specs.declared.opening.OpenFault.{OpenFault}
+use Rattle.tpm_journal.specs.declared.opening.OpenFault.TheVariants as opening
 use Rattle.tpm_library.specs.declared.device.Device.{Device}
 
 abbrev pub done : ℕ
@@ -25,6 +29,21 @@ fault_number fault.Length = 7
 fault_number fault.Digest = 8
 fault_number fault.Body = 9
 fault_number fault.NoMemory = no_memory
+
+abbrev pub no_completion : ℕ
+no_completion = 13
+
+-- how far a text was followed: to its end, or to this fault
+abbrev pub follow_number : Option FollowFault → ℕ
+follow_number None = done
+follow_number (Some follow.Damaged) = 11
+follow_number (Some follow.Otherwise) = 12
+
+-- why a text is not opened as a journal
+abbrev pub open_number : OpenFault → ℕ
+open_number opening.NoJournal = 10
+open_number (opening.Image fault) = fault_number fault
+open_number (opening.Follow fault) = follow_number (Some fault)
 
 -- What was opened is told by its number: a holder has the device, or what it had before.
 abbrev pub Tells : Result Device ImageFault → (old new : Option Device) → (told : ℕ) → Type 0

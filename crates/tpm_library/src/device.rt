@@ -1,6 +1,7 @@
 //! A device in memory of its own.
 
-ghost use Rattle.std.specs.Prelude.{◌≡◌, ◌∷◌, [], IfOk, IfSome, drop, false, true};
+ghost use Rattle.std.specs.Prelude.{◌≡◌, ◌∷◌, [], IfErr, IfOk, IfSome, drop, false, length};
+ghost use Rattle.std.specs.Prelude.{replicate, take, true};
 ghost use Rattle.tpm_history.specs.Follows.{After, Follows};
 ghost use Rattle.tpm_history.specs.History.{History, PowerCycled};
 ghost use Rattle.tpm_image.specs.Image.{IsImage, image_text};
@@ -14,19 +15,29 @@ ghost use Rattle.tpm_record.specs.IsRecord.{IsRecord};
 ghost use Rattle.tpm_record.specs.Record.{Record, manufactured};
 ghost use Rattle.tpm_step.specs.Events.{Cycled, plain_event};
 ghost use Rattle.tpm_step.specs.Execution.{Executes};
+ghost use Rattle.tpm_journal.specs.Replay.{Replays};
+ghost use Rattle.tpm_journal_text.specs.Head.{head_text};
+ghost use Rattle.tpm_types.specs.Locality.{locality_number};
+ghost use Rattle.tpm_library.specs.Journal.{BeginsIfRoom, HasFault, IsOfJournal, OpensDevice};
+ghost use Rattle.tpm_library.specs.Journal.{Records, command_by, image_at_power};
 ghost use Rattle.tpm_library.specs.State.{command_seen, cycle_seen, record_of};
 
 use std::alloc::Global;
 use tpm_image::{ImageFault, fault_of, open_into, save_into};
+use tpm_journal::opening::open;
+use tpm_journal::{Followed, Journal, OpenFault};
 use tpm_machine::Machine;
 use tpm_record::SlotKeep;
 use tpm_step::{Event, Outcome};
+use tpm_types::Locality;
 
-/// A device, and the outcome of its latest event, which the next one's is written over.
+/// A device, the outcome of its latest event, which the next one's is written over, and what its
+/// journal has beside the device.
 #[derive(Drop)]
 pub struct Device {
     machine: Machine<SlotKeep>,
     outcome: Outcome,
+    journal: Journal,
 }
 
 /// What a command is told beside its response.
@@ -55,6 +66,7 @@ impl Device {
         let device = Device {
             machine,
             outcome: Outcome::empty(),
+            journal: Journal { sum: 0, time: 0 },
         };
         match Box::new(alloc, device) {
             Ok(device) => Some(device),
@@ -87,15 +99,7 @@ impl Device {
         ensures rest { drop result.size response.new ≡ drop result.size response.old }
     {
         self.machine.execute_into(event, &mut self.outcome);
-        let text = self.outcome.response.as_slice();
-        let (front, _) = response.split_at_mut(text.len());
-        front.copy_from_slice(text);
-        Answered {
-            size: text.len(),
-            drawn: self.machine.drawn(),
-            code: self.outcome.row.code,
-            check: self.outcome.row.check,
-        }
+        tell(&self.outcome, self.machine.drawn(), response)
     }
 
     /// Takes power away and gives it back.
@@ -113,5 +117,106 @@ impl Device {
             room.new }
     {
         save_into(&self.machine, room)
+    }
+
+    /// Cycles the device's power, and writes the head of its new journal to the front of a room that
+    /// has as many bytes. Gives how many bytes the head has, also where there is no room for it and
+    /// nothing is done.
+    pub fn begin_journal(&mut self, now_ms: u64, room: &mut [u8]) -> usize
+        ensures head { PutsFront (head_text now_ms (image_at_power self.old)) room.old result
+            room.new }
+        ensures begins { BeginsIfRoom self.old now_ms (length room.old) result self.new }
+    {
+        self.journal
+            .begin(&mut self.machine, now_ms, &mut self.outcome, room)
+    }
+
+    /// The device of a journal, and how many bytes of that are its head and its entries; or the first
+    /// fault. None where memory is refused.
+    pub fn open_journal(
+        alloc: Global,
+        text: &[u8],
+        taken: &mut usize,
+    ) -> Option<Result<Box<Device>, OpenFault>>
+        ensures { OpensDevice (λ b. b.value) text.now taken.old result taken.new }
+    {
+        let mut device = Device::manufacture(alloc, &[0; 256])?;
+        match device.open_in_place(text) {
+            Ok(size) => {
+                *taken = size;
+                Some(Ok(device))
+            }
+            Err(fault) => Some(Err(fault)),
+        }
+    }
+
+    /// Opens the device of a journal where a new device of zeros lies. After a fault nothing is said
+    /// of the device.
+    fn open_in_place(&mut self, text: &[u8]) -> Result<usize, OpenFault>
+        requires { record_of self.old ≡ manufactured (replicate 256 0) }
+        ensures opens { IfOk result (λ taken. IsOfJournal text.now taken self.new) }
+        ensures fault { IfErr result (λ fault. HasFault text.now fault) }
+    {
+        let opened = open(&mut self.machine, text, &mut self.outcome)?;
+        self.journal = opened.journal;
+        Ok(opened.taken)
+    }
+
+    /// Executes the entries of a text that was added behind the device's journal.
+    pub fn follow(&mut self, text: &[u8]) -> Followed
+        ensures { Replays false self.old.journal (record_of self.old) text.now result
+            self.new.journal (record_of self.new) }
+    {
+        self.journal
+            .follow(&mut self.machine, text, &mut self.outcome)
+    }
+
+    /// Executes a command by the host's clock, writes its response to the front of a room, whose rest
+    /// stays, and its entry to the front of another. Gives how many bytes the entry has.
+    pub fn execute_recorded(
+        &mut self,
+        buffer: &[u8],
+        locality: Locality,
+        now_ms: u64,
+        random: &[u8; 256],
+        response: &mut [u8; 4096],
+        answered: &mut Answered,
+        entry: &mut [u8; 9216],
+    ) -> usize
+        ensures records { Records self.old
+            (command_by self.old buffer.now (locality_number locality) now_ms random.now)
+            response.new answered.new result entry.new self.new }
+        ensures rest { drop answered.new.size response.new ≡ drop answered.new.size response.old }
+    {
+        let size = self.journal.execute(
+            &mut self.machine,
+            buffer,
+            locality,
+            now_ms,
+            random,
+            &mut self.outcome,
+            entry,
+        );
+        *answered = tell(&self.outcome, self.machine.drawn(), response);
+        size
+    }
+}
+
+/// Writes a response to the front of a room, and tells of its row and of what was drawn.
+fn tell(outcome: &Outcome, drawn: usize, response: &mut [u8; 4096]) -> Answered
+    ensures front { take result.size response.new ≡ outcome.now.response.items }
+    ensures rest { drop result.size response.new ≡ drop result.size response.old }
+    ensures code { result.code ≡ outcome.now.row.code }
+    ensures check { result.check ≡ outcome.now.row.check }
+    ensures drawn { result.drawn ≡ drawn }
+{
+    let text = outcome.response.as_slice();
+    let (front, _) = response.split_at_mut(text.len());
+    front.copy_from_slice(text);
+    Answered {
+        size: text.len(),
+        drawn,
+        code: outcome.row.code,
+        check: outcome.row.check,
     }
 }

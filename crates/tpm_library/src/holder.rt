@@ -55,10 +55,9 @@ impl Holder {
     {
         let Holder { at, alloc } = self;
         if at.is_null() {
-            None
-        } else {
-            Some(unsafe { Box::from_raw(alloc, at as *mut Device) })
+            return None;
         }
+        Some(unsafe { Box::from_raw(alloc, at as *mut Device) })
     }
 
     /// Takes the device out, if there is one. There is none left.

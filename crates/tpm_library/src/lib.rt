@@ -15,6 +15,7 @@
 pub mod calls;
 pub mod device;
 pub mod holder;
+pub mod journal;
 pub mod told;
 
 pub use calls::{execute, free, manufacture, open, power_cycle, save, version};

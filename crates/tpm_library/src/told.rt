@@ -1,9 +1,10 @@
 //! The numbers that calls answer.
 
 ghost use Rattle.std.specs.Prelude.{◌≡◌};
-ghost use Rattle.tpm_library.specs.Told.{fault_number};
+ghost use Rattle.tpm_library.specs.Told.{fault_number, follow_number, open_number};
 
 use tpm_image::ImageFault;
+use tpm_journal::{FollowFault, OpenFault};
 
 /// The call is done.
 pub const DONE: u8 = 0;
@@ -29,5 +30,30 @@ pub fn fault_number(fault: ImageFault) -> u8
         ImageFault::Digest => 8,
         ImageFault::Body => 9,
         ImageFault::NoMemory => NO_MEMORY,
+    }
+}
+
+/// The completing layer was asked for, which the library does not have.
+pub const NO_COMPLETION: u8 = 13;
+
+/// The number of how far a text was followed: to its end, or to this fault.
+pub fn follow_number(fault: Option<FollowFault>) -> u8
+    ensures { result ≡ follow_number fault }
+{
+    match fault {
+        None => DONE,
+        Some(FollowFault::Damaged) => 11,
+        Some(FollowFault::Otherwise) => 12,
+    }
+}
+
+/// The number of why a text is not opened as a journal.
+pub fn open_number(fault: OpenFault) -> u8
+    ensures { result ≡ open_number fault }
+{
+    match fault {
+        OpenFault::NoJournal => 10,
+        OpenFault::Image(fault) => fault_number(fault),
+        OpenFault::Follow(fault) => follow_number(Some(fault)),
     }
 }

@@ -1,8 +1,9 @@
 #![tactic(auto)]
 
 //! A TPM 2.0 simulator that runs scripts of commands, `tpmsim run SCRIPT`, assembles commands from
-//! words, `tpmsim asm LINE`, finds the words of a command, `tpmsim line HEX`, and serves a device
-//! on a socket, `tpmsim serve`.
+//! words, `tpmsim asm LINE`, finds the words of a command, `tpmsim line HEX`, tells how commands are
+//! said in words, `tpmsim lines`, and what a response code says, `tpmsim code HEX`, and serves a
+//! device on a socket, `tpmsim serve`.
 //!
 //! On standard output, `run` prints each response in hex on a line of its own, and with `--trace` a
 //! line before it that traces the command; with `--image` its device is kept in a file. `asm`
@@ -10,7 +11,7 @@
 //! one line on standard error, and its exit status says of what kind that is ([`fault`]).
 //!
 //! The program uses tpmsim_arguments for its words, tpmsim_script for scripts, `tpm_text` and
-//! `tpm_line` for lines, `tpm_image` for a device that is kept, and `tpm_wire` for one that is
+//! `tpm_line` for lines, `tpm_help` for what it tells of these, `tpm_image` for a device that is kept, and `tpm_wire` for one that is
 //! served. All that touches files, sockets and clocks is here; what the device answers is proved in
 //! the crates below.
 
@@ -25,6 +26,7 @@ mod serving;
 mod socket;
 mod source;
 mod stopwatch;
+mod telling;
 
 use fault::Fault;
 use hex::FromHexError;
@@ -32,6 +34,7 @@ use running::{run_alone, run_kept};
 use serving::serve_device;
 use std::env;
 use std::process::ExitCode;
+use telling::{print_code, print_forms};
 use tpm_line::line_of;
 use tpm_text::assemble;
 use tpmsim_arguments::Arguments;
@@ -69,6 +72,8 @@ fn try_main(rt: &HostRuntime) -> Result<(), Fault> {
             let text = line_of(rt.alloc(), buffer_of(rt, digits)?.as_slice())?;
             println!(rt; "{text}").map_err(|error| Fault::of_io(error, Fault::File))
         }
+        Arguments::Forms { name } => print_forms(rt, name),
+        Arguments::Code { digits } => print_code(rt, digits),
         Arguments::Serve(service) => serve_device(rt, &service),
         Arguments::Tell(text) => {
             print!(rt; "{text}").map_err(|error| Fault::of_io(error, Fault::File))

@@ -7,7 +7,7 @@ use Rattle.clap.specs.declared.error.kind.ErrorKind.TheVariants.{ArgumentConflic
 use Rattle.clap.proofs.OnLiterals.{clap_on_literals}
 use Rattle.tpm_bytes.specs.Reading.{Gives}
 use Rattle.tpmsim_arguments.specs.Answers.{Answers, AreTaken, IsTold}
-use Rattle.tpmsim_arguments.specs.Invocation.{Invocation, Served, Stored, asked, asked_by, asked_in, is_set, run_in, service_in, storage_in, run, assemble, spell, serve, tell}
+use Rattle.tpmsim_arguments.specs.Invocation.{Invocation, Served, Stored, asked, asked_by, asked_in, is_set, run_in, service_in, storage_in, run, assemble, spell, forms, name_code, serve, tell}
 use Rattle.tpmsim_arguments.specs.CommandLine.{program}
 use Rattle.tpmsim_arguments.specs.Fault.{fault_of_words}
 use Rattle.tpmsim_arguments.specs.declared.arguments.Arguments.{Arguments}
@@ -39,26 +39,30 @@ no_run kind trace None storage e = cc
 no_run kind trace (Some s) None e = cc
 no_run kind trace (Some s) (Some kept) e = cc
 
-no_text : (kind : ErrorKind) (a b l d : Bool) (ran : Option Invocation) (line digits : Option Text) (service : Option Served)
+no_text : (kind : ErrorKind) (a b l f n d : Bool) (ran : Option Invocation) (line digits name number : Option Text) (service : Option Served)
     → (ran ≡ Some (tell kind) → ⊥)
     → (if a then ran else (if b then option_map assemble line else (if l then option_map spell digits
-    else (if d then option_map serve service else None)))) ≡ Some (tell kind)
+    else (if f then Some (forms name) else (if n then option_map name_code number
+    else (if d then option_map serve service else None)))))) ≡ Some (tell kind)
     → ⊥
-no_text kind true b l d ran line digits service never e = never e
-no_text kind false true l d ran None digits service never e = cc
-no_text kind false true l d ran (Some text) digits service never e = cc
-no_text kind false false true d ran line None service never e = cc
-no_text kind false false true d ran line (Some text) service never e = cc
-no_text kind false false false true ran line digits None never e = cc
-no_text kind false false false true ran line digits (Some s) never e = cc
-no_text kind false false false false ran line digits service never e = cc
+no_text kind true b l f n d ran line digits name number service never e = never e
+no_text kind false true l f n d ran None digits name number service never e = cc
+no_text kind false true l f n d ran (Some text) digits name number service never e = cc
+no_text kind false false true f n d ran line None name number service never e = cc
+no_text kind false false true f n d ran line (Some text) name number service never e = cc
+no_text kind false false false true n d ran line digits name number service never e = cc
+no_text kind false false false false true d ran line digits name None service never e = cc
+no_text kind false false false false true d ran line digits name (Some text) service never e = cc
+no_text kind false false false false false true ran line digits name number None never e = cc
+no_text kind false false false false false true ran line digits name number (Some s) never e = cc
+no_text kind false false false false false false ran line digits name number service never e = cc
 
 none_tells : (kind : ErrorKind) (command : Option (Text × List Row)) → asked_in command ≡ Some (tell kind) → ⊥
 none_tells kind None e = cc
 none_tells kind (Some command) e =
     let rows = command.1 in
-    no_text kind (bytes_eq command.0 (codes "run")) (bytes_eq command.0 (codes "asm")) (bytes_eq command.0 (codes "line")) (bytes_eq command.0 (codes "serve"))
-    (run_in rows) (first_of (codes "line") rows) (first_of (codes "hex") rows) (service_in rows)
+    no_text kind (bytes_eq command.0 (codes "run")) (bytes_eq command.0 (codes "asm")) (bytes_eq command.0 (codes "line")) (bytes_eq command.0 (codes "lines")) (bytes_eq command.0 (codes "code")) (bytes_eq command.0 (codes "serve"))
+    (run_in rows) (first_of (codes "line") rows) (first_of (codes "hex") rows) (first_of (codes "name") rows) (first_of (codes "number") rows) (service_in rows)
     (no_run kind (is_set (codes "trace") rows) (first_of (codes "script") rows) (storage_in rows)) e
 
 -- the answer where clap takes the words, and its matches are read
@@ -67,6 +71,8 @@ pub taken : (words : List Text) (r : Result Arguments ArgumentFault) → AreTake
 taken words (Ok (arguments.Run script trace storage)) right e = (right, found_is _ _ e)
 taken words (Ok (arguments.Assemble line)) right e = (right, found_is _ _ e)
 taken words (Ok (arguments.Spell digits)) right e = (right, found_is _ _ e)
+taken words (Ok (arguments.Forms name)) right e = (right, found_is _ _ e)
+taken words (Ok (arguments.Code digits)) right e = (right, found_is _ _ e)
 taken words (Ok (arguments.Serve service)) right e = (right, found_is _ _ e)
 taken words (Ok (arguments.Tell error)) right e = absurd (none_tells _ (subcommand_of program words) (found_is _ _ e))
 taken words (Err Usage) right e = inr (right, not_found _ e)

@@ -7,8 +7,8 @@ use Rattle.clap.specs.Words.{Text}
 use Rattle.clap.proofs.OnLiterals.{clap_on_literals}
 use Rattle.tpm_text.specs.Number.{decimal_of, locality_of}
 use Rattle.tpmsim_arguments.specs.Answers.{AreTaken}
-use Rattle.tpmsim_arguments.specs.Invocation.{Invocation, asked_by, assemble, run, serve, spell}
-use Rattle.tpmsim_arguments.specs.Lines.{AskFor, AskForDevice, AskForSavedDevice, AskForService, IsScript, asm_line, begins_with_hyphen, kept_line, line_line, run_line, joined_line, saving_line, trace_line}
+use Rattle.tpmsim_arguments.specs.Invocation.{Invocation, asked_by, assemble, forms, name_code, run, serve, spell}
+use Rattle.tpmsim_arguments.specs.Lines.{AskFor, AskForDevice, AskForSavedDevice, AskForService, IsScript, asm_line, begins_with_hyphen, code_line, form_line, forms_line, kept_line, line_line, run_line, joined_line, saving_line, trace_line}
 
 -- a word that begins with no hyphen is not the name of an argument
 no_hyphen : (word : Text) → begins_with_hyphen word ≡ false → strip_byte 45 word ≡ None
@@ -32,6 +32,18 @@ line_is_assembled name line e = rw (no_end line e, no_long line e, no_short line
 pub digits_are_spelled : (name digits : Text) → begins_with_hyphen digits ≡ false → AskFor (line_line name digits) (spell digits)
 unfolding clap_on_literals
 digits_are_spelled name digits e = rw (no_end digits e, no_long digits e, no_short digits e) (refl, refl)
+
+pub forms_are_told : (name : Text) → AskFor (forms_line name) (forms None)
+unfolding clap_on_literals
+forms_are_told name = (refl, refl)
+
+pub form_is_told : (name command : Text) → begins_with_hyphen command ≡ false → AskFor (form_line name command) (forms (Some command))
+unfolding clap_on_literals
+form_is_told name command e = rw (no_end command e, no_long command e, no_short command e) (refl, refl)
+
+pub code_is_named : (name digits : Text) → begins_with_hyphen digits ≡ false → AskFor (code_line name digits) (name_code digits)
+unfolding clap_on_literals
+code_is_named name digits e = rw (no_end digits e, no_long digits e, no_short digits e) (refl, refl)
 
 pub script_is_run : (name script : Text) → IsScript script → AskFor (run_line name script) (run script false None)
 unfolding clap_on_literals

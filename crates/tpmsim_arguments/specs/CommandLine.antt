@@ -41,6 +41,14 @@ asm_command = with_arguments (codes "asm") (operand (codes "line") ∷ [])
 abbrev pub line_command : Shape
 line_command = with_arguments (codes "line") (operand (codes "hex") ∷ [])
 
+-- the command lines [NAME]
+abbrev pub lines_command : Shape
+lines_command = with_arguments (codes "lines") (record (operand (codes "name")) { required = false } ∷ [])
+
+-- the command code HEX
+abbrev pub code_command : Shape
+code_command = with_arguments (codes "code") (operand (codes "number") ∷ [])
+
 -- the command serve --socket PATH --image FILE --entropy FILE --locality NUMBER --connections
 -- NUMBER [--save-each]
 abbrev pub serve_command : Shape
@@ -56,5 +64,6 @@ bare_program = record {
 }
 
 abbrev pub program : App
-program = with_subcommand (with_subcommand (with_subcommand (with_subcommand bare_program
-    run_command) asm_command) line_command) serve_command
+program = with_subcommand (with_subcommand (with_subcommand (with_subcommand (with_subcommand
+    (with_subcommand bare_program run_command) asm_command) line_command) lines_command)
+    code_command) serve_command

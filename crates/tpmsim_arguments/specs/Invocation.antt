@@ -30,11 +30,14 @@ pub record Stored : Type 0 where
 
 -- what a command line asks for: to run a script, with its trace or without, on a device that is
 -- kept or on one that is not; to print the buffer of a line; to print the line of a buffer; to
--- serve a device; to tell a text of clap's, its help or the version
+-- print how the command of a name is said in words, or how each command is; to print what a
+-- response code says; to serve a device; to tell a text of clap's, its help or the version
 pub data Invocation : Type 0 where
   run : Text → Bool → Option Stored → Invocation
   assemble : Text → Invocation
   spell : Text → Invocation
+  forms : Option Text → Invocation
+  name_code : Text → Invocation
   serve : Served → Invocation
   tell : ErrorKind → Invocation
 
@@ -90,7 +93,9 @@ abbrev pub asked_of : Text → List Row → Option Invocation
 asked_of name rows = if bytes_eq name (codes "run") then run_in rows
     else (if bytes_eq name (codes "asm") then option_map assemble (first_of (codes "line") rows)
     else (if bytes_eq name (codes "line") then option_map spell (first_of (codes "hex") rows)
-    else (if bytes_eq name (codes "serve") then option_map serve (service_in rows) else None)))
+    else (if bytes_eq name (codes "lines") then Some (forms (first_of (codes "name") rows))
+    else (if bytes_eq name (codes "code") then option_map name_code (first_of (codes "number") rows)
+    else (if bytes_eq name (codes "serve") then option_map serve (service_in rows) else None)))))
 
 abbrev pub asked_in : Option (Text × List Row) → Option Invocation
 asked_in = option_and_then (λ command. asked_of command.0 command.1)
@@ -121,5 +126,7 @@ abbrev pub asked : Arguments → Invocation
 asked (arguments.Run script trace storage) = run script.now trace (option_map stored storage)
 asked (arguments.Assemble line) = assemble line.now
 asked (arguments.Spell digits) = spell digits.now
+asked (arguments.Forms name) = forms (option_map (λ name. name.now) name)
+asked (arguments.Code digits) = name_code digits.now
 asked (arguments.Serve service) = serve (served service)
 asked (arguments.Tell error) = tell (kind_of error)

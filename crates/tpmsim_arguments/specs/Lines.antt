@@ -39,6 +39,18 @@ trace_line name script = name ∷ codes "run" ∷ codes "--trace" ∷ script ∷
 abbrev pub line_line : (name digits : Text) → List Text
 line_line name digits = name ∷ codes "line" ∷ digits ∷ []
 
+-- the command line NAME lines
+abbrev pub forms_line : (name : Text) → List Text
+forms_line name = name ∷ codes "lines" ∷ []
+
+-- the command line NAME lines COMMAND
+abbrev pub form_line : (name command : Text) → List Text
+form_line name command = name ∷ codes "lines" ∷ command ∷ []
+
+-- the command line NAME code HEX
+abbrev pub code_line : (name digits : Text) → List Text
+code_line name digits = name ∷ codes "code" ∷ digits ∷ []
+
 -- the command line NAME run --trace --image=IMAGE --entropy=ENTROPY SCRIPT
 abbrev pub kept_line : (name image entropy script : Text) → List Text
 kept_line name image entropy script = name ∷ codes "run" ∷ codes "--trace"

@@ -7,7 +7,8 @@ ghost use Rattle.tpm_bytes.specs.Reading.{Gives};
 ghost use Rattle.tpmsim_arguments.specs.Answers.{Answers};
 ghost use Rattle.tpmsim_arguments.specs.Invocation.{asked, asked_in, asked_of, is_set, run_in};
 ghost use Rattle.tpmsim_arguments.specs.Invocation.{served, service_in, storage_in, stored};
-ghost use Rattle.tpmsim_arguments.specs.CommandLine.{asm_command, choice, flag, line_command};
+ghost use Rattle.tpmsim_arguments.specs.CommandLine.{asm_command, bare_program, choice, code_command, flag};
+ghost use Rattle.tpmsim_arguments.specs.CommandLine.{line_command, lines_command};
 ghost use Rattle.tpmsim_arguments.specs.CommandLine.{operand, program, run_command};
 ghost use Rattle.tpmsim_arguments.specs.CommandLine.{serve_command, setting};
 ghost use Rattle.tpmsim_arguments.specs.declared.fault.ArgumentFault.TheVariants.{Usage};
@@ -36,6 +37,14 @@ pub enum Arguments<'a> {
     },
     /// To print the line that spells the buffer with these hex digits.
     Spell {
+        digits: &'a str,
+    },
+    /// To print how the command of this name is said in words, or how each command is.
+    Forms {
+        name: Option<&'a str>,
+    },
+    /// To print what the response code says that these hex digits write.
+    Code {
         digits: &'a str,
     },
     /// To serve a device on a socket, with these settings.
@@ -77,6 +86,12 @@ impl<'a> Arguments<'a> {
             }),
             "line" => Some(Arguments::Spell {
                 digits: value(options, "hex")?,
+            }),
+            "lines" => Some(Arguments::Forms {
+                name: value(options, "name"),
+            }),
+            "code" => Some(Arguments::Code {
+                digits: value(options, "number")?,
             }),
             "serve" => Some(Arguments::Serve(service_of(options)?)),
             _ => None,
@@ -148,16 +163,25 @@ fn service_of<'a>(options: &ArgMatches<'a>) -> Option<Service<'a>>
     })
 }
 
-fn command<'a>(alloc: Global) -> Result<Command<'a>, AllocError>
-    ensures { IfOk result (λ command. app_of command ≡ program) }
+/// The program, without its commands.
+fn program_without_commands<'a>(alloc: Global) -> Command<'a>
+    ensures { app_of result ≡ bare_program }
 {
     Command::new(alloc, "tpmsim")
         .about("A TPM 2.0 in software: serves a device, and runs scripts of commands")
         .version("0.1.0")
         .subcommand_required(true)
+}
+
+fn command<'a>(alloc: Global) -> Result<Command<'a>, AllocError>
+    ensures { IfOk result (λ command. app_of command ≡ program) }
+{
+    program_without_commands(alloc)
         .subcommand(run_command(alloc)?)?
         .subcommand(asm_command(alloc)?)?
         .subcommand(line_command(alloc)?)?
+        .subcommand(lines_command(alloc)?)?
+        .subcommand(code_command(alloc)?)?
         .subcommand(serve_command(alloc)?)
 }
 
@@ -245,6 +269,33 @@ fn line_command<'a>(alloc: Global) -> Result<Command<'a>, AllocError>
         .about("Prints the line in words that spells the buffer of a command")
         .after_help("Example: tpmsim line 80010000000c0000017b0020")
         .arg(digits)
+}
+
+fn lines_command<'a>(alloc: Global) -> Result<Command<'a>, AllocError>
+    ensures { IfOk result (λ command. shape_of command ≡ lines_command) }
+{
+    let name = Arg::new(alloc, "name")
+        .value_name("NAME")
+        .action(ArgAction::Set)
+        .help("The command, by the standard's name without TPM2_; all commands without this");
+    Command::new(alloc, "lines")
+        .about("Prints how a command is said in words, and an example of it")
+        .after_help("Example: tpmsim lines NV_Write")
+        .arg(name)
+}
+
+fn code_command<'a>(alloc: Global) -> Result<Command<'a>, AllocError>
+    ensures { IfOk result (λ command. shape_of command ≡ code_command) }
+{
+    let number = Arg::new(alloc, "number")
+        .value_name("HEX")
+        .required(true)
+        .action(ArgAction::Set)
+        .help("The response code in hex, of at most eight digits");
+    Command::new(alloc, "code")
+        .about("Prints the name of a response code, and the place of the fault that it tells of")
+        .after_help("Example: tpmsim code 98e")
+        .arg(number)
 }
 
 /// The command `serve`, with its help around its options, and without the options.

@@ -4,8 +4,9 @@
 //! of its name and states its clauses again. An allocator has no bytes, so C passes nothing for it.
 //! `library/tpmsim.h` declares them for C, and says what a caller owes.
 
-ghost use Rattle.std.specs.Prelude.{◌≡◌, ◌≢◌, ◌<◌, ◌∷◌, [], drop, false, true};
+ghost use Rattle.std.specs.Prelude.{◌≡◌, ◌≢◌, ◌<◌, ◌∷◌, [], drop, false, length, true};
 ghost use Rattle.std.specs.Option.{MatchOption};
+ghost use Rattle.std.specs.declared.option.Option.{Option};
 ghost use Rattle.std.specs.declared.option.Option.TheVariants.{None, Some};
 ghost use Rattle.std.specs.declared.result.Result.{Result};
 ghost use Rattle.tpm_history.specs.Follows.{After, Follows};
@@ -17,13 +18,20 @@ ghost use Rattle.tpm_image.specs.Saving.{PutsFront};
 ghost use Rattle.tpm_image.specs.declared.fault.ImageFault.{ImageFault as Fault};
 ghost use Rattle.tpm_image.specs.declared.version.Version.{Version};
 ghost use Rattle.tpm_image.specs.declared.version.Version.TheVariants.{Two};
+ghost use Rattle.tpm_journal.specs.Replay.{Replays};
+ghost use Rattle.tpm_journal.specs.declared.following.FollowFault.{FollowFault};
+ghost use Rattle.tpm_journal.specs.declared.opening.OpenFault.{OpenFault};
+ghost use Rattle.tpm_journal_text.specs.Head.{head_text};
 ghost use Rattle.tpm_machine.specs.Drawn.{drawn_by};
 ghost use Rattle.tpm_record.specs.IsRecord.{IsRecord};
 ghost use Rattle.tpm_record.specs.Record.{Record, manufactured};
 ghost use Rattle.tpm_step.specs.Events.{Cycled, Given};
 ghost use Rattle.tpm_step.specs.Execution.{Executes};
 ghost use Rattle.tpm_library.specs.State.{command_seen, cycle_seen, record_of};
-ghost use Rattle.tpm_library.specs.Told.{Tells, done, no_device, no_locality, no_memory};
+ghost use Rattle.tpm_library.specs.Journal.{BeginsIfRoom, HasFault, IsOfJournal, Records};
+ghost use Rattle.tpm_library.specs.Journal.{command_by, image_at_power};
+ghost use Rattle.tpm_library.specs.Told.{Tells, done, follow_number, no_completion, no_device};
+ghost use Rattle.tpm_library.specs.Told.{no_locality, no_memory, open_number};
 ghost use Rattle.tpm_library.specs.Version.{version_number};
 ghost use Rattle.tpm_library.specs.declared.device.Device.{Device};
 
@@ -124,4 +132,92 @@ pub extern "C" fn tpmsim_free(alloc: Global, holder: &mut Holder)
     ensures { holder.new.device ≡ None }
 {
     tpm_library::free(alloc, holder);
+}
+
+/// Cycles power, and writes the head of the device's new journal to a room, if that has as many
+/// bytes.
+#[unsafe(no_mangle)]
+pub extern "C" fn tpmsim_journal_begin(
+    alloc: Global,
+    holder: &mut Holder,
+    now_ms: u64,
+    room: &mut [u8],
+) -> usize
+    ensures head { MatchOption holder.old.device ((result ≡ 0) × (room.new ≡ room.old))
+        (λ before. PutsFront (head_text now_ms (image_at_power before)) room.old result room.new) }
+    ensures begins { MatchOption holder.old.device (holder.new.device ≡ None) (λ before.
+        (after : Device) × (holder.new.device ≡ Some after)
+        × BeginsIfRoom before now_ms (length room.old) result after) }
+{
+    tpm_library::journal::begin(alloc, holder, now_ms, room)
+}
+
+/// Opens the device of a journal, in place of the holder's own.
+#[unsafe(no_mangle)]
+pub extern "C" fn tpmsim_journal_open(
+    alloc: Global,
+    holder: &mut Holder,
+    text: &[u8],
+    taken: &mut usize,
+) -> u8
+    ensures opens { result ≡ done → (device : Device) × (holder.new.device ≡ Some device)
+        × IsOfJournal text.now taken.new device }
+    ensures refused { result ≢ done
+        → (holder.new.device ≡ holder.old.device) × (taken.new ≡ taken.old) }
+    ensures told { result ≢ done → result ≢ no_memory
+        → (fault : OpenFault) × (result ≡ open_number fault) × HasFault text.now fault }
+{
+    tpm_library::journal::open(alloc, holder, text, taken)
+}
+
+/// Executes the entries of a text that was added behind what the device executed.
+#[unsafe(no_mangle)]
+pub extern "C" fn tpmsim_journal_follow(
+    alloc: Global,
+    holder: &mut Holder,
+    text: &[u8],
+    taken: &mut usize,
+) -> u8
+    ensures { MatchOption holder.old.device
+        ((result ≡ no_device) × (holder.new.device ≡ None) × (taken.new ≡ taken.old))
+        (λ before. (after : Device) × (fault : Option FollowFault)
+        × (holder.new.device ≡ Some after) × (result ≡ follow_number fault)
+        × Replays false before.journal (record_of before) text.now
+        (record { taken = taken.new; fault = fault }) after.journal (record_of after)) }
+{
+    tpm_library::journal::follow(alloc, holder, text, taken)
+}
+
+/// Executes a command by the host's clock, and writes its entry.
+#[unsafe(no_mangle)]
+pub extern "C" fn tpmsim_journal_execute(
+    alloc: Global,
+    holder: &mut Holder,
+    buffer: &[u8],
+    locality: u8,
+    now_ms: u64,
+    completes: u8,
+    random: &[u8; 256],
+    response: &mut [u8; 4096],
+    answered: &mut Answered,
+    entry: &mut [u8; 9216],
+    size: &mut usize,
+) -> u8
+    ensures records { result ≡ done → (before : Device) × (after : Device)
+        × (holder.old.device ≡ Some before) × (holder.new.device ≡ Some after)
+        × Records before (command_by before buffer.now locality now_ms random.now) response.new
+        answered.new size.new entry.new after }
+    ensures rest { result ≡ done
+        → drop answered.new.size response.new ≡ drop answered.new.size response.old }
+    ensures refused { result ≢ done → (holder.new.device ≡ holder.old.device)
+        × (response.new ≡ response.old) × (answered.new ≡ answered.old)
+        × (entry.new ≡ entry.old) × (size.new ≡ size.old) }
+    ensures completion { result ≡ no_completion → completes ≢ 0 }
+    ensures locality { result ≡ no_locality → 4 < locality }
+    ensures told { result ≢ done → result ≢ no_completion → result ≢ no_locality
+        → (result ≡ no_device) × (holder.old.device ≡ None) }
+{
+    tpm_library::journal::execute(
+        alloc, holder, buffer, locality, now_ms, completes, random, response, answered, entry, size,
+    )
 }

@@ -89,6 +89,9 @@ def tell(auditor, last):
 
 def main(*words):
     try:
+        if "--help" in words:
+            print(__doc__.strip())
+            return 0
         script_name, output_name, image, policies = parsed(words)
         script, log = read(script_name), Log(read(output_name))
         auditor = Auditor(start_of(image), log, [policy_of(it) for it in policies])

@@ -1,27 +1,22 @@
 """Where commands go: each device is spoken to by the same words, those of `Transport`."""
 
-import os
+from tpmsim.device import library
+from tpmsim.device.base import Answered, BadImage, DeviceEnded, Transport, Unsupported
+from tpmsim.device.child import ChildDevice
+from tpmsim.device.library import LibraryDevice
+from tpmsim.device.served import FileDevice, ServedDevice, SimulatorDevice
+from tpmsim.device.swtpm import StartedSwtpm, SwtpmDevice
+from tpmsim.device.told import Device, ModelDevice
 
-from tpmsim.device.base import Answered, DeviceEnded, Transport, Unsupported
-from tpmsim.device.served import ServedDevice
-from tpmsim.device.told import ChildDevice, ModelDevice
+kind: type[Device] = ChildDevice
+if library.is_there():
+    kind = LibraryDevice
+Device.preferred = kind
 
+# fmt: off
 __all__ = [
-    "Answered",
-    "ChildDevice",
-    "Device",
-    "DeviceEnded",
-    "ModelDevice",
-    "ServedDevice",
-    "Transport",
-    "Unsupported",
+    "Answered", "BadImage", "ChildDevice", "Device", "DeviceEnded", "FileDevice", "LibraryDevice",
+    "ModelDevice", "ServedDevice", "SimulatorDevice", "StartedSwtpm", "SwtpmDevice", "Transport",
+    "Unsupported"
 ]
-
-
-def Device(  # a word for whichever device is the best here, and so with a capital letter
-    image: str | os.PathLike[str] | None = None, seed: bytes | None = None
-) -> Transport:
-    """A fresh device, or the one of an image; its power is just on. A seed makes its random bytes
-    the same in each run. It is a child process, until it can be had in this process by a library.
-    """
-    return ChildDevice(image=image, seed=seed)
+# fmt: on

@@ -6,6 +6,7 @@ from types import TracebackType
 from typing import Self
 
 from tpmsim.standard import lines
+from tpmsim.standard.commands import NUMBERED
 
 
 class Unsupported(Exception):
@@ -16,12 +17,40 @@ class DeviceEnded(Exception):
     """The device is no more; the words are those that it ended with."""
 
 
+class BadImage(Exception):
+    """Bytes that are no image, with their first fault, as docs/table/image.md names it."""
+
+
 @dataclass(frozen=True)
 class Answered:
     """A response, and the check of the trace where there is one: `ok`, or the one that refused."""
 
     response: bytes
     check: str | None = None
+
+
+@dataclass(frozen=True, slots=True)
+class Executed:
+    """A command and its response. What is None was not told: the locality, the milliseconds since
+    the command before, the random bytes, the check and the number of the command.
+    """
+
+    buffer: bytes
+    response: bytes
+    locality: int | None = None
+    elapsed: int | None = None
+    random: bytes | None = None
+    check: str | None = None
+    code: int | None = None
+
+    @property
+    def traced(self) -> str:
+        """What a trace says of it; of a device that tells no check, the response code alone."""
+        code = self.response[6:10].hex()
+        if self.check is None:
+            return code
+        name = NUMBERED[self.code].name if self.code else "?"
+        return f"{name} L{self.locality} +{self.elapsed} {self.check} {code}"
 
 
 def line_in_bytes(buffer: bytes) -> str:
@@ -35,13 +64,26 @@ def line(buffer: bytes) -> str:
     return f"cmd {buffer.hex()}" if words is None else f"do {words}"
 
 
+def lines_told(event: str | Executed) -> list[str]:
+    """The lines of a script that tell an event, and its trace as a comment."""
+    if isinstance(event, str):
+        return [event]
+    entropy = [f"entropy {event.random.hex()}"] if event.random else []
+    return [*entropy, line(event.buffer), f"# {event.traced}"]
+
+
 class Transport(ABC):
-    """A device. `trace` has the lines of a script that does the same, and as a comment behind each
-    command what its trace says.
-    """
+    """A device, or a way to one. What a way cannot do is Unsupported."""
 
     def __init__(self) -> None:
-        self.trace: list[str] = []
+        self.events: list[str | Executed] = []
+
+    @property
+    def trace(self) -> list[str]:
+        """The lines of a script that does the same, and as a comment behind each command what its
+        trace says.
+        """
+        return [it for event in self.events for it in lines_told(event)]
 
     @abstractmethod
     def execute(self, buffer: bytes) -> Answered:
@@ -53,7 +95,7 @@ class Transport(ABC):
 
     @property
     def locality(self) -> int:
-        """That of the next commands, 0 to 4."""
+        """That of the next commands, 0 to 4; ValueError of another."""
         raise Unsupported("the locality is not told here")
 
     @locality.setter
@@ -61,11 +103,20 @@ class Transport(ABC):
         raise Unsupported("the locality is not told here")
 
     def power_cycle(self) -> None:
+        """Takes the power away and gives it back; the device awaits TPM2_Startup."""
         raise Unsupported("the power is not switched here")
 
     def save(self) -> bytes:
         """The image of what the device keeps without power."""
         raise Unsupported("there is no image")
+
+    def snapshot(self) -> object:
+        """All that the device is, sessions and objects too, for `restore` of this device."""
+        raise Unsupported("there are no snapshots")
+
+    def restore(self, snapshot: object) -> None:
+        """Makes the device what it was at a snapshot of its own, however often."""
+        raise Unsupported("there are no snapshots")
 
     def close(self) -> None:
         """Ends the device, or the connection to it."""
@@ -80,3 +131,9 @@ class Transport(ABC):
         where: TracebackType | None,
     ) -> None:
         self.close()
+
+
+def checked_locality(number: int) -> int:
+    if number not in range(5):
+        raise ValueError(f"a locality is 0 to 4, and not {number}")
+    return number

@@ -1,46 +1,137 @@
-"""A device that `tpmsim serve` serves on a Unix socket."""
+"""Devices at the other end of a socket or a file, where time and random bytes are the host's."""
 
 import os
-import socket
 
-from tpmsim.device.base import Answered, DeviceEnded, Transport, line
+from tpmsim.device.base import Answered, DeviceEnded, Executed, Transport, checked_locality
+from tpmsim.device.sockets import Connection
+from tpmsim.standard.frames import number
 
-HEADER_BYTES = 10
-RECEIVED_AT_ONCE = 4096
+RESPONSE_BYTES, RETRY, MOST_TIMES = 4096, number(0x922, 4), 5
 
 
-class ServedDevice(Transport):
-    """A connection to a device. Time and random bytes are the host's, and the locality is that of
-    the run; so none of them is told here. A response has to come within so many seconds.
+class OtherDevice(Transport):
+    """A device that is only told commands, by some way of its own."""
+
+    at: int | None = None
+
+    def execute(self, buffer: bytes) -> Answered:
+        """TimeoutError where there is no answer in time. A command that the device asks for once
+        more (TPM_RC_RETRY) is sent once more, as every driver does.
+        """
+        for _ in range(MOST_TIMES):
+            response = self.exchange(buffer)
+            if response[6:10] != RETRY:
+                break
+        self.events.append(Executed(buffer, response, self.at))
+        return Answered(response)
+
+    def exchange(self, buffer: bytes) -> bytes:
+        raise NotImplementedError
+
+
+class ServedDevice(OtherDevice):
+    """A connection to `tpmsim serve` on a Unix socket, or to another that takes commands alone. The
+    locality is that of the run. A response has to come within so many seconds.
+
+    >>> ServedDevice("/nowhere")
+    Traceback (most recent call last):
+        ...
+    FileNotFoundError: [Errno 2] No such file or directory
     """
 
     def __init__(self, path: str | os.PathLike[str], seconds: float = 60) -> None:
         super().__init__()
-        self.socket = socket.socket(socket.AF_UNIX)
-        self.socket.settimeout(seconds)
-        try:
-            self.socket.connect(os.fspath(path))
-        except OSError:
-            self.socket.close()
-            raise
+        self.data = Connection(os.fspath(path), seconds)
 
-    def execute(self, buffer: bytes) -> Answered:
-        """TimeoutError where there is no answer in time."""
-        self.trace.append(line(buffer))
-        self.socket.sendall(buffer)
-        header = self.received(HEADER_BYTES)
-        response = header + self.received(int.from_bytes(header[2:6], "big") - HEADER_BYTES)
-        self.trace.append(f"# {response[6:10].hex()}")
-        return Answered(response)
-
-    def received(self, size: int) -> bytes:
-        text = b""
-        while len(text) < size:
-            piece = self.socket.recv(min(size - len(text), RECEIVED_AT_ONCE))
-            if not piece:
-                raise DeviceEnded("the connection has ended")
-            text += piece
-        return text
+    def exchange(self, buffer: bytes) -> bytes:
+        return self.data.send(buffer).response()
 
     def close(self) -> None:
-        self.socket.close()
+        self.data.close()
+
+
+class FileDevice(OtherDevice):
+    """A file that takes a command and gives the response, as /dev/tpmrm0 and /dev/tpm0 do. What is
+    done to a TPM of this computer is done.
+
+    >>> import tempfile
+    >>> with tempfile.NamedTemporaryFile() as file, FileDevice(file.name) as device:
+    ...     device.execute(b"\\0" * 10)
+    Answered(response=b'', check=None)
+    """
+
+    def __init__(self, path: str | os.PathLike[str]) -> None:
+        super().__init__()
+        self.descriptor: int | None = os.open(path, os.O_RDWR | os.O_CLOEXEC)
+
+    def exchange(self, buffer: bytes) -> bytes:
+        if self.descriptor is None:
+            raise DeviceEnded("the file is closed")
+        os.write(self.descriptor, buffer)
+        return os.read(self.descriptor, RESPONSE_BYTES)
+
+    def close(self) -> None:
+        if self.descriptor is not None:
+            os.close(self.descriptor)
+            self.descriptor = None
+
+
+# Microsoft's protocol (the simulator of the TPM 2.0 Library): requests of its two ports.
+POWER_ON, POWER_OFF, SEND_COMMAND, NV_ON, SESSION_END = 1, 2, 8, 11, 20
+
+
+class SimulatorDevice(OtherDevice):
+    """A device behind Microsoft's protocol: commands at a port, and the platform at the next one.
+    Its power is switched on, and off again where `power_cycle` asks for it.
+
+    >>> SimulatorDevice("127.0.0.1", 1)
+    Traceback (most recent call last):
+        ...
+    ConnectionRefusedError: [Errno 111] Connection refused
+    """
+
+    def __init__(self, host: str = "127.0.0.1", port: int = 2321, seconds: float = 60) -> None:
+        super().__init__()
+        self.at = 0
+        self.data = Connection((host, port), seconds)
+        try:
+            self.platform = Connection((host, port + 1), seconds)
+        except OSError:
+            self.data.close()
+            raise
+        self.tell(POWER_ON)
+        self.tell(NV_ON)
+
+    def tell(self, request: int) -> None:
+        told = self.platform.send(number(request, 4)).number()
+        if told:
+            raise DeviceEnded(f"the platform refuses request {request} with {told}")
+
+    @property
+    def locality(self) -> int:
+        return self.at or 0
+
+    @locality.setter
+    def locality(self, place: int) -> None:
+        self.at = checked_locality(place)
+        self.events.append(f"loc {place}")
+
+    def power_cycle(self) -> None:
+        for request in (POWER_OFF, POWER_ON, NV_ON):
+            self.tell(request)
+        self.events.append("power")
+
+    def exchange(self, buffer: bytes) -> bytes:
+        head = number(SEND_COMMAND, 4) + number(self.locality, 1) + number(len(buffer), 4)
+        response = self.data.send(head + buffer).receive(self.data.number())
+        if self.data.number():
+            raise DeviceEnded("the simulator refuses a command")
+        return response
+
+    def close(self) -> None:
+        for connection in (self.data, self.platform):
+            try:
+                connection.send(number(SESSION_END, 4))
+            except (DeviceEnded, OSError):
+                pass  # the other end was quicker
+            connection.close()

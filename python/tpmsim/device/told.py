@@ -1,179 +1,260 @@
-"""Devices that are told the lines of a script: in plain Python, or by a child process."""
+"""Devices of which everything is told: their locality, their time and their random bytes."""
+
+from __future__ import annotations
 
 import hashlib
 import os
 import pathlib
-import secrets
-import shutil
-import subprocess
-from abc import abstractmethod
+from dataclasses import dataclass
+from typing import ClassVar, Self, cast
 
-from tpmsim.device.base import Answered, DeviceEnded, Transport, Unsupported, line, line_in_bytes
-from tpmsim.model.image import image
-from tpmsim.model.machine import Model
-from tpmsim.standard import lines
+from tpmsim.device.base import Answered, BadImage, Executed, Transport, checked_locality
+from tpmsim.model import image as images
+from tpmsim.model.machine import MANUFACTURED, Model
 from tpmsim.standard.aes_tables import encrypt_block
 
 RANDOM_BYTES = 256
-SEED_BYTES = 32
+MOST_MILLISECONDS = 2**32 - 1
+
+Path = str | os.PathLike[str]
 
 
-class ToldDevice(Transport):
-    """A device of which everything is said in lines. Each command has random bytes of its own:
-    fresh ones, or with a seed the same in each run.
+@dataclass(frozen=True)
+class Snapshot:
+    """What a device was begun from, where that stands among its events, and what was told since."""
+
+    base: bytes
+    since: int
+    events: tuple[str | Executed, ...]
+    locality: int
+    elapsed: int
+
+
+class Device(Transport):
+    """A fresh device whose power is just on, or that of an image, which is kept in its file: in this
+    process where the library is found, and else in a child process. Its seeds and its random bytes
+    are fresh ones; with a seed of your own they are the same in each run.
+
+    >>> from tpmsim.caller import Caller
+    >>> with Device(seed=b"mine") as device:
+    ...     tpm = Caller(device)
+    ...     tpm.start_up()
+    ...     len(tpm.call("GetRandom", bytesRequested=4)["randomBytes"])
+    4
     """
 
-    def __init__(self, seed: bytes | None = None) -> None:
+    # What `Device` itself makes; the package sets it.
+    preferred: ClassVar[type[Device]]
+
+    # An image of the device as its power came on last, and where that stands among the events.
+    base, since = b"", 0
+
+    def __new__(cls, *given: object, **named: object) -> Self:
+        return cast(Self, super().__new__(Device.preferred if cls is Device else cls))
+
+    def __init__(self, image: Path | None = None, seed: bytes | None = None) -> None:
         super().__init__()
-        self.seed, self.commands, self.at, self.elapsed = seed, 0, 0, 0
+        self.image = None if image is None else pathlib.Path(image)
+        self.seed, self.drawings, self.at, self.elapsed = seed, 0, 0, 0
+
+    @classmethod
+    def open(cls, image: bytes, seed: bytes | None = None) -> Self:
+        """The device of an image, as after a power cycle; BadImage of other bytes.
+
+        >>> with Device() as device, Device.open(device.save()) as other:
+        ...     other.save() == device.save()
+        True
+        """
+        device = cls(seed=seed)
+        try:
+            device.begin(image)
+        except BadImage:
+            device.close()
+            raise
+        return device
+
+    def begin(self, base: bytes) -> None:
+        """Puts the device of an image in place of this one, or of no bytes a new one."""
+        raise NotImplementedError
+
+    def answer(self, buffer: bytes, locality: int, elapsed: int, random: bytes) -> Executed:
+        """Executes a command with its 256 random bytes."""
+        raise NotImplementedError
+
+    def cycle(self) -> None:
+        """Takes the power away and gives it back."""
+        raise NotImplementedError
+
+    @property
+    def trace(self) -> list[str]:
+        """The lines of a script that does the same, and as a comment behind each command what its
+        trace says.
+
+        >>> with ModelDevice() as device:
+        ...     Caller(device).start_up()
+        ...     device.trace[-2:]
+        ['do Startup 0', '# Startup L0 +0 ok 00000000']
+        """
+        return super().trace
+
+    def save(self) -> bytes:
+        """The image of what the device keeps without power.
+
+        >>> with Device() as device:
+        ...     device.save()[:4]
+        b'TPMI'
+        """
+        raise NotImplementedError
+
+    def close(self) -> None:
+        """Ends the device; its file, if it has one, has the clock then. `with` does it too.
+
+        >>> device = Device()
+        >>> device.close()
+        """
 
     def drawn(self) -> bytes:
-        self.commands += 1
+        """The random bytes of the next command."""
+        self.drawings += 1
         if self.seed is None:
-            return secrets.token_bytes(SEED_BYTES)
-        return hashlib.sha256(self.seed + b"%d" % self.commands).digest()
-
-    def tell(self, text: str) -> None:
-        """Tells a line that prints nothing."""
-        self.trace.append(text)
-
-    def entropy(self, seed: bytes) -> None:
-        """The random bytes of the next commands."""
-        self.tell(f"entropy {seed.hex()}")
+            return os.urandom(RANDOM_BYTES)
+        return hashlib.shake_256(self.seed + b"%d" % self.drawings).digest(RANDOM_BYTES)
 
     def wait(self, milliseconds: int) -> None:
+        """So many milliseconds pass before the next command; ValueError of more than 4,294,967,295.
+
+        >>> with Device() as device:
+        ...     tpm = Caller(device)
+        ...     tpm.start_up()
+        ...     device.wait(60_000)
+        ...     tpm.call("ReadClock")["currentTime"].time
+        60000
+        """
+        if not 0 <= milliseconds <= MOST_MILLISECONDS - self.elapsed:
+            raise ValueError(f"at most {MOST_MILLISECONDS} milliseconds pass before a command")
         self.elapsed += milliseconds
-        self.tell(f"wait {milliseconds}")
+        self.events.append(f"wait {milliseconds}")
 
     @property
     def locality(self) -> int:
+        """That of the next commands, 0 to 4, at first 0; ValueError of another.
+
+        >>> with Device() as device:
+        ...     device.locality = 3
+        ...     device.locality
+        3
+        """
         return self.at
 
     @locality.setter
     def locality(self, number: int) -> None:
-        self.at = number
-        self.tell(f"loc {number}")
+        self.at = checked_locality(number)
+        self.events.append(f"loc {number}")
 
     def execute(self, buffer: bytes) -> Answered:
-        self.entropy(self.drawn())
-        self.trace.append(line(buffer))
-        traced, answered = self.answer(buffer)
-        self.trace.append(f"# {traced}")
+        """The response to any bytes, and the check that refused them.
+
+        >>> with Device() as device:
+        ...     device.execute(bytes.fromhex("80010000000c000001440000"))
+        Answered(response=b'\\x80\\x01\\x00\\x00\\x00\\n\\x00\\x00\\x00\\x00', check='ok')
+        """
+        event = self.answer(buffer, self.at, self.elapsed, self.drawn())
         self.elapsed = 0
-        return answered
-
-    @abstractmethod
-    def answer(self, buffer: bytes) -> tuple[str, Answered]:
-        """The trace of a command, and its answer."""
-
-
-class ModelDevice(ToldDevice):
-    """The device in plain Python, in this process. Its `trace` can be written as a script, which no
-    program has played.
-    """
-
-    def __init__(self, model: Model | None = None, seed: bytes | None = None) -> None:
-        super().__init__(seed)
-        self.model = model or Model(block_cipher=encrypt_block)
-        self.random = bytes(RANDOM_BYTES)
-
-    def entropy(self, seed: bytes) -> None:
-        self.random = (seed * RANDOM_BYTES)[:RANDOM_BYTES]
-        super().entropy(seed)
-
-    def answer(self, buffer: bytes) -> tuple[str, Answered]:
-        outcome = self.model.execute(buffer, self.at, self.random, self.elapsed)
-        traced = lines.traced(outcome, self.at, self.elapsed)
-        return traced, Answered(outcome.response, outcome.row.check)
+        self.events.append(event)
+        return Answered(event.response, event.check)
 
     def power_cycle(self) -> None:
-        self.model.power_cycle()
-        self.tell("power")
+        """Takes the power away and gives it back; the device awaits TPM2_Startup.
 
-    def save(self) -> bytes:
-        return image(self.model)
+        >>> with Device() as device:
+        ...     tpm = Caller(device)
+        ...     tpm.start_up()
+        ...     device.power_cycle()
+        ...     tpm.start_up()
+        ...     tpm.call("ReadClock")["currentTime"].resets
+        2
+        """
+        self.cycle()
+        self.events.append("power")
 
-    def write(self, path: str | os.PathLike[str]) -> None:
-        """Writes the script; OSError where it cannot be written."""
+    def snapshot(self) -> Snapshot:
+        """All that the device is, sessions and objects too. What it was told since its power came on
+        is told again by `restore`, which takes as long as it took.
+
+        >>> with Device() as device:
+        ...     tpm = Caller(device)
+        ...     tpm.start_up()
+        ...     before = device.snapshot()
+        ...     session = tpm.session()
+        ...     device.restore(before)
+        ...     tpm.session().handle == session.handle
+        True
+        """
+        return Snapshot(self.base, self.since, tuple(self.events), self.at, self.elapsed)
+
+    def restore(self, snapshot: object) -> None:
+        """Makes the device what it was at a snapshot; TypeError of anything else.
+
+        >>> with Device() as device:
+        ...     before = device.snapshot()
+        ...     Caller(device).start_up()
+        ...     device.restore(before)
+        ...     Caller(device).start_up()
+        """
+        if not isinstance(snapshot, Snapshot):
+            raise TypeError("a snapshot is what `snapshot` answered")
+        self.begin(snapshot.base)
+        for event in snapshot.events[snapshot.since :]:
+            if isinstance(event, Executed):
+                random = (event.random or b"").ljust(RANDOM_BYTES, b"\0")
+                self.answer(event.buffer, event.locality or 0, event.elapsed or 0, random)
+            elif event == "power":
+                self.cycle()
+        self.base, self.since, self.events = snapshot.base, snapshot.since, list(snapshot.events)
+        self.at, self.elapsed = snapshot.locality, snapshot.elapsed
+
+    def write(self, path: Path) -> None:
+        """Writes the trace as a script; OSError where it cannot be written.
+
+        >>> import tempfile
+        >>> with Device() as device, tempfile.TemporaryDirectory() as folder:
+        ...     Caller(device).start_up()
+        ...     device.write(f"{folder}/script.tpm")
+        ...     open(f"{folder}/script.tpm").read().splitlines()[-1]
+        '# Startup L0 +0 ok 00000000'
+        """
         pathlib.Path(path).write_text("\n".join(self.trace) + "\n", "ascii")
 
 
-def program_found() -> str:
-    """The program: the one that $TPMSIM names, the one of this repository, or one on the path."""
-    launcher = pathlib.Path(__file__).resolve().parents[3] / "tpmsim"
-    found = os.environ.get("TPMSIM") or shutil.which("tpmsim")
-    if launcher.is_file() and not os.environ.get("TPMSIM"):
-        found = str(launcher)
-    if not found:
-        raise FileNotFoundError("there is no tpmsim: $TPMSIM may name it")
-    return found
+class ModelDevice(Device):
+    """The device in plain Python, in this process, manufactured with the bytes 00 to ff; or a model
+    whose power is just on. What is written of it is a script that no program has played.
 
-
-class ChildDevice(ToldDevice):
-    """A device that a child process of `tpmsim run` has. Without an image it is manufactured with
-    the bytes 00 to ff; with one it is the device of that file, or a new one with random seeds, and
-    what it changes is in the file before it is answered.
+    >>> with ModelDevice() as device:
+    ...     device.execute(b"").check
+    'G1'
     """
 
-    def __init__(
-        self,
-        program: str | None = None,
-        image: str | os.PathLike[str] | None = None,
-        seed: bytes | None = None,
-    ) -> None:
-        super().__init__(seed)
-        self.image = None if image is None else pathlib.Path(image)
-        words = [program or program_found(), "run", "--trace"]
-        if image is not None:
-            words += ["--image", os.fspath(image), "--entropy", "/dev/urandom"]
-        pipes = subprocess.PIPE
-        self.process = subprocess.Popen([*words, "-"], stdin=pipes, stdout=pipes, stderr=pipes)
+    def __init__(self, model: Model | None = None, seed: bytes | None = None) -> None:
+        super().__init__(seed=seed)
+        self.model = model or Model(MANUFACTURED, encrypt_block)
+        self.base = self.save()
 
-    def say(self, text: str) -> None:
-        assert self.process.stdin is not None
+    def begin(self, base: bytes) -> None:
         try:
-            self.process.stdin.write(text.encode("ascii") + b"\n")
-            self.process.stdin.flush()
-        except BrokenPipeError:
-            raise self.ended() from None
+            self.model = images.open_image(base, encrypt_block)
+        except images.Fault as fault:
+            raise BadImage(str(fault)) from None
+        self.base, self.since = base, len(self.events)
 
-    def heard(self) -> str:
-        assert self.process.stdout is not None
-        text = self.process.stdout.readline()
-        if not text.endswith(b"\n"):
-            raise self.ended()
-        return text.decode("ascii").rstrip("\n")
+    def answer(self, buffer: bytes, locality: int, elapsed: int, random: bytes) -> Executed:
+        outcome = self.model.execute(buffer, locality, random, elapsed)
+        row = outcome.row
+        return Executed(buffer, outcome.response, locality, elapsed, random, row.check, row.code)
 
-    def ended(self) -> DeviceEnded:
-        assert self.process.stderr is not None
-        words = self.process.stderr.read().decode("utf-8", "replace").strip()
-        return DeviceEnded(f"status {self.process.wait()}: {words}")
-
-    def tell(self, text: str) -> None:
-        super().tell(text)
-        self.say(text)
-
-    def answer(self, buffer: bytes) -> tuple[str, Answered]:
-        self.say(line_in_bytes(buffer))
-        traced, response = self.heard(), bytes.fromhex(self.heard())
-        return traced, Answered(response, traced.split(" ")[3])
-
-    def power_cycle(self) -> None:
-        self.tell("power")
-        self.heard()
+    def cycle(self) -> None:
+        self.model.power_cycle()
+        self.base, self.since = self.save(), len(self.events) + 1
 
     def save(self) -> bytes:
-        """What the file of the image holds: all but the clock since the last change."""
-        if self.image is None:
-            raise Unsupported("a device is saved that was given an image")
-        return self.image.read_bytes()
-
-    def close(self) -> None:
-        """Ends the process, and waits for it; its image is then whole, with the clock."""
-        for pipe in (self.process.stdin, self.process.stdout, self.process.stderr):
-            assert pipe is not None
-            try:
-                pipe.close()
-            except BrokenPipeError:
-                pass  # it had ended before
-        self.process.wait()
+        return images.image(self.model)

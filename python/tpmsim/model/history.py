@@ -42,10 +42,10 @@ class Accepted:
     """
 
     code: int
-    handles: list
-    names: list
-    protections: list
-    uses: list
+    handles: list[int]
+    names: list[bytes]
+    protections: list[str | None]
+    uses: list[Use]
     parameters: bytes
     random: bytes
     drawn: int
@@ -80,9 +80,9 @@ class Pcrs:
     the last shutdown found.
     """
 
-    values: dict = field(default_factory=started_values)
+    values: dict[tuple[int, int], bytes] = field(default_factory=started_values)
     updates: int = 0
-    saved: dict = field(default_factory=started_values)
+    saved: dict[tuple[int, int], bytes] = field(default_factory=started_values)
 
     def set(self, bank: int, pcr: int, value: bytes) -> None:
         self.values[bank, pcr] = value
@@ -105,7 +105,7 @@ class Pcrs:
             self.saved = dict(self.values)
         elif it.code == CC.Clear:
             self.updates += 1
-        elif pcr == RH_NULL:
+        elif pcr is None or pcr == RH_NULL:
             pass
         elif it.code == CC.PCR_Extend:
             self.extend(pcr, self.digests(it.read().next()))
@@ -131,12 +131,17 @@ class Pcrs:
         return digest(algorithm, b"".join(values))
 
 
-# Authorization values: the one that was set last for each handle.
+# Authorization values: the one that was set last for each handle. These are always there, and have
+# none at first.
+
+WITHOUT_VALUES = dict.fromkeys(
+    (RH_OWNER, RH_ENDORSEMENT, RH_PLATFORM, RH_LOCKOUT, RH_NULL, *PCRS), b""
+)
 
 
 @dataclass
 class AuthValues:
-    values: dict = field(default_factory=dict)
+    values: dict[int, bytes] = field(default_factory=dict)
 
     def of(self, handle: int) -> bytes:
         return self.values.get(handle, b"")
@@ -172,8 +177,8 @@ def defined_index(it: Accepted) -> int:
 
 @dataclass
 class Counters:
-    values: dict = field(default_factory=dict)
-    all: list = field(default_factory=list)
+    values: dict[int, int] = field(default_factory=dict)
+    all: list[int] = field(default_factory=list)
     largest: int = 0
 
     def command(self, it: Accepted) -> None:
@@ -212,7 +217,7 @@ class Sessions:
     the command.
     """
 
-    live: dict = field(default_factory=dict)
+    live: dict[int, LiveSession] = field(default_factory=dict)
 
     def power_cycle(self) -> None:
         self.live = {}
@@ -383,16 +388,19 @@ class History:
 
     def pcr_differences(self, device: Model) -> Iterator[str]:
         for bank, values in device.banks.items():
-            for pcr, value in enumerate(values):
-                if value != self.pcrs.values[bank, pcr]:
-                    yield f"PCR {pcr} of bank {bank:04x}"
+            told = [self.pcrs.values[bank, pcr] for pcr in range(len(values))]
+            if values != told:
+                differ = (pcr for pcr, value in enumerate(values) if value != told[pcr])
+                yield from (f"PCR {pcr} of bank {bank:04x}" for pcr in differ)
         if device.update_counter != self.pcrs.updates:
             yield "the count of updates"
 
     def auth_differences(self, device: Model) -> Iterator[str]:
-        hierarchies = RH_OWNER, RH_ENDORSEMENT, RH_PLATFORM, RH_LOCKOUT, RH_NULL, *PCRS
-        for handle in (*hierarchies, *device.objects, *device.indices):
-            if device.auth_value(handle) != self.auth_values.of(handle):
+        held = WITHOUT_VALUES | device.auth_values
+        held |= {handle: it.sensitive.auth_value for handle, it in device.objects.items()}
+        held |= {handle: it.auth_value for handle, it in device.indices.items()}
+        for handle, auth_value in held.items():
+            if auth_value != self.auth_values.of(handle):
                 yield f"the authorization value of {handle:08x}"
 
     def counter_differences(self, device: Model) -> Iterator[str]:

@@ -15,6 +15,7 @@ from tpmsim.model.machine import Model
 from tpmsim.model.parameters import Parameters
 from tpmsim.model.protection import Lockout
 from tpmsim.standard import aes, nv
+from tpmsim.standard.aes_tables import encrypt_block
 from tpmsim.standard.frames import RH_ENDORSEMENT, RH_LOCKOUT, RH_NULL, RH_OWNER, RH_PLATFORM, SHA1
 from tpmsim.standard.frames import SHA256, number, sized
 from tpmsim.standard.reading import Fields, Short
@@ -144,7 +145,7 @@ def check(holds: bool) -> None:
         raise Fault("Body")
 
 
-def open_image(text: bytes, block_cipher: aes.BlockCipher = aes.encrypt_block) -> Model:
+def open_image(text: bytes, block_cipher: aes.BlockCipher = encrypt_block) -> Model:
     """The device of an image, as it is behind a power cycle."""
     if len(text) < HEAD_BYTES + DIGEST_AT_END:
         raise Fault("Short")

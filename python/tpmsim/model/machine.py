@@ -15,6 +15,7 @@ from tpmsim.model.history import Accepted, PowerCycle
 from tpmsim.model.parameters import Parameters, Request
 from tpmsim.model.policy_state import Entity
 from tpmsim.standard import aes, frames, handle_kinds, nv, objects, policy, sessions
+from tpmsim.standard.aes_tables import encrypt_block
 from tpmsim.standard.commands import CC, Fact
 from tpmsim.standard.frames import DECRYPT, ENCRYPT, Entry, RH_ENDORSEMENT, RH_LOCKOUT, RH_NULL
 from tpmsim.standard.frames import RH_OWNER, RH_PLATFORM, RS_PW, TRANSIENT, number, sized
@@ -105,12 +106,12 @@ class Model(
     """The PCRs in both banks and how often a value was written, the hierarchies' authorization
     values, seeds and proofs, dictionary attack protection, the NV indices, the objects, transient
     and persistent ones, the sessions, the times, and what was saved for the next start. `tell` is
-    called with each event that is accepted. It is manufactured with 256 bytes, and encrypts by a
-    cipher that may be another one than that of the book.
+    called with each event that is accepted. It is manufactured with 256 bytes, and encrypts by the
+    cipher of aes_tables.py where no other is given.
     """
 
     def __init__(
-        self, manufactured: bytes = MANUFACTURED, block_cipher: aes.BlockCipher = aes.encrypt_block
+        self, manufactured: bytes = MANUFACTURED, block_cipher: aes.BlockCipher = encrypt_block
     ) -> None:
         self.block_cipher = block_cipher
         self.auth_values = {}
@@ -512,4 +513,6 @@ class Model(
 
 
 # Each command is the method of its name.
-ROWS: dict[CC, Callable] = {it: getattr(Model, it.method_name) for it in CC}
+ROWS: dict[CC, Callable[[Model, Request], Answer]] = {
+    it: getattr(Model, it.method_name) for it in CC
+}

@@ -12,6 +12,7 @@ from dataclasses import dataclass, replace
 from tpmsim.model.general import Refusal
 from tpmsim.model.parameters import Parameters
 from tpmsim.standard import aes, frames
+from tpmsim.standard.aes_tables import encrypt_block
 from tpmsim.standard.frames import ALG_NULL, KEYEDHASH, SHA256, SYMCIPHER, number, sized
 from tpmsim.standard.objects import Attribute, NAMED, Public
 from tpmsim.standard.reading import Fields, Short
@@ -77,7 +78,7 @@ class Template:
     data: bytes
     public: Public
     outside_info: bytes
-    pcrs: list
+    pcrs: list[tuple[int, list[int]]]
 
     @property
     def sensitive_text(self) -> bytes:
@@ -267,7 +268,7 @@ def wrapped(
     name: bytes,
     sensitive: Sensitive,
     iv: bytes,
-    block_cipher: aes.BlockCipher = aes.encrypt_block,
+    block_cipher: aes.BlockCipher = encrypt_block,
 ) -> bytes:
     key = encrypting_key(parent, name)
     text = aes.cfb_encrypt(key, iv, sized(sensitive.text), block_cipher)
@@ -285,10 +286,7 @@ def read_sensitive(fields: Parameters) -> Sensitive:
 
 
 def unwrapped(
-    parent: Object,
-    public: Public,
-    private: bytes,
-    block_cipher: aes.BlockCipher = aes.encrypt_block,
+    parent: Object, public: Public, private: bytes, block_cipher: aes.BlockCipher = encrypt_block
 ) -> Sensitive:
     """The sensitive area of a private one that the parent made, for this public area."""
     name, wrong = public.name, Refusal("INTEGRITY/p1", "A5")

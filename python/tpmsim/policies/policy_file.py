@@ -2,10 +2,10 @@
 further in below `either` and `or`.
 """
 
-from dataclasses import dataclass
+from typing import Iterator, Protocol
 
-from tpmsim.policies.policy_rows import EITHER, Fault, NOTHING, NO_DEMAND, OR, STEP, rows_of
-from tpmsim.policies.policy_texts import policy_digest
+from tpmsim.policies.policy_rows import EITHER, Fault, NOTHING, NO_DEMAND, OR, STEP, Row, rows_of
+from tpmsim.policies.policy_texts import Policy, Written, policy_digest
 from tpmsim.policies.policy_words import Unsaid, read_assertion
 from tpmsim.policies.written import PolicyCpHash, PolicyPcr
 from tpmsim.standard.frames import SHA1, SHA256
@@ -18,69 +18,56 @@ ALGORITHMS = SHA256, SHA1
 MOST_STEPS = 16
 
 
-@dataclass(frozen=True)
-class Written:
-    """An assertion, and the line of the policy on which it stands."""
-
-    line: int
-    said: object
-
-
-@dataclass(frozen=True)
-class Policy:
-    """Assertions one after another, behind one of several branches, if it begins with a PolicyOR:
-    then the line is that of `either`.
-    """
-
-    line: int = 0
-    branches: tuple = ()
-    assertions: tuple = ()
-
-
 class Reader:
     """The policy of rows. All digests in it have the size of the first, which is on a line."""
 
-    def __init__(self, rows):
+    def __init__(self, rows: list[Row]) -> None:
         self.rows, self.at = rows, 0
-        self.size, self.size_line = None, None
+        self.size: int | None = None
+        self.size_line: int | None = None
 
     @property
-    def next(self):
+    def next(self) -> Row | None:
         return self.rows[self.at] if self.at < len(self.rows) else None
 
-    def take(self):
+    @property
+    def text(self) -> bytes:
+        """What the next row says, or nothing where there is none."""
+        return self.next.text if self.next else b""
+
+    def take(self) -> Row:
         self.at += 1
         return self.rows[self.at - 1]
 
-    def goes_on(self, depth):
+    def goes_on(self, depth: int) -> bool:
         """Whether the next row is one of a block that stands so far in."""
         if self.next and self.next.depth > depth:
             raise Fault(self.next.number, "it stands further in than its block")
         return self.next is not None and self.next.depth == depth
 
-    def policy(self, depth, opener):
+    def policy(self, depth: int, opener: int) -> Policy:
         """That of a block; the opener is the line below which it stands."""
         if self.next is None or self.next.depth < depth:
             words = f"no branch stands below it, {STEP} spaces further in; {NO_DEMAND}"
             raise Fault(opener, words)
         self.goes_on(depth)
-        if self.next.text == NOTHING:
+        if self.text == NOTHING:
             row = self.take()
             if self.goes_on(depth):
                 raise Fault(row.number, "nothing stands alone in its block")
             return Policy()
-        line, branches = self.branches(depth) if self.next.text == EITHER else (0, ())
+        line, branches = self.branches(depth) if self.text == EITHER else (0, ())
         assertions = []
         while self.goes_on(depth):
             assertions.append(self.assertion(self.take()))
         return Policy(line, branches, tuple(assertions))
 
-    def branches(self, depth):
+    def branches(self, depth: int) -> tuple[int, tuple[Policy, ...]]:
         opener = self.take().number
         if depth == MOST_STEPS:
             raise Fault(opener, f"its branches stand more than {MOST_STEPS * STEP} spaces in")
         found = [self.policy(depth + 1, opener)]
-        while self.goes_on(depth) and self.next.text == OR:
+        while self.goes_on(depth) and self.text == OR:
             row = self.take()
             if len(found) == MOST_BRANCHES:
                 raise Fault(row.number, f"there are more than {MOST_BRANCHES} branches")
@@ -89,7 +76,7 @@ class Reader:
             raise Fault(opener, "it has one branch alone, and no or")
         return opener, tuple(found)
 
-    def assertion(self, row):
+    def assertion(self, row: Row) -> Written:
         if row.text == EITHER:
             raise Fault(row.number, "either stands first in its block")
         if row.text == OR:
@@ -104,7 +91,7 @@ class Reader:
             self.note_size(row.number, said)
         return Written(row.number, said)
 
-    def note_size(self, line, said):
+    def note_size(self, line: int, said: PolicyPcr | PolicyCpHash) -> None:
         size = len(said.digest if isinstance(said, PolicyPcr) else said.cp_hash)
         if self.size is None:
             self.size, self.size_line = size, line
@@ -113,10 +100,17 @@ class Reader:
             raise Fault(line, f"its digest has {size} bytes, and {other}")
 
 
+class HasPolicy(Protocol):
+    """The public area of an object or an index."""
+
+    name_algorithm: int
+    auth_policy: bytes
+
+
 class PolicyFile:
     """A file, by the name that it was given, with its policy."""
 
-    def __init__(self, name, text):
+    def __init__(self, name: str, text: bytes) -> None:
         self.name, self.rows = name, rows_of(text)
         reader = Reader(self.rows)
         self.policy = reader.policy(0, 1)
@@ -126,12 +120,12 @@ class PolicyFile:
             it: policy_digest(it, self.policy) for it in ALGORITHMS if digest_bytes(it) in sizes
         }
 
-    def is_of(self, public):
+    def is_of(self, public: HasPolicy) -> bool:
         """Whether it is the policy of what has this public area."""
         found = self.digests.get(public.name_algorithm)
         return found is not None and found == public.auth_policy
 
-    def report(self):
+    def report(self) -> Iterator[str]:
         """What is written in it, and its digests."""
         yield f"Policy {self.name}"
         width = len(str(self.rows[-1].number))

@@ -13,7 +13,7 @@ STEP = 4
 class Fault(Exception):
     """Why a file is no policy: the line, and words."""
 
-    def __init__(self, line, words):
+    def __init__(self, line: int, words: object) -> None:
         super().__init__(f"line {line}: {words}")
 
 
@@ -26,7 +26,7 @@ class Row:
     text: bytes
 
 
-def row_of(number, line):
+def row_of(number: int, line: bytes) -> Row:
     text = line.lstrip(b" ")
     spaces = len(line) - len(text)
     if spaces % STEP:
@@ -39,7 +39,7 @@ def row_of(number, line):
     return Row(number, spaces // STEP, text)
 
 
-def rows_of(text):
+def rows_of(text: bytes) -> list[Row]:
     """Those that are neither empty nor a comment."""
     lines = text.removesuffix(b"\n").split(b"\n")
     told = [it for it in enumerate(lines, 1) if it[1] and not it[1].lstrip(b" ").startswith(b"#")]

@@ -2,7 +2,10 @@
 begins with the hash of the one before, as tpm_policy_meaning has it (PolicyDigest).
 """
 
+from __future__ import annotations
+
 from dataclasses import dataclass
+from typing import Protocol
 
 from tpmsim.standard.commands import CC
 from tpmsim.standard.frames import number
@@ -19,20 +22,50 @@ class Update:
     code: CC
     about: bytes = b""
     reference: bytes | None = None
-    apart: tuple = ()
+    apart: tuple[bytes, ...] = ()
 
 
-def zeros(algorithm):
+class Assertion(Protocol):
+    """What a line of a policy says: its words, and what it puts into the digest."""
+
+    @property
+    def words(self) -> str:
+        ...
+
+    def update(self, algorithm: int) -> Update:
+        ...
+
+
+@dataclass(frozen=True)
+class Written:
+    """An assertion, and the line of the policy on which it stands."""
+
+    line: int
+    said: Assertion
+
+
+@dataclass(frozen=True)
+class Policy:
+    """Assertions one after another, behind one of several branches, if it begins with a PolicyOR:
+    then the line is that of `either`.
+    """
+
+    line: int = 0
+    branches: tuple[Policy, ...] = ()
+    assertions: tuple[Written, ...] = ()
+
+
+def zeros(algorithm: int) -> bytes:
     """A policy begins with zeros."""
     return bytes(digest_bytes(algorithm))
 
 
-def or_update(digests):
+def or_update(digests: list[bytes]) -> Update:
     """TPM2_PolicyOR is about the joined digests of its branches, without their sizes."""
     return Update(CC.PolicyOR, b"".join(digests))
 
 
-def texts_after(algorithm, old, update):
+def texts_after(algorithm: int, old: bytes, update: Update) -> list[bytes]:
     """The texts that are hashed for an assertion after a digest, the latest first."""
     text = old + number(update.code, 4) + update.about
     referred = []
@@ -41,14 +74,14 @@ def texts_after(algorithm, old, update):
     return [*referred, text, *update.apart]
 
 
-def digest_after(algorithm, texts):
+def digest_after(algorithm: int, texts: list[bytes]) -> bytes:
     """The digest of texts, the latest first: the hash of the latest."""
     return digest(algorithm, texts[0]) if texts else zeros(algorithm)
 
 
-def policy_texts(algorithm, policy):
+def policy_texts(algorithm: int, policy: Policy) -> list[bytes]:
     """The texts that are hashed for a policy, those of its branches too, the latest first."""
-    texts = []
+    texts: list[bytes] = []
     if policy.branches:
         of_branches = [policy_texts(algorithm, it) for it in policy.branches]
         digests = [digest_after(algorithm, it) for it in of_branches]
@@ -60,5 +93,5 @@ def policy_texts(algorithm, policy):
     return texts
 
 
-def policy_digest(algorithm, policy):
+def policy_digest(algorithm: int, policy: Policy) -> bytes:
     return digest_after(algorithm, policy_texts(algorithm, policy))

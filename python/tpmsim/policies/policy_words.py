@@ -1,8 +1,9 @@
 """The words of an assertion in a policy's file: what they say, or why they say nothing."""
 
 from dataclasses import dataclass
-from typing import Callable
+from typing import Any, Callable
 
+from tpmsim.policies.policy_texts import Assertion
 from tpmsim.policies.written import OPERATIONS, PolicyAuthValue, PolicyCommandCode, PolicyCpHash
 from tpmsim.policies.written import PolicyLocality, PolicyNv, PolicyNvWritten, PolicyPassword
 from tpmsim.policies.written import PolicyPcr, PolicySecret
@@ -23,7 +24,7 @@ class Unsaid(Exception):
     """Why words say no assertion, in words."""
 
 
-def shown(word):
+def shown(word: bytes) -> str:
     """A word in quotation marks, whatever its bytes are."""
     plain = "".join(chr(it) if 0x20 < it < 0x7F else "?" for it in word)
     return f'"{plain}"'
@@ -32,18 +33,18 @@ def shown(word):
 # What each word says; one that says nothing is Wrong.
 
 
-def is_hashed_name(name):
+def is_hashed_name(name: bytes) -> bool:
     return HASHED_NAMES.get(name[:2]) == len(name)
 
 
-def read_index_name(word):
+def read_index_name(word: bytes) -> bytes:
     name = bytes_of(word)
     if not is_hashed_name(name):
         raise Wrong
     return name
 
 
-def read_name(word):
+def read_name(word: bytes) -> bytes:
     """The Name of what TPM2_PolicySecret may name: of a hierarchy or a PCR it is the handle."""
     if word in HANDLE_NAMES:
         name = name_of(HANDLE_NAMES[word])
@@ -55,28 +56,28 @@ def read_name(word):
     return name
 
 
-def read_buffer(word):
+def read_buffer(word: bytes) -> bytes:
     data = bytes_of(word)
     if len(data) > DIGEST_BYTES:
         raise Wrong
     return data
 
 
-def read_digest(word):
+def read_digest(word: bytes) -> bytes:
     found = bytes_of(word)
     if len(found) not in (digest_bytes(SHA1), digest_bytes(SHA256)):
         raise Wrong
     return found
 
 
-def read_code(word):
+def read_code(word: bytes) -> int:
     name = word.decode("latin-1")
     if name in CC.__members__:
         return int(CC[name])
     return number_up_to(2**32 - 1, word)
 
 
-def read_localities(word):
+def read_localities(word: bytes) -> int:
     """Their numbers, and not the bits of a `do` line."""
     allowed = set(word.split(b","))
     if not allowed <= LOCALITIES:
@@ -84,7 +85,7 @@ def read_localities(word):
     return sum(1 << int(it) for it in allowed)
 
 
-def read_operation(word):
+def read_operation(word: bytes) -> int:
     name = word.decode("latin-1")
     if name not in OPERATIONS:
         raise Wrong
@@ -96,7 +97,7 @@ class Word:
     """A word behind an assertion's name: what it is, and how it is read."""
 
     name: str
-    read: Callable
+    read: Callable[[bytes], Any]
 
 
 SELECTION = Word("a selection of PCRs", spelled_selection)
@@ -112,7 +113,7 @@ OFFSET = Word("an offset up to 65535", lambda word: number_up_to(2**16 - 1, word
 OPERATION = Word("a comparison", read_operation)
 
 # The assertions by their names, each with the words behind it.
-FORMS = {
+FORMS: dict[bytes, tuple[Callable[..., Assertion], tuple[Word, ...]]] = {
     b"PolicyPCR": (PolicyPcr, (SELECTION, DIGEST)),
     b"PolicyAuthValue": (PolicyAuthValue, ()),
     b"PolicyPassword": (PolicyPassword, ()),
@@ -125,14 +126,14 @@ FORMS = {
 }
 
 
-def read_word(word, given):
+def read_word(word: Word, given: bytes) -> Any:
     try:
         return word.read(given)
     except Wrong:
         raise Unsaid(f"{shown(given)} is not {word.name}") from None
 
 
-def read_assertion(text):
+def read_assertion(text: bytes) -> Assertion:
     """What the words of a line say. They have one form each."""
     name, *given = text.split(b" ")
     if name not in FORMS:

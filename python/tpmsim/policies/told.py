@@ -4,8 +4,8 @@ from __future__ import annotations
 
 from dataclasses import dataclass
 
-from tpmsim.policies.policy_file import Policy, PolicyFile
-from tpmsim.policies.policy_texts import policy_digest
+from tpmsim.policies.policy_file import PolicyFile
+from tpmsim.policies.policy_texts import Assertion, Policy, policy_digest
 from tpmsim.policies.written import PolicyAuthValue, PolicyCommandCode, PolicyCpHash
 from tpmsim.policies.written import PolicyLocality, PolicyNv, PolicyNvWritten, PolicyPassword
 from tpmsim.policies.written import PolicyPcr, PolicySecret
@@ -13,18 +13,6 @@ from tpmsim.standard import frames
 from tpmsim.standard.commands import CC
 from tpmsim.standard.frames import SHA256, sized
 from tpmsim.standard.values import write_in_order
-
-Said = (
-    PolicyAuthValue
-    | PolicyCommandCode
-    | PolicyCpHash
-    | PolicyLocality
-    | PolicyNv
-    | PolicyNvWritten
-    | PolicyPassword
-    | PolicyPcr
-    | PolicySecret
-)
 
 
 @dataclass(frozen=True)
@@ -49,7 +37,8 @@ def digest_of(words: str, algorithm: int = SHA256) -> bytes:
     return policy_digest(algorithm, policy_of(words))
 
 
-def step_of(said: Said) -> Step:
+def step_of(said: Assertion) -> Step:
+    """An assertion of a policy in words; TypeError where it is none of those."""
     match said:
         case PolicyPcr():
             return Step(CC.PolicyPCR, sized(said.digest) + said.selection)
@@ -71,6 +60,7 @@ def step_of(said: Said) -> Step:
         case PolicyNv():
             arguments = said.operand, said.offset, said.operation
             return Step(CC.PolicyNV, write_in_order(CC.PolicyNV, *arguments), said.name)
+    raise TypeError(f"{said.words} is no assertion that a session can be told")
 
 
 def steps_of(policy: Policy, algorithm: int) -> tuple[Step, ...]:

@@ -3,6 +3,7 @@ what each assertion demands of a use, its words in docs/USING.md, and what it pu
 """
 
 from dataclasses import dataclass
+from typing import ClassVar
 
 from tpmsim.policies.policy_texts import Update
 from tpmsim.standard import lines
@@ -25,11 +26,11 @@ class PolicyPcr:
     digest: bytes
 
     @property
-    def words(self):
+    def words(self) -> str:
         selection = lines.selection_word(Fields(self.selection))
         return f"PolicyPCR {selection} {hex_word(self.digest)}"
 
-    def update(self, algorithm):
+    def update(self, algorithm: int) -> Update:
         return Update(CC.PolicyPCR, self.selection + self.digest)
 
 
@@ -37,9 +38,9 @@ class PolicyPcr:
 class PolicyAuthValue:
     """The key of the use's HMAC has the authorization value of what is used."""
 
-    words = "PolicyAuthValue"
+    words: ClassVar[str] = "PolicyAuthValue"
 
-    def update(self, algorithm):
+    def update(self, algorithm: int) -> Update:
         return Update(CC.PolicyAuthValue)
 
 
@@ -47,9 +48,9 @@ class PolicyAuthValue:
 class PolicyPassword:
     """The use has the authorization value as its password. The code is TPM2_PolicyAuthValue's."""
 
-    words = "PolicyPassword"
+    words: ClassVar[str] = "PolicyPassword"
 
-    def update(self, algorithm):
+    def update(self, algorithm: int) -> Update:
         return Update(CC.PolicyAuthValue)
 
 
@@ -60,11 +61,11 @@ class PolicyCommandCode:
     number: int
 
     @property
-    def words(self):
+    def words(self) -> str:
         served = self.number in NUMBERED
         return f"PolicyCommandCode {CC(self.number).name if served else hex(self.number)}"
 
-    def update(self, algorithm):
+    def update(self, algorithm: int) -> Update:
         return Update(CC.PolicyCommandCode, number(self.number, 4))
 
 
@@ -75,11 +76,11 @@ class PolicyLocality:
     localities: int
 
     @property
-    def words(self):
+    def words(self) -> str:
         allowed = [str(it) for it in range(8) if self.localities >> it & 1]
         return f"PolicyLocality {','.join(allowed)}"
 
-    def update(self, algorithm):
+    def update(self, algorithm: int) -> Update:
         return Update(CC.PolicyLocality, number(self.localities, 1))
 
 
@@ -90,10 +91,10 @@ class PolicyCpHash:
     cp_hash: bytes
 
     @property
-    def words(self):
+    def words(self) -> str:
         return f"PolicyCpHash {hex_word(self.cp_hash)}"
 
-    def update(self, algorithm):
+    def update(self, algorithm: int) -> Update:
         return Update(CC.PolicyCpHash, self.cp_hash)
 
 
@@ -104,10 +105,10 @@ class PolicyNvWritten:
     is_written: bool
 
     @property
-    def words(self):
+    def words(self) -> str:
         return f"PolicyNvWritten {int(self.is_written)}"
 
-    def update(self, algorithm):
+    def update(self, algorithm: int) -> Update:
         return Update(CC.PolicyNvWritten, number(self.is_written, 1))
 
 
@@ -119,10 +120,10 @@ class PolicySecret:
     reference: bytes
 
     @property
-    def words(self):
+    def words(self) -> str:
         return f"PolicySecret {name_word(self.name)} {hex_word(self.reference)}"
 
-    def update(self, algorithm):
+    def update(self, algorithm: int) -> Update:
         return Update(CC.PolicySecret, self.name, self.reference)
 
 
@@ -136,16 +137,16 @@ class PolicyNv:
     operation: int
 
     @property
-    def words(self):
+    def words(self) -> str:
         said = hex_word(self.name), hex_word(self.operand), self.offset, OPERATIONS[self.operation]
         return " ".join(["PolicyNV", *map(str, said)])
 
-    def update(self, algorithm):
+    def update(self, algorithm: int) -> Update:
         arguments = self.operand + number(self.offset, 2) + number(self.operation, 2)
         return Update(CC.PolicyNV, digest(algorithm, arguments) + self.name, apart=(arguments,))
 
 
-def name_word(name):
+def name_word(name: bytes) -> str:
     """A Name, which of a hierarchy is its handle."""
     hierarchies = {name_of(it): handle_word(it) for it in HIERARCHIES}
     return hierarchies.get(name) or hex_word(name)

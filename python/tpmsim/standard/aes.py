@@ -3,6 +3,7 @@
 aes_tables.py has the cipher by tables, which is quicker. Either is given to who encrypts.
 """
 
+import operator
 from typing import Callable
 
 BLOCK = 16
@@ -24,19 +25,27 @@ def times(a: int, b: int) -> int:
     return product
 
 
-def substitute(byte: int) -> int:
-    """The inverse (0 for 0), and then the affine map."""
-    inverse = next((it for it in range(256) if times(byte, it) == 1), 0)
+def inverses() -> dict[int, int]:
+    """The inverse of each byte but 0: all are powers of 3, of which the 255th is 1."""
+    powers = [1]
+    while len(powers) < 255:
+        powers.append(times(powers[-1], 3))
+    return {byte: powers[-at] for at, byte in enumerate(powers)}
+
+
+def substitute(inverse: int) -> int:
+    """The affine map of a byte's inverse, which is 0 for 0."""
     turned = [inverse << n | inverse >> (8 - n) for n in range(5)]
     return (turned[0] ^ turned[1] ^ turned[2] ^ turned[3] ^ turned[4] ^ 0x63) & 0xFF
 
 
-S_BOX = [substitute(byte) for byte in range(256)]
+INVERSES = inverses()
+S_BOX = bytes(substitute(INVERSES.get(byte, 0)) for byte in range(256))
 
 
 def xor(left: bytes, right: bytes) -> bytes:
     """As many bytes as the shorter has."""
-    return bytes(a ^ b for a, b in zip(left, right))
+    return bytes(map(operator.xor, left, right))
 
 
 def round_keys(key: bytes) -> list[bytes]:

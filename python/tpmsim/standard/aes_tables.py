@@ -47,5 +47,5 @@ def encrypt_block(key: bytes, block: bytes) -> bytes:
     columns = tuple(a ^ b for a, b in zip(struct.unpack(">4I", block), words))
     for at in range(4, 4 * aes.ROUNDS, 4):
         columns = mixed(columns, words[at : at + 4])
-    state = struct.pack(">4I", *columns).translate(bytes(aes.S_BOX))
+    state = struct.pack(">4I", *columns).translate(aes.S_BOX)
     return aes.xor(aes.shift_rows(state), struct.pack(">4I", *words[-4:]))

@@ -59,7 +59,7 @@ class Kind(enum.Enum):
     TIME = "Time"
 
 
-class Fact(enum.Flag):
+class Fact(enum.Enum):
     """What else holds of a command. NO_SESSIONS: it takes no entries. ADMIN: its handle is
     authorized in the ADMIN role, and not in the user's. READS_NV: of an NV index that authorizes
     it, it asks for the attributes of reading, and not of writing. KEEPS_SAVED: its success does
@@ -117,9 +117,9 @@ class CC(enum.IntEnum):
     parameters: tuple[Parameter, ...]
     answered_handles: tuple[Handle, ...]
     answered_parameters: tuple[Parameter, ...]
-    facts: Fact
+    facts: tuple[Fact, ...]
 
-    def __new__(cls, number: int, asked: str = "", answered: str = "", facts: Fact = Fact(0)) -> CC:
+    def __new__(cls, number: int, asked: str = "", answered: str = "", *facts: Fact) -> CC:
         it = int.__new__(cls, number)
         it._value_ = number
         it.handles, it.parameters = read_fields(asked)
@@ -137,7 +137,7 @@ class CC(enum.IntEnum):
         KEEPS_SAVED,
     )
     GetRandom = 0x17B, "bytesRequested:u16", "randomBytes:Buffer", KEEPS_SAVED
-    ReadClock = 0x181, "", "currentTime:Time", NO_SESSIONS | KEEPS_SAVED
+    ReadClock = 0x181, "", "currentTime:Time", NO_SESSIONS, KEEPS_SAVED
 
     PCR_Extend = 0x182, "@pcrHandle:PCR+ digests:Digests"
     PCR_Event = 0x13C, "@pcrHandle:PCR+ eventData:Buffer", "digests:Digests"
@@ -228,7 +228,8 @@ class CC(enum.IntEnum):
         0x14E,
         "@authHandle:NV_AUTH nvIndex:NV_INDEX size:u16 offset:u16",
         "data:Buffer",
-        READS_NV | KEEPS_SAVED,
+        READS_NV,
+        KEEPS_SAVED,
     )
     NV_WriteLock = 0x138, "@authHandle:NV_AUTH nvIndex:NV_INDEX"
     NV_ReadLock = 0x14F, "@authHandle:NV_AUTH nvIndex:NV_INDEX", "", READS_NV

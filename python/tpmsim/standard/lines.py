@@ -139,8 +139,8 @@ class Words:
     """
 
     name: str
-    spelled: Callable
-    word: Callable
+    spelled: Callable[..., bytes]
+    word: Callable[..., str]
 
 
 def integer(size: int, shown: str = "{}") -> Words:

@@ -14,7 +14,7 @@ from tpmsim.standard.sessions import digest
 NUMBER_BYTES = 8
 
 
-class Attribute(enum.IntFlag):
+class Attribute(enum.IntEnum):
     """TPMA_NV (Part 2, section 13.4), but for the type."""
 
     PPWRITE = 1 << 0
@@ -71,8 +71,9 @@ class Public:
     auth_policy: bytes = b""
     data_size: int = NUMBER_BYTES
 
-    def has(self, attribute: Attribute) -> bool:
-        return bool(self.attributes & attribute)
+    def has(self, attributes: int) -> bool:
+        """Whether it has one of these."""
+        return bool(self.attributes & attributes)
 
     @property
     def kind(self) -> int:

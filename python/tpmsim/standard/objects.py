@@ -9,7 +9,7 @@ from tpmsim.standard.reading import Fields
 from tpmsim.standard.sessions import digest
 
 
-class Attribute(enum.IntFlag):
+class Attribute(enum.IntEnum):
     """TPMA_OBJECT (Part 2, section 8.3)."""
 
     FIXED_TPM = 1 << 1
@@ -41,8 +41,9 @@ class Public:
     scheme: int = ALG_NULL
     unique: bytes = b""
 
-    def has(self, attribute: Attribute) -> bool:
-        return bool(self.attributes & attribute)
+    def has(self, attributes: int) -> bool:
+        """Whether it has one of these."""
+        return bool(self.attributes & attributes)
 
     @property
     def text(self) -> bytes:

@@ -2,9 +2,10 @@
 
 import hashlib
 import hmac
-from typing import Any, Callable, Iterable
+from typing import Callable, Iterable
 
 from tpmsim.standard import aes
+from tpmsim.standard.aes_tables import encrypt_block
 from tpmsim.standard.commands import CC
 from tpmsim.standard.frames import SHA1, SHA256, XOR, number
 
@@ -103,7 +104,7 @@ def encrypted(
     newer: bytes,
     older: bytes,
     data: bytes,
-    block_cipher: aes.BlockCipher = aes.encrypt_block,
+    block_cipher: aes.BlockCipher = encrypt_block,
 ) -> bytes:
     """By a session's cipher, which is XOR or AES; `block_cipher` is the AES that is used."""
     if cipher == XOR:
@@ -118,14 +119,14 @@ def decrypted(
     newer: bytes,
     older: bytes,
     data: bytes,
-    block_cipher: aes.BlockCipher = aes.encrypt_block,
+    block_cipher: aes.BlockCipher = encrypt_block,
 ) -> bytes:
     if cipher == XOR:
         return masked(algorithm, key, newer, older, data)
     return aes.cfb_decrypt(*key_and_block(algorithm, key, newer, older), data, block_cipher)
 
 
-def on_first_buffer(change: Callable[..., Any], parameters: bytes) -> bytes:
+def on_first_buffer(change: Callable[[bytes], bytes], parameters: bytes) -> bytes:
     """Parameters whose first is a sized buffer, with its bytes changed, and not its size."""
     size = int.from_bytes(parameters[:2], "big")
     return parameters[:2] + change(parameters[2 : 2 + size]) + parameters[2 + size :]

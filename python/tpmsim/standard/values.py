@@ -98,8 +98,10 @@ def read_bank(fields: Fields) -> Bank:
 
 
 def read_digest(fields: Fields) -> Digest:
+    """Other TPMs answer digests by SHA-384 and SHA-512 too."""
     algorithm = fields.number(2)
-    return Digest(algorithm, fields.take(digest_bytes(algorithm)))
+    size = {0x000C: 48, 0x000D: 64}.get(algorithm) or digest_bytes(algorithm)
+    return Digest(algorithm, fields.take(size))
 
 
 def write_cipher(value: Cipher) -> bytes:

@@ -1,4 +1,4 @@
-use Rattle.tpmsim_arguments.proofs.Lines.{device_is_kept, digits_are_spelled, joined_is_served, line_is_assembled, saving_is_served, script_is_run, script_is_traced}
+use Rattle.tpmsim_arguments.proofs.Lines.{code_is_named, device_is_kept, digits_are_spelled, form_is_told, forms_are_told, joined_is_served, line_is_assembled, saving_is_served, script_is_run, script_is_traced}
 use Rattle.tpmsim_arguments.proofs.Settings.{device_is_served}
 use Rattle.tpmsim_arguments.proofs.laws.usual_line_laws.Goals as goal
 
@@ -6,6 +6,9 @@ pub returns : goal.returns
 returns c = record {
   asm = line_is_assembled;
   line = digits_are_spelled;
+  forms = forms_are_told;
+  form = form_is_told;
+  code = code_is_named;
   run = script_is_run;
   trace = script_is_traced;
   kept = device_is_kept;

@@ -1,55 +1,41 @@
--- A holder with no machine owns nothing beside its allocator.
-use mathlib.Core.Path.{refl, sym, subst}
-use mathlib.Core.List.{List, [], ◌∷◌, ◌++◌}
-use lib.Dec.{lit<}
-use mir.Val.{Val, vstruct, vcons, vnil}
-use base.Logic.{SProp, ent, id⊢}
-use base.Fml.{ftrue}
-use prog.Wp.{WpFn}
-use contract.Running.{tables}
-use types.Kit.{‵, raw, ◌⊛◌, ◌$◌, ◌∵◌, !, qed, move, keep, drop, use1, join, split, fsplit, fjoin, fpack, feq_i, suffices, done}
+-- `empty` makes a holder of null, which owns nothing.
+use mathlib.Core.List.{[], ◌∷◌}
+use mathlib.Core.Path.{refl}
+use types.ByLocal.{alloc_all, pass_all, free_all, look_at, get, sets}
+use types.Kit.{‵, raw, ◌$◌, ◌∵◌, !, qed, keep, group, feq_i, join, suffices, use1, done}
 use types.Part.{agg}
 use types.Run.{lit, no_more, and_then, returns, enter}
-use types.ByLocal.{alloc_all, pass_all, free_all, look_at, get, sets}
-use denote.RattleType.{owns, Valss}
 use denote.Exit.{yes}
-use denote.RawPtr.{Ptr, RawPtr, null_ptr, ptr_val}
-use denote.Signature.{plain, types_at}
+use denote.RawPtr.{Ptr, null_ptr}
+use denote.Signature.{plain}
 use denote.Steps.{nothing}
-use denote.Struct.Struct.{within}
-use denote.Struct.Owning.{shape}
-use denote.Triple.Walked.{says, Stays, stay_dropped, walk_of, ends_at}
-use Rattle.std.proofs.alloc.Calls.{handle_tells, Goes-blank}
-use Rattle.std.proofs.ResultValues.{and_tt}
-use Rattle.std.proofs.raw_atomic.Walks.{proved_at}
-use Rattle.std.specs.contracts.alloc.Global as heap
+use denote.Triple.Entry.{on_entry}
+use denote.Triple.Walked.{says, Stays, stay_dropped, Goes-dropped, walk_of, ends_at}
+use Rattle.std.proofs.raw_atomic.Walks.{proved}
+use Rattle.std.specs.contracts.alloc.Global as global
 use Rattle.std.specs.declared.option.Option.TheVariants.{None}
-use Rattle.tpm_library.proofs.Boxes.{boxes, HolderRow, Heap}
-use Rattle.std.proofs.BoxSteps.Form.{P, owning}
-use Rattle.tpm_library.specs.contracts.holder.Holder.empty as promised
-use Rattle.tpm_library.proofs.holder.Holder.empty.Statement.{statement}
+use Rattle.tpm_library.proofs.Boxes.Held.{HolderRow, holder_made}
+use Rattle.tpm_library.proofs.Boxes.Words.{heap_told, heap_typed, heap_word, word, word_typed}
 use Rattle.tpm_library.proofs.holder.Holder.empty.Code as code
+use Rattle.tpm_library.proofs.holder.Holder.empty.Statement.{statement}
+use Rattle.tpm_library.specs.contracts.holder.Holder.empty as promise
 
-abbrev stayed : Stays promised.ended.signature.params promised.ended.kept
-stayed = (stay_dropped (plain (λ _. heap.the_row)) yes, tt)
-
-abbrev null : Val
-null = ptr_val null_ptr
+-- nothing is left of the allocator that was passed
+abbrev stays : Stays promise.ended.signature.params promise.ended.kept
+stays = (stay_dropped (plain (λ _. global.the_row)) yes, tt)
 
 pub empty_spec : {M : Type 1} → statement M
-empty_spec {M} 𝓤 𝓛 𝓜 𝓡 wired =
-    let H = 𝓛.H in let 𝓣 = tables 𝓤 H 𝓜 𝓡 𝓡.env in let c = promised.clauses 𝓛 𝓜.mem 𝓡.returns in let fn = code.function in
-    proved_at 𝓛 promised.ended stayed c 𝓜 𝓡 (Goes-blank 𝓛 0 (plain (λ _. heap.the_row)) yes (λ κs x f. tt), tt) promised.Key.name fn (code.unfolded 𝓤 H 𝓜 𝓡 wired) (λ z are.
-    let κs = z.0.0 in let a = z.0.3.0 in let Post : Val → SProp 𝓤 = (walk_of 𝓛 promised.ended stayed c).post z in let Run : List Val → SProp 𝓤 = λ ws. WpFn 𝓤 H 𝓣.C 𝓣.Λ fn ws Post in
-    qed 𝓛 ((‵ ftrue ⊛ ‵ (owns (types_at promised.ended.signature.params κs) z.0.3 z.0.4)) ∷ raw ((c κs z.0.3).requires z.1) ∷ []) ∵ split ! $ drop ! $ fsplit ! $
-    use1 𝓛 (‵ (Heap.own_val a z.0.4.0)) (id⊢ 𝓤 _) $ handle_tells boxes.al ! a z.0.4.0 (λ h ws fits.
-    let w : Val = vstruct (vcons null (vcons h vnil)) in
-    let made : HolderRow.Denot = record { at = null_ptr; alloc = a; device = None } in
-    suffices ! (Run (h ∷ [])) (subst (λ (us : List Val). ent 𝓤 (Run (h ∷ [])) (Run us)) (sym (λ i. ws i ++ [])) (id⊢ 𝓤 (Run (h ∷ [])))) $
-    enter ! 𝓣.C 𝓣.Λ fn (h ∷ []) Post $ alloc_all ! (λ ls. pass_all ! refl (fits, tt) $
-    sets ! (agg ! (and_then ! (lit ! tt) (and_then ! (get ! refl) (no_more !)))) refl (and_tt _ fits.0, (record { fits = lit< tt }, (fits.1, tt))) $ returns ! (look_at ! 0 refl) $ free_all ! refl $ keep ! (0 ∷ []) $
-    feq_i ! Ptr null_ptr null_ptr refl $ nothing ! $ move ! (2 ∷ 0 ∷ []) $ fjoin ! $ feq_i ! (List Val) (null ∷ []) (null ∷ []) refl $ fjoin ! $ feq_i ! (List Val) (w ∷ []) (w ∷ []) refl $ fjoin ! $
-    fpack ! (Valss (RawPtr ∷ P boxes ∷ [])) (within (shape (owning boxes)) (null_ptr, (a, tt)) (w ∷ [])) (null ∷ [], (h ∷ [], tt)) $ fjoin ! $
-    use1 𝓛 (‵ (HolderRow.own_val made (w ∷ []))) (id⊢ 𝓤 _) $
-    suffices ! _ (ends_at 𝓛 promised.ended stayed c z w made (tt, tt) (tt, tt)) $ says ! refl $
-    nothing ! $ nothing ! $ fjoin ! $ join ! $ nothing ! $ join ! $ done !)))
+empty_spec 𝓤 𝓛 𝓜 𝓡 wired =
+    let clauses = promise.clauses 𝓛 𝓜.mem 𝓡.returns in
+    proved 𝓛 promise.ended stays clauses 𝓜 𝓡 (Goes-dropped 𝓛 0 (plain (λ _. global.the_row)) yes (λ κs x w. refl), tt)
+    promise.Key.name code.function (code.unfolded 𝓤 𝓛.H 𝓜 𝓡 wired) (λ κs. ((λ a. heap_word a ∷ []), tt)) (λ κs. (heap_told, tt)) (λ κs qs bounds a _ are.
+    let y : (walk_of 𝓛 promise.ended stays clauses).Ghost = ((κs, qs, bounds, a, (heap_word a.0 ∷ [], tt)), tt) in
+    let made : HolderRow.Denot = record { at = null_ptr; alloc = a.0; device = None } in
+    qed 𝓛 (raw (on_entry 𝓛 promise.signature κs qs a y.0.4) ∷ raw ((clauses κs a).requires tt) ∷ []) ∵ keep ! [] $
+    enter ! _ _ _ _ _ $ alloc_all ! (λ l. pass_all ! refl (heap_typed a.0, tt) $
+    sets ! (agg ! (and_then ! (lit ! tt) (and_then ! (get ! refl) (no_more !)))) refl (word_typed null_ptr a.0) $
+    returns ! (look_at ! 0 refl) $ free_all ! refl $
+    -- [the holder]
+    feq_i ! Ptr null_ptr null_ptr refl $ use1 𝓛 (‵ (HolderRow.own_val made (word null_ptr a.0 ∷ []))) (holder_made 𝓛 made) $
+    suffices ! _ (ends_at 𝓛 promise.ended stays clauses y (word null_ptr a.0) made (tt, tt) (tt, tt)) $ says ! refl $
+    nothing ! $ nothing ! $ join ! $ nothing ! $ group ! 3 $ done !))

@@ -1,0 +1,174 @@
+#define _GNU_SOURCE
+#include "folder.h"
+#include "standing.h"
+#include <errno.h>
+#include <fcntl.h>
+#include <limits.h>
+#include <stdlib.h>
+#include <string.h>
+#include <sys/file.h>
+#include <unistd.h>
+
+static const char LOCK[] = "lock";
+
+bool is_identity(struct identity identity, const struct stat *status) {
+    return identity.device == status->st_dev && identity.inode == status->st_ino;
+}
+
+struct identity identity_of(const struct stat *status) {
+    return (struct identity){status->st_dev, status->st_ino};
+}
+
+/* Copies a path without the slashes at its end, behind which a link would be followed. */
+static char *copy_path(const char *path) {
+    size_t size = strlen(path);
+    while (size > 1 && path[size - 1] == '/') size--;
+    return strndup(path, size);
+}
+
+/* Makes the folder where it is not there. The umask may have taken bits that its user needs. */
+static bool make(struct folder *folder, struct reason *reason) {
+    if (mkdir(folder->path, 0700) == 0) {
+        folder->was_made = true;
+        if (fchmodat(AT_FDCWD, folder->path, 0700, AT_SYMLINK_NOFOLLOW) == 0) return true;
+        return refuse(reason, folder->path, NULL, "cannot be given its mode", errno);
+    }
+    return errno == EEXIST || refuse(reason, folder->path, NULL, "cannot be made", errno);
+}
+
+static bool open_descriptor(struct folder *folder, struct reason *reason) {
+    struct stat status;
+    if (fstatat(AT_FDCWD, folder->path, &status, AT_SYMLINK_NOFOLLOW) != 0)
+        return refuse(reason, folder->path, NULL, "cannot be looked at", errno);
+    if (!standing_is_folder(&status, folder->path, reason)) return false;
+    folder->descriptor = open(folder->path, O_RDONLY | O_DIRECTORY | O_NOFOLLOW | O_CLOEXEC);
+    if (folder->descriptor < 0)
+        return refuse(reason, folder->path, NULL, "cannot be opened", errno);
+    if (fstat(folder->descriptor, &status) != 0)
+        return refuse(reason, folder->path, NULL, "cannot be looked at", errno);
+    return standing_is_folder(&status, folder->path, reason);
+}
+
+bool folder_open(struct folder *folder, const char *path, bool makes, struct reason *reason) {
+    *folder = (struct folder){.descriptor = -1, .lock = -1};
+    if (strlen(path) >= PATH_MAX)
+        return refuse(reason, "the path of the folder", NULL, "is too long", 0);
+    folder->path = copy_path(path);
+    if (!folder->path) return refuse(reason, path, NULL, "wants memory that is not there", 0);
+    return (!makes || make(folder, reason)) && open_descriptor(folder, reason);
+}
+
+void folder_close(struct folder *folder) {
+    if (folder->lock >= 0) close(folder->lock);
+    if (folder->descriptor >= 0) close(folder->descriptor);
+    free(folder->path);
+    *folder = (struct folder){.descriptor = -1, .lock = -1};
+}
+
+int folder_look(const struct folder *folder, const char *name, struct stat *status,
+                struct reason *reason) {
+    if (fstatat(folder->descriptor, name, status, AT_SYMLINK_NOFOLLOW) != 0) {
+        if (errno == ENOENT) return 0;
+        refuse(reason, folder->path, name, "cannot be looked at", errno);
+        return -1;
+    }
+    return standing_is_file(status, folder->path, name, reason) ? 1 : -1;
+}
+
+/* Closes a file that was opened for nothing, and answers that there is none. */
+static int closed(int file) {
+    close(file);
+    return -1;
+}
+
+int folder_open_file(const struct folder *folder, const char *name, struct stat *status,
+                     struct reason *reason) {
+    int there = folder_look(folder, name, status, reason);
+    if (there == 0) refuse(reason, folder->path, name, "is not there", 0);
+    if (there != 1) return -1;
+    int file = openat(folder->descriptor, name,
+                      O_RDWR | O_NOFOLLOW | O_NONBLOCK | O_NOCTTY | O_CLOEXEC);
+    if (file < 0) {
+        refuse(reason, folder->path, name, "cannot be opened", errno);
+        return -1;
+    }
+    if (fstat(file, status) != 0) {
+        refuse(reason, folder->path, name, "cannot be looked at", errno);
+        return closed(file);
+    }
+    return standing_is_file(status, folder->path, name, reason) ? file : closed(file);
+}
+
+int folder_make_file(const struct folder *folder, const char *name, struct reason *reason) {
+    int file = openat(folder->descriptor, name,
+                      O_RDWR | O_CREAT | O_EXCL | O_NOFOLLOW | O_CLOEXEC, 0600);
+    if (file < 0) {
+        refuse(reason, folder->path, name, "cannot be made", errno);
+        return -1;
+    }
+    if (fchmod(file, 0600) == 0) return file;
+    refuse(reason, folder->path, name, "cannot be given its mode", errno);
+    return closed(file);
+}
+
+/* Opens the file that is locked, and makes it where it is not there. Another process may make it
+ * between the look and the making, and then it is there at the second look. */
+static bool open_lock(struct folder *folder, struct reason *reason) {
+    struct stat status;
+    int there = folder_look(folder, LOCK, &status, reason);
+    if (there < 0) return false;
+    if (there == 0) {
+        int made = folder_make_file(folder, LOCK, reason);
+        if (made < 0 && errno != EEXIST) return false;
+        if (made >= 0) close(made);
+    }
+    folder->lock = folder_open_file(folder, LOCK, &status, reason);
+    if (folder->lock < 0) return false;
+    folder->lock_identity = identity_of(&status);
+    folder->process = getpid();
+    return true;
+}
+
+static void close_lock(struct folder *folder) {
+    if (folder->lock >= 0) close(folder->lock);
+    folder->lock = -1;
+}
+
+bool folder_lock(struct folder *folder, struct reason *reason) {
+    enum { TRIES = 100 };
+    if (folder->process != getpid()) close_lock(folder);
+    for (int i = 0; i < TRIES; i++) {
+        struct stat status;
+        if (folder->lock < 0 && !open_lock(folder, reason)) return false;
+        while (flock(folder->lock, LOCK_EX) != 0)
+            if (errno != EINTR)
+                return refuse(reason, folder->path, LOCK, "cannot be locked", errno);
+        int there = folder_look(folder, LOCK, &status, reason);
+        if (there == 1 && is_identity(folder->lock_identity, &status)) return true;
+        close_lock(folder);
+        if (there < 0) return false;
+    }
+    return refuse(reason, folder->path, LOCK, "is replaced again and again", 0);
+}
+
+void folder_unlock(struct folder *folder) {
+    if (folder->lock >= 0 && flock(folder->lock, LOCK_UN) != 0) close_lock(folder);
+}
+
+/* Forces the folder that this one stands in. */
+static bool force_name(const struct folder *folder, struct reason *reason) {
+    int above = openat(folder->descriptor, "..", O_RDONLY | O_DIRECTORY | O_CLOEXEC);
+    bool is_forced = above >= 0 && fsync(above) == 0;
+    int error = errno;
+    if (above >= 0) close(above);
+    return is_forced ||
+           refuse(reason, folder->path, "..", "cannot be forced to the disk", error);
+}
+
+bool folder_force(struct folder *folder, struct reason *reason) {
+    if (fsync(folder->descriptor) != 0)
+        return refuse(reason, folder->path, NULL, "cannot be forced to the disk", errno);
+    if (folder->was_made && !force_name(folder, reason)) return false;
+    folder->was_made = false;
+    return true;
+}

@@ -1,0 +1,55 @@
+/* The folder of a kept device: what may stand at its paths, and its lock.
+ *
+ * Only files of the user who runs the process are opened, and only regular ones. A link is not
+ * followed. What is made here is the user's alone, whatever the umask is. */
+#ifndef FOLDER_H
+#define FOLDER_H
+#include "reason.h"
+#include <stdbool.h>
+#include <sys/stat.h>
+#include <sys/types.h>
+
+/* Which file an open one is. */
+struct identity {
+    dev_t device;
+    ino_t inode;
+};
+
+struct folder {
+    char *path;
+    /* The open folder, and the open file that is locked in it; -1 where there is none. */
+    int descriptor;
+    int lock;
+    struct identity lock_identity;
+    /* The process that opened the lock: a child that was forked would share it. */
+    pid_t process;
+    bool was_made;
+};
+
+bool is_identity(struct identity identity, const struct stat *status);
+struct identity identity_of(const struct stat *status);
+
+/* Opens a folder, which is made where it is not there and `makes` says so. */
+bool folder_open(struct folder *folder, const char *path, bool makes, struct reason *reason);
+void folder_close(struct folder *folder);
+
+/* Tells what stands at a name. 1, a regular file of the user; 0, nothing; -1, anything else, with
+ * the reason. */
+int folder_look(const struct folder *folder, const char *name, struct stat *status,
+                struct reason *reason);
+
+/* Opens a file that is there, to be read and written, and tells what it is. -1 with the reason. */
+int folder_open_file(const struct folder *folder, const char *name, struct stat *status,
+                     struct reason *reason);
+
+/* Makes a file that is not there. -1 with the reason. */
+int folder_make_file(const struct folder *folder, const char *name, struct reason *reason);
+
+/* Waits until no other holder has the lock, and takes it. */
+bool folder_lock(struct folder *folder, struct reason *reason);
+void folder_unlock(struct folder *folder);
+
+/* Forces what stands in the folder to the disk; where it was made here, its own name too. */
+bool folder_force(struct folder *folder, struct reason *reason);
+
+#endif

@@ -1,0 +1,23 @@
+#define _GNU_SOURCE
+#include "host.h"
+#include <errno.h>
+#include <sys/random.h>
+#include <time.h>
+
+bool host_now(uint64_t *now_ms) {
+    struct timespec now;
+    if (clock_gettime(CLOCK_REALTIME, &now) != 0 || now.tv_sec < 0) return false;
+    *now_ms = (uint64_t)now.tv_sec * 1000 + (uint64_t)now.tv_nsec / 1000000;
+    return true;
+}
+
+bool host_random(uint8_t *room, size_t size) {
+    while (size > 0) {
+        ssize_t got = getrandom(room, size, 0);
+        if (got < 0 && errno == EINTR) continue;
+        if (got <= 0) return false;
+        room += got;
+        size -= (size_t)got;
+    }
+    return true;
+}

@@ -1,0 +1,48 @@
+#define _GNU_SOURCE
+#include "image.h"
+#include "standing.h"
+#include "told.h"
+#include "transfer.h"
+#include <errno.h>
+#include <fcntl.h>
+#include <stdlib.h>
+#include <unistd.h>
+
+/* No image has as many bytes. */
+enum { ROOM = 64 * 1024 };
+
+/* Opens the file, where it is one that may be read. */
+static int open_file(const char *path, struct reason *reason) {
+    struct stat status;
+    if (fstatat(AT_FDCWD, path, &status, AT_SYMLINK_NOFOLLOW) != 0) {
+        refuse(reason, path, NULL, "cannot be looked at", errno);
+        return -1;
+    }
+    if (!standing_is_file(&status, path, NULL, reason)) return -1;
+    int file = open(path, O_RDONLY | O_NOFOLLOW | O_NONBLOCK | O_NOCTTY | O_CLOEXEC);
+    if (file < 0) refuse(reason, path, NULL, "cannot be opened", errno);
+    return file;
+}
+
+static bool open_bytes(tpmsim *device, int file, const char *path, uint8_t *room,
+                       struct reason *reason) {
+    struct stat status;
+    if (fstat(file, &status) != 0)
+        return refuse(reason, path, NULL, "cannot be looked at", errno);
+    if (!standing_is_file(&status, path, NULL, reason)) return false;
+    ssize_t size = transfer_read(file, room, ROOM, 0);
+    if (size < 0) return refuse(reason, path, NULL, "cannot be read", errno);
+    uint8_t told = tpmsim_open(device, room, (size_t)size);
+    return told == TPMSIM_DONE || refuse(reason, path, NULL, told_words(told), 0);
+}
+
+bool image_open(tpmsim *device, const char *path, struct reason *reason) {
+    int file = open_file(path, reason);
+    if (file < 0) return false;
+    uint8_t *room = malloc(ROOM);
+    bool is_open = room ? open_bytes(device, file, path, room, reason)
+                        : refuse(reason, path, NULL, told_words(TPMSIM_NO_MEMORY), 0);
+    free(room);
+    close(file);
+    return is_open;
+}

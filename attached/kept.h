@@ -1,0 +1,54 @@
+/* A device that is kept in a folder, over the library tpmsim.
+ *
+ * FOLDER/journal has the device as its power came on, and each command since with the random bytes
+ * that it drew, its time and its locality. To open the device is to execute them again. A command's
+ * record is in the file before its response is given out, so a process may be killed at any moment
+ * and nothing that was answered is lost. FOLDER/lock is locked while a command is executed: several
+ * processes may hold the device at once, and each executes what the others added before its own.
+ *
+ * A call that fails answers false or NULL, and a sentence that names the path. One call at a time
+ * works on a kept device. There are no global variables, and no call ends the process. */
+#ifndef KEPT_H
+#define KEPT_H
+#include "reason.h"
+#include "tpmsim.h"
+#include <stdbool.h>
+#include <stddef.h>
+#include <stdint.h>
+
+/* When the journal is forced to the disk, for hosts whose power may fail: never; where it begins,
+ * which is at each power cycle; or then and before each response too. */
+enum kept_force { KEPT_FORCE_POWER, KEPT_FORCE_NEVER, KEPT_FORCE_ALWAYS };
+
+/* What is asked for. Zeros ask for a new device in memory, of random bytes of the system. */
+struct kept_options {
+    /* The folder; NULL: the device is in memory, and ends with kept_close. */
+    const char *folder;
+    /* The file of the image that a new device is opened from; NULL: it is manufactured. */
+    const char *image;
+    /* For runs that repeat: 1 to 256 bytes that stand for random ones, repeated to 256, in each
+     * command. A size of 0: bytes of the system. */
+    const uint8_t *random;
+    size_t random_size;
+    enum kept_force force;
+    /* A folder without a device is a fault; else a new device begins there. */
+    bool is_there;
+};
+
+struct kept;
+
+/* Opens a device. NULL with the reason. */
+struct kept *kept_open(const struct kept_options *options, struct reason *reason);
+
+/* Executes a command, and writes its response, as tpmsim_execute does. Where that fails nothing was
+ * answered, and the next call begins with what the journal has. */
+bool kept_execute(struct kept *kept, const uint8_t *buffer, size_t size, uint8_t locality,
+                  uint8_t response[4096], tpmsim_answered *answered, struct reason *reason);
+
+/* Takes power away from the device and gives it back, for every process that holds it. */
+bool kept_power(struct kept *kept, struct reason *reason);
+
+/* Closes the device, which may be NULL. */
+void kept_close(struct kept *kept);
+
+#endif

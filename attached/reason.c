@@ -1,0 +1,23 @@
+#define _GNU_SOURCE
+#include "reason.h"
+#include <errno.h>
+#include <stdio.h>
+#include <string.h>
+
+/* Replaces the bytes that no line has. */
+static void keep_in_one_line(char *text) {
+    for (; *text; text++)
+        if ((unsigned char)*text < ' ' || *text == 127) *text = '?';
+}
+
+bool refuse(struct reason *reason, const char *about, const char *name, const char *said,
+            int error) {
+    int kept = errno;
+    const char *words = error ? strerrordesc_np(error) : NULL;
+    if (error && !words) words = "an error without a name";
+    snprintf(reason->text, sizeof reason->text, "%s%s%s %s%s%s", about, name ? "/" : "",
+             name ? name : "", said, words ? ": " : "", words ? words : "");
+    keep_in_one_line(reason->text);
+    errno = kept;
+    return false;
+}

@@ -1,0 +1,68 @@
+/* The functions that swtpm registered, and what they answer. */
+#include "callbacks.h"
+
+#include "report.h"
+
+#include <libtpms/tpm_error.h>
+#include <libtpms/tpm_library.h>
+#include <string.h>
+
+enum { NO_LOCALITY = 255 };
+
+static struct libtpms_callbacks callbacks;
+
+TPM_RESULT TPMLIB_RegisterCallbacks(struct libtpms_callbacks *registered) {
+    memset(&callbacks, 0, sizeof callbacks);
+    if (registered == NULL || registered->sizeOfStruct < (int)sizeof registered->sizeOfStruct) {
+        report("the callbacks are none");
+        return TPM_FAIL;
+    }
+    size_t size = (size_t)registered->sizeOfStruct;
+    memcpy(&callbacks, registered, size < sizeof callbacks ? size : sizeof callbacks);
+    return TPM_SUCCESS;
+}
+
+bool begin_callbacks(void) {
+    if (callbacks.tpm_nvram_loaddata == NULL || callbacks.tpm_nvram_storedata == NULL) {
+        report("there are no callbacks that keep a state");
+        return false;
+    }
+    if (callbacks.tpm_nvram_init != NULL && callbacks.tpm_nvram_init() != TPM_SUCCESS) {
+        report("the place of the state is not ready");
+        return false;
+    }
+    if (callbacks.tpm_io_init != NULL && callbacks.tpm_io_init() != TPM_SUCCESS) {
+        report("the channel of commands is not ready");
+        return false;
+    }
+    return true;
+}
+
+enum kept load_state(const char *name, uint8_t **bytes, size_t *size) {
+    unsigned char *data = NULL;
+    uint32_t length = 0;
+    if (callbacks.tpm_nvram_loaddata == NULL) return NOT_KEPT;
+    TPM_RESULT result = callbacks.tpm_nvram_loaddata(&data, &length, 0, name);
+    if (result == TPM_RETRY) return NOT_KEPT;
+    if (result != TPM_SUCCESS) {
+        report("the state %s is not read (result %u)", name, (unsigned)result);
+        return NOT_READ;
+    }
+    *bytes = data;
+    *size = data == NULL ? 0 : length;
+    return KEPT;
+}
+
+bool store_state(const char *name, const uint8_t *bytes, size_t size) {
+    TPM_RESULT result = callbacks.tpm_nvram_storedata(bytes, (uint32_t)size, 0, name);
+    if (result != TPM_SUCCESS)
+        report("the state %s is not written (result %u)", name, (unsigned)result);
+    return result == TPM_SUCCESS;
+}
+
+uint32_t locality_now(void) {
+    TPM_MODIFIER_INDICATOR locality = 0;
+    if (callbacks.tpm_io_getlocality == NULL) return 0;
+    if (callbacks.tpm_io_getlocality(&locality, 0) != TPM_SUCCESS) return NO_LOCALITY;
+    return locality;
+}

@@ -1,0 +1,76 @@
+/* The power of the device, which swtpm gives and takes. */
+#include "callbacks.h"
+#include "device.h"
+#include "launch.h"
+#include "permanent.h"
+#include "randomness.h"
+#include "report.h"
+#include "resume.h"
+#include "states.h"
+
+#include <libtpms/tpm_error.h>
+#include <libtpms/tpm_library.h>
+#include <stdlib.h>
+#include <string.h>
+
+/* Whether the last power on made a new device. */
+static bool was_manufactured;
+
+static bool manufacture(void) {
+    const uint8_t *random = random_bytes();
+    uint8_t told = random == NULL ? TPMSIM_NO_MEMORY : tpmsim_manufacture(the_device(), random);
+    random_bytes_were_drawn(RANDOM_BYTES);
+    if (random != NULL && told != TPMSIM_DONE) report("no device is made: %s", words_of_told(told));
+    was_manufactured = told == TPMSIM_DONE;
+    return was_manufactured;
+}
+
+static bool open_image(const struct state *state) {
+    uint8_t told = tpmsim_open(the_device(), state->bytes, state->size);
+    if (told != TPMSIM_DONE) report("the permanent state is refused: %s", words_of_told(told));
+    return told == TPMSIM_DONE;
+}
+
+/* Opens the device of the permanent state, or makes a new one where there is none. */
+static bool open_permanent(bool *is_to_be_stored) {
+    struct state state;
+    enum kept kept = find_state(TPMLIB_STATE_PERMANENT, &state);
+    bool is_open = (kept == KEPT && open_image(&state)) || (kept == NOT_KEPT && manufacture());
+    *is_to_be_stored = kept == NOT_KEPT || state.is_set;
+    free_state(&state);
+    if (is_open) take_as_permanent(the_device());
+    return is_open;
+}
+
+/* Goes on from the volatile state, or begins a journal where there is none. */
+static bool open_volatile(void) {
+    struct state state;
+    enum kept kept = find_state(TPMLIB_STATE_VOLATILE, &state);
+    bool is_open = (kept == KEPT && resume(&state)) || (kept == NOT_KEPT && begin_journal());
+    free_state(&state);
+    return is_open;
+}
+
+static bool power_on(void) {
+    bool is_to_be_stored = false;
+    return begin_callbacks() && open_permanent(&is_to_be_stored) &&
+           open_volatile() && (!is_to_be_stored || store_permanent(the_device()));
+}
+
+void TPMLIB_Terminate(void) {
+    free_device();
+    forget_permanent();
+    forget_random_bytes();
+    forget_launch();
+}
+
+TPM_RESULT TPMLIB_MainInit(void) {
+    TPMLIB_Terminate();
+    was_manufactured = false;
+    bool is_on = power_on();
+    forget_states();
+    if (!is_on) TPMLIB_Terminate();
+    return is_on ? TPM_SUCCESS : TPM_FAIL;
+}
+
+TPM_BOOL TPMLIB_WasManufactured(void) { return was_manufactured ? 1 : 0; }

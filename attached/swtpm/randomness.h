@@ -1,0 +1,19 @@
+/* The host's random bytes: 256 that are lent to each command, of which those are replaced that it drew. */
+#ifndef RANDOMNESS_H
+#define RANDOMNESS_H
+
+#include <stddef.h>
+#include <stdint.h>
+
+enum { RANDOM_BYTES = 256 };
+
+/* RANDOM_BYTES bytes that nothing has drawn yet; NULL where the system gives none. */
+const uint8_t *random_bytes(void);
+
+/* So many bytes were drawn, from the front of those that were lent last. */
+void random_bytes_were_drawn(size_t count);
+
+/* Clears all of them. */
+void forget_random_bytes(void);
+
+#endif

@@ -1,0 +1,74 @@
+/* A file that is written as the device goes on, its owner's alone. */
+#include "record.h"
+
+#include "report.h"
+
+#include <errno.h>
+#include <fcntl.h>
+#include <stdio.h>
+#include <stdlib.h>
+#include <string.h>
+#include <unistd.h>
+
+enum { PATH_BYTES = 4096, MOST_FILES = 1000 * 1000 };
+
+static int descriptor = -1;
+/* How many bytes the file has, and how many it had before the last ones. */
+static off_t present, before;
+
+void end_record(void) {
+    if (descriptor >= 0 && close(descriptor) != 0) report("a record is not closed: %s", strerror(errno));
+    descriptor = -1;
+}
+
+static int open_free_name(const char *folder) {
+    char path[PATH_BYTES];
+    for (int number = 1; number <= MOST_FILES; number++) {
+        int size = snprintf(path, sizeof path, "%s/boot-%d.tpm", folder, number);
+        if (size < 0 || (size_t)size >= sizeof path) {
+            errno = ENAMETOOLONG;
+            return -1;
+        }
+        int opened = open(path, O_WRONLY | O_CREAT | O_EXCL | O_CLOEXEC, S_IRUSR | S_IWUSR);
+        if (opened >= 0 || errno != EEXIST) return opened;
+    }
+    return -1;
+}
+
+bool begin_record(const uint8_t *text, size_t size) {
+    const char *folder = getenv("TPMSIM_RECORD");
+    end_record();
+    if (folder == NULL || *folder == 0) return true;
+    descriptor = open_free_name(folder);
+    present = 0;
+    if (descriptor >= 0) return write_record(text, size);
+    report("no record is begun in %s: %s", folder, strerror(errno));
+    return false;
+}
+
+bool write_record(const uint8_t *text, size_t size) {
+    if (descriptor < 0) return true;
+    before = present;
+    while (size > 0) {
+        ssize_t written = write(descriptor, text, size);
+        if (written < 0 && errno == EINTR) continue;
+        if (written <= 0) {
+            report("the record is not written: %s", strerror(written == 0 ? EIO : errno));
+            take_record_back();
+            return false;
+        }
+        text += written;
+        size -= (size_t)written;
+        present += written;
+    }
+    return true;
+}
+
+/* Where that fails what is left is a command that was not answered, and nothing is written behind it. */
+void take_record_back(void) {
+    if (descriptor < 0 || present == before) return;
+    present = before;
+    if (ftruncate(descriptor, before) == 0 && lseek(descriptor, before, SEEK_SET) == before) return;
+    report("the record has a command that was not executed, and ends: %s", strerror(errno));
+    end_record();
+}

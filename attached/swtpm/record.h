@@ -1,0 +1,21 @@
+/* What is asked for by TPMSIM_RECORD: the journal of each time of power, in a file of the folder that it
+   names. */
+#ifndef RECORD_H
+#define RECORD_H
+
+#include <stdbool.h>
+#include <stddef.h>
+#include <stdint.h>
+
+/* Begins a file with a text, where it is asked for: FOLDER/boot-N.tpm, with the first N that is free. */
+bool begin_record(const uint8_t *text, size_t size);
+
+/* Writes more of it, whole or not at all. */
+bool write_record(const uint8_t *text, size_t size);
+
+/* Takes back what was written last. */
+void take_record_back(void);
+
+void end_record(void);
+
+#endif

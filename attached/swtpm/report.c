@@ -1,0 +1,71 @@
+/* Lines about faults, and where swtpm has them written to. */
+#include "report.h"
+
+#include <errno.h>
+#include <libtpms/tpm_error.h>
+#include <libtpms/tpm_library.h>
+#include <stdarg.h>
+#include <stddef.h>
+#include <stdio.h>
+#include <string.h>
+#include <tpmsim.h>
+#include <unistd.h>
+
+enum { LINE_BYTES = 512, PREFIX_BYTES = 64 };
+
+/* The descriptor of swtpm's log; -1 where there is none. */
+static int log_descriptor = -1;
+static char log_prefix[PREFIX_BYTES];
+
+static void write_all(int descriptor, const char *text, size_t size) {
+    while (size > 0) {
+        ssize_t written = write(descriptor, text, size);
+        if (written < 0 && errno == EINTR) continue;
+        if (written <= 0) return;
+        text += written;
+        size -= (size_t)written;
+    }
+}
+
+void report(const char *format, ...) {
+    char line[LINE_BYTES];
+    int begun = snprintf(line, sizeof line, "%stpmsim: ", log_prefix);
+    va_list words;
+    va_start(words, format);
+    int rest = begun < 0 ? -1 : vsnprintf(line + begun, sizeof line - (size_t)begun, format, words);
+    va_end(words);
+    if (rest < 0) return;
+    size_t size = strlen(line);
+    line[size] = '\n';
+    int before = errno;
+    write_all(log_descriptor < 0 ? STDERR_FILENO : log_descriptor, line, size + 1);
+    errno = before;
+}
+
+const char *words_of_told(uint8_t told) {
+    switch (told) {
+    case TPMSIM_NO_DEVICE: return "there is no device";
+    case TPMSIM_NO_LOCALITY: return "there is no such locality";
+    case TPMSIM_NO_MEMORY: return "there is no memory";
+    case TPMSIM_IMAGE_SHORT: return "its image has fewer than 42 bytes";
+    case TPMSIM_IMAGE_MAGIC: return "its image does not begin with TPMI";
+    case TPMSIM_IMAGE_VERSION: return "its image is of a version that is not known";
+    case TPMSIM_IMAGE_LENGTH: return "its image is not as long as it says";
+    case TPMSIM_IMAGE_DIGEST: return "its image has another digest than it says";
+    case TPMSIM_IMAGE_BODY: return "its image spells no device";
+    case TPMSIM_NO_JOURNAL: return "it is no journal";
+    case TPMSIM_DAMAGED: return "its journal is damaged";
+    case TPMSIM_OTHERWISE: return "another version of the device wrote it, which answered otherwise";
+    default: return "a fault that is not known";
+    }
+}
+
+void TPMLIB_SetDebugFD(int fd) { log_descriptor = fd; }
+
+/* Faults are told at each level, and nothing else is. */
+void TPMLIB_SetDebugLevel(unsigned int level) { (void)level; }
+
+TPM_RESULT TPMLIB_SetDebugPrefix(const char *prefix) {
+    (void)snprintf(log_prefix, sizeof log_prefix, "%s", prefix ? prefix : "");
+    return TPM_SUCCESS;
+}

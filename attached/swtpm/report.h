@@ -1,0 +1,13 @@
+/* What is told to whoever runs swtpm: a line for each fault, in swtpm's log or on standard error. */
+#ifndef REPORT_H
+#define REPORT_H
+
+#include <stdint.h>
+
+/* Writes a line, as printf would, without a line break at its end. */
+void report(const char *format, ...) __attribute__((format(printf, 1, 2)));
+
+/* What a number of the library, tpmsim_told, says of an image or a journal. */
+const char *words_of_told(uint8_t told);
+
+#endif

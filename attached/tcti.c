@@ -1,0 +1,155 @@
+/* libtss2-tcti-tpmsim: a device for libtss2, in the process that loads this module, or kept in a
+ * folder. The module is a TCTI of version 2, as the TCG's "TSS 2.0 TPM Command Transmission
+ * Interface" has it. A fault is a line on standard error, and one of that paper's return codes. */
+#define _GNU_SOURCE
+#include "words.h"
+#include <stdio.h>
+#include <string.h>
+#include <tss2/tss2_tcti.h>
+
+#define EXPORTED __attribute__((visibility("default")))
+
+/* What a context of this module begins with: "TPMSIM", and its version. */
+static const uint64_t MAGIC = 0x54504d53494d0001;
+
+enum { RESPONSE_ROOM = 4096 };
+
+struct context {
+    TSS2_TCTI_CONTEXT_COMMON_V2 common;
+    struct kept *kept;
+    uint8_t locality;
+    /* Whether a response waits to be received, and its bytes. */
+    bool waits;
+    size_t size;
+    uint8_t response[RESPONSE_ROOM];
+};
+
+/* The context, NULL where it is none of this module, or was finalized. */
+static struct context *context_of(TSS2_TCTI_CONTEXT *handed) {
+    return handed && TSS2_TCTI_MAGIC(handed) == MAGIC ? (struct context *)handed : NULL;
+}
+
+static TSS2_RC tell(const struct reason *reason, TSS2_RC code) {
+    fprintf(stderr, "tcti-tpmsim: %s\n", reason->text);
+    return code;
+}
+
+/* Executes the command: its response is there when this returns. */
+static TSS2_RC transmit(TSS2_TCTI_CONTEXT *handed, size_t size, const uint8_t *command) {
+    struct context *context = context_of(handed);
+    struct reason reason;
+    tpmsim_answered answered;
+    if (!context) return TSS2_TCTI_RC_BAD_CONTEXT;
+    if (!command) return TSS2_TCTI_RC_BAD_REFERENCE;
+    if (context->waits) return TSS2_TCTI_RC_BAD_SEQUENCE;
+    if (!kept_execute(context->kept, command, size, context->locality, context->response, &answered,
+                      &reason))
+        return tell(&reason, TSS2_TCTI_RC_IO_ERROR);
+    context->size = answered.size;
+    context->waits = true;
+    return TSS2_RC_SUCCESS;
+}
+
+/* Hands out the response, or its size where there is no room for it. No timeout can pass, since
+ * the response is there. */
+static TSS2_RC receive(TSS2_TCTI_CONTEXT *handed, size_t *size, uint8_t *response,
+                       int32_t timeout) {
+    struct context *context = context_of(handed);
+    if (!context) return TSS2_TCTI_RC_BAD_CONTEXT;
+    if (!size) return TSS2_TCTI_RC_BAD_REFERENCE;
+    if (timeout < TSS2_TCTI_TIMEOUT_BLOCK) return TSS2_TCTI_RC_BAD_VALUE;
+    if (!context->waits) return TSS2_TCTI_RC_BAD_SEQUENCE;
+    size_t room = *size;
+    *size = context->size;
+    if (!response) return TSS2_RC_SUCCESS;
+    if (room < context->size) return TSS2_TCTI_RC_INSUFFICIENT_BUFFER;
+    memcpy(response, context->response, context->size);
+    context->waits = false;
+    return TSS2_RC_SUCCESS;
+}
+
+static void finalize(TSS2_TCTI_CONTEXT *handed) {
+    struct context *context = context_of(handed);
+    if (!context) return;
+    kept_close(context->kept);
+    context->kept = NULL;
+    TSS2_TCTI_MAGIC(handed) = 0;
+}
+
+/* A command that was transmitted is executed already, so it comes too late to cancel it: its
+ * response is received as before. */
+static TSS2_RC cancel(TSS2_TCTI_CONTEXT *handed) {
+    struct context *context = context_of(handed);
+    if (!context) return TSS2_TCTI_RC_BAD_CONTEXT;
+    return context->waits ? TSS2_RC_SUCCESS : TSS2_TCTI_RC_BAD_SEQUENCE;
+}
+
+/* There is nothing to poll. */
+static TSS2_RC get_poll_handles(TSS2_TCTI_CONTEXT *handed, TSS2_TCTI_POLL_HANDLE *handles,
+                                size_t *count) {
+    (void)handles;
+    if (!context_of(handed)) return TSS2_TCTI_RC_BAD_CONTEXT;
+    return count ? TSS2_TCTI_RC_NOT_IMPLEMENTED : TSS2_TCTI_RC_BAD_REFERENCE;
+}
+
+static TSS2_RC set_locality(TSS2_TCTI_CONTEXT *handed, uint8_t locality) {
+    struct context *context = context_of(handed);
+    if (!context) return TSS2_TCTI_RC_BAD_CONTEXT;
+    if (context->waits) return TSS2_TCTI_RC_BAD_SEQUENCE;
+    if (locality > 4) return TSS2_TCTI_RC_BAD_VALUE;
+    context->locality = locality;
+    return TSS2_RC_SUCCESS;
+}
+
+/* No resource manager stands in between, so handles are the device's own. */
+static TSS2_RC make_sticky(TSS2_TCTI_CONTEXT *handed, TPM2_HANDLE *handle, uint8_t sticky) {
+    (void)sticky;
+    if (!context_of(handed)) return TSS2_TCTI_RC_BAD_CONTEXT;
+    return handle ? TSS2_TCTI_RC_NOT_IMPLEMENTED : TSS2_TCTI_RC_BAD_REFERENCE;
+}
+
+/* Fills a context in for a device that is open. */
+static void begin(TSS2_TCTI_CONTEXT *handed, struct kept *kept, uint8_t locality) {
+    struct context *context = (struct context *)handed;
+    memset(context, 0, sizeof *context);
+    context->kept = kept;
+    context->locality = locality;
+    TSS2_TCTI_MAGIC(handed) = MAGIC;
+    TSS2_TCTI_VERSION(handed) = 2;
+    TSS2_TCTI_TRANSMIT(handed) = transmit;
+    TSS2_TCTI_RECEIVE(handed) = receive;
+    TSS2_TCTI_FINALIZE(handed) = finalize;
+    TSS2_TCTI_CANCEL(handed) = cancel;
+    TSS2_TCTI_GET_POLL_HANDLES(handed) = get_poll_handles;
+    TSS2_TCTI_SET_LOCALITY(handed) = set_locality;
+    TSS2_TCTI_MAKE_STICKY(handed) = make_sticky;
+}
+
+EXPORTED TSS2_RC Tss2_Tcti_Tpmsim_Init(TSS2_TCTI_CONTEXT *handed, size_t *size,
+                                       const char *config);
+EXPORTED const TSS2_TCTI_INFO *Tss2_Tcti_Info(void);
+
+TSS2_RC Tss2_Tcti_Tpmsim_Init(TSS2_TCTI_CONTEXT *handed, size_t *size, const char *config) {
+    struct words words;
+    struct reason reason;
+    if (!size) return TSS2_TCTI_RC_BAD_VALUE;
+    size_t room = *size;
+    if (!handed || room < sizeof(struct context)) *size = sizeof(struct context);
+    if (!handed) return TSS2_RC_SUCCESS;
+    if (room < sizeof(struct context)) return TSS2_TCTI_RC_INSUFFICIENT_BUFFER;
+    if (!words_read(&words, config, &reason)) return tell(&reason, TSS2_TCTI_RC_BAD_VALUE);
+    struct kept *kept = kept_open(&words.options, &reason);
+    if (kept) begin(handed, kept, words.locality);
+    words_free(&words);
+    return kept ? TSS2_RC_SUCCESS : tell(&reason, TSS2_TCTI_RC_IO_ERROR);
+}
+
+static const TSS2_TCTI_INFO INFO = {
+    .version = 2,
+    .name = "tcti-tpmsim",
+    .description = "a tpmsim in this process, or kept in a folder",
+    .config_help = WORDS_WANTED ", with commas between them; no word: a device in memory",
+    .init = Tss2_Tcti_Tpmsim_Init,
+};
+
+const TSS2_TCTI_INFO *Tss2_Tcti_Info(void) { return &INFO; }

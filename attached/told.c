@@ -1,0 +1,21 @@
+#include "told.h"
+#include "tpmsim.h"
+
+const char *told_words(uint8_t told) {
+    switch (told) {
+    case TPMSIM_NO_DEVICE: return "has no device";
+    case TPMSIM_NO_LOCALITY: return "has the localities 0 to 4, and no other";
+    case TPMSIM_NO_MEMORY: return "wants memory that is not there";
+    case TPMSIM_IMAGE_SHORT: return "holds no image: there are too few bytes";
+    case TPMSIM_IMAGE_MAGIC: return "holds no image: the bytes do not begin as one";
+    case TPMSIM_IMAGE_VERSION: return "holds an image of a version that this library does not know";
+    case TPMSIM_IMAGE_LENGTH: return "holds no image: there are not as many bytes as it says";
+    case TPMSIM_IMAGE_DIGEST: return "holds a damaged image: its digest is another";
+    case TPMSIM_IMAGE_BODY: return "holds an image of no state that a device can be in";
+    case TPMSIM_NO_JOURNAL: return "is no journal of a device";
+    case TPMSIM_DAMAGED: return "is damaged, and stays as it is";
+    case TPMSIM_OTHERWISE:
+        return "was written by a library that answers otherwise than this one, and stays as it is";
+    default: return "is refused by the library for a reason without a name";
+    }
+}

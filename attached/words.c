@@ -1,0 +1,101 @@
+#define _GNU_SOURCE
+#include "words.h"
+#include <stdlib.h>
+#include <string.h>
+
+enum word { STATE, LOCALITY, IMAGE, RANDOM, FORCE, WORDS };
+
+static const char *const NAMES[WORDS] = {"state=", "locality=", "image=", "random=", "force="};
+
+static bool read_locality(struct words *words, const char *value) {
+    if (value[0] < '0' || value[0] > '4' || value[1]) return false;
+    words->locality = (uint8_t)(value[0] - '0');
+    return true;
+}
+
+static bool read_force(struct words *words, const char *value) {
+    static const char *const names[] = {"power", "never", "always"};
+    static const enum kept_force forces[] = {KEPT_FORCE_POWER, KEPT_FORCE_NEVER, KEPT_FORCE_ALWAYS};
+    for (size_t i = 0; i < sizeof forces / sizeof *forces; i++) {
+        if (strcmp(value, names[i]) != 0) continue;
+        words->options.force = forces[i];
+        return true;
+    }
+    return false;
+}
+
+/* The value of a digit of hex in either case; 16 where it is none. */
+static unsigned digit_of(char digit) {
+    if (digit >= '0' && digit <= '9') return (unsigned)(digit - '0');
+    if (digit >= 'a' && digit <= 'f') return (unsigned)(digit - 'a' + 10);
+    if (digit >= 'A' && digit <= 'F') return (unsigned)(digit - 'A' + 10);
+    return 16;
+}
+
+static bool read_random(struct words *words, const char *value) {
+    size_t size = strlen(value);
+    if (size == 0 || size % 2 || size / 2 > sizeof words->random) return false;
+    for (size_t i = 0; i < size / 2; i++) {
+        unsigned high = digit_of(value[2 * i]), low = digit_of(value[2 * i + 1]);
+        if (high > 15 || low > 15) return false;
+        words->random[i] = (uint8_t)(high << 4 | low);
+    }
+    words->options.random = words->random;
+    words->options.random_size = size / 2;
+    return true;
+}
+
+/* Reads what stands behind a word's name. */
+static bool read_value(struct words *words, enum word word, const char *value) {
+    switch (word) {
+    case STATE: words->options.folder = value; return *value != 0;
+    case LOCALITY: return read_locality(words, value);
+    case IMAGE: words->options.image = value; return *value != 0;
+    case RANDOM: return read_random(words, value);
+    case FORCE: return read_force(words, value);
+    default: return false;
+    }
+}
+
+static bool refuse_word(const char *text, const char *said, struct reason *reason) {
+    return refuse(reason, *text ? text : "an empty word", NULL, said, 0);
+}
+
+/* Reads one word. `seen` says which ones stood before it. */
+static bool read_word(struct words *words, bool seen[WORDS], const char *text,
+                      struct reason *reason) {
+    for (int i = 0; i < WORDS; i++) {
+        size_t size = strlen(NAMES[i]);
+        if (strncmp(text, NAMES[i], size) != 0) continue;
+        if (seen[i]) return refuse_word(text, "is the second word of its kind", reason);
+        seen[i] = true;
+        if (!read_value(words, (enum word)i, text + size)) break;
+        return true;
+    }
+    return refuse_word(text, "is none of the words " WORDS_WANTED, reason);
+}
+
+static bool read_words(struct words *words, struct reason *reason) {
+    bool seen[WORDS] = {false};
+    char *rest = words->text;
+    while (rest) {
+        const char *text = strsep(&rest, ",");
+        if (!read_word(words, seen, text, reason)) return false;
+    }
+    return !seen[FORCE] || seen[STATE] ||
+           refuse(reason, "force=", NULL, "is of use beside state=DIR alone", 0);
+}
+
+bool words_read(struct words *words, const char *text, struct reason *reason) {
+    *words = (struct words){.text = strdup(text ? text : "")};
+    if (!words->text)
+        return refuse(reason, "the module", NULL, "wants memory that is not there", 0);
+    if (!*words->text || read_words(words, reason)) return true;
+    words_free(words);
+    return false;
+}
+
+void words_free(struct words *words) {
+    free(words->text);
+    *words = (struct words){0};
+}

@@ -1,0 +1,25 @@
+/* The words by which the module is told what to attach: `state=DIR,locality=3` and so on. */
+#ifndef WORDS_H
+#define WORDS_H
+#include "kept.h"
+
+/* What the words are, as a sentence has them that says what is wanted. */
+#define WORDS_WANTED                                                                               \
+    "state=DIR, locality=0 to 4, image=FILE, random=HEX, force=never, force=power or "   \
+    "force=always"
+
+/* A text of words, and what they ask for. The options point into it. */
+struct words {
+    char *text;
+    struct kept_options options;
+    uint8_t locality;
+    uint8_t random[256];
+};
+
+/* Reads a text of words with commas between them; NULL and an empty text have none. False with the
+ * reason, where a word is none or stands twice, or there is no memory. */
+bool words_read(struct words *words, const char *text, struct reason *reason);
+
+void words_free(struct words *words);
+
+#endif

@@ -1,0 +1,168 @@
+"""Measures a kept device behind the module for libtss2, beside swtpm, and prints tables:
+
+    tools/python.sh bench/attached.py MODULE CLIENT DISK [ROUNDS]
+
+MODULE is the module, CLIENT a program that is made of attached.c, and DISK a folder on a disk. In
+each round every way has its turn. Figures are the least and, in brackets, the median.
+"""
+
+import os
+import socket
+import statistics
+import subprocess
+import sys
+import tempfile
+import time
+from dataclasses import dataclass, field
+from pathlib import Path
+
+ROUNDS = 15
+COMMANDS = "getrandom", "pcrread", "extend", "nvwrite"
+COUNT = 300
+REPLAYED = 10_000
+FORCES = "never", "power", "always"
+TOOLS = {
+    "tpm2_getrandom 16": [["tpm2_getrandom", "-f", "--hex", "16"]],
+    "tpm2_pcrread sha256:0,10": [["tpm2_pcrread", "sha256:0,10"]],
+    "tpm2_createprimary, tpm2_flushcontext": [
+        ["tpm2_createprimary", "-C", "o", "-G", "aes128cfb"],
+        ["tpm2_flushcontext", "-t"],
+    ],
+}
+
+
+@dataclass
+class Row:
+    """The figures of one row and one way, in one unit, as they were measured."""
+
+    figures: list[float] = field(default_factory=list)
+
+    def __str__(self) -> str:
+        return f"{min(self.figures):.2f} ({statistics.median(self.figures):.2f})"
+
+
+@dataclass
+class Swtpm:
+    """swtpm on a socket, with its state in a folder."""
+
+    folder: Path
+    port: int
+    process: subprocess.Popen[bytes] | None = None
+
+    def start(self) -> str:
+        """Starts it, and gives what libtss2 reaches it by."""
+        self.folder.mkdir()
+        words = ["swtpm", "socket", "--tpm2", "--tpmstate", f"dir={self.folder}"]
+        words += ["--server", f"type=tcp,port={self.port}", "--flags", "not-need-init"]
+        words += ["--ctrl", f"type=tcp,port={self.port + 1}"]
+        self.process = subprocess.Popen(words)
+        while True:
+            with socket.socket() as client:
+                if client.connect_ex(("127.0.0.1", self.port + 1)) == 0:
+                    break
+            time.sleep(0.05)
+        return f"swtpm:host=127.0.0.1,port={self.port}"
+
+    def stop(self) -> None:
+        """Ends it."""
+        if self.process:
+            self.process.terminate()
+            self.process.wait()
+
+
+def run(words: list[str], transport: str) -> None:
+    """Runs a tool of tpm2-tools, which has to end well."""
+    environment = os.environ | {"TPM2TOOLS_TCTI": transport}
+    nowhere = subprocess.DEVNULL
+    subprocess.run(words, env=environment, check=True, stdout=nowhere, stderr=nowhere)
+
+
+def tool_time(tools: list[list[str]], transport: str) -> float:
+    """The milliseconds of some tools, one after another, from start to end."""
+    before = time.perf_counter()
+    for words in tools:
+        run(words, transport)
+    return (time.perf_counter() - before) * 1e3
+
+
+def asked(client: str, transport: str, command: str, count: int) -> list[float]:
+    """The least and the median microseconds of a command in one process."""
+    words = [client, transport, command, str(count)]
+    output = subprocess.run(words, check=True, capture_output=True, text=True).stdout
+    return [float(figure) for figure in output.split()]
+
+
+def tell(label: str, rows: dict[str, Row]) -> None:
+    """Prints one row of a table."""
+    print(f"| {label} | " + " | ".join(str(row) for row in rows.values()) + " |", flush=True)
+
+
+def head(label: str, ways: dict[str, str]) -> None:
+    """Prints the head of a table."""
+    print(f"\n| {label} | " + " | ".join(ways) + " |")
+    print("|---" * (len(ways) + 1) + "|")
+
+
+def measure_tools(ways: dict[str, str], rounds: int) -> None:
+    """Tools, each a process of its own, in milliseconds."""
+    head("milliseconds of a tool, start to end", ways)
+    for way in ways.values():
+        run(["tpm2_startup", "-c"], way)
+    for label, tools in TOOLS.items():
+        rows = {way: Row() for way in ways}
+        for _ in range(rounds):
+            for way, transport in ways.items():
+                rows[way].figures.append(tool_time(tools, transport))
+        tell(label, rows)
+
+
+def measure_commands(client: str, ways: dict[str, str], rounds: int) -> None:
+    """Commands in a process that stays, in microseconds."""
+    head("microseconds of a command in a process that stays", ways)
+    for command in COMMANDS:
+        rows = {way: Row() for way in ways}
+        for _ in range(rounds):
+            for way, transport in ways.items():
+                rows[way].figures += asked(client, transport, command, COUNT)
+        tell(command, rows)
+
+
+def measure_replay(client: str, module: str, folder: Path) -> None:
+    """What it takes to open a journal of many commands."""
+    state = folder / "replay"
+    transport = f"{module}:state={state},force=never"
+    print()
+    for command in "getrandom", "extend":
+        asked(client, transport, command, REPLAYED // 2)
+    least, median = asked(client, transport, "open", 10)
+    size = (state / "journal").stat().st_size
+    print(
+        f"opening {REPLAYED:,} commands, {size:,} bytes: {least / 1e3:.2f} ms ({median / 1e3:.2f})"
+    )
+
+
+def measure(module: str, client: str, disk: str, rounds: int = ROUNDS) -> None:
+    """All tables."""
+    with tempfile.TemporaryDirectory(dir="/dev/shm") as memory:
+        with tempfile.TemporaryDirectory(dir=disk) as below:
+            folders = {"/dev/shm": Path(memory), "a disk": Path(below)}
+            servers = {
+                place: Swtpm(folder / "swtpm", 25_300 + 2 * number)
+                for number, (place, folder) in enumerate(folders.items())
+            }
+            try:
+                ways = {f"swtpm, {place}": server.start() for place, server in servers.items()}
+                for place, folder in folders.items():
+                    for force in FORCES:
+                        state = folder / force
+                        ways[f"{force}, {place}"] = f"{module}:state={state},force={force}"
+                measure_tools(ways, rounds)
+                measure_commands(client, ways | {"in memory": f"{module}:"}, 3)
+                measure_replay(client, module, folders["/dev/shm"])
+            finally:
+                for server in servers.values():
+                    server.stop()
+
+
+if __name__ == "__main__":
+    measure(sys.argv[1], sys.argv[2], sys.argv[3], *map(int, sys.argv[4:5]))

@@ -1,0 +1,97 @@
+-- Where the device's response stands.
+use Rattle.std.proofs.Common.{◌≡◌, ℕ, ◌/◌, ◌^◌, ◌&&◌, ◌||◌, not, Bool, true, false, if◌then◌else◌, List, [], Option, None, Result, Ok, Err, refl, ap, sym, ◌∙◌}
+use Rattle.std.proofs.lemmas.Bool.{false≢true}
+use Rattle.std.specs.Prelude.{◌==◌}
+use Rattle.std.specs.Str.{bytes_eq}
+use Rattle.tpm_bytes.specs.declared.cursor.Short.{Short}
+use Rattle.tpm_record.specs.Record.{Record}
+use Rattle.tpm_step.specs.Answer.{framed}
+use Rattle.tpm_completion.specs.Answer.{is_refusal}
+use Rattle.tpm_completion.specs.Capability.{asked_at, capability_told, handles_told, told_of}
+use Rattle.tpm_completion.specs.Command.{Command, plain_command, tag_of}
+use Rattle.tpm_completion.specs.DeviceFirst.{DeviceFirst, asks_command, asks_parameters, has_list, is_gap}
+use Rattle.tpm_completion.specs.Reply.{capability_asked, command_reply, listed, probed, reply, reply_by, served, stands}
+use Rattle.tpm_completion.specs.Saving.{Reply}
+use Rattle.tpm_completion.specs.declared.capability.Asked.{Asked}
+use Rattle.tpm_completion.specs.declared.completion.Completion.{Completion}
+
+if_false : {X : Type 0} (b : Bool) (x y : X) → b ≡ false → (if b then x else y) ≡ y
+if_false false x y e = refl
+if_false true x y e = absurd (false≢true (sym e))
+
+or_left : (a b : Bool) → (a || b) ≡ false → a ≡ false
+or_left false b e = refl
+or_left true b e = absurd (false≢true (sym e))
+
+or_right : (a b : Bool) → (a || b) ≡ false → b ≡ false
+or_right false b e = e
+or_right true b e = absurd (false≢true (sym e))
+
+and_right : (a b : Bool) → b ≡ false → (a && b) ≡ false
+and_right false b e = refl
+and_right true b e = e
+
+-- what is chosen by two tests, of which none holds
+either : {X : Type 0} (a b : Bool) (x y z : X) → a ≡ false → b ≡ false → (if a then x else (if b then y else z)) ≡ z
+either a b x y z e f = if_false a x (if b then y else z) e ∙ if_false b y z f
+
+-- handles of which the layer has no list
+no_handles : (r : Record) (c : Completion) (asked : Asked) (kind : ℕ) → ((kind == 0x80) || ((kind == 0x02) || (kind == 0x03))) ≡ false → handles_told r c asked kind ≡ None
+no_handles r c asked kind none =
+    if_false (kind == 0x80) _ _ (or_left (kind == 0x80) ((kind == 0x02) || (kind == 0x03)) none)
+    ∙ either (kind == 0x02) (kind == 0x03) _ _ None
+    (or_left (kind == 0x02) (kind == 0x03) (or_right (kind == 0x80) ((kind == 0x02) || (kind == 0x03)) none))
+    (or_right (kind == 0x02) (kind == 0x03) (or_right (kind == 0x80) ((kind == 0x02) || (kind == 0x03)) none))
+
+-- what is asked for, of which the layer has no list, by the tests of its capability
+none_by : {X : Type 0} (handles commands properties kinds : Bool) (of_handles of_commands of_properties : Option X) → (commands || (properties || (handles && kinds))) ≡ false → (kinds ≡ false → of_handles ≡ None) → (if handles then of_handles else (if commands then of_commands else (if properties then of_properties else None))) ≡ None
+none_by true false false kinds h c p none of = of none
+none_by false false false kinds h c p none of = refl
+none_by handles true properties kinds h c p none of = absurd (false≢true (sym none))
+none_by handles false true kinds h c p none of = absurd (false≢true (sym none))
+
+no_list : (r : Record) (c : Completion) (asked : Asked) → has_list asked ≡ false → told_of r c asked ≡ None
+no_list r c asked none =
+    none_by (asked.capability == 1) (asked.capability == 2) (asked.capability == 6)
+    ((asked.property / 2 ^ 24 == 0x80) || ((asked.property / 2 ^ 24 == 0x02) || (asked.property / 2 ^ 24 == 0x03)))
+    (handles_told r c asked (asked.property / 2 ^ 24)) _ _ none (no_handles r c asked (asked.property / 2 ^ 24))
+
+told_none : (r : Record) (c : Completion) (asked : Asked) (was_told : Bool) (response : List ℕ) → is_refusal 0x1c4 response ≡ false → was_told && has_list asked ≡ false → capability_told r c asked was_told response ≡ None
+unfolding capability_told
+told_none r c asked true response refused none = no_list r c asked none
+told_none r c asked false response refused none =
+    if_false ((asked.capability == 0) && is_refusal 0x1c4 response) _ None (and_right (asked.capability == 0) (is_refusal 0x1c4 response) refused)
+
+asked_stands : (r : Record) (c : Completion) (response : List ℕ) (was_told : Bool) (asked : Result Asked Short) → is_refusal 0x1c4 response ≡ false → was_told && asks_parameters asked ≡ false → capability_asked r c response was_told asked ≡ stands c response
+asked_stands r c response was_told (Ok asked) refused none = ap (listed c response) (told_none r c asked was_told response refused none)
+asked_stands r c response was_told (Err e) refused none = refl
+
+-- a reply that is chosen by three tests
+chosen : (started unserved capability was_told list : Bool) (stand of_served of_capability : Reply) → unserved ≡ false → was_told && (capability && list) ≡ false → (was_told && list ≡ false → of_capability ≡ stand) → (if not started then stand else (if unserved then of_served else (if capability then of_capability else stand))) ≡ stand
+chosen false unserved capability was_told list s v p served none of = refl
+chosen true false false was_told list s v p served none of = refl
+chosen true false true was_told list s v p served none of = of none
+chosen true true capability was_told list s v p served none of = absurd (false≢true (sym served))
+
+command_stands : (r : Record) (c : Completion) (command : Command) (response : List ℕ) (was_told : Bool) → is_gap response ≡ false → was_told && asks_command (Ok command) ≡ false → command_reply r c command response was_told ≡ stands c response
+unfolding command_reply
+command_stands r c command response was_told gap none =
+    let rest : (is_refusal 0x1c4 response || bytes_eq response (framed 0xc4 0x1e [])) ≡ false = or_right (is_refusal 0x143 response) (is_refusal 0x1c4 response || bytes_eq response (framed 0xc4 0x1e [])) gap in
+    chosen r.fixed.started (is_refusal 0x143 response) (command.code == 0x17a) was_told (asks_parameters (asked_at command.parameters)) (stands c response) (served r c command response) (capability_asked r c response was_told (asked_at command.parameters))
+    (or_left (is_refusal 0x143 response) (is_refusal 0x1c4 response || bytes_eq response (framed 0xc4 0x1e [])) gap) none
+    (asked_stands r c response was_told (asked_at command.parameters) (or_left (is_refusal 0x1c4 response) (bytes_eq response (framed 0xc4 0x1e [])) rest))
+
+probe_stands : (c : Completion) (buffer response : List ℕ) → is_gap response ≡ false → probed c buffer response ≡ stands c response
+unfolding probed
+probe_stands c buffer response gap =
+    let rest : (is_refusal 0x1c4 response || bytes_eq response (framed 0xc4 0x1e [])) ≡ false = or_right (is_refusal 0x143 response) (is_refusal 0x1c4 response || bytes_eq response (framed 0xc4 0x1e [])) gap in
+    if_false ((tag_of buffer == 0xc1) && bytes_eq response (framed 0xc4 0x1e [])) _ (stands c response)
+    (and_right (tag_of buffer == 0xc1) (bytes_eq response (framed 0xc4 0x1e [])) (or_right (is_refusal 0x1c4 response) (bytes_eq response (framed 0xc4 0x1e [])) rest))
+
+by_stands : (r : Record) (c : Completion) (buffer response : List ℕ) (was_told : Bool) (command : Result Command Short) → is_gap response ≡ false → was_told && asks_command command ≡ false → reply_by r c buffer response was_told command ≡ stands c response
+by_stands r c buffer response was_told (Ok command) gap none = command_stands r c command response was_told gap none
+by_stands r c buffer response was_told (Err e) gap none = probe_stands c buffer response gap
+
+pub device_first : DeviceFirst
+unfolding reply
+device_first r c buffer response was_told gap none = by_stands r c buffer response was_told (plain_command buffer) gap none

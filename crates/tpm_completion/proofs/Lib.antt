@@ -1,0 +1,5 @@
+pub mod Commands
+pub mod Telling
+pub mod Waiting
+pub mod Exactly
+pub mod DeviceFirst

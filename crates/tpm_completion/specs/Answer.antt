@@ -1,0 +1,16 @@
+-- Responses as the completing layer reads and writes them. TPM 2.0 Library, Part 1, section 18
+-- (command and response structures), and Part 2, section 6.6 (TPM_RC).
+use Rattle.std.specs.Prelude.{ℕ, Bool, List, []}
+use Rattle.std.specs.Str.{bytes_eq}
+use Rattle.tpm_step.specs.Answer.{framed}
+
+-- the response of a success, and of a refusal with a code
+abbrev pub success : List ℕ → List ℕ
+success body = framed 0x8001 0 body
+
+abbrev pub refusal : ℕ → List ℕ
+refusal code = framed 0x8001 code []
+
+-- whether a response is the refusal with this code
+abbrev pub is_refusal : ℕ → List ℕ → Bool
+is_refusal code response = bytes_eq response (refusal code)

@@ -1,0 +1,41 @@
+-- The context of an object or a session: a token that names its place in the device. TPM 2.0
+-- Library, Part 2, section 14 (TPMS_CONTEXT: sequence, savedHandle, hierarchy, contextBlob), and
+-- Part 1, section 30 (context management).
+use Rattle.std.specs.Prelude.{ℕ, not, List, [], ◌∷◌, ◌++◌, if◌then◌else◌, Result, Ok}
+use Rattle.std.specs.Int.{w32, w64, to_be_bytes}
+use Rattle.std.specs.Str.{bytes_eq}
+use Rattle.tpm_bytes.specs.Reading.{◌>>=◌, bytes_at, number_at, refused_if, too_short}
+use Rattle.tpm_bytes.specs.Writing.{sized_text}
+use Rattle.tpm_bytes.specs.declared.cursor.Short.{Short}
+use Rattle.tpm_types.specs.declared.handle.Handle.{Handle}
+use Rattle.tpm_types.specs.Handle.{is_transient, null_handle, numbered}
+use Rattle.tpm_completion.specs.declared.context.Token.{Token}
+
+-- the bytes "tpmsim 1", by which a token is known
+abbrev pub mark : List ℕ
+mark = 0x74 ∷ 0x70 ∷ 0x6d ∷ 0x73 ∷ 0x69 ∷ 0x6d ∷ 0x20 ∷ 0x31 ∷ []
+
+-- contextBlob: the mark, the start of the layer, and the handle
+abbrev pub token_text : (start : ℕ) → Handle → List ℕ
+token_text start handle = mark ++ to_be_bytes w64 start ++ to_be_bytes w32 handle.number
+
+-- savedHandle: 80000000 for every object, and a session's own
+abbrev pub saved_handle : Handle → ℕ
+saved_handle handle = if is_transient handle then 0x8000_0000 else handle.number
+
+-- the context with a number, of what has a handle; its hierarchy is told as TPM_RH_NULL
+unfoldable pub context_text : (start : ℕ) → Token → List ℕ
+context_text start token =
+    to_be_bytes w64 token.context ++ to_be_bytes w32 (saved_handle token.handle)
+    ++ to_be_bytes w32 null_handle.number ++ sized_text (token_text start token.handle)
+
+-- the token of a context's bytes: its number stands in front, its handle behind 26 bytes more, and
+-- the bytes are those of the token's context
+unfoldable pub token_at : (start : ℕ) → List ℕ → Result Token Short
+token_at start text = do
+  context ← number_at w64 text
+  between ← bytes_at 26 context.1
+  handle ← number_at w32 between.1
+  let token : Token = record { context = context.0; handle = numbered handle.0 }
+  same ← refused_if (not (bytes_eq text (context_text start token))) too_short
+  Ok token

@@ -1,0 +1,90 @@
+-- What the completing layer answers behind the device's response. TPM 2.0 Library, Part 3, sections
+-- 16.2 (TPM2_StirRandom), 28.2 (TPM2_ContextSave), 28.3 (TPM2_ContextLoad) and 30.2
+-- (TPM2_GetCapability).
+use Rattle.std.specs.Prelude.{ℕ, ◌==◌, ◌&&◌, not, Bool, false, List, [], length, if◌then◌else◌, Option, Some, None, Result, Ok, Err}
+use Rattle.std.specs.Int.{w32}
+use Rattle.std.specs.Str.{bytes_eq}
+use Rattle.tpm_bytes.specs.Reading.{number_at, sized_at}
+use Rattle.tpm_bytes.specs.declared.cursor.Short.{Short}
+use Rattle.tpm_bytes.specs.declared.cursor.SizedFault.{SizedFault}
+use Rattle.tpm_types.specs.Handle.{numbered}
+use Rattle.tpm_record.specs.Record.{Record}
+use Rattle.tpm_step.specs.Answer.{framed}
+use Rattle.tpm_completion.specs.Answer.{is_refusal, refusal, success}
+use Rattle.tpm_completion.specs.Capability.{asked_at, capability_told}
+use Rattle.tpm_completion.specs.Command.{Command, plain_command, tag_of}
+use Rattle.tpm_completion.specs.Saving.{Reply, loaded, saved}
+use Rattle.tpm_completion.specs.declared.capability.Asked.{Asked}
+use Rattle.tpm_completion.specs.declared.completion.Completion.{Completion}
+
+-- the device's response stands
+abbrev pub stands : Completion → List ℕ → Reply
+stands c response = record { response = response; after = c }
+
+-- TPM2_StirRandom takes at most 128 bytes; the device has no use for them
+abbrev pub is_stirred : Result (List ℕ × List ℕ) SizedFault → Bool
+is_stirred (Ok bytes) = length bytes.1 == 0
+is_stirred (Err e) = false
+
+abbrev pub stirred : Completion → List ℕ → (response : List ℕ) → Reply
+stirred c parameters response =
+    if is_stirred (sized_at 128 parameters) then record { response = success []; after = c }
+    else stands c response
+
+-- TPM2_ContextSave of a handle, which nothing stands behind
+abbrev pub save_asked : Record → Completion → (response : List ℕ) → Result (ℕ × List ℕ) Short
+    → Reply
+save_asked r c response (Ok handle) =
+    if length handle.1 == 0 then saved r c (numbered handle.0) else stands c response
+save_asked r c response (Err e) = stands c response
+
+-- the answer to a command that the device does not serve
+abbrev pub served : Record → Completion → Command → (response : List ℕ) → Reply
+served r c command response =
+    if command.code == 0x146 then stirred c command.parameters response
+    else (if command.code == 0x161 then loaded r c command.parameters
+    else (if command.code == 0x162 then
+    save_asked r c response (number_at w32 command.parameters)
+    else stands c response))
+
+-- the answer to TPM2_GetCapability: what the layer lists, or the device's
+abbrev pub listed : Completion → (response : List ℕ) → Option (List ℕ) → Reply
+listed c response (Some text) = record { response = success text; after = c }
+listed c response None = stands c response
+
+abbrev pub capability_asked : Record → Completion → (response : List ℕ) → (was_told : Bool)
+    → Result Asked Short → Reply
+capability_asked r c response was_told (Ok asked) =
+    listed c response (capability_told r c asked was_told response)
+capability_asked r c response was_told (Err e) = stands c response
+
+-- the answer to a command without sessions: before TPM2_Startup always the device's; then the
+-- layer's own commands, where the device refused them with COMMAND_CODE (143)
+unfoldable pub command_reply : Record → Completion → Command → (response : List ℕ)
+    → (was_told : Bool) → Reply
+command_reply r c command response was_told =
+    if not r.fixed.started then stands c response
+    else (if is_refusal 0x143 response then served r c command response
+    else (if command.code == 0x17a then
+    capability_asked r c response was_told (asked_at command.parameters)
+    else stands c response))
+
+-- a command of TPM 1.2 (tag 00C1), which the device refused with BAD_TAG (1E) and its tag (00C4), is
+-- refused with VALUE (84) and the tag of this version, by which firmware knows that there is no TPM
+-- 1.2
+unfoldable pub probed : Completion → (buffer response : List ℕ) → Reply
+probed c buffer response =
+    if (tag_of buffer == 0xc1) && bytes_eq response (framed 0xc4 0x1e []) then
+    record { response = refusal 0x84; after = c }
+    else stands c response
+
+-- the answer to a buffer, to which the device gave this response; `was_told` says whether it was a
+-- success
+abbrev pub reply_by : Record → Completion → (buffer response : List ℕ) → (was_told : Bool)
+    → Result Command Short → Reply
+reply_by r c buffer response was_told (Ok command) = command_reply r c command response was_told
+reply_by r c buffer response was_told (Err e) = probed c buffer response
+
+unfoldable pub reply : Record → Completion → (buffer response : List ℕ) → (was_told : Bool) → Reply
+reply r c buffer response was_told =
+    reply_by r c buffer response was_told (plain_command buffer)

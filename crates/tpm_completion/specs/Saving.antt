@@ -1,0 +1,129 @@
+-- TPM2_ContextSave and TPM2_ContextLoad by tokens. TPM 2.0 Library, Part 3, sections 28.2 and 28.3.
+use Rattle.std.specs.Prelude.{ℕ, ◌+◌, ◌-◌, ◌^◌, ◌==◌, ◌&&◌, nat_lt, not, List, is_some, if◌then◌else◌, Option, Some, None, Result, Ok, Err, slice_set}
+use Rattle.std.specs.Int.{w32, to_be_bytes}
+use Rattle.tpm_bytes.specs.declared.cursor.Short.{Short}
+use Rattle.tpm_containers.specs.Numbered.{place_of}
+use Rattle.tpm_session.specs.Sessions.{session_at}
+use Rattle.tpm_types.specs.declared.handle.Handle.{Handle}
+use Rattle.tpm_types.specs.Handle.{is_session, is_transient}
+use Rattle.tpm_record.specs.Objects.{object_at}
+use Rattle.tpm_record.specs.Record.{Record}
+use Rattle.tpm_completion.specs.Answer.{refusal, success}
+use Rattle.tpm_completion.specs.Completion.{object_held, session_context}
+use Rattle.tpm_completion.specs.Context.{context_text, token_at}
+use Rattle.tpm_completion.specs.declared.completion.Completion.{Completion}
+use Rattle.tpm_completion.specs.declared.completion.Held.{Held}
+use Rattle.tpm_completion.specs.declared.context.Token.{Token}
+
+-- a response, and the layer after it
+pub record Reply : Type 0 where
+  pub response : List ℕ
+  pub after : Completion
+
+-- the place that a handle names
+abbrev pub place_named : Handle → ℕ
+place_named handle = place_of handle.number
+
+-- the layer with something else remembered of the object, or of the session, in a place
+abbrev pub with_object : Completion → ℕ → Held → Completion
+with_object c place held = record c { objects = slice_set c.objects place held }
+
+abbrev pub with_session : Completion → ℕ → (context : ℕ) → Completion
+with_session c place context = record c { sessions = slice_set c.sessions place context }
+
+-- the number of the next context or flush, while there is one
+abbrev pub next_number : Completion → Option ℕ
+next_number c = if nat_lt c.count (2 ^ 64 - 1) then Some (c.count + 1) else None
+
+abbrev pub counted : Completion → (number : ℕ) → Completion
+counted c number = record c { count = number }
+
+-- the answer where a context was given: the context
+abbrev pub context_given : Completion → Handle → (context : ℕ) → Reply
+context_given c handle context = record {
+  response = success (context_text c.start (record { context = context; handle = handle }));
+  after = c;
+}
+
+-- a refusal leaves the layer as it was
+abbrev pub refused : Completion → ℕ → Reply
+refused c code = record { response = refusal code; after = c }
+
+-- an object that is saved again has the context that it had; TOO_MANY_CONTEXTS (12E) where no
+-- number is left
+abbrev pub object_numbered : Completion → Handle → Option ℕ → Reply
+object_numbered c handle (Some number) =
+    context_given
+    (with_object (counted c number) (place_named handle) (record { context = number; waits = 0 }))
+    handle number
+object_numbered c handle None = refused c 0x12e
+
+-- an object that is there and does not wait is saved; else its handle names nothing: REFERENCE_H0
+abbrev pub object_saved : Record → Completion → Handle → Held → Reply
+object_saved r c handle held =
+    if not (is_some (object_at r.objects handle) && (held.waits == 0)) then refused c 0x910
+    else (if held.context == 0 then object_numbered c handle (next_number c)
+    else context_given c handle held.context)
+
+-- a session is saved with a new context each time, and is loaded no more
+abbrev pub session_numbered : Completion → Handle → Option ℕ → Reply
+session_numbered c handle (Some number) =
+    context_given (with_session (counted c number) (place_named handle) number) handle number
+session_numbered c handle None = refused c 0x12e
+
+-- a session that is loaded is saved; one that is saved already is named by no handle: REFERENCE_H0
+abbrev pub session_saved : Record → Completion → Handle → (context : ℕ) → Reply
+session_saved r c handle context =
+    if is_some (session_at r.sessions handle) && (context == 0) then
+    session_numbered c handle (next_number c)
+    else refused c 0x910
+
+-- TPM2_ContextSave of a handle: VALUE for handle 1 (184) where it is neither an object's nor a
+-- session's
+unfoldable pub saved : Record → Completion → Handle → Reply
+saved r c handle =
+    if is_transient handle then object_saved r c handle (object_held c (place_named handle))
+    else (if is_session handle then
+    session_saved r c handle (session_context c (place_named handle))
+    else refused c 0x184)
+
+-- ---- TPM2_ContextLoad
+
+-- the answer where a context was loaded: the handle
+abbrev pub handle_given : Completion → Handle → Reply
+handle_given c handle =
+    record { response = success (to_be_bytes w32 handle.number); after = c }
+
+-- the object of a context is loaded as often as one likes, while it is there; it waits no longer
+abbrev pub object_loaded : Record → Completion → Token → Reply
+object_loaded r c token =
+    if is_some (object_at r.objects token.handle)
+    && (not (token.context == 0)
+    && (token.context == (object_held c (place_named token.handle)).context)) then
+    handle_given (with_object c (place_named token.handle)
+    (record { context = token.context; waits = 0 })) token.handle
+    else refused c 0x1cb
+
+-- the session of a context is loaded once
+abbrev pub session_loaded : Record → Completion → Token → Reply
+session_loaded r c token =
+    if is_some (session_at r.sessions token.handle)
+    && (not (token.context == 0)
+    && (token.context == session_context c (place_named token.handle))) then
+    handle_given (with_session c (place_named token.handle) 0) token.handle
+    else refused c 0x1cb
+
+abbrev pub token_loaded : Record → Completion → Token → Reply
+token_loaded r c token =
+    if is_transient token.handle then object_loaded r c token
+    else (if is_session token.handle then session_loaded r c token else refused c 0x1cb)
+
+-- TPM2_ContextLoad of these bytes. INTEGRITY for parameter 1 (1DF): they are no context of this
+-- layer since its start; HANDLE for parameter 1 (1CB): what they name is not there, is another
+-- object or session, or a session that was loaded since
+abbrev pub loaded_by : Record → Completion → Result Token Short → Reply
+loaded_by r c (Ok token) = token_loaded r c token
+loaded_by r c (Err e) = refused c 0x1df
+
+unfoldable pub loaded : Record → Completion → List ℕ → Reply
+loaded r c context = loaded_by r c (token_at c.start context)

@@ -1,0 +1,9 @@
+-- What a function tells that has an answer or none.
+use Rattle.std.specs.Prelude.{◌≡◌, Bool, true, false, List, ℕ, Option, Some, None}
+
+-- It told that there is an answer, and wrote that; or that there is none.
+abbrev pub Tells : Option (List ℕ) → (told : Bool) → (text : List ℕ) → Type 0
+Tells (Some wanted) true text = text ≡ wanted
+Tells (Some wanted) false text = ⊥
+Tells None true text = ⊥
+Tells None false text = Unit {0}

@@ -1,0 +1,36 @@
+//! The numbers of commands and of response codes that the layer knows: TPM 2.0 Library, Part 2,
+//! sections 6.5 (TPM_CC) and 6.6 (TPM_RC).
+
+pub const CREATE_PRIMARY: u32 = 0x131;
+
+pub const STIR_RANDOM: u32 = 0x146;
+
+pub const LOAD: u32 = 0x157;
+
+pub const CONTEXT_LOAD: u32 = 0x161;
+
+pub const CONTEXT_SAVE: u32 = 0x162;
+
+pub const FLUSH_CONTEXT: u32 = 0x165;
+
+pub const GET_CAPABILITY: u32 = 0x17a;
+
+pub const SUCCESS: u32 = 0;
+
+pub const VALUE: u32 = 0x084;
+
+pub const TOO_MANY_CONTEXTS: u32 = 0x12e;
+
+pub const COMMAND_CODE: u32 = 0x143;
+
+pub const VALUE_OF_HANDLE_1: u32 = 0x184;
+
+pub const VALUE_OF_PARAMETER_1: u32 = 0x1c4;
+
+pub const HANDLE_OF_PARAMETER_1: u32 = 0x1cb;
+
+pub const INTEGRITY_OF_PARAMETER_1: u32 = 0x1df;
+
+pub const OBJECT_MEMORY: u32 = 0x902;
+
+pub const REFERENCE_H0: u32 = 0x910;

@@ -1,0 +1,114 @@
+//! How a capability's list is answered: from a number on, as many elements as are asked for.
+
+ghost use Rattle.std.specs.Prelude.{◌≡◌, ◌≤◌, ◌<◌, ◌+◌, ◌*◌, ◌^◌, ◌++◌, List, [], ◌∷◌, length};
+ghost use Rattle.tpm_actions_capability.specs.Element.{found_count, is_from};
+ghost use Rattle.tpm_actions_capability.specs.declared.element.Element.{Element as ListedElement};
+ghost use Rattle.tpm_completion.specs.Listing.{listing, text_of, told_text};
+
+use arrayvec::ArrayVec;
+use tpm_actions_capability::element::Element;
+use tpm_bytes::Sink;
+
+/// The most elements of one answer.
+pub const ELEMENT_LIMIT: usize = 64;
+
+/// The most bytes of one answer: moreData, the capability, the count, and as many elements of eight
+/// bytes.
+pub const LISTING_LIMIT: usize = 521;
+
+/// All elements that a capability lists.
+pub type Elements = ArrayVec<Element, ELEMENT_LIMIT>;
+
+/// What is listed of an element.
+#[derive(Clone, Copy, Debug, PartialEq, Eq)]
+pub enum Form {
+    Value,
+    Property,
+    Algorithm,
+}
+
+fn tell(element: &Element, form: Form, text: &mut Sink<LISTING_LIMIT>)
+    requires { length text.old + 8 ≤ LISTING_LIMIT }
+    ensures told { text.new ≡ text.old ++ told_text form element.now }
+    ensures few { length text.new ≤ length text.old + 8 }
+{
+    match form {
+        Form::Value => {}
+        Form::Property => text.append_u32(element.number),
+        Form::Algorithm => text.append_u16((element.number % (1 << 16)) as u16),
+    }
+    text.append_u32(element.told);
+}
+
+fn is_from(element: &Element, from: u32) -> bool
+    ensures { result ≡ is_from from element.now }
+{
+    from <= element.number
+}
+
+/// How many elements of a list there are from a number on.
+fn found_count(elements: &[Element], from: u32) -> usize
+    ensures { result ≡ found_count from elements.now }
+{
+    elements.iter().filter(|e| is_from(e, from)).count()
+}
+
+/// Writes an element, if it is from this number on and any is left to be written; gives how many
+/// are left then.
+#[tactic(auto, using(crate::proofs::Telling::telling_one))]
+fn tell_if(
+    element: &Element,
+    form: Form,
+    from: u32,
+    left: usize,
+    text: &mut Sink<LISTING_LIMIT>,
+) -> usize
+    requires { length text.old + 8 * left ≤ LISTING_LIMIT }
+    ensures told { (others : List ListedElement)
+        → text.new ++ text_of form from result others
+        ≡ text.old ++ text_of form from left (element.now ∷ others) }
+    ensures room { length text.new + 8 * result ≤ LISTING_LIMIT }
+{
+    if left == 0 || !is_from(element, from) {
+        return left;
+    }
+    tell(element, form, text);
+    left - 1
+}
+
+/// Writes the first elements from a number on, as many as are left to be written.
+fn tell_elements(
+    elements: &[Element],
+    form: Form,
+    from: u32,
+    count: usize,
+    text: &mut Sink<LISTING_LIMIT>,
+)
+    requires { length text.old + 8 * count ≤ LISTING_LIMIT }
+    ensures { text.new ≡ text.old ++ text_of form from count elements.now }
+{
+    let mut left = count;
+    for element in elements {
+        left = tell_if(element, form, from, left, text);
+    }
+}
+
+/// Lists the elements of a capability from a number on, as many as are asked for.
+pub fn list(
+    elements: &[Element],
+    form: Form,
+    capability: u32,
+    from: u32,
+    count: u32,
+    text: &mut Sink<LISTING_LIMIT>,
+)
+    requires { text.old ≡ [] }
+    ensures { text.new ≡ listing form capability from count elements.now }
+{
+    let found = found_count(elements, from);
+    let told = found.min((count as usize).min(ELEMENT_LIMIT));
+    text.append_u8(u8::from(told < found));
+    text.append_u32(capability);
+    text.append_u32(told as u32);
+    tell_elements(elements, form, from, told, text);
+}

@@ -1,0 +1,147 @@
+//! What the layer answers behind the device's response.
+
+ghost use Rattle.std.specs.Prelude.{◌≡◌, [], length};
+ghost use Rattle.tpm_bytes.specs.Reading.{sized_at};
+ghost use Rattle.tpm_completion.specs.Command.{command_of};
+ghost use Rattle.tpm_completion.specs.Reply.{capability_asked, command_reply, is_stirred, probed, reply, save_asked, served, stirred};
+ghost use Rattle.tpm_completion.specs.Capability.{asked_at};
+ghost use Rattle.std.specs.Int.{w32};
+ghost use Rattle.tpm_bytes.specs.Reading.{number_at};
+
+use crate::answer::{answer, is_refusal};
+use crate::capability::{Asked, tell};
+use crate::codes::{
+    COMMAND_CODE, CONTEXT_LOAD, CONTEXT_SAVE, GET_CAPABILITY, STIR_RANDOM, SUCCESS, VALUE,
+};
+use crate::command::{PlainCommand, tag_of};
+use crate::completion::Completion;
+use tpm_bytes::{Cursor, Sink, is_equal};
+use tpm_record::Keep;
+use tpm_step::Response;
+use tpm_types::Handle;
+
+/// Whether these are the parameters of TPM2_StirRandom.
+fn is_stirred(parameters: &[u8]) -> bool
+    ensures { result ≡ is_stirred (sized_at 128 parameters.now) }
+{
+    let mut text = Cursor::new(parameters);
+    match text.sized(128) {
+        Ok(_) => text.is_empty(),
+        Err(_) => false,
+    }
+}
+
+/// Answers a command of TPM 1.2.
+#[tactic(auto, unfolding(crate::specs::Reply::probed))]
+fn probe(layer: &Completion, buffer: &[u8], text: &mut Response)
+    ensures { record { response = text.new.items; after = layer.now }
+        ≡ probed layer.now buffer.now text.old.items }
+{
+    let bad_tag = [0x00, 0xc4, 0, 0, 0, 10, 0, 0, 0, 0x1e];
+    if tag_of(buffer) == 0xc1 && is_equal(text.as_slice(), &bad_tag) {
+        answer(VALUE, &[], text);
+    }
+}
+
+impl Completion {
+    /// Answers TPM2_StirRandom.
+    fn stir(&self, parameters: &[u8], text: &mut Response)
+        ensures { record { response = text.new.items; after = self.now }
+            ≡ stirred self.now parameters.now text.old.items }
+    {
+        if is_stirred(parameters) {
+            answer(SUCCESS, &[], text);
+        }
+    }
+
+    /// Answers TPM2_ContextSave.
+    fn ask_save<K: Keep>(&mut self, keep: &K, parameters: &[u8], text: &mut Response)
+        ensures { record { response = text.new.items; after = self.new }
+            ≡ save_asked (K.record_of keep.now) self.old text.old.items
+            (number_at w32 parameters.now) }
+    {
+        let mut ahead = Cursor::new(parameters);
+        let Ok(number) = ahead.u32() else {
+            return;
+        };
+        if ahead.is_empty() {
+            self.save(keep, Handle { number }, text);
+        }
+    }
+
+    /// Answers a command that the device does not serve.
+    fn serve<K: Keep>(&mut self, keep: &K, command: &PlainCommand, text: &mut Response)
+        ensures { record { response = text.new.items; after = self.new }
+            ≡ served (K.record_of keep.now) self.old (command_of command.now) text.old.items }
+    {
+        match command.code {
+            STIR_RANDOM => self.stir(command.parameters, text),
+            CONTEXT_LOAD => self.load(keep, command.parameters, text),
+            CONTEXT_SAVE => self.ask_save(keep, command.parameters, text),
+            _ => {}
+        }
+    }
+
+    /// Answers TPM2_GetCapability.
+    fn ask_capability<K: Keep>(
+        &self,
+        keep: &K,
+        parameters: &[u8],
+        was_told: bool,
+        text: &mut Response,
+    )
+        ensures { record { response = text.new.items; after = self.now }
+            ≡ capability_asked (K.record_of keep.now) self.now text.old.items was_told
+            (asked_at parameters.now) }
+    {
+        let Ok(asked) = Asked::read(parameters) else {
+            return;
+        };
+        let mut listing = Sink::new();
+        if tell(self, keep, asked, was_told, text.as_slice(), &mut listing) {
+            answer(SUCCESS, listing.as_slice(), text);
+        }
+    }
+
+    /// Answers a command without sessions.
+    #[tactic(auto, unfolding(crate::specs::Reply::command_reply))]
+    fn reply_to<K: Keep>(
+        &mut self,
+        keep: &K,
+        command: &PlainCommand,
+        was_told: bool,
+        text: &mut Response,
+    )
+        ensures { record { response = text.new.items; after = self.new }
+            ≡ command_reply (K.record_of keep.now) self.old (command_of command.now)
+            text.old.items was_told }
+    {
+        if !keep.fixed().started {
+            return;
+        }
+        if is_refusal(COMMAND_CODE, text.as_slice()) {
+            self.serve(keep, command, text);
+        } else if command.code == GET_CAPABILITY {
+            self.ask_capability(keep, command.parameters, was_told, text);
+        }
+    }
+
+    /// Answers behind the device, whose response this is: in its place, or not at all. `was_told`
+    /// says whether the response was a success.
+    #[tactic(auto, unfolding(crate::specs::Reply::reply))]
+    pub(crate) fn reply<K: Keep>(
+        &mut self,
+        keep: &K,
+        buffer: &[u8],
+        was_told: bool,
+        text: &mut Response,
+    )
+        ensures { record { response = text.new.items; after = self.new }
+            ≡ reply (K.record_of keep.now) self.old buffer.now text.old.items was_told }
+    {
+        match PlainCommand::read(buffer) {
+            Ok(command) => self.reply_to(keep, &command, was_told, text),
+            Err(_) => probe(self, buffer, text),
+        }
+    }
+}

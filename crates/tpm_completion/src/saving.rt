@@ -1,0 +1,200 @@
+//! TPM2_ContextSave and TPM2_ContextLoad by tokens.
+
+ghost use Rattle.std.specs.Prelude.{◌≡◌, ◌<◌, ◌^◌, IfSome, List, ℕ};
+ghost use Rattle.tpm_types.specs.Limits.{object_limit, session_limit};
+ghost use Rattle.tpm_step.specs.declared.event.Outcome.{Outcome as Told};
+ghost use Rattle.tpm_completion.specs.Saving.{Reply, context_given, counted, handle_given, loaded, next_number, object_loaded, object_saved, place_named, refused, saved, session_loaded, session_saved, token_loaded, with_object, with_session};
+
+use crate::answer::answer;
+use crate::codes::{
+    HANDLE_OF_PARAMETER_1, INTEGRITY_OF_PARAMETER_1, REFERENCE_H0, SUCCESS, TOO_MANY_CONTEXTS,
+    VALUE_OF_HANDLE_1,
+};
+use crate::completion::{Completion, Held};
+use crate::context::{Token, context_text, read_token};
+use tpm_containers::numbered;
+use tpm_record::Keep;
+use tpm_step::Response;
+use tpm_types::{Handle, OBJECT_LIMIT, SESSION_LIMIT};
+
+fn place_named(handle: Handle) -> usize
+    ensures { result ≡ place_named handle }
+{
+    (handle.number % (1 << 24)) as usize
+}
+
+impl Completion {
+    /// Remembers something else of the object in a place.
+    pub(crate) fn set_object(&mut self, place: usize, held: Held)
+        ensures { self.new ≡ with_object self.old place held }
+    {
+        if place < OBJECT_LIMIT {
+            self.objects[place] = held;
+        }
+    }
+
+    /// Remembers something else of the session in a place.
+    fn set_session(&mut self, place: usize, context: u64)
+        ensures { self.new ≡ with_session self.old place context }
+    {
+        if place < SESSION_LIMIT {
+            self.sessions[place] = context;
+        }
+    }
+
+    /// The number of the next context or flush, while there is one.
+    pub(crate) fn next_number(&self) -> Option<u64>
+        ensures { result ≡ next_number self.now }
+    {
+        if self.count < u64::MAX {
+            Some(self.count + 1)
+        } else {
+            None
+        }
+    }
+
+    /// Answers with the context of this number.
+    fn give_context(&self, handle: Handle, context: u64, text: &mut Response)
+        ensures { record { response = text.new.items; after = self.now }
+            ≡ context_given self.now handle context }
+    {
+        let token = Token { context, handle };
+        answer(SUCCESS, context_text(self.start, token).as_slice(), text);
+    }
+
+    /// Refuses with this code.
+    fn refuse(&self, code: u32, text: &mut Response)
+        ensures { record { response = text.new.items; after = self.now } ≡ refused self.now code }
+    {
+        answer(code, &[], text);
+    }
+
+    /// Saves the object of a handle.
+    fn save_object<K: Keep>(&mut self, keep: &K, handle: Handle, held: Held, text: &mut Response)
+        ensures { record { response = text.new.items; after = self.new }
+            ≡ object_saved (K.record_of keep.now) self.old handle held }
+    {
+        if keep.objects().get(handle).is_none() || held.waits != 0 {
+            return self.refuse(REFERENCE_H0, text);
+        }
+        if held.context != 0 {
+            return self.give_context(handle, held.context, text);
+        }
+        match self.next_number() {
+            Some(number) => {
+                self.count = number;
+                self.set_object(
+                    place_named(handle),
+                    Held {
+                        context: number,
+                        waits: 0,
+                    },
+                );
+                self.give_context(handle, number, text);
+            }
+            None => self.refuse(TOO_MANY_CONTEXTS, text),
+        }
+    }
+
+    /// Saves the session of a handle.
+    fn save_session<K: Keep>(&mut self, keep: &K, handle: Handle, context: u64, text: &mut Response)
+        ensures { record { response = text.new.items; after = self.new }
+            ≡ session_saved (K.record_of keep.now) self.old handle context }
+    {
+        if keep.sessions().get(handle).is_none() || context != 0 {
+            return self.refuse(REFERENCE_H0, text);
+        }
+        match self.next_number() {
+            Some(number) => {
+                self.count = number;
+                self.set_session(place_named(handle), number);
+                self.give_context(handle, number, text);
+            }
+            None => self.refuse(TOO_MANY_CONTEXTS, text),
+        }
+    }
+
+    /// TPM2_ContextSave of a handle.
+    #[tactic(auto, unfolding(crate::specs::Saving::saved))]
+    pub(crate) fn save<K: Keep>(&mut self, keep: &K, handle: Handle, text: &mut Response)
+        ensures { record { response = text.new.items; after = self.new }
+            ≡ saved (K.record_of keep.now) self.old handle }
+    {
+        if handle.is_transient() {
+            let held = self.object(place_named(handle));
+            self.save_object(keep, handle, held, text);
+        } else if handle.is_session() {
+            let context = self.session(place_named(handle));
+            self.save_session(keep, handle, context, text);
+        } else {
+            self.refuse(VALUE_OF_HANDLE_1, text);
+        }
+    }
+
+    /// Answers with this handle.
+    fn give_handle(&self, handle: Handle, text: &mut Response)
+        ensures { record { response = text.new.items; after = self.now }
+            ≡ handle_given self.now handle }
+    {
+        answer(SUCCESS, &handle.number.to_be_bytes(), text);
+    }
+
+    /// Loads the object of a context again.
+    fn load_object<K: Keep>(&mut self, keep: &K, token: Token, text: &mut Response)
+        ensures { record { response = text.new.items; after = self.new }
+            ≡ object_loaded (K.record_of keep.now) self.old token }
+    {
+        let place = place_named(token.handle);
+        let is_there = keep.objects().get(token.handle).is_some();
+        if !is_there || token.context == 0 || token.context != self.object(place).context {
+            return self.refuse(HANDLE_OF_PARAMETER_1, text);
+        }
+        self.set_object(
+            place,
+            Held {
+                context: token.context,
+                waits: 0,
+            },
+        );
+        self.give_handle(token.handle, text);
+    }
+
+    /// Loads the session of a context again.
+    fn load_session<K: Keep>(&mut self, keep: &K, token: Token, text: &mut Response)
+        ensures { record { response = text.new.items; after = self.new }
+            ≡ session_loaded (K.record_of keep.now) self.old token }
+    {
+        let place = place_named(token.handle);
+        let is_there = keep.sessions().get(token.handle).is_some();
+        if !is_there || token.context == 0 || token.context != self.session(place) {
+            return self.refuse(HANDLE_OF_PARAMETER_1, text);
+        }
+        self.set_session(place, 0);
+        self.give_handle(token.handle, text);
+    }
+
+    fn load_token<K: Keep>(&mut self, keep: &K, token: Token, text: &mut Response)
+        ensures { record { response = text.new.items; after = self.new }
+            ≡ token_loaded (K.record_of keep.now) self.old token }
+    {
+        if token.handle.is_transient() {
+            self.load_object(keep, token, text);
+        } else if token.handle.is_session() {
+            self.load_session(keep, token, text);
+        } else {
+            self.refuse(HANDLE_OF_PARAMETER_1, text);
+        }
+    }
+
+    /// TPM2_ContextLoad of these bytes.
+    #[tactic(auto, unfolding(crate::specs::Saving::loaded))]
+    pub(crate) fn load<K: Keep>(&mut self, keep: &K, context: &[u8], text: &mut Response)
+        ensures { record { response = text.new.items; after = self.new }
+            ≡ loaded (K.record_of keep.now) self.old context.now }
+    {
+        match read_token(self.start, context) {
+            Ok(token) => self.load_token(keep, token, text),
+            Err(_) => self.refuse(INTEGRITY_OF_PARAMETER_1, text),
+        }
+    }
+}

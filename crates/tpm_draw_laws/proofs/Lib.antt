@@ -1,0 +1,6 @@
+pub mod Fronts
+pub mod Alike
+pub mod Rows
+pub mod Needed
+pub mod Steps
+pub mod Executions

@@ -1,0 +1,2 @@
+pub mod ResponseCode
+pub mod Form

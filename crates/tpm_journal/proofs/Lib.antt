@@ -1,0 +1,6 @@
+pub mod Repeating
+pub mod ReadHeads
+pub mod Again
+pub mod Histories
+pub mod Ignoring
+pub mod Commands

@@ -1,0 +1,166 @@
+-- Entries that are executed one after another.
+use Rattle.std.proofs.Common.{◌≡◌, ◌≢◌, ℕ, ◌+◌, ◌≤◌, ◌<◌, Bool, List, [], ◌∷◌, ◌++◌, length, map, take, drop, Option, Some, None, refl, ap, sym, ◌∙◌, append_assoc, arith, length-drop}
+use Rattle.std.specs.List.{AllByRecursion}
+use Rattle.std.proofs.lemmas.List.{drop-take, length-take-le, map-append, take-append-drop, take-append-le}
+use Rattle.tpm_record.specs.Record.{Record}
+use Rattle.tpm_history.specs.Executions.{Execution}
+use Rattle.tpm_history.proofs.PowerCycles.{leads_on}
+use Rattle.tpm_journal_text.specs.Entry.{IsEntry, PlainEntry, entry_text, sum_after}
+use Rattle.tpm_journal_text.specs.Journal.{IsCutOff, IsDamaged, entries_text, sum_after_all}
+use Rattle.tpm_journal_text.proofs.Standing.{entry_text_some}
+use Rattle.tpm_journal.specs.Command.{event_of}
+use Rattle.tpm_journal.specs.Replay.{AnswersAre, Performs, Repeats, Replays, answer_said, event_in, response_sum}
+use Rattle.tpm_journal.specs.State.{journal_after, journal_after_all}
+use Rattle.tpm_journal.specs.declared.following.FollowFault.{FollowFault}
+use Rattle.tpm_journal.specs.declared.following.FollowFault.TheVariants.{Damaged, Otherwise}
+use Rattle.tpm_journal.specs.declared.journal.Journal.{Journal}
+
+-- ---- one entry behind others
+
+append_none : (text : List ℕ) → text ++ [] ≡ text
+append_none [] = refl
+append_none (byte ∷ text) = ap (λ (l : List ℕ). byte ∷ l) (append_none text)
+
+pub entries_more : (sum : ℕ) (entries : List PlainEntry) (e : PlainEntry)
+    → entries_text sum (entries ++ e ∷ []) ≡ entries_text sum entries ++ entry_text (sum_after_all sum entries) e
+entries_more sum [] e = append_none (entry_text sum e)
+entries_more sum (x ∷ entries) e =
+    ap (λ (l : List ℕ). entry_text sum x ++ l) (entries_more (sum_after sum x) entries e)
+    ∙ sym (append_assoc (entry_text sum x) (entries_text (sum_after sum x) entries) (entry_text (sum_after_all (sum_after sum x) entries) e))
+
+journal_more : (j : Journal) (entries : List PlainEntry) (e : PlainEntry)
+    → journal_after_all j (entries ++ e ∷ []) ≡ journal_after (journal_after_all j entries) e
+journal_more j [] e = refl
+journal_more j (x ∷ entries) e = journal_more (journal_after j x) entries e
+
+pub journal_sum : (j : Journal) (entries : List PlainEntry) → (journal_after_all j entries).sum ≡ sum_after_all j.sum entries
+journal_sum j [] = refl
+journal_sum j (x ∷ entries) = journal_sum (journal_after j x) entries
+
+are_more : (entries : List PlainEntry) (e : PlainEntry) → AllByRecursion IsEntry entries → IsEntry e → AllByRecursion IsEntry (entries ++ e ∷ [])
+are_more [] e are is = (is, tt)
+are_more (x ∷ entries) e are is = (are.0, are_more entries e are.1 is)
+
+take_further : (n m : ℕ) (text : List ℕ) → n + m ≤ length text → take (n + m) text ≡ take n text ++ take m (drop n text)
+take_further n m text within =
+    let short : n ≤ length (take (n + m) text) = omega (arith, length-take-le (n + m) text within) in
+    let front : take n (take (n + m) text) ≡ take n text =
+    sym (take-append-le n (take (n + m) text) (drop (n + m) text) short) ∙ ap (take n) (take-append-drop (n + m) text) in
+    sym (take-append-drop n (take (n + m) text))
+    ∙ ap (λ (l : List ℕ). l ++ drop n (take (n + m) text)) front
+    ∙ ap (λ (l : List ℕ). take n text ++ l) (drop-take n m text)
+
+-- what is said of a text that is another
+pub performs_at : (can : Bool) (before : Journal) (old : Record) (left text : List ℕ) (size : ℕ) (after : Journal) (new : Record)
+    (Holds : ℕ → ℕ → Type 0) → left ≡ text → Performs can before old left size after new Holds → Performs can before old text size after new Holds
+performs_at can before old left text size after new Holds is p = rw (← is) p
+
+-- ---- what was executed so far, and one entry more
+
+module _ (can : Bool) (before : Journal) (old : Record) (text : List ℕ) (taken : ℕ) (mid : Journal) (here : Record)
+    (size : ℕ) (after : Journal) (new : Record) (Holds : ℕ → ℕ → Type 0)
+    (r : Repeats can before old text taken None mid here) (p : Performs can mid here (drop taken text) size after new Holds) where
+  one : Execution
+  one = record { before = here; event = event_of p.entry; seen = p.seen }
+
+  sum_is : mid.sum ≡ sum_after_all before.sum r.entries
+  sum_is = ap (λ (j : Journal). j.sum) r.journal ∙ journal_sum before r.entries
+
+  sums_are : map response_sum (r.executions ++ one ∷ []) ≡ map answer_said r.entries ++ response_sum one ∷ []
+  sums_are = map-append response_sum r.executions (one ∷ []) ∙ ap (λ (l : List ℕ). l ++ response_sum one ∷ []) r.answers
+
+  said_are : map answer_said (r.entries ++ p.entry ∷ []) ≡ map answer_said r.entries ++ answer_said p.entry ∷ []
+  said_are = map-append answer_said r.entries (p.entry ∷ [])
+
+  joined : (fault : Option FollowFault) → AnswersAre fault (map response_sum (r.executions ++ one ∷ [])) (map answer_said (r.entries ++ p.entry ∷ []))
+      → Repeats can before old text (taken + size) fault after new
+  unfolding one
+  joined fault answers = record {
+    entries = r.entries ++ p.entry ∷ [];
+    are = are_more r.entries p.entry r.are p.is;
+    within = omega (arith, r.within, p.within, length-drop taken text);
+    front = take_further taken size text (omega (arith, r.within, p.within, length-drop taken text)) ∙ ap (λ (l : List ℕ). l ++ take size (drop taken text)) r.front
+        ∙ ap (λ (l : List ℕ). entries_text before.sum r.entries ++ l) (p.front ∙ ap (λ (s : ℕ). entry_text s p.entry) sum_is)
+        ∙ sym (entries_more before.sum r.entries p.entry);
+    executions = r.executions ++ one ∷ [];
+    leads = leads_on can old r.executions here (one ∷ []) new r.leads (refl, p.executes, p.leaves);
+    events = map-append event_in r.executions (one ∷ []) ∙ ap (λ l. l ++ event_of p.entry ∷ []) r.events
+        ∙ sym (map-append event_of r.entries (p.entry ∷ []));
+    answers = answers;
+    journal = p.journal ∙ ap (λ (j : Journal). journal_after j p.entry) r.journal ∙ sym (journal_more before r.entries p.entry);
+  }
+
+pub repeats_more : (can : Bool) (before : Journal) (old : Record) (text : List ℕ) (taken : ℕ) (mid : Journal) (here : Record)
+    (size : ℕ) (after : Journal) (new : Record) → Repeats can before old text taken None mid here
+    → Performs can mid here (drop taken text) size after new (λ sum said. sum ≡ said) → Repeats can before old text (taken + size) None after new
+unfolding one
+repeats_more can before old text taken mid here size after new r p =
+    joined can before old text taken mid here size after new _ r p None
+    (sums_are can before old text taken mid here size after new _ r p
+    ∙ ap (λ (n : ℕ). map answer_said r.entries ++ n ∷ []) p.answer
+    ∙ sym (said_are can before old text taken mid here size after new _ r p))
+
+pub repeats_otherwise : (can : Bool) (before : Journal) (old : Record) (text : List ℕ) (taken : ℕ) (mid : Journal) (here : Record)
+    (size : ℕ) (after : Journal) (new : Record) → Repeats can before old text taken None mid here
+    → Performs can mid here (drop taken text) size after new (λ sum said. sum ≢ said)
+    → Replays can before old text (record { taken = taken + size; fault = Some Otherwise }) after new
+unfolding one
+repeats_otherwise can before old text taken mid here size after new r p = record {
+  repeats = joined can before old text taken mid here size after new _ r p (Some Otherwise) (
+    map answer_said r.entries,
+    response_sum (one can before old text taken mid here size after new _ r p),
+    answer_said p.entry,
+    sums_are can before old text taken mid here size after new _ r p,
+    said_are can before old text taken mid here size after new _ r p,
+    p.answer,
+  );
+  ends = tt;
+}
+
+-- ---- the beginning and the end
+
+pub repeats_none : (can : Bool) (before : Journal) (old : Record) (text : List ℕ) → Repeats can before old text 0 None before old
+repeats_none can before old text = record {
+  entries = [];
+  are = tt;
+  within = omega arith;
+  front = refl;
+  executions = [];
+  leads = refl;
+  events = refl;
+  answers = refl;
+  journal = refl;
+}
+
+pub performs_some : (can : Bool) (before : Journal) (old : Record) (text : List ℕ) (size : ℕ) (after : Journal) (new : Record)
+    (Holds : ℕ → ℕ → Type 0) → Performs can before old text size after new Holds → 0 < size
+performs_some can before old text size after new Holds p =
+    omega (arith, length-take-le size text p.within, ap length p.front, entry_text_some before.sum p.entry)
+
+pub ends_cut : (can : Bool) (before : Journal) (old : Record) (text : List ℕ) (taken : ℕ) (mid : Journal) (here : Record)
+    (after : Journal) (new : Record) → Repeats can before old text taken None mid here
+    → IsCutOff mid.sum (drop taken text) × (after ≡ mid) × (new ≡ here)
+    → Replays can before old text (record { taken = taken; fault = None }) after new
+ends_cut can before old text taken mid here after new r end =
+    rw (end.1, end.2) (record { repeats = r; ends = end.0 })
+
+repeats_so : (can : Bool) (before : Journal) (old : Record) (text : List ℕ) (taken : ℕ) (mid : Journal) (here : Record)
+    → Repeats can before old text taken None mid here → Repeats can before old text taken (Some Damaged) mid here
+repeats_so can before old text taken mid here r = record {
+  entries = r.entries;
+  are = r.are;
+  within = r.within;
+  front = r.front;
+  executions = r.executions;
+  leads = r.leads;
+  events = r.events;
+  answers = r.answers;
+  journal = r.journal;
+}
+
+pub ends_damaged : (can : Bool) (before : Journal) (old : Record) (text : List ℕ) (taken : ℕ) (mid : Journal) (here : Record)
+    (after : Journal) (new : Record) → Repeats can before old text taken None mid here
+    → IsDamaged mid.sum (drop taken text) × (after ≡ mid) × (new ≡ here)
+    → Replays can before old text (record { taken = taken; fault = Some Damaged }) after new
+ends_damaged can before old text taken mid here after new r end =
+    rw (end.1, end.2) (record { repeats = repeats_so can before old text taken mid here r; ends = end.0 })

@@ -1,0 +1,9 @@
+pub mod Command
+pub mod State
+pub mod Living
+pub mod Replay
+pub mod Opening
+pub use Rattle.tpm_journal_text.specs.Sum
+pub use Rattle.tpm_journal_text.specs.Entry
+pub use Rattle.tpm_journal_text.specs.Head
+pub use Rattle.tpm_journal_text.specs.Journal

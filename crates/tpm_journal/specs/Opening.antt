@@ -1,0 +1,62 @@
+-- A text that is opened as a journal.
+use Rattle.std.specs.Prelude.{◌≡◌, ◌+◌, ℕ, false, List, ◌++◌, length, Result, Ok, Err, Some, None}
+use Rattle.tpm_image.specs.Image.{image_of}
+use Rattle.tpm_image.specs.NonVolatile.{NonVolatile, powered_on}
+use Rattle.tpm_journal_text.specs.Entry.{PlainEntry}
+use Rattle.tpm_journal_text.specs.Head.{HasHead, head_sum, head_text}
+use Rattle.tpm_journal_text.specs.Journal.{entries_text}
+use Rattle.tpm_record.specs.Record.{Record}
+use Rattle.tpm_journal.specs.Replay.{Replays}
+use Rattle.tpm_journal.specs.State.{journal_after_all, journal_begun}
+use Rattle.tpm_journal.specs.declared.following.Followed.{Followed}
+use Rattle.tpm_journal.specs.declared.journal.Journal.{Journal}
+use Rattle.tpm_journal.specs.declared.opening.OpenFault.{OpenFault}
+use Rattle.tpm_journal.specs.declared.opening.OpenFault.TheVariants as fault
+use Rattle.tpm_journal.specs.declared.opening.Opened.{Opened}
+
+-- A text begins with the head of this clock and this image, and then goes on so.
+pub record BeginsWith (text : List ℕ) (clock : ℕ) (image rest : List ℕ) : Type 0 where
+  pub has : HasHead clock image
+  pub is : text ≡ head_text clock image ++ rest
+
+-- A text begins with a head, whose image is that of what a device kept; and from that device, as power
+-- comes on, the entries behind the head were executed, until it ended so.
+pub record Reads (text : List ℕ) (followed : Followed) (journal : Journal) (new : Record) : Type 0 where
+  pub clock : ℕ
+  pub image : List ℕ
+  pub rest : List ℕ
+  pub begins : BeginsWith text clock image rest
+  pub kept : NonVolatile
+  pub is_image : image_of image ≡ Ok kept
+  pub replays : Replays false (journal_begun clock image) (powered_on kept) rest followed journal new
+
+-- A text is a journal: the device that it was opened as executed exactly the entries behind its head,
+-- and less than an entry is left behind them.
+pub record IsJournal (text : List ℕ) (opened : Opened) (new : Record) : Type 0 where
+  pub followed : Followed
+  pub reads : Reads text followed opened.journal new
+  pub whole : followed.fault ≡ None
+  pub size : opened.taken ≡ length (head_text reads.clock reads.image) + followed.taken
+
+-- A text was opened: as the device of a journal; or no head stands at its front; or the image of its
+-- head is none, by this fault; or its entries were executed until this fault.
+abbrev pub OpensJournal : List ℕ → Result Opened OpenFault → Record → Type 0
+OpensJournal text (Ok opened) new = IsJournal text opened new
+OpensJournal text (Err fault.NoJournal) new =
+    (clock : ℕ) (image rest : List ℕ) → BeginsWith text clock image rest → ⊥
+OpensJournal text (Err (fault.Image why)) new =
+    (clock : ℕ) × (image : List ℕ) × (rest : List ℕ) × BeginsWith text clock image rest
+    × (image_of image ≡ Err why)
+OpensJournal text (Err (fault.Follow why)) new =
+    (followed : Followed) × (journal : Journal) × Reads text followed journal new
+    × (followed.fault ≡ Some why)
+
+-- The journal of a head and these entries was opened, and gave the device to whose record the entries
+-- lead; all of them were taken.
+abbrev pub IsOpenedAgain : (clock : ℕ) → (image : List ℕ) → List PlainEntry → Record
+    → Result Opened OpenFault → Record → Type 0
+IsOpenedAgain clock image entries final (Ok opened) new =
+    (new ≡ final)
+    × (opened.taken ≡ length (head_text clock image) + length (entries_text (head_sum clock image) entries))
+    × (opened.journal ≡ journal_after_all (journal_begun clock image) entries)
+IsOpenedAgain clock image entries final (Err why) new = ⊥

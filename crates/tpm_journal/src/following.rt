@@ -1,0 +1,135 @@
+//! A device executes again what a text says that it answered.
+
+ghost use Rattle.std.specs.Prelude.{◌≡◌, ◌≤◌, length};
+ghost use Rattle.tpm_journal.specs.Command.{event_of, padded};
+ghost use Rattle.tpm_journal.specs.Replay.{Does, Replays};
+ghost use Rattle.tpm_journal_text.specs.Entry.{IsEntry, plain_entry};
+ghost use Rattle.tpm_step.specs.Execution.{Executes};
+ghost use Rattle.tpm_step.specs.Step.{outcome_step};
+ghost use Rattle.tpm_machine.specs.State.{state_of};
+
+use crate::journal::Journal;
+use tpm_journal_text::{BYTES_ROOM, ENTRY_ROOM, Entry, Next, read_entry, sum_of};
+use tpm_machine::Machine;
+use tpm_record::Keep;
+use tpm_step::{Event, Outcome};
+use tpm_types::Locality;
+
+/// Why a text was not followed to its end.
+#[derive(Clone, Copy, Debug, PartialEq, Eq)]
+pub enum FollowFault {
+    /// As many bytes as an entry says that it has are no entry.
+    Damaged,
+    /// The device answered the last entry otherwise than it says.
+    Otherwise,
+}
+
+/// How far a text was followed.
+#[derive(Clone, Copy, Debug, PartialEq, Eq)]
+pub struct Followed {
+    /// How many bytes the entries have that were executed.
+    pub taken: usize,
+    pub fault: Option<FollowFault>,
+}
+
+/// What was done about the front of a text.
+enum Deed {
+    /// Its entry, of so many bytes, was executed, and answered as it says.
+    Executed(usize),
+    /// Its entry, of so many bytes, was executed, and answered otherwise.
+    Otherwise(usize),
+    /// It is less than an entry.
+    CutOff,
+    /// It is damaged.
+    Damaged,
+}
+
+/// Executes the command of an entry. This is the one place where an entry is executed.
+fn perform<K: Keep>(machine: &mut Machine<K>, entry: &Entry, outcome: &mut Outcome)
+    requires { IsEntry (plain_entry entry.now) }
+    ensures { Executes K.can_refuse (state_of K.record_of machine.old)
+        (event_of (plain_entry entry.now))
+        (outcome_step (state_of K.record_of machine.new) outcome.new) }
+{
+    let Some(locality) = Locality::new(entry.locality) else {
+        return;
+    };
+    let random = padded(entry.drawn);
+    let event = Event::of_command(entry.buffer, locality, entry.elapsed_ms, random);
+    machine.execute_into(&event, outcome);
+}
+
+/// These random bytes, and zeros behind them.
+fn padded(drawn: &[u8]) -> [u8; 256]
+    requires { length drawn.now ≤ 256 }
+    ensures { result ≡ padded drawn.now }
+{
+    let mut random = [0; 256];
+    let (front, _) = random.split_at_mut(drawn.len());
+    front.copy_from_slice(drawn);
+    random
+}
+
+impl Journal {
+    /// Executes the entry at the front of a text. Its bytes go to the first room, and its text is
+    /// written to the second, to be compared.
+    fn follow_one<K: Keep>(
+        &mut self,
+        machine: &mut Machine<K>,
+        text: &[u8],
+        bytes: &mut [u8; BYTES_ROOM],
+        room: &mut [u8; ENTRY_ROOM],
+        outcome: &mut Outcome,
+    ) -> Deed
+        ensures { Does K.can_refuse self.old (state_of K.record_of machine.old) text.now result
+            self.new (state_of K.record_of machine.new) }
+    {
+        let (entry, size, sum) = match read_entry(self.sum, text, bytes, room) {
+            Next::CutOff => return Deed::CutOff,
+            Next::Damaged => return Deed::Damaged,
+            Next::Whole { entry, size, sum } => (entry, size, sum),
+        };
+        perform(machine, &entry, outcome);
+        self.sum = sum;
+        self.time = self.time.saturating_add(u64::from(entry.elapsed_ms));
+        if sum_of(outcome.response.as_slice()) == entry.answered {
+            Deed::Executed(size)
+        } else {
+            Deed::Otherwise(size)
+        }
+    }
+
+    /// Executes the entries of a text that was added behind what this journal has.
+    pub fn follow<K: Keep>(
+        &mut self,
+        machine: &mut Machine<K>,
+        text: &[u8],
+        outcome: &mut Outcome,
+    ) -> Followed
+        ensures { Replays K.can_refuse self.old (state_of K.record_of machine.old) text.now result
+            self.new (state_of K.record_of machine.new) }
+    {
+        let mut bytes = [0; BYTES_ROOM];
+        let mut room = [0; ENTRY_ROOM];
+        let mut taken = 0;
+        loop {
+            let (_, left) = text.split_at(taken);
+            match self.follow_one(machine, left, &mut bytes, &mut room, outcome) {
+                Deed::Executed(size) => taken += size,
+                Deed::Otherwise(size) => {
+                    return Followed {
+                        taken: taken + size,
+                        fault: Some(FollowFault::Otherwise),
+                    };
+                }
+                Deed::CutOff => return Followed { taken, fault: None },
+                Deed::Damaged => {
+                    return Followed {
+                        taken,
+                        fault: Some(FollowFault::Damaged),
+                    };
+                }
+            }
+        }
+    }
+}

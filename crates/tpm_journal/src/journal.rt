@@ -1,0 +1,168 @@
+//! A journal begins, and goes on with each command.
+
+ghost use Rattle.std.specs.Prelude.{◌≡◌, ◌≤◌, ◌<◌, false, length, take};
+ghost use Rattle.tpm_history.specs.Follows.{After, Follows};
+ghost use Rattle.tpm_image.specs.Image.{image_text};
+ghost use Rattle.tpm_image.specs.NonVolatile.{kept_of};
+ghost use Rattle.tpm_image.specs.Saving.{PutsFront};
+ghost use Rattle.tpm_image.specs.declared.version.Version.TheVariants.{Two};
+ghost use Rattle.tpm_journal.specs.Command.{command_at, elapsed_of, entry_of, given};
+ghost use Rattle.tpm_journal.specs.State.{journal_after, journal_begun};
+ghost use Rattle.tpm_journal_text.specs.Entry.{IsEntry, entry_text};
+ghost use Rattle.tpm_journal_text.specs.Head.{head_text, image_limit};
+ghost use Rattle.tpm_machine.specs.Drawn.{drawn_by};
+ghost use Rattle.tpm_machine.specs.State.{latest_drawn, state_of};
+ghost use Rattle.tpm_record.specs.Cycle.{cycled};
+ghost use Rattle.tpm_step.specs.Events.{Cycled};
+ghost use Rattle.tpm_step.specs.Execution.{Executes};
+ghost use Rattle.tpm_step.specs.Step.{outcome_step};
+ghost use Rattle.tpm_types.specs.Locality.{locality_number};
+
+use tpm_image::laws::image_laws;
+use tpm_image::save_into;
+use tpm_journal_text::{ENTRY_LIMIT, ENTRY_ROOM, Entry, IMAGE_ROOM, head_size, sum_of, write_head};
+use tpm_machine::Machine;
+use tpm_record::Keep;
+use tpm_step::{Event, Outcome};
+use tpm_types::Locality;
+
+/// What a journal has beside the device.
+#[derive(Clone, Copy, Debug, PartialEq, Eq)]
+pub struct Journal {
+    /// The sum of its text so far.
+    pub sum: u64,
+    /// The time to which it has come, in milliseconds of the host's clock.
+    pub time: u64,
+}
+
+impl Journal {
+    /// Cycles the power of the device, and writes the head of its new journal to the front of a room
+    /// that has as many bytes. Gives how many bytes the head has, also where there is no room and
+    /// nothing is done.
+    pub fn begin<K: Keep>(
+        &mut self,
+        machine: &mut Machine<K>,
+        now_ms: u64,
+        outcome: &mut Outcome,
+        room: &mut [u8],
+    ) -> usize
+        ensures head { PutsFront (head_text now_ms
+            (image_text Two (kept_of (cycled (state_of K.record_of machine.old)))))
+            room.old result room.new }
+        ensures executes { result ≤ length room.old → Executes K.can_refuse
+            (state_of K.record_of machine.old) Cycled
+            (outcome_step (state_of K.record_of machine.new) outcome.new) }
+        ensures history { result ≤ length room.old → After Follows
+            (state_of K.record_of machine.old) Cycled
+            (outcome_step (state_of K.record_of machine.new) outcome.new) }
+        ensures journal { result ≤ length room.old → self.new ≡ journal_begun now_ms
+            (image_text Two (kept_of (cycled (state_of K.record_of machine.old)))) }
+        ensures no_room { length room.old < result
+            → state_of K.record_of machine.new ≡ state_of K.record_of machine.old }
+        ensures no_journal { length room.old < result → self.new ≡ self.old }
+    {
+        let mut image = [0; IMAGE_ROOM];
+        let count = save(machine, &mut image);
+        let size = head_size(count);
+        if size > room.len() {
+            return size;
+        }
+        machine.execute_into(&Event::PowerCycle, outcome);
+        let (image, _) = image.split_at(count);
+        let (front, _) = room.split_at_mut(size);
+        let sum = write_head(now_ms, image, front);
+        *self = Journal { sum, time: now_ms };
+        size
+    }
+
+    /// The milliseconds since the latest command, by the host's clock.
+    fn elapsed(&self, now_ms: u64) -> u32
+        ensures { result ≡ elapsed_of now_ms self.now.time }
+    {
+        now_ms.saturating_sub(self.time).min(u64::from(u32::MAX)) as u32
+    }
+
+    /// Executes a command by the host's clock, and writes its entry to the front of a room. Gives how
+    /// many bytes the entry has. A buffer of more than 4,097 bytes is cut to as many, which are
+    /// refused alike.
+    pub fn execute<K: Keep>(
+        &mut self,
+        machine: &mut Machine<K>,
+        buffer: &[u8],
+        locality: Locality,
+        now_ms: u64,
+        random: &[u8; 256],
+        outcome: &mut Outcome,
+        room: &mut [u8; ENTRY_ROOM],
+    ) -> usize
+        ensures executes { let c = command_at buffer.now (locality_number locality)
+            (elapsed_of now_ms self.old.time) random.now in
+            Executes K.can_refuse (state_of K.record_of machine.old) (given c)
+            (outcome_step (state_of K.record_of machine.new) outcome.new) }
+        ensures history { let c = command_at buffer.now (locality_number locality)
+            (elapsed_of now_ms self.old.time) random.now in
+            After Follows (state_of K.record_of machine.old) (given c)
+            (outcome_step (state_of K.record_of machine.new) outcome.new) }
+        ensures written { let c = command_at buffer.now (locality_number locality)
+            (elapsed_of now_ms self.old.time) random.now in
+            let x = outcome_step (state_of K.record_of machine.new) outcome.new in
+            take result room.new
+            ≡ entry_text self.old.sum (entry_of (state_of K.record_of machine.old) c x) }
+        ensures fits { result ≤ length room.new }
+        ensures drawn { let c = command_at buffer.now (locality_number locality)
+            (elapsed_of now_ms self.old.time) random.now in
+            latest_drawn machine.new
+            ≡ drawn_by (state_of K.record_of machine.old) (given c) outcome.new.row.check }
+
+        // What is written is an entry, and so can be read again.
+        ensures entry { let c = command_at buffer.now (locality_number locality)
+            (elapsed_of now_ms self.old.time) random.now in
+            let x = outcome_step (state_of K.record_of machine.new) outcome.new in
+            IsEntry (entry_of (state_of K.record_of machine.old) c x) }
+        ensures journal { let c = command_at buffer.now (locality_number locality)
+            (elapsed_of now_ms self.old.time) random.now in
+            let x = outcome_step (state_of K.record_of machine.new) outcome.new in
+            self.new ≡ journal_after self.old (entry_of (state_of K.record_of machine.old) c x) }
+    {
+        let buffer = cut(buffer);
+        let elapsed_ms = self.elapsed(now_ms);
+        let event = Event::of_command(buffer, locality, elapsed_ms, *random);
+        machine.execute_into(&event, outcome);
+        let (drawn, _) = random.split_at(machine.drawn());
+        let entry = Entry {
+            elapsed_ms,
+            locality: locality.number(),
+            completes: false,
+            drawn,
+            buffer,
+            answered: sum_of(outcome.response.as_slice()),
+        };
+        self.time = self.time.saturating_add(u64::from(elapsed_ms));
+        entry.write(&mut self.sum, room)
+    }
+}
+
+/// Writes the image of a device to the front of a room, and gives how many bytes it has.
+fn save<K: Keep>(machine: &Machine<K>, room: &mut [u8; IMAGE_ROOM]) -> usize
+    ensures size { result
+        ≡ length (image_text Two (kept_of (state_of K.record_of machine.now))) }
+    ensures small { result ≤ image_limit }
+    ensures image { take result room.new
+        ≡ image_text Two (kept_of (state_of K.record_of machine.now)) }
+{
+    image_laws();
+    machine.keep();
+    save_into(machine, room)
+}
+
+/// The front of a buffer that an entry has.
+#[tactic(auto, using(std::proofs::lemmas::List::take_all))]
+fn cut(buffer: &[u8]) -> &[u8]
+    ensures { result.now ≡ take 4097 buffer.now }
+{
+    if buffer.len() <= ENTRY_LIMIT {
+        return buffer;
+    }
+    let (front, _) = buffer.split_at(ENTRY_LIMIT);
+    front
+}

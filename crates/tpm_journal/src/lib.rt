@@ -1,0 +1,18 @@
+#![tactic(auto)]
+
+//! The journal of a device: the image of the device as power came on, and an entry for each command
+//! that was answered since. A device is opened from it by executing the entries again.
+//!
+//! [`Journal`] is what a journal has beside the device: its sum and its time. It begins at a power
+//! cycle, executes commands and gives their entries, follows a text, and is opened from a text.
+//! What is opened is the device that executed exactly the answered commands. The crate does no input
+//! or output: texts are read from the caller's memory and written to it.
+
+pub mod following;
+pub mod journal;
+pub mod laws;
+pub mod opening;
+
+pub use following::{FollowFault, Followed};
+pub use journal::Journal;
+pub use opening::{OpenFault, Opened};

@@ -1,0 +1,67 @@
+//! A device is opened from a journal.
+
+ghost use Rattle.std.specs.Prelude.{◌≡◌, false, replicate};
+ghost use Rattle.tpm_journal.specs.Opening.{OpensJournal};
+ghost use Rattle.tpm_machine.specs.State.{state_of};
+ghost use Rattle.tpm_record.specs.Record.{manufactured};
+
+use crate::following::FollowFault;
+use crate::journal::Journal;
+use tpm_image::{ImageFault, open_into};
+use tpm_journal_text::{HEAD_ROOM, IMAGE_ROOM, read_head};
+use tpm_machine::Machine;
+use tpm_record::Keep;
+use tpm_step::Outcome;
+
+/// Why a text was not opened as a journal.
+#[derive(Clone, Copy, Debug, PartialEq, Eq)]
+pub enum OpenFault {
+    /// No head stands at its front.
+    NoJournal,
+    /// The head's image is none, or is of a device that this one is not.
+    Image(ImageFault),
+    /// What stands behind the head was followed to a fault.
+    Follow(FollowFault),
+}
+
+/// A journal that was opened.
+#[derive(Clone, Copy, Debug, PartialEq, Eq)]
+pub struct Opened {
+    pub journal: Journal,
+    /// How many bytes the head and the entries have.
+    pub taken: usize,
+}
+
+/// Opens a device from its journal, where a new machine of zeros lies. After a fault nothing is said
+/// of the machine.
+pub fn open<K: Keep>(
+    machine: &mut Machine<K>,
+    text: &[u8],
+    outcome: &mut Outcome,
+) -> Result<Opened, OpenFault>
+    requires new { state_of K.record_of machine.old ≡ manufactured (replicate 256 0) }
+    requires never_refused { K.can_refuse ≡ false }
+    ensures { OpensJournal text.now result (state_of K.record_of machine.new) }
+{
+    let mut image = [0; IMAGE_ROOM];
+    let mut room = [0; HEAD_ROOM];
+    let Some(head) = read_head(text, &mut image, &mut room) else {
+        return Err(OpenFault::NoJournal);
+    };
+    if let Err(fault) = open_into(machine, head.image) {
+        return Err(OpenFault::Image(fault));
+    }
+    let mut journal = Journal {
+        sum: head.sum,
+        time: head.clock,
+    };
+    let (_, rest) = text.split_at(head.size);
+    let followed = journal.follow(machine, rest, outcome);
+    match followed.fault {
+        None => Ok(Opened {
+            journal,
+            taken: head.size + followed.taken,
+        }),
+        Some(fault) => Err(OpenFault::Follow(fault)),
+    }
+}

@@ -1,0 +1,88 @@
+-- Pieces of a text, by their places.
+use Rattle.std.proofs.Common.{◌≡◌, ℕ, ◌*◌, ◌+◌, List, [], ◌∷◌, ◌++◌, length, take, drop, Result, Ok, IsErr, refl, ap, sym, ◌∙◌, append_assoc, arith, length-append, take_all}
+use Rattle.std.specs.Prelude.{MatchResult, true, nat_eq}
+use Rattle.std.specs.Cmp.Lexicographic.{pointwise}
+use Rattle.std.specs.Int.{w64, to_be_bytes}
+use Rattle.std.proofs.lemmas.Bool.{eq-eqb}
+use Rattle.std.proofs.lemmas.List.{take_at, drop_at, take-append-drop}
+use Rattle.hex.specs.Hex.{decode_of, encode_lower, lower_digits}
+use Rattle.hex.proofs.HexLemmas.{decode_of-encode_lower, length-encode_with}
+use Rattle.tpm_bytes.specs.Reading.{AreBytes}
+use Rattle.tpm_bytes.proofs.Fields.{ok_is}
+use Rattle.hex.specs.declared.error.FromHexError.{FromHexError}
+use Rattle.tpm_journal_text.specs.Marked.{marked_line}
+use Rattle.tpm_hex.specs.declared.NotHex.{NotHex}
+
+-- a piece stands at its place in a text, however this goes on
+pub piece_in : (front piece back text : List ℕ) (size place count : ℕ) → take size text ≡ front ++ piece ++ back
+    → length front ≡ place → length piece ≡ count → take count (drop place text) ≡ piece
+piece_in front piece back text size place count e at of =
+    let whole : text ≡ front ++ (piece ++ (back ++ drop size text)) =
+    sym (take-append-drop size text) ∙ ap (λ (t : List ℕ). t ++ drop size text) e
+    ∙ append_assoc (front ++ piece) back (drop size text) ∙ append_assoc front piece (back ++ drop size text) in
+    ap (λ (t : List ℕ). take count (drop place t)) whole
+    ∙ rw (drop_at front (piece ++ (back ++ drop size text)) place at, take_at piece (back ++ drop size text) count of) refl
+
+-- digits that spell bytes are read as these
+pub digits_read : (digits bytes new : List ℕ) (result : Result (Unit {0}) NotHex)
+    → MatchResult (decode_of digits) (λ read. (result ≡ Ok tt) × (new ≡ read)) (λ fault. IsErr result)
+    → digits ≡ encode_lower bytes → AreBytes bytes → (result ≡ Ok tt) × (new ≡ bytes)
+digits_read digits bytes new result read e are = rw (e, decode_of-encode_lower bytes are) at read
+
+-- ---- a line in which bytes stand with their sum
+
+pub line_parts : (word bytes : List ℕ) (sum : ℕ) → marked_line word bytes sum
+    ≡ word ++ encode_lower bytes ++ (32 ∷ [] ++ (encode_lower (to_be_bytes w64 sum) ++ 10 ∷ []))
+unfolding marked_line
+line_parts word bytes sum =
+    append_assoc (word ++ encode_lower bytes ++ 32 ∷ []) (encode_lower (to_be_bytes w64 sum)) (10 ∷ [])
+    ∙ append_assoc (word ++ encode_lower bytes) (32 ∷ []) (encode_lower (to_be_bytes w64 sum) ++ 10 ∷ [])
+
+-- the digits of the bytes stand at their place
+pub line_digits : (word bytes text : List ℕ) (sum size count : ℕ) → length bytes ≡ count
+    → take size text ≡ marked_line word bytes sum → take (2 * count) (drop (length word) text) ≡ encode_lower bytes
+line_digits word bytes text sum size count many there =
+    piece_in word (encode_lower bytes) (32 ∷ [] ++ (encode_lower (to_be_bytes w64 sum) ++ 10 ∷ [])) text size
+    (length word) (2 * count) (there ∙ line_parts word bytes sum) refl
+    (length-encode_with lower_digits bytes ∙ ap (λ (n : ℕ). 2 * n) many)
+
+-- ---- texts that are compared
+
+all_equal : (text : List ℕ) → pointwise nat_eq text text ≡ true
+all_equal [] = refl
+all_equal (byte ∷ text) = rw (eq-eqb byte byte refl, all_equal text) refl
+
+pub same_is_equal : (text other : List ℕ) → text ≡ other → pointwise nat_eq text other ≡ true
+same_is_equal text other e = rw (← e) (all_equal text)
+
+-- a text that stands at the front of another, however it goes on
+pub front_of : (front rest text : List ℕ) (size : ℕ) → length front ≡ size → text ≡ front ++ rest → take size text ≡ front
+front_of front rest text size many e = ap (take size) e ∙ take_at front rest size many
+
+pub line_length : (word bytes : List ℕ) (sum count : ℕ) → length bytes ≡ count
+    → length (marked_line word bytes sum) ≡ length word + 2 * count + 18
+unfolding marked_line
+line_length word bytes sum count many =
+    let head = length-append word (encode_lower bytes) in
+    let a = length-append (word ++ encode_lower bytes) (32 ∷ []) in
+    let b = length-append (word ++ encode_lower bytes ++ 32 ∷ []) (encode_lower (to_be_bytes w64 sum)) in
+    let c = length-append (word ++ encode_lower bytes ++ 32 ∷ [] ++ encode_lower (to_be_bytes w64 sum)) (10 ∷ []) in
+    let d = length-encode_with lower_digits bytes in
+    let e = length-encode_with lower_digits (to_be_bytes w64 sum) in
+    omega (arith, head, a, b, c, d, e, many)
+
+-- bytes whose hex is one are one
+pub hex_same : (bytes others : List ℕ) → AreBytes bytes → AreBytes others → encode_lower bytes ≡ encode_lower others → bytes ≡ others
+hex_same bytes others are others_are e =
+    ok_is {E = FromHexError} bytes others (sym (decode_of-encode_lower bytes are) ∙ ap decode_of e ∙ decode_of-encode_lower others others_are)
+
+-- bytes that stand in one line are one
+pub line_same : (word bytes others : List ℕ) (sum other_sum : ℕ) → AreBytes bytes → AreBytes others → length bytes ≡ length others
+    → marked_line word bytes sum ≡ marked_line word others other_sum → bytes ≡ others
+line_same word bytes others sum other_sum are others_are many e =
+    let size = length word + 2 * length others + 18 in
+    let text = marked_line word bytes sum in
+    let whole : take size text ≡ text = take_all size text (omega (arith, line_length word bytes sum (length others) many)) in
+    hex_same bytes others are others_are
+    (sym (line_digits word bytes text sum size (length others) many whole)
+    ∙ line_digits word others text other_sum size (length others) refl (whole ∙ e))

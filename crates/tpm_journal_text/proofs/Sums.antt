@@ -1,0 +1,10 @@
+-- Sums over bytes that come in two parts.
+use Rattle.std.proofs.Common.{◌≡◌, ℕ, List, [], ◌∷◌, ◌++◌, refl, sym}
+use Rattle.tpm_journal_text.specs.Sum.{sum_from, sum_of, with_byte, offset_basis}
+
+pub sum_parts : (sum : ℕ) (front back : List ℕ) → sum_from sum (front ++ back) ≡ sum_from (sum_from sum front) back
+sum_parts sum [] back = refl
+sum_parts sum (byte ∷ front) back = sum_parts (with_byte sum byte) front back
+
+pub sum_behind : (front back : List ℕ) → sum_from (sum_of front) back ≡ sum_of (front ++ back)
+sum_behind front back = sym (sum_parts offset_basis front back)

@@ -1,0 +1,126 @@
+-- A command that was answered, and its text in a journal.
+use Rattle.std.specs.Prelude.{ℕ, ◌+◌, ◌*◌, ◌/◌, ◌%◌, ◌<◌, ◌≤◌, ◌^◌, Bool, true, false}
+use Rattle.std.specs.Prelude.{List, [], ◌∷◌, ◌++◌, codes, drop, length, map, max, take}
+use Rattle.std.specs.Int.{w8, w16, w32, w64, from_be_bytes, to_be_bytes}
+use Rattle.hex.specs.Hex.{encode_lower}
+use Rattle.tpm_bytes.specs.Reading.{AreBytes}
+use Rattle.tpm_journal_text.specs.declared.entry.Entry.{Entry}
+use Rattle.tpm_journal_text.specs.Marked.{marked_line, marked_size}
+use Rattle.tpm_journal_text.specs.Sum.{sum_from, sum_of}
+
+-- a command that was answered: the milliseconds since the one before it, its locality, whether the
+-- completing layer was on, the random bytes that it drew, its buffer, and the sum of its response
+pub record PlainEntry : Type 0 where
+  pub elapsed : ℕ
+  pub locality : ℕ
+  pub completes : Bool
+  pub drawn : List ℕ
+  pub buffer : List ℕ
+  pub answered : ℕ
+
+-- the most bytes of the text of an entry
+abbrev pub entry_room : ℕ
+entry_room = 9216
+
+-- the most bytes of a buffer; a longer one is refused as one of so many bytes is
+abbrev pub entry_limit : ℕ
+entry_limit = 4097
+
+-- the entry of the code, wherever its bytes lie in memory
+abbrev pub plain_entry : Entry → PlainEntry
+plain_entry e = record {
+  elapsed = e.elapsed_ms;
+  locality = e.locality;
+  completes = e.completes;
+  drawn = e.drawn.now;
+  buffer = e.buffer.now;
+  answered = e.answered;
+}
+
+-- What can be an entry.
+pub record IsEntry (e : PlainEntry) : Type 0 where
+  pub elapsed : e.elapsed < 2 ^ 32
+  pub locality : e.locality ≤ 4
+  pub drawn : length e.drawn ≤ 256
+  pub drawn_bytes : AreBytes e.drawn
+  pub buffer : length e.buffer ≤ entry_limit
+  pub buffer_bytes : AreBytes e.buffer
+  pub answered : e.answered < 2 ^ 64
+
+-- ---- the mark of an entry
+
+-- what the mark says of the completing layer
+abbrev pub flag : Bool → ℕ
+flag false = 0
+flag true = 1
+
+-- the mark of an entry, 26 bytes: the elapsed time, the locality, the flag, how many bytes it drew,
+-- how many its buffer has, the sum of all these, and the sum of the response
+unfoldable pub mark_of : PlainEntry → List ℕ
+mark_of e =
+    to_be_bytes w32 e.elapsed ++ to_be_bytes w8 e.locality ++ to_be_bytes w8 (flag e.completes)
+    ++ to_be_bytes w16 (length e.drawn) ++ to_be_bytes w16 (length e.buffer)
+    ++ to_be_bytes w64 (sum_of (e.drawn ++ e.buffer)) ++ to_be_bytes w64 e.answered
+
+abbrev pub mark_size : ℕ
+mark_size = 26
+
+-- how many bytes the entry of a mark drew, and how many its buffer has
+abbrev pub drawn_size : (mark : List ℕ) → ℕ
+drawn_size mark = from_be_bytes w16 (take 2 (drop 6 mark))
+
+abbrev pub buffer_size : (mark : List ℕ) → ℕ
+buffer_size mark = from_be_bytes w16 (take 2 (drop 8 mark))
+
+-- ---- the text of an entry
+
+abbrev pub entry_word : List ℕ
+entry_word = codes "# "
+
+-- the line of a mark, after what this sum is of
+abbrev pub mark_line : (sum : ℕ) → (mark : List ℕ) → List ℕ
+mark_line sum mark = marked_line entry_word mark (sum_from sum mark)
+
+abbrev pub mark_line_size : ℕ
+mark_line_size = marked_size entry_word mark_size
+
+-- the digit of a number at a place of its decimal numeral
+abbrev pub digit_at : (number place : ℕ) → ℕ
+digit_at number place = 48 + number / place % 10
+
+-- the decimal numeral of a number below 10^10, in ten digits
+unfoldable pub ten_digits : ℕ → List ℕ
+ten_digits number =
+    map (digit_at number) (1000000000 ∷ 100000000 ∷ 10000000 ∷ 1000000 ∷ 100000 ∷ 10000 ∷ 1000 ∷ 100 ∷ 10 ∷ 1 ∷ [])
+
+-- the random bytes of a script's line, which has one at least
+abbrev pub shown : List ℕ → List ℕ
+shown [] = 0 ∷ []
+shown (byte ∷ bytes) = byte ∷ bytes
+
+-- the lines of a script that set when and from where the command of an entry comes
+unfoldable pub setting_lines : PlainEntry → List ℕ
+setting_lines e =
+    codes "wait " ++ ten_digits e.elapsed ++ codes "\nloc " ++ (48 + e.locality) ∷ [] ++ 10 ∷ []
+
+-- the lines of a script that give a command its random bytes and execute it
+unfoldable pub executing_lines : PlainEntry → List ℕ
+executing_lines e =
+    codes "entropy " ++ encode_lower (shown e.drawn) ++ codes "\ncmd " ++ encode_lower e.buffer ++ 10 ∷ []
+
+-- how many bytes these lines have
+abbrev pub lines_size : (drawn buffer : ℕ) → ℕ
+lines_size drawn buffer = 36 + (2 * max 1 drawn + 2 * buffer)
+
+-- the text of an entry, after what this sum is of: the line of its mark, and the four lines of a
+-- script that execute its command
+unfoldable pub entry_text : (sum : ℕ) → PlainEntry → List ℕ
+entry_text sum e = mark_line sum (mark_of e) ++ setting_lines e ++ executing_lines e
+
+-- how many bytes the text of an entry has whose mark is this
+abbrev pub entry_size : (mark : List ℕ) → ℕ
+entry_size mark = mark_line_size + lines_size (drawn_size mark) (buffer_size mark)
+
+-- the sum after an entry
+abbrev pub sum_after : (sum : ℕ) → PlainEntry → ℕ
+sum_after sum e = sum_from sum (mark_of e)

@@ -1,0 +1,22 @@
+-- The sum of bytes: FNV-1a of 64 bits (Fowler, Noll, Vo). Each of its steps takes different sums to
+-- different ones, and different bytes too, so that one byte that was turned makes another sum.
+use Rattle.std.specs.Prelude.{ℕ, ◌*◌, ◌%◌, ◌^◌, bit_xor, List, [], ◌∷◌}
+
+-- the sum of no bytes
+abbrev pub offset_basis : ℕ
+offset_basis = 0xcbf29ce484222325
+
+abbrev pub prime : ℕ
+prime = 0x100000001b3
+
+-- a sum with one byte more
+abbrev pub with_byte : (sum : ℕ) → (byte : ℕ) → ℕ
+with_byte sum byte = (bit_xor sum byte * prime) % 2 ^ 64
+
+-- a sum with these bytes more
+abbrev pub sum_from : (sum : ℕ) → List ℕ → ℕ
+sum_from sum [] = sum
+sum_from sum (byte ∷ bytes) = sum_from (with_byte sum byte) bytes
+
+abbrev pub sum_of : List ℕ → ℕ
+sum_of bytes = sum_from offset_basis bytes

@@ -1,0 +1,150 @@
+//! The text of a command that was answered.
+
+ghost use Rattle.std.specs.Prelude.{◌≡◌, ◌<◌, ◌≤◌, take, length};
+ghost use Rattle.tpm_journal_text.specs.Entry.{digit_at, ten_digits};
+
+use crate::marked::put_marked_line;
+use crate::put::{put, put_hex};
+use crate::sum::{sum_from, sum_of};
+use tpm_bytes::Sink;
+
+/// The most bytes of a buffer; a longer one is refused as one of so many bytes is.
+pub const ENTRY_LIMIT: usize = 4_097;
+
+/// The most bytes of the text of an entry.
+pub const ENTRY_ROOM: usize = 9_216;
+
+/// The word with which the text of an entry begins.
+pub(crate) const ENTRY_WORD: &[u8] = b"# ";
+
+/// A command that was answered.
+#[derive(Clone, Copy)]
+pub struct Entry<'a> {
+    /// The milliseconds since the command before it.
+    pub elapsed_ms: u32,
+    pub locality: u8,
+    /// Whether the completing layer was on.
+    pub completes: bool,
+    /// The random bytes that it drew.
+    pub drawn: &'a [u8],
+    pub buffer: &'a [u8],
+    /// The sum of its response.
+    pub answered: u64,
+}
+
+/// The digit of a number at a place of its decimal numeral.
+fn digit(number: u32, place: u32) -> u8
+    requires { 0 < place }
+    ensures { result ≡ digit_at number place }
+{
+    b'0' + (number / place % 10) as u8
+}
+
+/// The decimal numeral of a number, in ten digits.
+#[tactic(auto, unfolding(crate::specs::Entry::ten_digits))]
+fn ten_digits(number: u32) -> [u8; 10]
+    ensures { result ≡ ten_digits number }
+{
+    [
+        digit(number, 1_000_000_000),
+        digit(number, 100_000_000),
+        digit(number, 10_000_000),
+        digit(number, 1_000_000),
+        digit(number, 100_000),
+        digit(number, 10_000),
+        digit(number, 1_000),
+        digit(number, 100),
+        digit(number, 10),
+        digit(number, 1),
+    ]
+}
+
+impl<'a> Entry<'a> {
+    ghost use Rattle.std.specs.Prelude.{◌+◌, ◌*◌, ◌++◌, max};
+    ghost use Rattle.tpm_journal_text.specs.Entry.{IsEntry, entry_room, entry_text, executing_lines, mark_of, plain_entry, setting_lines, shown, sum_after};
+
+    /// The mark of the entry.
+    #[tactic(auto, using(crate::proofs::Sums::sum_behind), unfolding(crate::specs::Entry::mark_of))]
+    fn mark(&self) -> Sink<26>
+        requires { IsEntry (plain_entry self.now) }
+        ensures { result ≡ mark_of (plain_entry self.now) }
+    {
+        let mut mark = Sink::new();
+        mark.append_u32(self.elapsed_ms);
+        mark.append_u8(self.locality);
+        mark.append_u8(u8::from(self.completes));
+        mark.append_u16(self.drawn.len() as u16);
+        mark.append_u16(self.buffer.len() as u16);
+        mark.append_u64(sum_from(sum_of(self.drawn), self.buffer));
+        mark.append_u64(self.answered);
+        mark
+    }
+
+    /// Puts the lines that set when and from where the command comes at a place of a room, and gives
+    /// the place behind them.
+    #[tactic(auto, unfolding(crate::specs::Entry::setting_lines))]
+    fn put_setting(&self, room: &mut [u8], place: usize) -> usize
+        requires entry { IsEntry (plain_entry self.now) }
+        requires room { place + 22 ≤ length room.old }
+        ensures place { result ≡ place + 22 }
+        ensures written { take result room.new ≡ take place room.old
+            ++ setting_lines (plain_entry self.now) }
+        ensures size { length room.new ≡ length room.old }
+    {
+        let place = put(room, place, b"wait ");
+        let place = put(room, place, &ten_digits(self.elapsed_ms));
+        let place = put(room, place, b"\nloc ");
+        let place = put(room, place, &[b'0' + self.locality]);
+        put(room, place, b"\n")
+    }
+
+    /// The random bytes of a script's line, which has one at least.
+    fn shown(&self) -> &[u8]
+        ensures value { result.now ≡ shown self.now.drawn.now }
+        ensures size { length result.now ≡ max 1 (length self.now.drawn.now) }
+    {
+        if self.drawn.is_empty() {
+            b"\0"
+        } else {
+            self.drawn
+        }
+    }
+
+    /// Puts the lines that give the command its random bytes and execute it at a place of a room,
+    /// and gives the place behind them.
+    #[tactic(auto, unfolding(crate::specs::Entry::executing_lines))]
+    fn put_executing(&self, room: &mut [u8], place: usize) -> usize
+        requires entry { IsEntry (plain_entry self.now) }
+        requires room { place + 14 + 2 * max 1 (length self.now.drawn.now)
+            + 2 * length self.now.buffer.now ≤ length room.old }
+        ensures place { result ≡ place + 14 + 2 * max 1 (length self.now.drawn.now)
+            + 2 * length self.now.buffer.now }
+        ensures written { take result room.new ≡ take place room.old
+            ++ executing_lines (plain_entry self.now) }
+        ensures size { length room.new ≡ length room.old }
+    {
+        let place = put(room, place, b"entropy ");
+        let place = put_hex(room, place, self.shown());
+        let place = put(room, place, b"\ncmd ");
+        let place = put_hex(room, place, self.buffer);
+        put(room, place, b"\n")
+    }
+
+    /// Writes the text of the entry to the front of a room, and gives how many bytes it has. The sum
+    /// goes on over the entry.
+    #[tactic(auto, unfolding(crate::specs::Entry::entry_text))]
+    pub fn write(&self, sum: &mut u64, room: &mut [u8]) -> usize
+        requires entry { IsEntry (plain_entry self.now) }
+        requires room { entry_room ≤ length room.old }
+        ensures written { take result room.new ≡ entry_text sum.old (plain_entry self.now) }
+        ensures fits { result ≤ entry_room }
+        ensures sum { sum.new ≡ sum_after sum.old (plain_entry self.now) }
+        ensures size { length room.new ≡ length room.old }
+    {
+        let mark = self.mark();
+        *sum = sum_from(*sum, mark.as_slice());
+        let place = put_marked_line(room, 0, ENTRY_WORD, mark.as_slice(), *sum);
+        let place = self.put_setting(room, place);
+        self.put_executing(room, place)
+    }
+}

@@ -1,0 +1,21 @@
+#![tactic(auto)]
+
+//! The text of a journal: its head, and an entry for each command that was answered.
+//!
+//! Each line is a line of a script. The specs say what the text is; [`entry`] and [`head`] write it
+//! and read it. What is read is written again and compared, so an entry is read from its one text
+//! alone.
+
+pub mod entry;
+pub mod head;
+pub mod head_reading;
+mod marked;
+mod put;
+pub mod reading;
+pub mod sum;
+
+pub use entry::{ENTRY_LIMIT, ENTRY_ROOM, Entry};
+pub use head::{HEAD_ROOM, Head, IMAGE_ROOM, head_size, write_head};
+pub use head_reading::read_head;
+pub use reading::{BYTES_ROOM, Next, read_entry};
+pub use sum::{sum_from, sum_of};

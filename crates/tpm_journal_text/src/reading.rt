@@ -1,0 +1,166 @@
+//! The entry at the front of a text.
+
+ghost use Rattle.std.specs.Prelude.{◌≡◌, ◌+◌, ◌*◌, ◌≤◌, ◌<◌, ◌++◌, ℕ, List, true, IfNone, IfSome, IsSomeAnd, drop, length, max, take};
+ghost use Rattle.hex.specs.Hex.{encode_lower};
+ghost use Rattle.tpm_bytes.specs.Reading.{AreBytes};
+ghost use Rattle.std.specs.Int.{w16, w32, w64, from_be_bytes};
+ghost use Rattle.tpm_journal_text.specs.Entry.{IsEntry, PlainEntry, buffer_size, drawn_size, entry_room, entry_size, entry_text, lines_size, mark_of, plain_entry};
+ghost use Rattle.tpm_journal_text.specs.Places.{Stands};
+ghost use Rattle.tpm_journal_text.specs.Journal.{Finds};
+
+use crate::entry::{ENTRY_LIMIT, ENTRY_ROOM, ENTRY_WORD, Entry};
+use crate::marked::read_marked_line;
+use tpm_bytes::is_equal;
+use tpm_hex::decode;
+
+/// How many bytes the mark of an entry has, and the line of that.
+const MARK_SIZE: usize = 26;
+
+const MARK_LINE_SIZE: usize = 72;
+
+/// Enough for the bytes that an entry drew, and its buffer.
+pub const BYTES_ROOM: usize = 256 + ENTRY_LIMIT;
+
+/// Where the random bytes stand in the text of an entry.
+const DRAWN_PLACE: usize = 102;
+
+/// What stands at the front of a text.
+pub enum Next<'a> {
+    /// An entry, how many bytes its text has, and the sum after it.
+    Whole {
+        entry: Entry<'a>,
+        size: usize,
+        sum: u64,
+    },
+    /// Less than an entry.
+    CutOff,
+    /// As many bytes as an entry says that it has, which are no entry.
+    Damaged,
+}
+
+/// The number of two bytes at a place of a mark.
+fn u16_at(mark: &[u8; MARK_SIZE], place: usize) -> usize
+    requires { place + 2 ≤ 26 }
+    ensures value { result ≡ from_be_bytes w16 (take 2 (drop place mark.now)) }
+    ensures small { result < 65536 }
+{
+    usize::from(u16::from_be_bytes([mark[place], mark[place + 1]]))
+}
+
+/// Reads bytes in hex at a place of a text; none where no hex stands there.
+pub(crate) fn read_hex<'a>(text: &[u8], place: usize, room: &'a mut [u8]) -> Option<&'a [u8]>
+    requires { place + 2 * length room.old ≤ length text.now }
+    ensures size { IfSome result (λ read. length read.now ≡ length room.old) }
+    ensures bytes { IfSome result (λ read. AreBytes read.now) }
+    ensures again { (bytes : List ℕ) → length bytes ≡ length room.old → AreBytes bytes
+        → take (2 * length room.old) (drop place text.now) ≡ encode_lower bytes
+        → IsSomeAnd result (λ read. read.now ≡ bytes) }
+{
+    let (_, back) = text.split_at(place);
+    let (digits, _) = back.split_at(2 * room.len());
+    match decode(digits, room) {
+        Ok(()) => Some(room),
+        Err(_) => None,
+    }
+}
+
+/// The number of four bytes at the front of a mark.
+fn u32_at(mark: &[u8; MARK_SIZE]) -> u32
+    ensures { result ≡ from_be_bytes w32 (take 4 mark.now) }
+{
+    u32::from_be_bytes([mark[0], mark[1], mark[2], mark[3]])
+}
+
+/// The number of the last eight bytes of a mark.
+fn u64_at(mark: &[u8; MARK_SIZE]) -> u64
+    ensures { result ≡ from_be_bytes w64 (take 8 (drop 18 mark.now)) }
+{
+    u64::from_be_bytes([
+        mark[18], mark[19], mark[20], mark[21], mark[22], mark[23], mark[24], mark[25],
+    ])
+}
+
+/// How many bytes the text of an entry has whose mark is this.
+fn size_told(mark: &[u8; MARK_SIZE]) -> usize
+    ensures { result ≡ entry_size mark.now }
+{
+    MARK_LINE_SIZE + 36 + 2 * u16_at(mark, 6).max(1) + 2 * u16_at(mark, 8)
+}
+
+/// The entry that a text may be the text of, whose mark was read; none where it is no entry's.
+fn entry_behind<'a>(
+    mark: &[u8; MARK_SIZE],
+    text: &[u8],
+    bytes: &'a mut [u8; BYTES_ROOM],
+) -> Option<Entry<'a>>
+    requires { entry_size mark.now ≤ length text.now }
+    ensures entry { IfSome result (λ read. IsEntry (plain_entry read)) }
+    ensures again { (e : PlainEntry) → Stands e mark.now text.now
+        → IsSomeAnd result (λ read. plain_entry read ≡ e) }
+{
+    let (drawn_size, buffer_size) = (u16_at(mark, 6), u16_at(mark, 8));
+    if mark[4] > 4 || mark[5] > 1 || drawn_size > 256 || buffer_size > ENTRY_LIMIT {
+        return None;
+    }
+    let (drawn, back) = bytes.split_at_mut(drawn_size);
+    let (buffer, _) = back.split_at_mut(buffer_size);
+    let drawn = read_hex(text, DRAWN_PLACE, drawn)?;
+    let buffer = read_hex(text, DRAWN_PLACE + 2 * drawn_size.max(1) + 5, buffer)?;
+    Some(Entry {
+        elapsed_ms: u32_at(mark),
+        locality: mark[4],
+        completes: mark[5] == 1,
+        drawn,
+        buffer,
+        answered: u64_at(mark),
+    })
+}
+
+/// Whether a text begins with this one.
+pub(crate) fn begins_with(text: &[u8], front: &[u8]) -> bool
+    ensures yes { result ≡ true → (length front.now ≤ length text.now)
+        × (take (length front.now) text.now ≡ front.now) }
+    ensures no { (rest : List ℕ) → text.now ≡ front.now ++ rest → result ≡ true }
+{
+    if text.len() < front.len() {
+        return false;
+    }
+    let (begin, _) = text.split_at(front.len());
+    is_equal(begin, front)
+}
+
+/// Reads the entry at the front of a text, after what this sum is of. Its bytes go to the first
+/// room, and its text is written to the second, to be compared.
+pub fn read_entry<'a>(
+    sum: u64,
+    text: &[u8],
+    bytes: &'a mut [u8; BYTES_ROOM],
+    room: &mut [u8; ENTRY_ROOM],
+) -> Next<'a>
+    ensures { Finds sum text.now result }
+{
+    if text.len() < MARK_LINE_SIZE {
+        return Next::CutOff;
+    }
+    let mut mark = [0; MARK_SIZE];
+    let Some(_) = read_marked_line(text, ENTRY_WORD, sum, &mut mark) else {
+        return Next::Damaged;
+    };
+    if text.len() < size_told(&mark) {
+        return Next::CutOff;
+    }
+    let Some(entry) = entry_behind(&mark, text, bytes) else {
+        return Next::Damaged;
+    };
+    let mut after = sum;
+    let size = entry.write(&mut after, room);
+    let (written, _) = room.split_at(size);
+    if !begins_with(text, written) {
+        return Next::Damaged;
+    }
+    Next::Whole {
+        entry,
+        size,
+        sum: after,
+    }
+}

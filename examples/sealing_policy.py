@@ -1,0 +1,145 @@
+"""Writes sealing_policy.tpm: the policy of a disk's key, made in a trial session."""
+
+from tpmsim.standard import CC, SHA256, digest, policy, selection
+from tpmsim.caller.script_caller import ScriptCaller, zeros
+from tpmsim.caller.script import Script
+
+# Each piece of software is measured into its PCR before it runs. These PCRs are chosen.
+MEASURED = (
+    (0, "The firmware", b"firmware 1.0"),
+    (7, "That secure boot is on", b"secure boot on"),
+    (4, "The boot loader", b"boot loader"),
+    (8, "The kernel's command line", b"root=/dev/sda2 ro"),
+)
+CHOSEN = [(SHA256, [0, 4, 7, 8])]
+NEXT_LOADER = (4, "The next boot loader", b"boot loader 2")
+
+script = Script(
+    __file__,
+    "The key of an encrypted disk is to be sealed: the device gives it out again where the "
+    "computer was started by the same software, to the operating system alone, and to who knows a "
+    "PIN. This is what an unlocker does beforehand: it makes the policy, a digest of 32 bytes, "
+    "with which the key is then sealed. Nothing is authorized by it yet, and so a trial session "
+    "does.",
+)
+tpm = ScriptCaller(script)
+
+
+def measured_by(measurements):
+    """The digest of the chosen PCRs' values behind a start."""
+    values = {
+        pcr: digest(SHA256, bytes(32) + digest(SHA256, data)) for pcr, _, data in measurements
+    }
+    return digest(SHA256, b"".join(values[pcr] for _, pcrs in CHOSEN for pcr in pcrs))
+
+
+def start_of(measurements):
+    for pcr, what, data in measurements:
+        tpm.accepted(f"{what}, into PCR {pcr}", tpm.event(data, b"", pcr=pcr))
+
+
+def says(what, prepared):
+    tpm.says(f"{what}: SUCCESS", prepared)
+
+
+def for_every_branch(session, words):
+    """What is asked whatever the software is: the locality, the command and the PIN."""
+    locality, code, value = words
+    says(f"TPM2_PolicyLocality{locality}", tpm.locality(session, 1))
+    says(f"TPM2_PolicyCommandCode{code}", tpm.command_code(session, CC.Unseal))
+    says(f"TPM2_PolicyAuthValue{value}", tpm.auth_value_told(session))
+
+
+def after_all_of_it(digest_before):
+    after = policy.after_locality(SHA256, digest_before, 1)
+    return policy.after_auth_value(SHA256, policy.after_command_code(SHA256, after, CC.Unseal))
+
+
+def after_pcrs(values_digest):
+    return policy.after_pcr(SHA256, bytes(32), selection(*CHOSEN), values_digest)
+
+
+script.startup()
+script.chapter("The computer is started, which is measured, here by TPM2_PCR_Event.")
+start_of(MEASURED)
+
+script.chapter("TPM2_StartAuthSession of type 03, TPM_SE_TRIAL, with SHA-256.")
+trial = tpm.trial("The session is 03000000")
+tpm.digest_is("Its digest is zeros", trial, zeros(trial))
+
+script.chapter("The policy, assertion by assertion. Each changes the session's digest.")
+says(
+    "TPM2_PolicyPCR: PCR 0, 4, 7 and 8 of the SHA-256 bank have the values of now. pcrDigest is "
+    "left out, and the device takes that of its PCRs",
+    tpm.pcrs(trial, CHOSEN),
+)
+for_every_branch(
+    trial,
+    (
+        ": the command comes from locality 0, where the operating system is",
+        ": the command is TPM2_Unseal (15E), and no other",
+        ": its hmac has the PIN in its key, which is the authorization value of what is sealed",
+    ),
+)
+tpm.digest_is(
+    "TPM2_PolicyGetDigest: with this digest as its policy (authPolicy) the key is sealed",
+    trial,
+    after_all_of_it(after_pcrs(measured_by(MEASURED))),
+)
+
+script.chapter(
+    "An update is to come, of the boot loader. A key with the policy above would be lost with it, "
+    "and so it is sealed by another policy: either the PCRs of now or those of the update. The "
+    "unlocker computes what the values will be, and gives their digest as pcrDigest, which a trial "
+    "session takes as it is."
+)
+UPDATED = tuple(NEXT_LOADER if it[0] == NEXT_LOADER[0] else it for it in MEASURED)
+branches = []
+for what, measurements, given in (
+    ("TPM2_PolicyPCR with the values of now", MEASURED, b""),
+    ("TPM2_PolicyPCR with those of the update", UPDATED, measured_by(UPDATED)),
+):
+    says("TPM2_PolicyRestart, which makes the digest zeros", tpm.restart(trial))
+    says(what, tpm.pcrs(trial, CHOSEN, given))
+    branches.append(after_pcrs(measured_by(measurements)))
+    tpm.digest_is("TPM2_PolicyGetDigest: a branch", trial, branches[-1])
+says(
+    "TPM2_PolicyOR of the two branches. The digest is of them alone, and no more of what was said "
+    "before: what is asked of both is said behind it",
+    tpm.branches(trial, *branches),
+)
+for_every_branch(trial, ("", "", ""))
+wanted = after_all_of_it(policy.after_or(SHA256, branches))
+tpm.digest_is("TPM2_PolicyGetDigest: the policy with which the key is sealed", trial, wanted)
+tpm.refused("A trial session authorizes nothing: ATTRIBUTES/s1", tpm.reset(trial))
+says("It has done its work (TPM2_FlushContext)", tpm.flush(trial))
+
+script.chapter("The computer is started with the next boot loader.")
+script.power()
+script.startup()
+start_of(UPDATED)
+script.chapter("TPM2_StartAuthSession of type 01, TPM_SE_POLICY. What is said to it has to be so.")
+session = tpm.policy("The session is 03000000")
+says("TPM2_PolicyPCR", tpm.pcrs(session, CHOSEN))
+says("TPM2_PolicyOR, of which the digest is the second", tpm.branches(session, *branches))
+for_every_branch(session, ("", "", ""))
+tpm.digest_is(
+    "TPM2_PolicyGetDigest: the policy of the key, which TPM2_Unseal would be given out by",
+    session,
+    wanted,
+)
+
+script.chapter("Another time secure boot is off.")
+script.power()
+script.startup()
+start_of((7, "That secure boot is off", b"secure boot off") if it[0] == 7 else it for it in UPDATED)
+session = tpm.policy("TPM2_StartAuthSession")
+says("TPM2_PolicyPCR, which makes another digest", tpm.pcrs(session, CHOSEN))
+tpm.says(
+    "TPM2_PolicyOR, as the digest is neither of the two: VALUE/p1", tpm.branches(session, *branches)
+)
+tpm.says(
+    "TPM2_PolicyPCR with the digest of the values of the update: VALUE/p1",
+    tpm.pcrs(session, CHOSEN, measured_by(UPDATED)),
+)
+script.write()

@@ -1,0 +1,52 @@
+"""Logs that tests explain, and a caller that makes a slip."""
+
+import pathlib
+
+from tpmsim.explain.play import Play
+
+TOP = pathlib.Path(__file__).resolve().parents[2]
+EXAMPLE = TOP / "examples" / "disk_unlock.tpm"
+
+
+def lines_with(words):
+    """The numbers of the lines of the example that begin so."""
+    lines = EXAMPLE.read_text().splitlines()
+    return [at for at, it in enumerate(lines, 1) if it.startswith(words)]
+
+
+# Where the disk stays locked, as another text went into PCR 7.
+LOCKED, MOVED = lines_with("do Unseal")[-1], lines_with("do PCR_Event 00000007")[-1]
+
+
+def events_of(*lines, answers=None):
+    play = Play(None, answers)
+    return list(play.events("\n".join(lines).encode()))
+
+
+def last(*lines):
+    """The reason of the last line, behind a start."""
+    return events_of("do Startup 0", *lines)[-1].reason
+
+
+def explained(device):
+    """The last event of a device's trace, as it is explained."""
+    log = "\n".join(device.trace).encode()
+    play = Play()
+    events = list(play.events(log))
+    assert play.bad_line is None
+    assert not any(it.differences for it in events)
+    return events[-1]
+
+
+def sessions_of(device):
+    """What is known of each session of a trace."""
+    play = Play()
+    for _ in play.events("\n".join(device.trace).encode()):
+        pass
+    return play.past.sessions.values()
+
+
+def without_value(tpm):
+    """The encryption of a caller that leaves the authorization value out of its key."""
+    right = type(tpm).encrypted
+    return lambda use, handle, parameters: right(tpm, use, None, parameters)

@@ -1,0 +1,201 @@
+"""The sentences of all checks, as docs/table has them: `python3 -B table_rules.py` in this folder
+writes them to tpmsim/explain/rules.py, which ships without docs/table. A test compares the two.
+"""
+
+import json
+import pathlib
+import re
+
+TOP = pathlib.Path(__file__).resolve().parents[2]
+TABLE = TOP / "docs" / "table"
+WRITTEN = TOP / "python" / "tpmsim" / "explain" / "rules.py"
+
+HEAD = '''"""The sentence of each check, with its place in docs/table. Written by tests/table_rules.py."""
+
+# fmt: off
+RULES: dict[str, tuple[str, str]] = {
+'''
+
+LINK = re.compile(r"\[([^\]]*)\]\(([^)]*)\)")
+OWN = re.compile(r"- A(\d)(?: to A(\d))?[.:] (.*)", re.DOTALL)
+CODE = re.compile(r"([A-Z_]+?)(?:_[HS]0)?(?:/[hps]N?\d?)? [0-9A-F]{3}")
+LIST_OF_CHECKS = re.compile(r"\[the checks of [^\]]*\]\(([^)]*)\)")
+
+
+def plain(text):
+    """Without the targets of links, on one line; items of a list within have a semicolon each."""
+    text = LINK.sub(r"\1", text).replace("`", "")
+    text = re.sub(r"\n +- ", "; ", text).replace(":; ", ": ")
+    return " ".join(text.split()).replace(".; ", ": ")
+
+
+def anchor_of(title):
+    """The anchor that a heading has."""
+    kept = re.sub(r"[^\w\- ]", "", title.lower())
+    return kept.replace(" ", "-")
+
+
+def sections_of(page):
+    """Each section of a page: its title, its link and its text."""
+    parts = re.split(r"^#+ (.*)$", (TABLE / page).read_text(), flags=re.MULTILINE)[1:]
+    for title, text in zip(parts[::2], parts[1::2]):
+        yield title, f"{page}#{anchor_of(title)}", text.strip()
+
+
+def section_at(link):
+    for _, found, text in sections_of(link.partition("#")[0]):
+        if found == link:
+            return text
+    raise KeyError(link)
+
+
+def paragraphs(text):
+    return [it for it in re.split(r"\n\n+", text) if it.strip()]
+
+
+def table_rows(text):
+    """The cells of each row of the tables in a text, without their heads."""
+    rows = [
+        [cell.strip() for cell in it.strip("|").split("|")]
+        for it in text.split("\n")
+        if it.startswith("|")
+    ]
+    return [it for it in rows if not set(it[0]) <= set("-") and it[0] != "what is refused"]
+
+
+def items(text):
+    """The items of the lists in a text, each with the lines that it goes on in."""
+    return re.findall(r"^(?:- |\d\. ).*(?:\n(?: +\S.*))*", text, flags=re.MULTILINE)
+
+
+# Sentences that explain what several checks stand on: the section, how they begin, and how many.
+OTHERS = (
+    ("integrity", "objects.md#integrity", "TPM2_Load refuses", 1),
+    ("tries", "lockout.md#failed-tries", "While failedTries", 1),
+    ("lockoutAuth", "lockout.md#lockoutauth", "A wrong try at", 2),
+    ("entry", "sessions.md#an-entry-in-a-command", "Where the key is empty", 2),
+    ("nonces", "sessions.md#a-refusal", "Once a buffer", 1),
+    ("encryption", "parameter_encryption.md#parameter-encryption", "authValue is that of", 1),
+    ("zeros", "sessions.md#sessions-and-entries", "An authorization value counts", 1),
+    ("name of an index", "nv.md#the-name", "WRITTEN and the locks", 2),
+    ("random bytes", "README.md#events", "An event is", 1),
+)
+SENTENCE = re.compile(r"(?<=[.:])\s+(?=[A-Z|])")
+
+
+class Rules:
+    def __init__(self):
+        self.found = {}
+
+    def add(self, key, text, link):
+        assert key not in self.found, key
+        text = plain(text)
+        is_word = text.partition(" ")[0].islower()
+        begin = text[0].upper() if is_word else text[0]
+        end = "" if text.endswith((".", ":")) else "."
+        self.found[key] = begin + text[1:] + end, f"docs/table/{link}"
+
+    def general(self):
+        """G1 to G11, and M."""
+        for title, link, text in sections_of("order_of_refusals.md"):
+            check = title.partition(":")[0]
+            if not re.fullmatch(r"G\d+|M", check):
+                continue
+            rows = [it for it in table_rows(text) if CODE.match(it[1])]
+            names = [CODE.match(it[1])[1] for it in rows]
+            for at, (row, name) in enumerate(zip(rows, names)):
+                number = f".{names[: at + 1].count(name)}" if names.count(name) > 1 else ""
+                words = row[0]
+                if check == "G9" and name in ("AUTH_FAIL", "BAD_AUTH"):
+                    words += ". " + " ".join(SENTENCE.split(paragraphs(text)[-1])[:2])
+                self.add(f"{check}/{name}{number}", words, link)
+            if not rows:
+                self.add(check, paragraphs(text)[0], link)
+            if check == "G11":
+                self.add("G11/INSUFFICIENT", paragraphs(text)[-1], link)
+        link = "order_of_refusals.md#sized-buffers"
+        of_buffers = paragraphs(section_at(link))
+        self.add("buffer/SIZE", of_buffers[1], link)
+        self.add("structure/SIZE", " ".join(items(section_at(link))[1:]), link)
+
+    def conditions(self):
+        for title, link, text in sections_of("policies.md"):
+            found = re.match(r"Condition (\d)", title)
+            if found:
+                self.add(f"condition/{found[1]}", f"{title}. {paragraphs(text)[0]}", link)
+
+    def structures(self):
+        for page, title, key in (
+            ("objects.md", "Public areas", "public"),
+            ("nv.md", "The public area", "nvPublic"),
+        ):
+            link = f"{page}#{anchor_of(title)}"
+            for row in table_rows(section_at(link)):
+                if row[0] != "field":
+                    field = row[0].replace("parameters, of a ", "")
+                    self.add(f"{key}/{field}", f"{row[0]}: {row[1]}", link)
+
+    def others(self):
+        for key, link, begins, count in OTHERS:
+            section = section_at(link)
+            text = section[section.index(begins) :]
+            those = paragraphs(text)
+            words = " ".join(SENTENCE.split(those[0])[:count])
+            self.add(key, words + (" " + those[1] if words.endswith(":") else ""), link)
+
+    def commands(self):
+        for page in sorted(TABLE.glob("*.md")):
+            for title, link, text in sections_of(page.name):
+                found = re.match(r"TPM2_(\w+) \(", title)
+                if found:
+                    self.command(found[1], link, text)
+
+    def command(self, name, link, text):
+        parameters = re.search(r"Parameters?: (.*?)(?:\sAnswer:|\n\n|$)", text, re.DOTALL)
+        if parameters:
+            self.add(f"{name}/parameters", parameters[1], link)
+        like = re.search(r"Checks and effect: those of TPM2_(\w+)", text)
+        if like:
+            section = [
+                it
+                for it in sections_of(link.partition("#")[0])
+                if it[0].startswith(f"TPM2_{like[1]} (")
+            ]
+            text, link = section[0][2], section[0][1]
+        for item in items(text):
+            own = OWN.match(item)
+            if own:
+                self.own(name, link, own)
+
+    def own(self, name, link, found):
+        first, last, words = int(found[1]), int(found[2] or found[1]), found[3]
+        those = LIST_OF_CHECKS.search(words)
+        if last == first:
+            self.add(f"{name}/A{first}", words, link)
+            return
+        target = those[1]
+        listed = [it for it in items(section_at(target)) if re.match(r"\d\. ", it)]
+        for at in range(first, last + 1):
+            self.add(f"{name}/A{at}", listed[at - first].partition(" ")[2], target)
+
+
+def rules():
+    """The sentence and the link of each check, by its key."""
+    made = Rules()
+    for part in (made.general, made.conditions, made.structures, made.others, made.commands):
+        part()
+    return made.found
+
+
+def text_of(found):
+    def said(text):
+        return json.dumps(text, ensure_ascii=False)
+
+    lines = [
+        f"    {said(key)}: ({said(words)}, {said(link)}),\n" for key, (words, link) in found.items()
+    ]
+    return HEAD + "".join(lines) + "}\n# fmt: on\n"
+
+
+if __name__ == "__main__":
+    WRITTEN.write_text(text_of(rules()))

@@ -1,0 +1,82 @@
+"""Scripts on two TPMs: the device here with other seeds, which differs in nothing, and others."""
+
+import pathlib
+import shutil
+import unittest
+
+from tpmsim.compare.known import cause_of
+from tpmsim.compare.main import other_tpm, told
+from tpmsim.compare.play import Comparison
+from tpmsim.device import Answered, Device, StartedSwtpm
+from tpmsim.standard.frames import number
+
+TESTS = pathlib.Path(__file__).resolve().parents[2] / "tests"
+
+# Sessions of all kinds, policies, objects, guesses and waits.
+SCRIPTS = (
+    *("hmac_sessions", "xor_sessions", "session_encryption", "policy_sessions_that_encrypt"),
+    *("policy_secret", "object_policies", "nv_sessions", "lockout", "lockout_sessions", "waits"),
+    *("sealed_to_pcrs", "private_area", "replays", "localities", "saved_state", "clear"),
+)
+
+
+def script(name):
+    """The bytes of the script of a name, in whichever folder of tests/ it is."""
+    return next(TESTS.glob(f"*/{name}.tpm")).read_bytes()
+
+
+class OtherSeeds(unittest.TestCase):
+    """Sessions are computed anew rightly: fresh seeds and nonces, and the same answers."""
+
+    def test_nothing_differs(self):
+        for name in SCRIPTS:
+            with self.subTest(name), Device() as other:
+                report = Comparison(other).play(script(name))
+                self.assertEqual(report.differences, [])
+                self.assertLess(len(report.not_comparable), report.commands / 4)
+
+    def test_a_difference_is_told(self):
+        """One that answers otherwise is found, and what follows from it is said to."""
+
+        class Bent(type(Device())):
+            def execute(self, buffer):
+                answered = super().execute(buffer)
+                if buffer[6:10] == number(0x131, 4):
+                    return Answered(number(0x8001, 2) + number(10, 4) + number(0x902, 4))
+                return answered
+
+        script = b"""do Startup 0
+do CreatePrimary NULL pw:- 0000000178 0008000b00000452000000100000 - -
+do Unseal 80000000 pw:-
+do GetRandom 4
+"""
+        with Bent() as other:
+            report = Comparison(other).play(script)
+        self.assertEqual(
+            told(pathlib.Path("script"), report),
+            [
+                "script: line 2: CreatePrimary: code: here success, there OBJECT_MEMORY",
+                "script: line 3: not comparable: 80000000 is not there, behind line 2",
+                "script: 4 commands, 1 differences, 0 that follow, 1 not comparable",
+            ],
+        )
+
+
+class Others(unittest.TestCase):
+    @unittest.skipUnless(shutil.which("swtpm"), "there is no swtpm")
+    def test_swtpm(self):
+        """Each of its differences has a known cause."""
+        with StartedSwtpm() as other:
+            report = Comparison(other).play(script("passwords"))
+        own = [it for it in report.differences if it.follows is None]
+        self.assertTrue(own)
+        self.assertNotIn(None, [cause_of(it) for it in own])
+
+    def test_wrong_words(self):
+        for words in ("", "tpm", "swtpm:port=1", "mssim:path=x", "device:"):
+            with self.assertRaises(ValueError):
+                other_tpm(words)
+
+
+if __name__ == "__main__":
+    unittest.main()

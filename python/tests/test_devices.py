@@ -1,0 +1,233 @@
+"""The same twenty tests over each kind of device, and what is of one kind alone."""
+
+import contextlib
+import doctest
+import io
+import os
+import pathlib
+import shutil
+import subprocess
+import sys
+import tempfile
+import time
+import unittest
+
+import tpmsim.device
+from tpmsim.caller import Caller, Refused
+from tpmsim.device import BadImage, ChildDevice, Device, DeviceEnded, LibraryDevice, ModelDevice
+from tpmsim.device import ServedDevice, SimulatorDevice, StartedSwtpm, Unsupported
+from tpmsim.device.child import program_found
+from tpmsim.device.image_file import but_clock
+from tpmsim.model.image import image
+from tpmsim.model.machine import Model
+from tpmsim.model.player import played
+from tpmsim.model.protection import Lockout
+from tpmsim.standard import RH_OWNER
+from programs import running, simulator
+from twenty import TwentyTests
+
+SEED = b"seed"
+PACKAGE = pathlib.Path(__file__).resolve().parents[1]
+HOSTS_TIME = "time passes as it does on the host"
+NO_POWER = "the power is not switched here"
+
+
+class Told(TwentyTests):
+    """Devices of which everything is told."""
+
+    def test_trace_is_a_script(self):
+        self.tpm.device.locality = 3
+        self.tpm.device.wait(7)
+        response = self.tpm.device.execute(self.tpm.random(4).buffer()).response
+        self.tpm.device.power_cycle()
+        printed, fault = played("\n".join(self.tpm.device.trace).encode())
+        self.assertEqual((printed[-2][1], printed[-1][1], fault), (response.hex(), "power", ""))
+        self.assertIn("# GetRandom L3 +7 ok 00000000", self.tpm.device.trace)
+
+    def test_seed(self):
+        """A device with a seed draws the same in each run."""
+        answers = set()
+        for _ in range(2):
+            with self.device() as device:
+                Caller(device).start_up()
+                answers.add(Caller(device).call("GetRandom", bytesRequested=8)["randomBytes"])
+        self.assertEqual(len(answers), 1)
+
+    def test_wrong_numbers(self):
+        for number in (-1, 5):
+            with self.assertRaises(ValueError):
+                self.tpm.device.locality = number
+        self.tpm.device.wait(2**32 - 1)
+        self.assertRaises(ValueError, self.tpm.device.wait, 1)
+        self.assertRaises(TypeError, self.tpm.device.restore, b"")
+
+
+class OverModel(Told, unittest.TestCase):
+    def device(self):
+        return ModelDevice(seed=SEED)
+
+
+class OverChild(Told, unittest.TestCase):
+    def device(self):
+        return ChildDevice(seed=SEED)
+
+
+@unittest.skipUnless(tpmsim.device.library.is_there(), "there is no libtpmsim.so.0")
+class InProcess(Told, unittest.TestCase):
+    def device(self):
+        return LibraryDevice(seed=SEED, manufactured=bytes(range(256)))
+
+
+class OverSocket(TwentyTests, unittest.TestCase):
+    lacks = dict.fromkeys(
+        ("test_power_cycle", "test_lock_until_the_next_start", "test_saved_pcrs"), NO_POWER
+    )
+    lacks |= {
+        "test_lockout": HOSTS_TIME,
+        "test_snapshot": "there are no snapshots",
+        "test_policies": "the locality is not told here",
+    }
+
+    def device(self):
+        folder = self.enterContext(tempfile.TemporaryDirectory())
+        words = f"serve --socket {folder}/socket --image {folder}/image --entropy /dev/urandom"
+
+        def ready(process):
+            until = time.monotonic() + 60
+            while not os.path.exists(f"{folder}/socket") and time.monotonic() < until:
+                time.sleep(0.001)
+            return f"{folder}/socket"
+
+        words = words.split() + ["--locality", "0", "--connections", "1"]
+        return ServedDevice(self.enterContext(running(program_found(), *words, ready=ready)))
+
+
+class OverSimulator(TwentyTests, unittest.TestCase):
+    lacks = {"test_lockout": HOSTS_TIME, "test_snapshot": "there are no snapshots"}
+
+    def device(self):
+        return SimulatorDevice(*self.enterContext(simulator()))
+
+
+def differs(test):
+    """A test that is to fail on another TPM, as that answers otherwise."""
+
+    @unittest.expectedFailure
+    def fails(self):
+        test(self)
+
+    return fails
+
+
+@unittest.skipUnless(shutil.which("swtpm"), "there is no swtpm")
+class OverSwtpm(TwentyTests, unittest.TestCase):
+    """docs/OTHER_TPMS.md tells the differences; that each is still there is a test of its own."""
+
+    lacks = {"test_lockout": HOSTS_TIME}
+
+    def device(self):
+        return StartedSwtpm()
+
+    # A session that neither authorizes nor encrypts is refused there: ATTRIBUTES/s1.
+    test_end_of_a_session = differs(TwentyTests.test_end_of_a_session)
+    test_wrong_hmac_of_a_response = differs(TwentyTests.test_wrong_hmac_of_a_response)
+
+    # TPM2_PCR_Event answers digests of all banks there, also of those without PCRs.
+    test_fields = differs(TwentyTests.test_fields)
+
+    # A session whose binding a command undoes is answered there as if it were bound.
+    test_indices = differs(TwentyTests.test_indices)
+    test_wrong_hmac = differs(TwentyTests.test_wrong_hmac)
+
+
+class Devices(unittest.TestCase):
+    def setUp(self):
+        self.folder = pathlib.Path(self.enterContext(tempfile.TemporaryDirectory()))
+
+    def test_image(self):
+        path = self.folder / "image"
+        with Device(path) as device:
+            tpm = Caller(device)
+            tpm.start_up()
+            tpm.send(tpm.change_auth(RH_OWNER, b"owner", b""))
+            kept = path.read_bytes()
+            self.assertEqual(device.save(), kept)
+            device.wait(5)
+            tpm.call("ReadClock")
+            self.assertEqual(path.read_bytes(), kept, "the clock alone is saved at the end")
+        self.assertNotEqual(path.read_bytes(), kept)
+        with Device(path) as device:
+            Caller(device).start_up()
+            with self.assertRaises(Refused):
+                tpm.device = device
+                tpm.send(tpm.change_auth(RH_OWNER, b"", b""))
+
+    def test_image_but_its_clock(self):
+        model = Model()
+        model.auth_values[RH_OWNER] = b"owner"
+        before = but_clock(image(model))
+        model.clock = 2**64 - 1
+        self.assertEqual(but_clock(image(model)), before)
+        for change in {"reset_count": 2**31}, {"lockout": Lockout(is_closed=True)}:
+            vars(model).update(change)
+            self.assertNotEqual(but_clock(image(model)), before)
+            before = but_clock(image(model))
+
+    def test_image_of_one_device(self):
+        """A file is one device's at a time, and what is no image stays as it is."""
+        path = self.folder / "image"
+        with Device(path), self.assertRaises((FileExistsError, DeviceEnded)):
+            Device(path).execute(b"")
+        path.write_bytes(b"TPMI")
+        for device in LibraryDevice, Device:
+            self.assertRaises(BadImage, device, path)
+        self.assertRaises(BadImage, Device.open, path.read_bytes() + bytes(60))
+        self.assertEqual(path.read_bytes(), b"TPMI")
+
+    def test_written_script(self):
+        device = ModelDevice(seed=SEED)
+        Caller(device).start_up()
+        device.write(self.folder / "script")
+        words = [program_found(), "run", self.folder / "script"]
+        done = subprocess.run(words, capture_output=True, text=True, check=True, timeout=60)
+        self.assertEqual(done.stdout, "80010000000a00000000\n")
+
+    def test_ended_child(self):
+        with ChildDevice() as device, self.assertRaises(Unsupported):
+            device.save()
+        device = self.enterContext(ChildDevice())
+        with self.assertRaisesRegex(DeviceEnded, "status 2: tpmsim: script line"):
+            device.execute(bytes(40_000))
+
+    def test_readme(self):
+        """Its examples run, and print what they say."""
+        printed, codes = io.StringIO(), (PACKAGE / "README.md").read_text("utf-8").split("```")
+        with contextlib.redirect_stdout(printed):
+            for code in (codes[1], codes[3]):
+                exec(code.removeprefix("python"), {})
+        random, other, refused = printed.getvalue().splitlines()
+        self.assertEqual((len(random), len(other), refused), (8, 8, "POLICY_FAIL s1 G9"))
+
+
+class Documented(unittest.TestCase):
+    """Each device, and each of its calls, has an example, and the examples hold."""
+
+    def test_examples(self):
+        given = {it: getattr(tpmsim.device, it) for it in tpmsim.device.__all__}
+        given["Caller"] = Caller
+        for name in ("told", "library", "child", "served", "swtpm"):
+            module = sys.modules[f"tpmsim.device.{name}"]
+            result = doctest.testmod(module, extraglobs=given)
+            self.assertGreater(result.attempted, 0)
+            self.assertEqual(result.failed, 0)
+
+    def test_each_call_has_one(self):
+        calls = [it for it in vars(tpmsim.device.Transport) if not it.startswith("_")]
+        for name in [*calls, "open", "write"]:
+            told = [vars(it).get(name) for it in LibraryDevice.__mro__]
+            texts = [getattr(it, "__doc__", None) or "" for it in told]
+            self.assertTrue(any(">>>" in it for it in texts), name)
+
+
+if __name__ == "__main__":
+    unittest.main()

@@ -1,0 +1,180 @@
+"""Explanations: their sentences, their numbers, and that no refusal is without one."""
+
+import contextlib
+import io
+import json
+import pathlib
+import tempfile
+import unittest
+
+import table_rules
+from explained_logs import EXAMPLE, LOCKED, MOVED, TOP, events_of, lines_with
+from tpmsim.caller import BY_OWNER, BY_POLICY, Caller, area
+from tpmsim.device import ModelDevice
+from tpmsim.explain import main as command_line
+from tpmsim.explain.own import CHECKS
+from tpmsim.explain.play import Play
+from tpmsim.explain.rules import RULES
+from tpmsim.model.image import image
+from tpmsim.standard import CC
+
+# Longer scripts are left out here, as all take half a minute. Most are bent and cut commands.
+MOST_BYTES = 20_000
+
+
+def told(*words):
+    """What the command line prints, what it says on standard error, and its status."""
+    output, error = io.TextIOWrapper(io.BytesIO()), io.StringIO()
+    with contextlib.redirect_stdout(output), contextlib.redirect_stderr(error):
+        status = command_line.main(*map(str, words))
+    output.seek(0)
+    return output.read(), error.getvalue(), status
+
+
+class Sentences(unittest.TestCase):
+    def test_rules_are_those_of_the_table(self):
+        self.assertEqual(RULES, table_rules.rules())
+        self.assertEqual(table_rules.WRITTEN.read_text(), table_rules.text_of(table_rules.rules()))
+
+    def test_links_lead_to_headings(self):
+        for _, link in RULES.values():
+            page, _, anchor = link.removeprefix("docs/table/").partition("#")
+            anchors = {it.partition("#")[2] for _, it, _ in table_rules.sections_of(page)}
+            self.assertIn(anchor, anchors, link)
+
+    def test_each_own_check_has_its_numbers(self):
+        own = {it for it in RULES if it.partition("/")[0] in CC.__members__ and "/A" in it}
+        self.assertEqual(own, set(CHECKS))
+
+
+class Logs(unittest.TestCase):
+    def test_all_scripts(self):
+        """No refusal has a code alone, no script is a crash, and model and answers part nowhere."""
+        refused = 0
+        scripts = [*TOP.glob("tests/**/*.tpm"), *TOP.glob("examples/*.tpm")]
+        for script in sorted(it for it in scripts if it.with_suffix(".out").exists()):
+            if script.stat().st_size > MOST_BYTES:
+                continue
+            beside = script.with_suffix(".trace")
+            answers = beside if beside.exists() else script.with_suffix(".out")
+            play = Play(None, answers.read_bytes())
+            for event in play.events(script.read_bytes()):
+                self.assertEqual(event.differences, [], script.name)
+                self.assertEqual(event.reason is None, not event.refused)
+                if event.reason is not None:
+                    refused += 1
+                    self.assertTrue(event.reason.words and event.reason.sentence, script.name)
+                    self.assertRegex(event.reason.words, r"[.:]$")
+            self.assertEqual(play.bad_line is None, not script.name.startswith("bad_"))
+        self.assertGreater(refused, 1000)
+
+    def test_answers_in_comments(self):
+        device = ModelDevice(seed=b"answers")
+        tpm = Caller(device)
+        tpm.start_up()
+        tpm.call("GetRandom", bytesRequested=2)
+        events = events_of(*device.trace)
+        self.assertEqual([(it.answers, it.differences) for it in events], [(1, []), (1, [])])
+        bent = [it.replace("ok 00000000", "G5 00000100") for it in device.trace]
+        (found,) = events_of(*bent)[0].differences
+        self.assertEqual(
+            (found.log, found.model), ("Startup L0 +0 G5 00000100", "Startup L0 +0 ok 00000000")
+        )
+        events = events_of("do Startup 0", "# 00000100", "# 80010000000a00000000")
+        self.assertEqual(
+            [it.words for it in events[0].differences], ["the response code is another one"]
+        )
+        events = events_of("do Startup 0", "# 80010000000a00000001")
+        words = "the response is another one from byte 9 on, in responseCode"
+        self.assertEqual([it.words for it in events[0].differences], [words])
+        events = events_of("# 10:11:12.131 Startup L0 +0 ok 00000000", "do Startup 0")
+        self.assertEqual((events[0].answers, events[0].differences), (1, []))
+        others = "# 00000123 01234567", "# 54504d490002000000a200000000", "# 0123456", "# Startup"
+        events = events_of("do Startup 0", *others)
+        self.assertEqual((events[0].answers, events[0].differences), (0, []))
+
+    def test_answers_beside(self):
+        script = EXAMPLE.read_bytes().decode().splitlines()
+        for ending in (".out", ".trace"):
+            answers = EXAMPLE.with_suffix(ending).read_bytes()
+            events = events_of(*script, answers=answers)
+            self.assertFalse(any(it.differences for it in events))
+            cut = events_of(
+                *script, answers=answers[: len(answers) // 2].rpartition(b"\n")[0] + b"\n"
+            )
+            self.assertEqual(cut[-1].differences[0].words, "the answers end before it")
+
+
+class CommandLine(unittest.TestCase):
+    def setUp(self):
+        self.folder = pathlib.Path(self.enterContext(tempfile.TemporaryDirectory()))
+
+    def file(self, name, text):
+        path = self.folder / name
+        path.write_bytes(text if isinstance(text, bytes) else text.encode())
+        return path
+
+    def test_text(self):
+        output, error, status = told(EXAMPLE, EXAMPLE.with_suffix(".trace"))
+        self.assertEqual((error, status), ("", 0))
+        said = f"line {LOCKED}: Unseal is refused: POLICY_FAIL/s1 (99d), by check G9"
+        self.assertIn(said, output)
+        self.assertIn(f"PCR 7 was written by  line {MOVED} (PCR_Event of PCR 7)", output)
+        self.assertTrue(output.rstrip().endswith("90 answers of the log are the model's."))
+
+    def test_at(self):
+        output, _, status = told(EXAMPLE, "--at", LOCKED)
+        self.assertEqual(status, 0)
+        self.assertNotIn(f"line {lines_with('do Unseal')[0]}", output)
+        self.assertIn("itemHandle", output)
+        _, error, status = told(EXAMPLE, "--at", 1)
+        self.assertEqual(
+            (error, status), (f"tpmsim-explain: line 1 of {EXAMPLE} executes nothing\n", 2)
+        )
+
+    def test_json(self):
+        output, _, status = told(EXAMPLE, "--json")
+        value = json.loads(output)
+        self.assertEqual(
+            (value["commands"], value["refused"], value["power_cycles"], status), (45, 6, 2, 0)
+        )
+        lines = [(it["line"], it["refused"], it["reason"]["rule"]) for it in value["events"]]
+        self.assertIn((LOCKED, "POLICY_FAIL/s1", "condition/8"), lines)
+        whole = json.loads(told(EXAMPLE, "--json", "--at", LOCKED)[0])["events"]
+        self.assertEqual(whole[0]["fields"][3]["name"], "itemHandle")
+
+    def test_statuses(self):
+        bad = self.file("bad.tpm", "do Startup 0\ndo Startup 0\nnothing\n")
+        output, error, status = told(bad)
+        self.assertEqual((error, status), ("tpmsim-explain: script line 3\n", 2))
+        self.assertIn("line 2: Startup is refused: INITIALIZE (100), by check G5", output)
+        other = self.file("other.tpm", "do Startup 0\n# 00000100\n")
+        self.assertEqual(told(other)[2], 1)
+        for words in (
+            (),
+            ("a", "b", "c"),
+            (bad, "--at"),
+            (bad, "--at", "x"),
+            (bad, "--what"),
+            (bad, "--json", "--html"),
+        ):
+            self.assertEqual(told(*words)[1:], (f"tpmsim-explain: {command_line.USAGE}\n", 2))
+        self.assertEqual(told(self.folder / "none")[2], 2)
+        image_file = self.file("image", b"TPMI")
+        self.assertEqual(told(bad, "--image", image_file)[1:], ("tpmsim-explain: image Short\n", 2))
+        output, _, status = told("--help")
+        self.assertTrue(output.startswith("Why was this refused?") and status == 0)
+
+    def test_image(self):
+        device = ModelDevice(seed=b"image")
+        tpm = Caller(device)
+        tpm.start_up()
+        tpm.define(area(attributes=BY_OWNER | BY_POLICY))
+        path = self.file("image", image(device.model))
+        script = self.file("script.tpm", "do Startup 0\ndo NV_Read OWNER 01000001 pw:- 1 0\n")
+        self.assertIn("01000001 is not written", told(script, "--image", path)[0])
+        self.assertIn("Handle 2, nvIndex, is 01000001", told(script)[0])
+
+
+if __name__ == "__main__":
+    unittest.main()

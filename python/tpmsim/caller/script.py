@@ -1,0 +1,145 @@
+"""A script that a program writes: NAME.tpm, and NAME.out as the model answers it."""
+
+import hashlib
+import os
+import pathlib
+import re
+import textwrap
+
+from tpmsim.caller.outputs import POWER, Played, Printed, write_outputs
+from tpmsim.device.base import line, line_in_bytes
+from tpmsim.model.machine import Model, Outcome
+from tpmsim.standard import frames
+from tpmsim.standard.commands import CC
+
+COLUMNS = 100
+RANDOM_BYTES = 256
+
+# So many bytes of each command's `entropy` line that no two nonces of a command are the same.
+SEED_BYTES = 7
+
+# An outcome in words: behind a colon, and before what follows a comma.
+SUCCESS = "SUCCESS"
+OUTCOME = re.compile(r"(?:^|: )([A-Z][A-Z0-9_]+)(/[hps][1-9])?(?=,|$)")
+
+
+def told_outcome(words: str) -> tuple[str, str, str]:
+    """The one outcome that words name, and the words before it and behind it. ValueError where they
+    name none, or more than one.
+    """
+    named = [it for it in OUTCOME.finditer(words) if it[1] == SUCCESS or it[1] in frames.CODES]
+    if len(named) != 1:
+        raise ValueError(f"these words name {len(named)} outcomes: {words}")
+    (found,) = named
+    return words[: found.start()], found[1] + (found[2] or ""), words[found.end() :]
+
+
+class Script:
+    """Lines, and a device that executes them as they are written. The script stands beside its
+    program, and has its name where it has no other.
+    """
+
+    def __init__(self, program: str | os.PathLike[str], head: str, name: str = "") -> None:
+        written_by = pathlib.Path(program)
+        self.path = written_by.with_name(f"{name or written_by.stem}.tpm")
+        self.lines: list[str] = []
+        self.played: list[Printed] = []
+        self.device, self.locality, self.random = Model(), 0, bytes(RANDOM_BYTES)
+        self.seeds, self.elapsed, self.pause = 0, 0, 0
+        self.write_comment(f"{head} Written by {written_by.name} beside it.")
+
+    @property
+    def last(self) -> Outcome:
+        """What came of the last command."""
+        return next(it for it in reversed(self.played) if isinstance(it, Played)).outcome
+
+    def write_comment(self, text: str) -> None:
+        self.lines += textwrap.wrap(
+            text, COLUMNS, initial_indent="# ", subsequent_indent="# ", break_on_hyphens=False
+        )
+
+    def chapter(self, text: str) -> None:
+        self.lines.append("")
+        self.write_comment(text)
+
+    def locality_is(self, locality: int) -> None:
+        self.locality = locality
+        self.lines += ["", f"loc {locality}"]
+
+    def power(self) -> None:
+        self.device.power_cycle()
+        self.played.append(POWER)
+        self.lines += ["", "power"]
+
+    def wait(self, milliseconds: int) -> None:
+        """They pass before the next command."""
+        if self.lines[-1].startswith(("cmd", "do ")):
+            self.lines.append("")
+        self.let_pass(milliseconds)
+
+    def let_pass(self, milliseconds: int) -> None:
+        self.elapsed += milliseconds
+        self.lines.append(f"wait {milliseconds}")
+
+    def entropy(self, seed: bytes) -> None:
+        self.random = (seed * RANDOM_BYTES)[:RANDOM_BYTES]
+        self.lines.append(f"entropy {seed.hex()}")
+
+    def fresh(self) -> None:
+        """Random bytes that the device had not before."""
+        self.seeds += 1
+        self.entropy(hashlib.sha256(b"entropy %d" % self.seeds).digest()[:SEED_BYTES])
+
+    def command(
+        self, words: str, *buffers: bytes, fresh: bool = False, as_bytes: bool = False
+    ) -> bytes:
+        """Commands that come to the one outcome which their words name behind a colon, and the last
+        one's response. The words are a comment; where they have the outcome alone, the last comment
+        goes on. ValueError where a command comes to something else.
+        """
+        before, outcome, after = told_outcome(words)
+        if before:
+            number = "" if outcome == SUCCESS else f" ({frames.code_of(outcome):03X})"
+            self.chapter(f"{before}: {outcome}{number}{after}.")
+        if fresh:
+            self.fresh()
+        for buffer in buffers:
+            if self.pause:
+                self.let_pass(self.pause)
+            self.lines.append(line_in_bytes(buffer) if as_bytes else line(buffer))
+            answered = self.device.execute(buffer, self.locality, self.random, self.elapsed)
+            if (answered.refused or SUCCESS) != outcome:
+                raise ValueError(f"{self.path.name}, {words}: it is {answered.refused or SUCCESS}")
+            self.played.append(Played(answered, self.locality, self.elapsed))
+            self.elapsed = 0
+        return self.last.response
+
+    def startup(self) -> bytes:
+        startup = frames.command(CC.Startup, frames.number(0, 2))
+        return self.command("TPM2_Startup(CLEAR): SUCCESS", startup)
+
+    def allow_tries(self) -> None:
+        """For a script of wrong authorization values that is not about dictionary attack
+        protection, which would refuse the right ones, too, after the third.
+        """
+        self.command(
+            "TPM2_DictionaryAttackParameters: maxTries and recoveryTime are 1,000, lockoutRecovery "
+            "is 1, so that the wrong tries of this script do not lock anything: SUCCESS",
+            frames.on_handle(
+                CC.DictionaryAttackParameters,
+                frames.RH_LOCKOUT,
+                frames.attack_parameters(1000, 1000, 1),
+            ),
+        )
+
+    def wait_each_time(self) -> None:
+        """For wrong tries at lockoutAuth, behind allow_tries."""
+        self.chapter(
+            "A wrong try at lockoutAuth closes it for lockoutRecovery. So a second passes before "
+            "each command from here on."
+        )
+        self.pause = 1000
+
+    def write(self) -> None:
+        self.path.write_text("\n".join(self.lines) + "\n", "ascii")
+        write_outputs(self.path, self.played)

@@ -1,0 +1,242 @@
+"""A caller whose commands stand in a script: each has words, and what it must come to. It checks
+each response, and stops where one is not what it computes itself.
+"""
+
+import hashlib
+from typing import Any, Iterator, Sequence
+
+from tpmsim.caller import CLEAR, Made, Means, NONCE_BYTES, Prepared, Session, Use
+from tpmsim.caller.prepared_commands import PreparedCommands
+from tpmsim.caller.script import SUCCESS, Script
+from tpmsim.standard import AES, ALG_NULL, CC, Fields, RH_NULL, RH_OWNER, SE_HMAC, SE_POLICY
+from tpmsim.standard import SE_TRIAL, SHA1, SHA256, XOR, digest, digest_bytes, frames, nv, sized
+from tpmsim.standard import trimmed
+from tpmsim.standard.objects import Public
+
+HASHES = ((SHA1, "SHA-1"), (SHA256, "SHA-256"))
+KINDS = ((SE_POLICY, "policy"), (SE_TRIAL, "trial"))
+
+# The first indices of most scripts.
+FIRST, SECOND, THIRD, FOURTH = range(0x0100_0001, 0x0100_0005)
+
+
+def zeros(session: Session) -> bytes:
+    """The digest that a policy begins with."""
+    return bytes(digest_bytes(session.algorithm))
+
+
+def is_trial(session: Session) -> bool:
+    return session.kind == SE_TRIAL
+
+
+class ScriptCaller(PreparedCommands):
+    """Of its commands the words come first. Those that may be refused say to which outcome they
+    come, as in "By another password: BAD_AUTH/s1".
+    """
+
+    def __init__(self, script: Script) -> None:
+        super().__init__(self.next_nonce)
+        self.script, self.nonces = script, 0
+        self.ticket, self.creation_data = (0, b""), b""
+
+    def next_nonce(self, size: int = NONCE_BYTES) -> bytes:
+        """The same in each script."""
+        self.nonces += 1
+        return hashlib.sha256(b"nonce %d" % self.nonces).digest()[:size]
+
+    # Sending.
+
+    def refused(self, words: str, *prepared: Prepared) -> None:
+        """Sends commands that must be refused; sessions are then as they were."""
+        self.script.command(words, *(it.buffer() for it in prepared), fresh=True)
+
+    def says(self, words: str, *prepared: Prepared) -> bytes:
+        """Sends commands in which no session has an entry, and which draw no random bytes."""
+        return self.script.command(words, *(it.buffer() for it in prepared))
+
+    @staticmethod
+    def draws(prepared: Prepared) -> bool:
+        return any(isinstance(it, Use) for it in prepared.uses)
+
+    def fails(self, words: str, *prepared: Prepared) -> None:
+        """Sends commands, with fresh random bytes where a session has an entry."""
+        buffers = [it.buffer() for it in prepared]
+        self.script.command(words, *buffers, fresh=any(map(self.draws, prepared)))
+
+    def accepted(
+        self, what: str, prepared: Prepared, fresh: bool = True
+    ) -> tuple[int | None, bytes]:
+        """Sends a command that must be accepted, and checks its response: the handle and the
+        parameters that it answers, in plain. With no words the last comment goes on, and what
+        stands behind a `|` in them stands behind the outcome.
+        """
+        before, bar, after = what.partition("|")
+        words = f"{before}: {SUCCESS}{bar and ', '}{after}"
+        return self.received(prepared, self.script.command(words, prepared.buffer(), fresh=fresh))
+
+    def does(self, what: str, prepared: Prepared) -> bytes:
+        """The same, with fresh random bytes where a session has an entry: the parameters."""
+        return self.accepted(what, prepared, self.draws(prepared))[1]
+
+    def handle_of_new(self, what: str, prepared: Prepared) -> tuple[int, bytes]:
+        """The same of a command that answers a handle."""
+        handle, parameters = self.accepted(what, prepared)
+        assert handle is not None
+        return handle, parameters
+
+    # Sessions.
+
+    def start(
+        self,
+        what: str,
+        bind: int = RH_NULL,
+        algorithm: int = SHA256,
+        aes: bool = False,
+        size: int = NONCE_BYTES,
+        uses: Sequence[Means] = (),
+        kind: int = SE_HMAC,
+        xor: bool = False,
+    ) -> Session:
+        """Starts a session, and gives it as this caller knows it."""
+        nonce, cipher = self.nonce(size), XOR if xor else AES if aes else ALG_NULL
+        handles, parameters = frames.start_auth_session(
+            *(nonce, bind, algorithm, aes), kind=kind, xor=algorithm if xor else None
+        )
+        start = self.prepare(CC.StartAuthSession, handles, parameters, *uses)
+        return self.started(self.accepted(what, start), nonce, bind, algorithm, kind, cipher)
+
+    def policy(self, what: str, **choices: Any) -> Session:
+        return self.start(what, kind=SE_POLICY, **choices)
+
+    def trial(self, what: str, **choices: Any) -> Session:
+        return self.start(what, kind=SE_TRIAL, **choices)
+
+    def each_session(self, **choices: Any) -> Iterator[Session]:
+        """A policy and a trial session of each hash, one after the other, each in a chapter."""
+        for algorithm, hash_name in HASHES:
+            for kind, name in KINDS:
+                self.script.chapter(f"A {name} session of {hash_name}.")
+                session = self.start("It is started", algorithm=algorithm, kind=kind, **choices)
+                yield session
+                self.says("It is flushed: SUCCESS", self.flush(session))
+
+    def digest_is(self, what: str, session: Session, wanted: bytes) -> None:
+        response = self.says(f"{what}: SUCCESS", self.get_digest(session))
+        assert response == frames.success(sized(wanted))
+
+    # Objects.
+
+    def creation_answer(self, fields: Fields) -> Public:
+        """The public area that is answered. The hash of the creation data is the creation hash."""
+        public = Public.read(fields.sized())
+        data, data_hash = fields.sized(), fields.sized()
+        assert data_hash == digest(public.name_algorithm, data)
+        assert fields.number(2) == frames.ST_CREATION
+        self.ticket = fields.number(4), fields.sized()
+        self.creation_data = data
+        return public
+
+    def create_primary(
+        self, what: str, hierarchy: int, public: Public, *uses: Means, **more: Any
+    ) -> int:
+        """The handle of a primary object."""
+        prepared = self.primary(hierarchy, public, *uses, **more)
+        handle, parameters = self.handle_of_new(what, prepared)
+        fields = Fields(parameters)
+        name = self.creation_answer(fields).name
+        assert fields.sized() == name and not fields.data
+        return handle
+
+    def create(
+        self,
+        what: str,
+        parent: int,
+        public: Public,
+        *uses: Means,
+        user_auth: bytes = b"",
+        **more: Any,
+    ) -> Made:
+        prepared = self.child(parent, public, *uses, user_auth=user_auth, **more)
+        _, parameters = self.accepted(what, prepared)
+        fields = Fields(parameters)
+        private, public = fields.sized(), self.creation_answer(fields)
+        assert not fields.data
+        return Made(private, public, trimmed(user_auth))
+
+    def load(self, what: str, parent: int, made: Made, *uses: Means) -> int:
+        """The handle of an object that is loaded."""
+        handle, parameters = self.handle_of_new(what, self.loading(parent, made, *uses))
+        assert parameters == sized(made.public.name)
+        self.auth_values[handle] = made.auth_value
+        return handle
+
+    def read_public(self, what: str, handle: int, *uses: Means) -> tuple[Public, bytes]:
+        """The public area, the Name and the qualified name, of which the caller knows the Name."""
+        _, parameters = self.accepted(what, self.public(handle, *uses))
+        fields = Fields(parameters)
+        public, name, qualified = Public.read(fields.sized()), fields.sized(), fields.sized()
+        assert name == public.name == self.names[handle] and not fields.data
+        return public, qualified
+
+    def unseal(self, what: str, handle: int, data: bytes, *uses: Means) -> None:
+        _, parameters = self.accepted(what, self.unsealing(handle, *uses))
+        assert parameters == sized(data)
+
+    def flush_objects(self, what: str, *handles: int) -> None:
+        for handle in handles:
+            self.accepted(what if handle == handles[0] else "", self.flush(handle))
+
+    def keep(self, what: str, asker: int, handle: int, wanted: int, *uses: Means) -> int:
+        """The handle of a persistent object, which is made of a transient one."""
+        self.does(what, self.evicting(asker, handle, wanted, *uses))
+        return wanted
+
+    def remove(self, what: str, asker: int, handle: int, *uses: Means) -> None:
+        self.does(what, self.evicting(asker, handle, handle, *uses))
+
+    # NV indices.
+
+    def define(
+        self, what: str, public: nv.Public, *uses: Means, auth: bytes = b"", by: int = RH_OWNER
+    ) -> int:
+        """The handle of an index that is defined."""
+        self.does(what, self.defining(public, *uses, auth=auth, by=by))
+        return public.index
+
+    def read(
+        self,
+        what: str,
+        index: int,
+        data: bytes,
+        *uses: Means,
+        offset: int = 0,
+        by: int | None = None,
+    ) -> None:
+        """Reads as many bytes as the data, which they must be."""
+        prepared = self.reading(index, len(data), *uses, offset=offset, by=by)
+        assert self.does(what, prepared) == sized(data), what
+
+    def read_index_public(self, what: str, index: int, *uses: Means) -> nv.Public:
+        """The public area, which is noted, as a start may have changed it."""
+        fields = Fields(self.does(what, self.index_public(index, *uses)))
+        fields.sized()
+        public = self.publics[index]
+        assert fields.sized() == public.name and not fields.data
+        return public
+
+    def is_now(self, what: str, index: int, *uses: Means, added: int = 0, cleared: int = 0) -> None:
+        """Reads a public area, whose attributes must have changed so, and in nothing else."""
+        wanted = self.publics[index].but(added, cleared)
+        public = self.read_index_public(what, index, *uses)
+        assert public == wanted, f"{what}: {public.attributes:08x}"
+
+    # What the device keeps.
+
+    def start_up(self, what: str, kind: int = CLEAR) -> None:
+        """TPM2_Startup; with CLEAR the platform has no authorization value any more."""
+        self.does(what, self.starting(kind))
+
+    def set_protection(
+        self, what: str, max_tries: int, recovery_time: int, lockout_recovery: int
+    ) -> None:
+        self.does(what, self.attack_parameters(max_tries, recovery_time, lockout_recovery))

@@ -1,0 +1,95 @@
+"""What differs between two answers, and what is a matter of chance in them."""
+
+from dataclasses import dataclass
+from typing import Any, Iterator
+
+from tpmsim.standard import frames
+from tpmsim.standard.objects import Public
+from tpmsim.standard.reading import Short
+from tpmsim.standard.values import Digest, Ticket, Time
+
+# Fields that come of random bytes or of a TPM's own secrets: their sizes are compared.
+BY_CHANCE = {
+    *("nonceTPM", "randomBytes", "outPrivate", "name", "qualifiedName", "creationHash"),
+    "creationData",
+}
+
+# Codes that only other TPMs answer.
+OTHER_CODES = {
+    0x124: "AUTH_TYPE",
+    0x081: "ASYMMETRIC",
+    0x09B: "ECC_POINT",
+    0x0A3: "EXPIRED",
+    0x103: "SEQUENCE",
+}
+
+
+@dataclass(frozen=True)
+class Difference:
+    """In a line of the script: the command, what of its answer differs, and both values. One that
+    follows from that of an earlier line names it.
+    """
+
+    line: int
+    command: str
+    what: str
+    here: str
+    there: str
+    follows: int | None = None
+
+    def __str__(self) -> str:
+        words = (
+            f"line {self.line}: {self.command}: {self.what}: here {self.here}, there {self.there}"
+        )
+        return words if self.follows is None else f"{words}, behind line {self.follows}"
+
+
+def code_word(code: int) -> str:
+    """A response code by its name and place, or its number."""
+    if not code:
+        return "success"
+    name, place = frames.spelled_code(code)
+    name = name or OTHER_CODES.get(code & 0x0BF if place else code, f"{code:03X}")
+    return f"{name}/{place}" if place and not name.isdigit() else name
+
+
+def comparable(name: str, value: Any) -> Any:
+    """What is compared of a field."""
+    if name in BY_CHANCE:
+        return f"{len(value)} bytes"
+    if isinstance(value, Ticket):
+        return f"{value.tag:04x} {value.hierarchy:08x} {len(value.digest)} bytes"
+    if isinstance(value, Time):
+        return f"resets {value.resets}, restarts {value.restarts}, safe {value.is_safe}"
+    if name == "outPublic":
+        try:
+            public = Public.read(value)
+        except (Short, ValueError):
+            return value.hex()
+        return value[: len(value) - len(public.unique)].hex()
+    return value
+
+
+def shown(value: Any) -> str:
+    if isinstance(value, bytes):
+        return value.hex() or "-"
+    if isinstance(value, Digest):
+        return f"{value.algorithm:04x}:{value.digest.hex()}"
+    return str(value)
+
+
+def shown_both(here: Any, there: Any) -> tuple[str, str]:
+    """Both values; of two lists the first elements that differ."""
+    if isinstance(here, list) and isinstance(there, list):
+        if len(here) != len(there):
+            return f"{len(here)} elements", f"{len(there)} elements"
+        here, there = next(it for it in zip(here, there) if it[0] != it[1])
+    return shown(here), shown(there)
+
+
+def between(here: dict[str, Any], there: dict[str, Any]) -> Iterator[tuple[str, str, str]]:
+    """The fields that differ, with both values."""
+    for name, value in here.items():
+        pair = comparable(name, value), comparable(name, there.get(name))
+        if pair[0] != pair[1]:
+            yield name, *shown_both(*pair)

@@ -1,0 +1,80 @@
+"""tpmsim-compare SCRIPT.. --with TPM: each script on tpmsim and on another TPM, side by side.
+
+TPM is one of
+    swtpm                                   the program, a new one for each script
+    swtpm:path=SOCKET                       one that runs, with its control channel at SOCKET.ctrl
+    swtpm:host=HOST,port=N                  one that runs, with its control channel at N + 1
+    mssim:host=HOST,port=N                  one behind Microsoft's protocol, the platform at N + 1
+    device:FILE                             such as /dev/tpmrm0, whose power nobody switches
+
+What a TPM that runs has in it is its own: clear it before. The status is 0 where nothing differs, 1
+where something does, and 2 where it cannot be compared.
+"""
+
+import argparse
+import pathlib
+import sys
+
+from tpmsim.compare.play import Comparison, Report
+from tpmsim.device import DeviceEnded, FileDevice, SimulatorDevice, StartedSwtpm, SwtpmDevice
+from tpmsim.device import Transport, Unsupported
+from tpmsim.model.player import BadLine
+
+
+def other_tpm(words: str) -> Transport:
+    """The TPM of some words; ValueError of others."""
+    kind, _, rest = words.partition(":")
+    if kind == "device" and rest:
+        return FileDevice(rest)
+    if words == "swtpm":
+        return StartedSwtpm()
+    given = dict(it.split("=", 1) for it in rest.split(","))
+    if kind == "swtpm" and set(given) == {"path"}:
+        return SwtpmDevice(given["path"], f"{given['path']}.ctrl")
+    if set(given) == {"host", "port"}:
+        host, port = given["host"], int(given["port"])
+        if kind == "swtpm":
+            return SwtpmDevice((host, port), (host, port + 1))
+        if kind == "mssim":
+            return SimulatorDevice(host, port)
+    raise ValueError(f"{words} names no TPM")
+
+
+def compared(script: pathlib.Path, words: str) -> Report:
+    with other_tpm(words) as other:
+        return Comparison(other).play(script.read_bytes())
+
+
+def told(script: pathlib.Path, report: Report) -> list[str]:
+    lines = [f"{script}: {it}" for it in report.differences]
+    for line, words, cause in report.not_comparable:
+        behind = "" if cause == line else f", behind line {cause}"
+        lines.append(f"{script}: line {line}: not comparable: {words}{behind}")
+    own = sum(it.follows is None for it in report.differences)
+    counts = f"{report.commands} commands, {own} differences"
+    more = len(report.differences) - own, len(report.not_comparable)
+    return [*lines, f"{script}: {counts}, {more[0]} that follow, {more[1]} not comparable"]
+
+
+def run() -> int:
+    words = argparse.ArgumentParser(
+        prog="tpmsim-compare",
+        description=__doc__,
+        formatter_class=argparse.RawDescriptionHelpFormatter,
+    )
+    words.add_argument("scripts", nargs="+", metavar="SCRIPT", type=pathlib.Path)
+    words.add_argument("--with", dest="other", required=True, metavar="TPM")
+    given, status = words.parse_args(), 0
+    for script in given.scripts:
+        try:
+            report = compared(script, given.other)
+        except (OSError, ValueError, BadLine, DeviceEnded, Unsupported) as fault:
+            print(f"tpmsim-compare: {script}: {type(fault).__name__}: {fault}", file=sys.stderr)
+            return 2
+        print("\n".join(told(script, report)))
+        status |= bool(report.differences)
+    return status
+
+
+if __name__ == "__main__":
+    sys.exit(run())

@@ -1,0 +1,81 @@
+"""Makes docs/OTHER_TPMS.md: python3 -m tpmsim.compare.page SCRIPT.. > docs/OTHER_TPMS.md"""
+
+import pathlib
+import subprocess
+import sys
+from collections import Counter, defaultdict
+
+from tpmsim.compare.differences import Difference
+from tpmsim.compare.known import CAUSES, Cause, cause_of
+from tpmsim.compare.main import compared
+from tpmsim.model.player import BadLine
+
+HEAD = """# Other TPMs
+
+What another TPM does otherwise than the device here. Who passes here knows by this what is left to
+try elsewhere. The other one is {version}.
+
+`tpmsim-compare` plays a script on both side by side. It computes each session anew for the other one,
+sends what a session's caller would, and compares response codes, answered fields, HMACs, and what can
+be read of the state at the end:
+
+```sh
+PYTHONPATH=python python3 -m tpmsim.compare.main tests/pcr_read.tpm --with swtpm
+```
+
+The other one may be `swtpm:path=..`, `swtpm:host=..,port=..`, `mssim:host=..,port=..` or
+`device:/dev/tpmrm0` too. This page is made of the scripts of tests/ and examples/:
+
+```sh
+PYTHONPATH=python python3 -m tpmsim.compare.page tests/*/*.tpm examples/*.tpm > docs/OTHER_TPMS.md
+```
+
+Of {commands} commands in {scripts} scripts {own} are answered otherwise, and {follow} more only as an
+earlier one was. Not comparable are {missing}: most by a size that a stream cannot carry, the others as
+a session or an object is not there.
+
+| what differs | how often | for example | here | there | section | our decision |
+|---|---|---|---|---|---|---|"""
+
+
+def swtpm_version() -> str:
+    words = subprocess.run(["swtpm", "--version"], capture_output=True, text=True, check=True)
+    return "swtpm " + words.stdout.split("version ")[1].split(",")[0] + " of Debian 12"
+
+
+def short(value: str) -> str:
+    return value if len(value) <= 40 else f"{value[:37]}.."
+
+
+def row(cause: Cause, found: list[tuple[pathlib.Path, Difference]]) -> str:
+    accepted = [each for each in found if "success" in (each[1].here, each[1].there)]
+    path, it = (accepted or found)[0]
+    example = f"[{path.stem}](../{path.parent.name}/{path.name}), line {it.line}: {it.command}"
+    if it.what != "code":
+        example += f", {it.what}"
+    cells = cause.words, str(len(found)), example, short(it.here), short(it.there)
+    return f"| {' | '.join((*cells, cause.section, cause.decision))} |"
+
+
+def page(scripts: list[pathlib.Path]) -> str:
+    found: dict[Cause | None, list[tuple[pathlib.Path, Difference]]] = defaultdict(list)
+    counts: Counter[str] = Counter()
+    for path in scripts:
+        try:
+            report = compared(path, "swtpm")
+        except BadLine:
+            continue
+        counts.update(scripts=1, commands=report.commands, missing=len(report.not_comparable))
+        for it in report.differences:
+            counts["own" if it.follows is None else "follow"] += 1
+            if it.follows is None:
+                found[cause_of(it)].append((path, it))
+    rows = [row(it, found[it]) for it in CAUSES if found[it]]
+    unknown = [f"- {path.stem}: {it}" for path, it in found[None]]
+    numbers = {name: f"{count:,}" for name, count in counts.items()}
+    text = [HEAD.format(version=swtpm_version(), **numbers), *rows]
+    return "\n".join([*text, *(["", "Of no known cause:", "", *unknown] if unknown else [])])
+
+
+if __name__ == "__main__":
+    print(page([pathlib.Path(it) for it in sys.argv[1:]]))

@@ -1,0 +1,280 @@
+"""Plays a script on both TPMs, and tells where they differ."""
+
+from dataclasses import dataclass, field
+
+from tpmsim.compare.differences import Difference, between, code_word
+from tpmsim.compare.reference import Received, Reference, parsed
+from tpmsim.compare.translation import NotComparable, Translation
+from tpmsim.caller.entries import Prepared
+from tpmsim.device import FileDevice, SimulatorDevice, Transport, Unsupported
+from tpmsim.device.base import Executed
+from tpmsim.device.told import MOST_MILLISECONDS
+from tpmsim.model.general import Command
+from tpmsim.model.player import Player
+from tpmsim.standard import frames
+from tpmsim.standard.commands import CC, NUMBERED
+from tpmsim.standard.frames import COMMAND_BYTES, CONTINUE_SESSION, Entry, HEADER_BYTES, NV
+from tpmsim.standard.frames import PERSISTENT, POLICY_SESSION, SHA1
+from tpmsim.standard.frames import SHA256, TRANSIENT
+from tpmsim.standard.handle_kinds import is_policy, is_session
+from tpmsim.standard.values import read_all
+
+# What a command changes beside its handles, so that a later difference follows from it.
+GUESSES = "guesses"
+ALL = "all"
+CHANGES = {
+    CC.Clear: ALL,
+    CC.Startup: ALL,
+    CC.Shutdown: ALL,
+    CC.HierarchyChangeAuth: ALL,
+    CC.ClearControl: "clear",
+    CC.DictionaryAttackLockReset: GUESSES,
+    CC.DictionaryAttackParameters: GUESSES,
+}
+OF_GUESSES = {"AUTH_FAIL", "LOCKOUT", "BAD_AUTH"}
+LEAST_WAIT = 1000
+
+# What commands do to PCRs shows in their values, and in a policy of PCRs; and what is looked up by a
+# handle: NV indices, policy sessions, and objects.
+COUNTER, PCR_COMMANDS = "pcrUpdateCounter", (CC.PolicyPCR,)
+OWN_KINDS = NV, POLICY_SESSION, TRANSIENT, PERSISTENT
+
+# What is read of the state at the end: the PCRs, four at a time as an answer has eight digests at
+# most, the handles of NV indices, sessions, and transient and persistent objects, and the properties
+# of the protection from guessing.
+READS = [
+    *(
+        frames.command(CC.PCR_Read, frames.selection((SHA1, four), (SHA256, four)))
+        for four in (range(it, it + 4) for it in range(0, 24, 4))
+    ),
+    *(
+        frames.command(CC.GetCapability, b"".join(frames.number(it, 4) for it in (*asked, 16)))
+        for asked in ((1, 0x0100_0000), (1, 0x0200_0000), (1, 0x8000_0000), (1, 0x8100_0000))
+    ),
+    frames.command(CC.GetCapability, b"".join(frames.number(it, 4) for it in (6, 0x20E, 4))),
+]
+
+
+@dataclass
+class Report:
+    """What came of a script: how many commands it has, where the answers differ, and what could not
+    be compared, by line.
+    """
+
+    commands: int = 0
+    differences: list[Difference] = field(default_factory=list)
+    not_comparable: list[tuple[int, str, int]] = field(default_factory=list)
+
+
+class Comparison:
+    """A script on the device here, and on another TPM, which awaits TPM2_Startup as it begins."""
+
+    def __init__(self, other: Transport) -> None:
+        self.other, self.here, self.report = other, Reference(), Report()
+        self.translation = Translation(self.here)
+        self.player = Player()
+        self.causes: dict[object, int] = {}
+        self.line, self.locality, self.waited = 0, 0, 0
+
+    # Lines.
+
+    def play(self, script: bytes) -> Report:
+        """BadLine where a line is none."""
+        for self.line, text in enumerate(script.split(b"\n"), 1):
+            word, _, argument = text.partition(b" ")
+            if word == b"cmd":
+                self.command(bytes.fromhex(argument.decode("ascii")))
+            elif word == b"do":
+                self.command(self.player.assembled(argument))
+            elif word == b"power":
+                self.power()
+            else:
+                self.player.play(text)
+                if word == b"wait":
+                    self.waited += int(argument)
+        self.state()
+        return self.report
+
+    def send(self, buffer: bytes) -> bytes:
+        """Where the other TPM has the host's time, guesses are forgotten here alone."""
+        waited, self.waited = min(self.waited, MOST_MILLISECONDS), 0
+        try:
+            if waited:
+                self.other.wait(waited)
+        except Unsupported:
+            if waited >= LEAST_WAIT:
+                self.causes.setdefault(GUESSES, self.line)
+        return self.other.execute(buffer).response
+
+    def power(self) -> None:
+        self.here.power_cycle()
+        self.other.power_cycle()
+        self.translation.power_cycle()
+
+    def command(self, buffer: bytes) -> None:
+        self.report.commands += 1
+        asked = parsed(buffer)
+        try:
+            prepared = self.translation.command(buffer)
+            self.be_at(self.player.locality)
+            sent = prepared.buffer() if isinstance(prepared, Prepared) else prepared
+            if not self.can_be_sent(sent):
+                raise Unsupported("the channel there ends a command by the size that it says")
+        except NotComparable as why:
+            self.skip(asked, self.execute(buffer), why.words, why.line)
+            return
+        except Unsupported as why:
+            self.skip(asked, self.execute(buffer), str(why), self.line)
+            return
+        is_made_elsewhere = asked is not None and self.translation.is_made_elsewhere(asked)
+        response = self.send(sent)
+        session = self.here.encrypting(asked) if asked else None
+        event = self.execute(buffer)
+        is_done, here = not any(event.response[6:10]), Received()
+        if is_done and is_made_elsewhere and any(response[6:10]):
+            self.skip(asked, event, "a private area that was not answered", self.line)
+            return
+        if is_done and asked:
+            here = self.here.received(asked, event.response, session)
+        self.compare(asked, prepared, here, event, response)
+
+    def skip(self, asked: Command | None, event: Executed, words: str, line: int) -> None:
+        """What cannot be compared was executed here alone."""
+        self.report.not_comparable.append((self.line, words, line))
+        self.lose(asked, event, line)
+
+    def can_be_sent(self, buffer: bytes) -> bool:
+        """A stream has no end of a command but its size; Microsoft's protocol and a file have."""
+        if isinstance(self.other, (FileDevice, SimulatorDevice)):
+            return True
+        return HEADER_BYTES <= len(buffer) == int.from_bytes(buffer[2:6], "big") <= COMMAND_BYTES
+
+    def be_at(self, locality: int) -> None:
+        if locality != self.locality:
+            self.other.locality = locality
+            self.locality = locality
+
+    def execute(self, buffer: bytes) -> Executed:
+        player = self.player
+        event = self.here.execute(buffer, player.locality, player.elapsed, player.random)
+        player.elapsed = 0
+        return event
+
+    # Answers.
+
+    def compare(
+        self,
+        asked: Command | None,
+        prepared: Prepared | bytes,
+        here: Received,
+        event: Executed,
+        response: bytes,
+    ) -> None:
+        codes = [int.from_bytes(it[6:10], "big") for it in (event.response, response)]
+        name = asked.code.name if asked else self.name_of(event)
+        if codes[0] != codes[1]:
+            self.differ(name, asked, "code", *map(code_word, codes))
+        if asked is None or isinstance(prepared, bytes):
+            return
+        there = self.translation.received(prepared, response) if not codes[1] else None
+        if there and not codes[0]:
+            for what, *both in between(here.fields, there.fields):
+                self.differ(name, asked, what, *both)
+            if there.wrong:
+                self.differ(name, asked, "hmac", "right", there.wrong)
+            self.translation.note_both(asked, prepared, here, there, self.line)
+        elif not codes[0]:
+            self.lose(asked, event, self.line)
+        elif there:
+            self.undo(asked, there)
+
+    @staticmethod
+    def name_of(event: Executed) -> str:
+        code = NUMBERED.get(int.from_bytes(event.buffer[6:10], "big"))
+        return code.name if code else "?"
+
+    def differ(self, name: str, asked: Command | None, what: str, here: str, there: str) -> None:
+        touched = self.touched(asked, what)
+        if {here.split("/")[0], there.split("/")[0]} & OF_GUESSES:
+            touched.append(GUESSES)
+        causes = [self.causes[it] for it in touched if it in self.causes]
+        follows = min(causes) if causes else None
+        self.report.differences.append(Difference(self.line, name, what, here, there, follows))
+        is_other = "success" in (here, there) or what != "code"
+        if asked and asked.code in (CC.PCR_Extend, CC.PCR_Event, CC.PCR_Reset):
+            touched.append("pcrs")
+        for it in touched if is_other else []:
+            if it != ALL or asked and CHANGES.get(asked.code) == ALL:
+                self.causes.setdefault(it, self.line)
+
+    def touched(self, asked: Command | None, what: str) -> list[object]:
+        """What a command reads or changes, by which a difference follows from an earlier one."""
+        if asked is None:
+            return []
+        if what == COUNTER:
+            return [COUNTER, ALL]
+        entries = [entry.handle for _, entry, _ in asked.places()]
+        touched: list[object] = [it for it in asked.handles + entries if it >> 24 in OWN_KINDS]
+        if asked.code in PCR_COMMANDS or what == "pcrValues":
+            touched.append("pcrs")
+        if asked.code in CHANGES:
+            touched.append(CHANGES[asked.code])
+        return [*touched, ALL]
+
+    def lose(self, asked: Command | None, event: Executed, line: int) -> None:
+        """What is here and not there: what a command answered or made, and what it ended."""
+        if asked is None or any(event.response[6:10]):
+            return
+        lost = self.translation.lost
+        if asked.code.answers_handle:
+            lost[int.from_bytes(event.response[10:14], "big")] = line
+        elif asked.code == CC.NV_DefineSpace:
+            lost.update({it: line for it in self.here.model.indices if it not in self.known()})
+        elif asked.code == CC.EvictControl:
+            kept = [it for it in self.here.model.objects if it >> 24 == PERSISTENT]
+            lost.update({it: line for it in kept if it not in self.known()})
+        if asked.handles and is_policy(asked.handles[-1]):
+            self.translation.tied[asked.handles[-1]] = line
+        for _, entry, handle in asked.places():
+            if is_session(entry.handle):
+                self.keep_step(entry, handle)
+
+    def keep_step(self, entry: Entry, handle: int | None) -> None:
+        """A session that was used here alone ends there too, or has its starting state there too."""
+        handles = self.translation.handles
+        if not entry.attributes & CONTINUE_SESSION:
+            self.flush(handles.pop(entry.handle, None))
+        elif handle is not None and is_policy(entry.handle) and entry.handle in handles:
+            restart = frames.number(handles[entry.handle], 4)
+            self.other.execute(frames.command(CC.PolicyRestart, restart))
+            self.translation.untie(entry.handle)
+
+    def known(self) -> set[int]:
+        return {*self.translation.known.names, *self.translation.lost}
+
+    def undo(self, asked: Command, there: Received) -> None:
+        """What is there and not here is taken away again, where one command does that."""
+        self.flush(there.handle)
+        if asked.code == CC.NV_DefineSpace:
+            self.other.execute(self.translation.undefining(there))
+
+    def flush(self, handle: int | None) -> None:
+        if handle is not None:
+            self.other.execute(frames.command(CC.FlushContext, frames.number(handle, 4)))
+
+    # The state at the end.
+
+    def state(self) -> None:
+        """Reads what both show of their state, and compares it."""
+        if not self.here.model.started:
+            return
+        for buffer in READS:
+            asked, response = parsed(buffer), self.other.execute(buffer).response
+            event = self.execute(buffer)
+            if asked is None or any(response[6:10]) or any(event.response[6:10]):
+                continue
+            fields = asked.code.answered_parameters
+            here, there = (read_all(fields, it[10:]) for it in (event.response, response))
+            for what, *both in between(here, there):
+                if what not in (COUNTER, "moreData"):
+                    self.differ(f"the state, by {asked.code.name}", asked, what, *both)

@@ -1,0 +1,141 @@
+"""The script as it stands, on the device here, and what its caller knew at each of its commands."""
+
+from dataclasses import dataclass, field
+from typing import Any
+
+from tpmsim.device import library
+from tpmsim.device.base import Executed
+from tpmsim.device.child import ChildDevice
+from tpmsim.device.library import LibraryDevice
+from tpmsim.device.told import Device
+from tpmsim.model.general import Command
+from tpmsim.model.machine import MANUFACTURED, Model, Session
+from tpmsim.standard import sessions
+from tpmsim.standard.aes_tables import encrypt_block
+from tpmsim.standard.commands import NUMBERED
+from tpmsim.standard.frames import ALG_NULL, DECRYPT, ENCRYPT, NO_SESSIONS, SESSIONS, Entry
+from tpmsim.standard.reading import Fields, Short
+from tpmsim.standard.values import read_all
+
+
+def parsed(buffer: bytes) -> Command | None:
+    """A command by its form alone, or None where it has none."""
+    fields = Fields(buffer)
+    try:
+        tag, size, code = fields.number(2), fields.number(4), NUMBERED.get(fields.number(4))
+        if code is None or size != len(buffer) or tag not in (NO_SESSIONS, SESSIONS):
+            return None
+        handles = [fields.number(4) for _ in code.handles]
+        if tag == NO_SESSIONS:
+            return Command(code, handles, None, fields.data)
+        area, entries = Fields(fields.take(fields.number(4))), []
+        while area.data:
+            entries.append(Entry(area.number(4), area.sized(), area.number(1), area.sized()))
+    except Short:
+        return None
+    return Command(code, handles, entries, fields.data) if entries else None
+
+
+@dataclass(frozen=True)
+class Shown:
+    """How an entry was right: `key` says whether the authorization value is in the key of its hmac,
+    and is None where the hmac is wrong, or there is none.
+    """
+
+    is_password: bool = False
+    key: bool | None = None
+
+
+@dataclass
+class Received:
+    """What a TPM answered to a request in plain: the handle and the fields in plain, and what is
+    wrong with its hmacs.
+    """
+
+    request: bytes = b""
+    handle: int | None = None
+    fields: dict[str, Any] = field(default_factory=dict)
+    wrong: str | None = None
+
+
+class Reference:
+    """The device here, twice: the one that answers, and the one in Python that can be looked into.
+    A seed for both is that of scripts, the bytes 00 to ff.
+    """
+
+    def __init__(self) -> None:
+        self.model = Model(MANUFACTURED, encrypt_block)
+        is_there = library.is_there()
+        self.device: Device = (
+            LibraryDevice(manufactured=MANUFACTURED) if is_there else ChildDevice()
+        )
+
+    def execute(self, buffer: bytes, locality: int, elapsed: int, random: bytes) -> Executed:
+        event = self.device.answer(buffer, locality, elapsed, random)
+        if self.model.execute(buffer, locality, random, elapsed).response != event.response:
+            raise AssertionError(f"the device in Python answers otherwise: {buffer.hex()}")
+        return event
+
+    def power_cycle(self) -> None:
+        self.device.cycle()
+        self.model.power_cycle()
+
+    def shown(self, command: Command, place: int, entry: Entry, handle: int | None) -> Shown:
+        """How the entry of a session that is there is right, before the command is executed."""
+        session, value = self.model.sessions[entry.handle], self.model.auth_value(handle)
+        if handle is not None and session.policy.demand == "password":
+            return Shown(is_password=sessions.trimmed(entry.hmac) == value)
+        names = self.model.names(command)
+        text = sessions.command_hash(session.algorithm, command.code, names, command.parameters)
+        for has_value in (True, False):
+            key = session.key + (value if has_value else b"")
+            others = self.nonces_of_others(command, place, handle)
+            nonces = entry.nonce, session.nonce_tpm, others
+            hmac = sessions.entry_hmac(session.algorithm, key, text, *nonces, entry.attributes)
+            if hmac == entry.hmac:
+                return Shown(key=has_value)
+        return Shown()
+
+    def nonces_of_others(self, command: Command, place: int, handle: int | None) -> list[bytes]:
+        entries = [it for it in command.entries or [] if it.attributes & (DECRYPT | ENCRYPT)]
+        if any(it.handle not in self.model.sessions for it in entries):
+            return []
+        return self.model.nonces_of_others(command, place, handle)
+
+    def plain(self, command: Command) -> bytes:
+        """The parameters, decrypted where a session of the command asks for it and can."""
+        found = command.with_attribute(DECRYPT)
+        session = self.model.sessions.get(found[1].handle) if found else None
+        if (
+            not found
+            or session is None
+            or session.cipher == ALG_NULL
+            or not command.code.takes_sized
+        ):
+            return command.parameters
+        key = self.model.encryption_key(session, found[2])
+        nonces = found[1].nonce, session.nonce_tpm
+        given = session.cipher, session.algorithm, key, *nonces
+        return sessions.on_first_buffer(
+            lambda data: sessions.decrypted(*given, data, encrypt_block), command.parameters
+        )
+
+    def encrypting(self, command: Command) -> Session | None:
+        """The session that will encrypt the answer, which may end with it."""
+        found = command.with_attribute(ENCRYPT)
+        return self.model.sessions.get(found[1].handle) if found else None
+
+    def received(self, command: Command, response: bytes, session: Session | None) -> Received:
+        """What a success of the device here tells."""
+        fields = Fields(response[10:])
+        handle = fields.number(4) if command.code.answers_handle else None
+        is_sized = command.entries is not None
+        parameters = fields.take(fields.number(4)) if is_sized else fields.data
+        found = command.with_attribute(ENCRYPT)
+        if found and session:
+            key = self.model.encryption_key(session, found[2])
+            given = session.cipher, session.algorithm, key, session.nonce_tpm, found[1].nonce
+            parameters = sessions.on_first_buffer(
+                lambda data: sessions.decrypted(*given, data, encrypt_block), parameters
+            )
+        return Received(b"", handle, read_all(command.code.answered_parameters, parameters))

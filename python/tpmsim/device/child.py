@@ -1,0 +1,121 @@
+"""A device that a child process of `tpmsim run` has, where there is no library."""
+
+import os
+import pathlib
+import shutil
+import subprocess
+import tempfile
+
+from tpmsim.device.base import DeviceEnded, Executed, Unsupported, line_in_bytes
+from tpmsim.device.told import Device, Path, Snapshot
+from tpmsim.standard.commands import CC
+
+
+def program_found() -> str:
+    """The program: the one that $TPMSIM names, the one of this repository, or one on the path."""
+    shipped = pathlib.Path(__file__).resolve().parents[3] / "dist" / "tpmsim"
+    found = os.environ.get("TPMSIM")
+    if not found and os.access(shipped, os.X_OK):
+        found = str(shipped)
+    found = found or shutil.which("tpmsim")
+    if not found:
+        raise FileNotFoundError("there is no tpmsim: $TPMSIM may name it")
+    return found
+
+
+class ChildDevice(Device):
+    """A device that a child process has. Without an image it is manufactured with the bytes 00 to
+    ff; with one it is the device of that file, or a new one with random seeds, and what it changes
+    is in the file before it is answered.
+
+    >>> with ChildDevice() as device:
+    ...     device.execute(b"").check
+    'G1'
+    """
+
+    def __init__(
+        self, image: Path | None = None, seed: bytes | None = None, program: str | None = None
+    ) -> None:
+        super().__init__(image, seed)
+        self.program, self.told_locality = program or program_found(), 0
+        self.folder: tempfile.TemporaryDirectory[str] | None = None
+        self.process = self.started(self.image)
+
+    def started(self, image: pathlib.Path | None) -> subprocess.Popen[bytes]:
+        words = [self.program, "run", "--trace"]
+        if image is not None:
+            words += ["--image", os.fspath(image), "--entropy", "/dev/urandom"]
+        pipes = subprocess.PIPE
+        return subprocess.Popen([*words, "-"], stdin=pipes, stdout=pipes, stderr=pipes)
+
+    def begin(self, base: bytes) -> None:
+        """BadImage is told by the first command, as DeviceEnded."""
+        self.end()
+        self.told_locality, image = 0, self.image
+        if base:
+            self.folder = self.folder or tempfile.TemporaryDirectory()
+            image = image or pathlib.Path(self.folder.name, "image")
+            image.write_bytes(base)
+            self.image = image
+        self.process, self.base, self.since = self.started(image), base, len(self.events)
+
+    def say(self, *lines: str) -> None:
+        assert self.process.stdin is not None
+        try:
+            self.process.stdin.write("".join(f"{it}\n" for it in lines).encode("ascii"))
+            self.process.stdin.flush()
+        except BrokenPipeError:
+            raise self.ended() from None
+
+    def heard(self) -> str:
+        assert self.process.stdout is not None
+        text = self.process.stdout.readline()
+        if not text.endswith(b"\n"):
+            raise self.ended()
+        return text.decode("ascii").rstrip("\n")
+
+    def ended(self) -> DeviceEnded:
+        assert self.process.stderr is not None
+        words = self.process.stderr.read().decode("utf-8", "replace").strip()
+        return DeviceEnded(f"status {self.process.wait()}: {words}")
+
+    def answer(self, buffer: bytes, locality: int, elapsed: int, random: bytes) -> Executed:
+        before = [f"wait {elapsed}"] if elapsed else []
+        if locality != self.told_locality:
+            before.append(f"loc {locality}")
+        self.say(*before, f"entropy {random.hex()}", line_in_bytes(buffer))
+        self.told_locality = locality
+        name, _, _, check, _ = self.heard().split(" ")
+        response, code = bytes.fromhex(self.heard()), 0 if name == "?" else int(CC[name])
+        return Executed(buffer, response, locality, elapsed, random, check, code)
+
+    def cycle(self) -> None:
+        self.say("power")
+        self.heard()
+
+    def save(self) -> bytes:
+        """What the file of the image holds: all but the clock since the last change."""
+        if self.image is None:
+            raise Unsupported("a device is saved that was given an image")
+        return self.image.read_bytes()
+
+    def snapshot(self) -> Snapshot:
+        """Unsupported of a device with an image, which draws seeds that nobody is told."""
+        if self.image is not None:
+            raise Unsupported("a child's device with an image has no snapshots")
+        return super().snapshot()
+
+    def end(self) -> None:
+        for pipe in (self.process.stdin, self.process.stdout, self.process.stderr):
+            assert pipe is not None
+            try:
+                pipe.close()
+            except BrokenPipeError:
+                pass  # it had ended before
+        self.process.wait()
+
+    def close(self) -> None:
+        """Ends the process, and waits for it; its image is then whole, with the clock."""
+        self.end()
+        if self.folder:
+            self.folder.cleanup()

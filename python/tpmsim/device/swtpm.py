@@ -1,0 +1,164 @@
+"""A device behind swtpm's protocol: commands on a data channel, all else on a control channel."""
+
+import shutil
+import subprocess
+import tempfile
+import time
+from typing import Self
+
+from tpmsim.device.base import DeviceEnded, checked_locality
+from tpmsim.device.served import OtherDevice
+from tpmsim.device.sockets import Address, Connection
+from tpmsim.standard import frames, handle_kinds
+from tpmsim.standard.commands import CC
+from tpmsim.standard.frames import RH_PLATFORM, SHA1, SHA256, number
+
+# Requests of the control channel (swtpm's tpm_ioctl.h).
+INIT, SET_LOCALITY, GET_BLOB, SET_BLOB, STOP = 2, 5, 12, 13, 14
+
+# The parts of the state: what is permanent, what is volatile, and what a shutdown saved.
+BLOBS = PERMANENT, VOLATILE, SAVED = 1, 2, 3
+NO_BLOB = 0x800
+
+# What the device here has not: the command that chooses the banks of PCRs, and two of them.
+PCR_ALLOCATE, SHA384, SHA512 = 0x12B, 0x000C, 0x000D
+STARTUP_CLEAR, SHUTDOWN_CLEAR = (
+    frames.command(it, number(0, 2)) for it in (CC.Startup, CC.Shutdown)
+)
+
+
+class SwtpmDevice(OtherDevice):
+    """A device behind swtpm's protocol, at the addresses of both channels. The power is as it was.
+    An answer has to come within so many seconds.
+
+    >>> SwtpmDevice("/nowhere", "/nowhere.ctrl")
+    Traceback (most recent call last):
+        ...
+    FileNotFoundError: [Errno 2] No such file or directory
+    """
+
+    def __init__(self, data: Address, control: Address, seconds: float = 60) -> None:
+        super().__init__()
+        self.at, self.told_locality = 0, 0
+        self.control = Connection(control, seconds)
+        try:
+            self.data = Connection(data, seconds)
+        except OSError:
+            self.control.close()
+            raise
+
+    def asked(self, request: int, argument: bytes) -> int:
+        return self.control.send(number(request, 4) + argument).number()
+
+    def tell(self, request: int, argument: bytes = b"") -> None:
+        told = self.asked(request, argument)
+        if told:
+            raise DeviceEnded(f"the control channel refuses request {request} with {told:#x}")
+
+    @property
+    def locality(self) -> int:
+        return self.at or 0
+
+    @locality.setter
+    def locality(self, place: int) -> None:
+        self.at = checked_locality(place)
+        self.events.append(f"loc {place}")
+
+    def exchange(self, buffer: bytes) -> bytes:
+        if self.locality != self.told_locality:
+            self.tell(SET_LOCALITY, number(self.locality, 1))
+            self.told_locality = self.locality
+        return self.data.send(buffer).response()
+
+    def power_cycle(self) -> None:
+        self.tell(STOP)
+        self.tell(INIT, number(0, 4))
+        self.events.append("power")
+
+    def save(self) -> bytes:
+        """swtpm's blob of what it keeps without power."""
+        return self.blob(PERMANENT)
+
+    def blob(self, kind: int) -> bytes:
+        text, size = b"", 1
+        while size:
+            told = self.asked(GET_BLOB, number(0, 4) + number(kind, 4) + number(len(text), 4))
+            _, whole, size = (self.control.number() for _ in range(3))
+            if told not in (0, NO_BLOB):
+                raise DeviceEnded(f"blob {kind} is refused with {told:#x}")
+            text += self.control.receive(size)
+            if len(text) >= whole:
+                break
+        return text
+
+    def snapshot(self) -> object:
+        return self.at, tuple(self.events), [(kind, self.blob(kind)) for kind in BLOBS]
+
+    def restore(self, snapshot: object) -> None:
+        assert isinstance(snapshot, tuple)
+        self.at, events, blobs = snapshot
+        self.events = list(events)
+        self.tell(STOP)
+        for kind, blob in blobs:
+            if blob:
+                asked = number(0, 4) + number(kind, 4) + number(len(blob), 4)
+                self.tell(SET_BLOB, asked + blob)
+        self.tell(INIT, number(0, 4))
+
+    def close(self) -> None:
+        self.data.close()
+        self.control.close()
+
+
+class StartedSwtpm(SwtpmDevice):
+    """The program swtpm with a new device, in a folder of its own; FileNotFoundError where there is
+    no such program. It ends with `close`.
+    """
+
+    def __init__(self, program: str = "swtpm", seconds: float = 60) -> None:
+        if not shutil.which(program):
+            raise FileNotFoundError(f"there is no {program}")
+        self.folder = tempfile.TemporaryDirectory()
+        data, control = (f"{self.folder.name}/{it}" for it in ("data", "control"))
+        words = f"socket --tpm2 --terminate --tpmstate dir={self.folder.name}".split()
+        words += ["--flags", "not-need-init"]
+        words += ["--server", f"type=unixio,path={data}", "--ctrl", f"type=unixio,path={control}"]
+        nothing = subprocess.DEVNULL
+        self.process = subprocess.Popen([program, *words], stdout=nothing, stderr=nothing)
+        until = time.monotonic() + seconds
+        while not self.is_connected(data, control, seconds):
+            if self.process.poll() is not None or time.monotonic() > until:
+                self.end()
+                raise DeviceEnded(f"{program} does not begin to serve")
+            time.sleep(0.001)
+        self.allocate()
+
+    def is_connected(self, data: str, control: str, seconds: float) -> bool:
+        try:
+            super().__init__(data, control, seconds)
+        except (FileNotFoundError, ConnectionRefusedError):
+            return False
+        return True
+
+    def allocate(self) -> None:
+        """Leaves it the banks that a device here has, of SHA-1 and SHA-256, and no starts so far."""
+        banks = *((it, handle_kinds.PCRS) for it in (SHA1, SHA256)), (SHA384, ()), (SHA512, ())
+        allocating = frames.on_handle(PCR_ALLOCATE, RH_PLATFORM, frames.selection(*banks))
+        clearing = frames.on_handle(CC.Clear, RH_PLATFORM)
+        for buffer in (STARTUP_CLEAR, clearing, allocating, SHUTDOWN_CLEAR):
+            if any(self.exchange(buffer)[6:10]):
+                raise DeviceEnded("the banks of PCRs cannot be chosen")
+        self.power_cycle()
+        self.events.clear()
+
+    def end(self) -> None:
+        self.process.terminate()
+        self.process.wait()
+        self.folder.cleanup()
+
+    def close(self) -> None:
+        super().close()
+        self.end()
+
+    def __enter__(self) -> Self:
+        return self

@@ -1,0 +1,153 @@
+"""Why was this refused?
+
+    tpmsim-explain LOG [ANSWERS] [--image START] [--at LINE] [--json | --html]
+
+LOG is a script, as docs/SCRIPTS.md has it: of `cmd`, `do`, `wait`, `loc`, `entropy` and `power`
+lines. It may have its answers in comments, as a trace, a response code or a response; ANSWERS may be
+what `tpmsim run` or `tpmsim run --trace` printed of it. `-` is standard input. With --image the
+device is no new one, but that of an image, behind a power cycle.
+
+It plays the log on the device in Python, and tells of each refusal which check refused it, in words
+and numbers; of a wrong HMAC what goes into it, and which usual slip makes the one that was given; of
+what was accepted what is worth a look; and where the log's answers are not the model's.
+
+    --at LINE   tells all of the command in one line of the log, accepted or refused
+    --json      the same as JSON
+    --html      one page to look at, with nothing fetched from elsewhere
+
+The status is 0; it is 1 where an answer of the log is not the model's, and 2 where these words, a
+file or the image is not what it should be, or a line is none of a script's: what came before it is
+told. It needs python3, and no program.
+"""
+
+from __future__ import annotations
+
+import json
+import os
+import pathlib
+import sys
+from dataclasses import dataclass
+
+from tpmsim.explain import json_form, page, text
+from tpmsim.explain.play import Event, Play
+from tpmsim.model.image import Fault
+
+USAGE = "usage: tpmsim-explain LOG [ANSWERS] [--image START] [--at LINE] [--json | --html]"
+
+
+class Usage(Exception):
+    """Why nothing can be explained."""
+
+
+@dataclass
+class Asked:
+    """What the command line asks for."""
+
+    log: str
+    answers: str | None = None
+    image: str | None = None
+    at: int | None = None
+    form: str = "text"
+
+
+def asked_of(words: list[str]) -> Asked:
+    names, given, left = list[str](), dict[str, str](), iter(words)
+    form = "text"
+    for word in left:
+        if word in ("--image", "--at"):
+            if word in given:
+                raise Usage(USAGE)
+            given[word] = next(left, "")
+        elif word in ("--json", "--html") and form == "text":
+            form = word[2:]
+        elif word.startswith("--"):
+            raise Usage(USAGE)
+        else:
+            names.append(word)
+    at = given.get("--at")
+    is_number = at is None or at.isascii() and at.isdigit()
+    if not 1 <= len(names) <= 2 or "" in given.values() or not is_number or names.count("-") > 1:
+        raise Usage(USAGE)
+    answers = names[1] if len(names) == 2 else None
+    return Asked(names[0], answers, given.get("--image"), int(at) if at else None, form)
+
+
+def read(name: str) -> bytes:
+    try:
+        return sys.stdin.buffer.read() if name == "-" else pathlib.Path(name).read_bytes()
+    except OSError:
+        raise Usage(f"{name} cannot be read") from None
+
+
+def play_of(asked: Asked) -> Play:
+    image = None if asked.image is None else read(asked.image)
+    answers = None if asked.answers is None else read(asked.answers)
+    try:
+        return Play(image, answers, asked.at, asked.form == "html")
+    except Fault as fault:
+        raise Usage(f"image {fault}") from None
+
+
+def explain(asked: Asked, counts: text.Counts) -> tuple[str, Play]:
+    """What is printed, and the play that it is of."""
+    log, play = read(asked.log), play_of(asked)
+    if asked.form == "html":
+        return page.of_log(asked.log, play, log, counts), play
+    told = []
+    for event in play.events(log):
+        counts.add(event)
+        if is_told(event, asked):
+            told.append(event)
+    if asked.at is not None and not told:
+        raise Usage(f"line {asked.at} of {asked.log} executes nothing")
+    if asked.form == "json":
+        value = json_form.of_log(told, counts, play.bad_line, asked.at is not None)
+        return json.dumps(value, indent=1), play
+    return "\n".join(lines_of(told, asked, counts)), play
+
+
+def is_told(event: Event, asked: Asked) -> bool:
+    if asked.at is not None:
+        return event.line == asked.at
+    return bool(event.reason or event.notes or event.differences)
+
+
+def lines_of(told: list[Event], asked: Asked, counts: text.Counts) -> list[str]:
+    lines = list[str]()
+    for event in told:
+        if asked.at is not None:
+            lines += text.whole(event)
+        lines += text.told(event)
+    if asked.at is None:
+        lines.append(counts.words())
+    return lines
+
+
+def tell(words: str) -> None:
+    """Prints it; who reads it may close it before it ends."""
+    try:
+        sys.stdout.buffer.write(words.encode("utf-8") + b"\n")
+        sys.stdout.buffer.flush()
+    except BrokenPipeError:
+        os.dup2(os.open(os.devnull, os.O_WRONLY), sys.stdout.fileno())
+
+
+def main(*words: str) -> int:
+    if "--help" in words:
+        tell((__doc__ or "").strip())
+        return 0
+    counts = text.Counts()
+    try:
+        said, play = explain(asked_of(list(words)), counts)
+    except Usage as wrong:
+        print(f"tpmsim-explain: {wrong}", file=sys.stderr)
+        return 2
+    tell(said)
+    if play.bad_line is not None:
+        print(f"tpmsim-explain: script line {play.bad_line}", file=sys.stderr)
+        return 2
+    return 1 if counts.differing else 0
+
+
+def run() -> None:
+    sys.exit(main(*sys.argv[1:]))

@@ -1,0 +1,246 @@
+"""At which byte the parameters of a command went wrong, and what was wanted there (G11)."""
+
+from __future__ import annotations
+
+from typing import Callable, Iterable, TypeVar
+
+from tpmsim.explain import dissection, encryption
+from tpmsim.explain.field import Field
+from tpmsim.explain.reason import HAD, Reason, WANTED
+from tpmsim.explain.rules import RULES
+from tpmsim.explain.scene import Scene
+from tpmsim.explain.words import algorithm_words, plural
+from tpmsim.model.general import Refusal
+from tpmsim.model.machine import ROWS
+from tpmsim.model.parameters import Parameters, Request
+from tpmsim.standard import nv, objects
+from tpmsim.standard.commands import CC
+from tpmsim.standard.sessions import DIGEST_BYTES
+
+T = TypeVar("T")
+
+
+class Trace:
+    """Where reading stopped: the byte, what was wanted there, what was there, and whether a
+    structure's own end was reached.
+    """
+
+    def __init__(self) -> None:
+        self.at, self.wanted, self.had, self.ends_structure = 0, "", "", False
+        self.last_at, self.last_size = 0, 0
+        self.is_set = False
+
+    def set(self, at: int, wanted: str, had: str, ends_structure: bool = False) -> None:
+        if not self.is_set:
+            self.at, self.wanted, self.had, self.is_set = at, wanted, had, True
+            self.ends_structure = ends_structure
+
+
+class Whole(Exception):
+    """All parameters were read, and none is at fault."""
+
+
+class Traced(Parameters):
+    """Parameters that tell where their reading stops, and end it before a command has an effect.
+    `base` is the offset of the first one.
+    """
+
+    def __init__(
+        self, data: bytes, base: int, trace: Trace, place: int = 0, short: str = "INSUFFICIENT"
+    ) -> None:
+        super().__init__(data, place, short)
+        self.base, self.size, self.trace = base, len(data), trace
+
+    @property
+    def at(self) -> int:
+        return self.base + self.size - len(self.fields.data)
+
+    def take(self, count: int) -> bytes:
+        left = len(self.fields.data)
+        if count > left:
+            self.trace.set(
+                self.at, plural(count, "byte"), plural(left, "byte"), self.short == "SIZE"
+            )
+        self.trace.last_at, self.trace.last_size = self.at, count
+        return super().take(count)
+
+    def refusal(self, code: str) -> Refusal:
+        """A fault of what was read last, where nothing else was told."""
+        at, size = self.trace.last_at, self.trace.last_size
+        self.trace.set(at, "", f"{size} bytes")
+        return super().refusal(code)
+
+    def one_of(self, size: int, allowed: Iterable[int], code: str) -> int:
+        those, at = list(allowed), self.at
+        value = self.number(size)
+        if value not in those:
+            self.trace.set(at, one_of_words(those, size), f"{value:0{2 * size}x}")
+            raise self.refusal(code)
+        return value
+
+    def sized(self, most: int) -> bytes:
+        at, size = self.at, self.number(2)
+        if size > most:
+            self.trace.set(at, f"a size of at most {most:,}", f"{size:04x}, which is {size:,}")
+            raise self.refusal("SIZE")
+        return self.take(size)
+
+    def structure(self, read: Callable[[Parameters], T]) -> T:
+        size = self.number(2)
+        at = self.at
+        fields = Traced(self.take(size), at, self.trace, self.place, "SIZE")
+        value = read(fields)
+        if fields.fields.data:
+            left = len(fields.fields.data)
+            self.trace.set(
+                fields.at, "the end of the structure", f"{plural(left, 'byte')} more", True
+            )
+            raise self.refusal("SIZE")
+        return value
+
+    def count(self, most: int) -> int:
+        at, count = self.at, self.number(4)
+        if count > most:
+            self.trace.set(at, f"a count of at most {most}", f"{count:08x}, which is {count:,}")
+            raise self.refusal("SIZE")
+        return count
+
+    def sized_list(self, least: int, most: int) -> list[bytes]:
+        at, count = self.at, self.count(most)
+        if count < least:
+            self.trace.set(at, f"a count of at least {least}", f"{count:08x}, which is {count}")
+            raise self.refusal("SIZE")
+        return [self.sized(DIGEST_BYTES) for _ in range(count)]
+
+    def end(self) -> None:
+        left = len(self.fields.data)
+        if left:
+            self.trace.set(self.at, "the end of the command", f"{plural(left, 'byte')} more")
+        super().end()
+        raise Whole
+
+
+def one_of_words(allowed: list[int], size: int) -> str:
+    if len(allowed) > 4:
+        return f"{allowed[0]:0{2 * size}x} to {allowed[-1]:0{2 * size}x}"
+    said = [f"{it:0{2 * size}x}{name_words(it, size)}" for it in allowed]
+    return " or ".join(said)
+
+
+def name_words(value: int, size: int) -> str:
+    said = algorithm_words(value)
+    return f" ({said})" if size == 2 and said != f"{value:04x}" else ""
+
+
+def read_again(scene: Scene, plain: bytes) -> tuple[Trace, str]:
+    """Where the reading of these parameters stops, and the code; none where they are whole."""
+    assert scene.command is not None
+    trace = Trace()
+    parameters = Traced(plain, scene.parameters_at, trace)
+    request = Request(scene.command.handles, parameters, scene.locality, scene.random)
+    try:
+        ROWS[scene.command.code](scene.model, request)
+    except Refusal as refusal:
+        return trace, refusal.name
+    except Whole:
+        pass
+    return trace, ""
+
+
+def reason(scene: Scene) -> Reason:
+    assert scene.plain is not None
+    trace, _ = read_again(scene, scene.plain)
+    field = field_at(scene, trace.at)
+    found = Reason(rule_of(scene, trace, field), "", at=trace.at)
+    said = place_words(scene, field)
+    wanted, had = trace.wanted or wanted_by_code(scene, field), trace.had
+    if not trace.wanted:
+        size = trace.last_size
+        had = scene_bytes(scene)[trace.at : trace.at + size].hex()
+    found.words = f"At byte {trace.at} (0x{trace.at:x}){said}: wanted {wanted}, and there is {had}."
+    found.add("wanted", wanted, WANTED)
+    found.add("had", had, HAD)
+    misread(scene, found)
+    return found
+
+
+def scene_bytes(scene: Scene) -> bytes:
+    """The buffer with its parameters in plain."""
+    assert scene.plain is not None
+    return scene.buffer[: scene.parameters_at] + scene.plain
+
+
+def field_at(scene: Scene, at: int) -> Field | None:
+    """The field that a byte belongs to, the innermost one."""
+    fields = dissection.fields_of_command(scene.buffer, scene.plain)
+    those = [it for it in fields if not it.is_group and it.at <= at <= it.at + it.size]
+    exact = [it for it in those if it.at == at and it.size]
+    return exact[-1] if exact else those[-1] if those else None
+
+
+def place_words(scene: Scene, field: Field | None) -> str:
+    place = scene.place
+    parameters = scene.code.parameters
+    of = (
+        f" of parameter {place}, {parameters[place - 1].name}"
+        if 0 < place <= len(parameters)
+        else ""
+    )
+    if field is None or field.name == "left over":
+        return of
+    is_whole = place and parameters[place - 1].name == field.name
+    return of.replace(" of", ",", 1) if is_whole else f", {field.name}{of}"
+
+
+def wanted_by_code(scene: Scene, field: Field | None) -> str:
+    """What a reader of its own wanted, by the code with which it refused."""
+    if scene.name == "RESERVED_BITS":
+        is_nv = scene.code == CC.NV_DefineSpace
+        named = nv.NAMED if is_nv else objects.NAMED
+        return f"no bit but those of {named:08x}"
+    if scene.code == CC.EvictControl:
+        return "a handle that begins with 81"
+    return "a handle that begins with 01" if field and field.name == "nvIndex" else "another value"
+
+
+def rule_of(scene: Scene, trace: Trace, field: Field | None) -> str:
+    if scene.refused == "SIZE":
+        return "G11/SIZE"
+    if scene.name == "INSUFFICIENT":
+        return "G11/INSUFFICIENT"
+    if trace.ends_structure:
+        return "structure/SIZE"
+    name = field.name if field else ""
+    family = "nvPublic" if scene.code == CC.NV_DefineSpace else "public"
+    is_public = scene.place == 2 and scene.code in PUBLIC_SECOND
+    for key in (name, IN_PARAMETERS.get(name, "")) if is_public else ():
+        if f"{family}/{key}" in RULES:
+            return f"{family}/{key}"
+    key = f"{scene.code.name}/parameters"
+    return key if key in RULES else "buffer/SIZE"
+
+
+PUBLIC_SECOND = CC.NV_DefineSpace, CC.CreatePrimary, CC.Create, CC.Load
+IN_PARAMETERS = {
+    "scheme": "KEYEDHASH",
+    "hashAlg": "KEYEDHASH",
+    "symmetric": "SYMCIPHER",
+    "keyBits": "SYMCIPHER",
+    "mode": "SYMCIPHER",
+}
+
+
+def misread(scene: Scene, found: Reason) -> None:
+    """Names how the caller encrypted, where its parameters are well formed in that way alone."""
+    use = encryption.decrypting_use(scene)
+    if use is None:
+        return
+    found.add(
+        "decrypted",
+        f"by session {use.entry.handle:08x}, to {scene.plain.hex() if scene.plain else ''}",
+    )
+    for other in encryption.otherwise(scene):
+        if not read_again(scene, other.plain)[1]:
+            found.slips.append(other.name)
+            found.add("slip", other.words)
+            return

@@ -1,0 +1,226 @@
+"""What came before a command: when the values were set that it stands on, and by which command."""
+
+from __future__ import annotations
+
+from dataclasses import dataclass, field
+
+from tpmsim.explain.assertions import Banks, Step, banks_of, step_of
+from tpmsim.model import nv_commands, object_rules
+from tpmsim.model.general import Command
+from tpmsim.model.machine import Model, Session
+from tpmsim.model.parameters import Parameters
+from tpmsim.standard import frames, handle_kinds
+from tpmsim.standard.commands import CC
+from tpmsim.standard.frames import RH_ENDORSEMENT, RH_LOCKOUT, RH_OWNER, RH_PLATFORM
+
+WRITES_PCR = CC.PCR_Extend, CC.PCR_Event, CC.PCR_Reset
+# How many states of the PCRs are kept.
+MOST_STATES = 64
+
+HIERARCHIES = RH_OWNER, RH_ENDORSEMENT, RH_PLATFORM, RH_LOCKOUT
+
+
+@dataclass(frozen=True)
+class Since:
+    """A value, and the line since which it is that."""
+
+    line: int
+    value: bytes
+
+
+@dataclass
+class Begun:
+    """A session that lives: the line of its start, the caller's first nonce, its own nonces one
+    after another, what it was told, and the attributes and the nonce of its entry before.
+    """
+
+    session: Session
+    line: int
+    nonce_caller: bytes
+    bind: int
+    bind_untrimmed: bytes = b""
+    nonces: list[Since] = field(default_factory=list)
+    told: list[Step] = field(default_factory=list)
+    restarted: int = 0
+    last_attributes: int | None = None
+    last_nonce: bytes | None = None
+    caller_nonces: dict[bytes, int] = field(default_factory=dict)
+    own_nonces: dict[bytes, int] = field(default_factory=dict)
+
+    def take(self, line: int) -> None:
+        """The session's nonce is a new one."""
+        self.nonces.append(Since(line, self.session.nonce_tpm))
+        self.own_nonces.setdefault(self.session.nonce_tpm, line)
+
+
+@dataclass(frozen=True)
+class Made:
+    """How a session came to a policy digest: the line, the assertions, and the PCRs then."""
+
+    line: int
+    steps: list[Step]
+    banks: Banks
+
+
+@dataclass(frozen=True)
+class Moved:
+    """A command that wrote a PCR, or that made the update counter another."""
+
+    line: int
+    pcr: int | None
+    words: str
+
+
+class Past:
+    """The values are by handles; each list has the oldest first."""
+
+    def __init__(self, model: Model) -> None:
+        self.model = model
+        self.names: dict[int, list[Since]] = {}
+        self.values: dict[int, list[Since]] = {}
+        self.untrimmed: dict[int, bytes] = {}
+        self.sessions: dict[int, Begun] = {}
+        self.begun: dict[int, int] = {}
+        self.ended: dict[int, tuple[int, str]] = {}
+        self.moves: list[Moved] = []
+        self.tries: list[int] = []
+        self.told_once: set[str] = set()
+        self.accepted_buffers: dict[bytes, int] = {}
+        self.made: dict[bytes, Made] = {}
+        self.told_banks: dict[int, Banks] = {}
+        self.pcr_states: list[tuple[int, Banks]] = [(0, banks_of(model))]
+        self.seen: dict[int, tuple[object, object]] = {}
+        self.last_change: dict[int, str] = {}
+        self.follow(0, "the start")
+
+    # What is told of each event that was accepted.
+
+    def power(self, line: int) -> None:
+        self.moves.clear()
+        self.follow(line, "the power cycle")
+
+    def accepted(
+        self, line: int, command: Command, plain: bytes, answered: int | None, names: list[bytes]
+    ) -> None:
+        """A command with its parameters in plain, the handle that it answered, if any, and the
+        Names that its handles had before it.
+        """
+        name = command.code.name
+        if command.code in (*WRITES_PCR, CC.Clear) and command.handles[0] != frames.RH_NULL:
+            pcr = None if command.code == CC.Clear else command.handles[0]
+            words = f"line {line} ({name}{'' if pcr is None else f' of PCR {pcr}'})"
+            self.moves.append(Moved(line, pcr, words))
+            self.pcr_states = [*self.pcr_states[-MOST_STATES:], (line, banks_of(self.model))]
+        self.follow(line, name)
+        if command.code == CC.StartAuthSession and answered is not None:
+            nonce, bind = Parameters(plain).sized(frames.COMMAND_BYTES), command.handles[1]
+            session = self.model.sessions[answered]
+            untrimmed = self.untrimmed.get(bind, b"")
+            self.sessions[answered] = Begun(session, line, nonce, bind, untrimmed)
+            self.sessions[answered].take(line)
+        self.note_value(command, plain, answered)
+        self.note_entries(line, command)
+        if name.startswith("Policy") and command.code != CC.PolicyGetDigest:
+            self.note_policy(line, command, plain, names)
+        for _, entry, handle in command.places():
+            if handle is not None and handle_kinds.is_policy(entry.handle):
+                self.used_policy(line, entry.handle)
+
+    def note_value(self, command: Command, plain: bytes, answered: int | None) -> None:
+        """An authorization value as it was given, with the zeros at its end."""
+        fields = Parameters(plain)
+        if command.code in (CC.HierarchyChangeAuth, CC.NV_ChangeAuth):
+            self.untrimmed[command.handles[0]] = fields.sized(frames.COMMAND_BYTES)
+        elif command.code == CC.NV_DefineSpace:
+            value = fields.sized(frames.COMMAND_BYTES)
+            self.untrimmed[fields.structure(nv_commands.read_public).index] = value
+        elif command.code == CC.CreatePrimary and answered is not None:
+            self.untrimmed[answered] = fields.structure(object_rules.read_sensitive_create)[0]
+
+    def note_entries(self, line: int, command: Command) -> None:
+        for _, entry, _ in command.places():
+            begun = self.sessions.get(entry.handle)
+            if begun is None:
+                continue
+            begun.last_attributes, begun.last_nonce = entry.attributes, entry.nonce
+            if entry.handle in self.model.sessions:
+                begun.take(line)
+            else:
+                del self.sessions[entry.handle]
+
+    def note_policy(self, line: int, command: Command, plain: bytes, names: list[bytes]) -> None:
+        handle = next(it for it in reversed(command.handles) if handle_kinds.is_policy(it))
+        begun = self.sessions.get(handle)
+        if begun is None:
+            return
+        if command.code == CC.PolicyRestart:
+            begun.told, begun.restarted = [], line
+            return
+        begun.told.append(step_of(line, command, plain, self.model, names))
+        banks = banks_of(self.model)
+        self.made[begun.session.policy.digest] = Made(line, list(begun.told), banks)
+        self.told_banks[line] = banks
+
+    def used_policy(self, line: int, handle: int) -> None:
+        """A policy session that authorized begins anew."""
+        if handle in self.sessions:
+            self.sessions[handle].told, self.sessions[handle].restarted = [], line
+
+    # What is there, and what was.
+
+    def follow(self, line: int, words: str) -> None:
+        """What came and went with an event."""
+        model = self.model
+        now: dict[int, tuple[object, object]] = {}
+        for handle, session in model.sessions.items():
+            now[handle] = session, session
+        for handle, held in model.objects.items():
+            now[handle] = held, held
+        for handle, index in model.indices.items():
+            now[handle] = index, index.public
+        for handle in [it for it in self.seen if it not in now]:
+            self.ended[handle] = line, words
+            self.begun.pop(handle, None)
+            self.sessions.pop(handle, None)
+            del self.seen[handle]
+        for handle, those in now.items():
+            self.follow_one(line, words, handle, those)
+        for handle in HIERARCHIES:
+            self.value_is(line, handle)
+
+    def follow_one(self, line: int, words: str, handle: int, those: tuple[object, object]) -> None:
+        before = self.seen.get(handle)
+        if before is None or before[0] is not those[0]:
+            self.begun[handle] = line
+            self.names.pop(handle, None)
+            self.values.pop(handle, None)
+        is_session = handle_kinds.is_session(handle)
+        if not is_session and (before is None or before[1] is not those[1]):
+            name = self.model.name(handle)
+            past = self.names.setdefault(handle, [])
+            if not past or past[-1].value != name:
+                past.append(Since(line, name))
+                self.last_change[handle] = f"line {line} ({words})"
+        self.seen[handle] = those
+        if not is_session:
+            self.value_is(line, handle)
+
+    def value_is(self, line: int, handle: int) -> None:
+        past, value = self.values.setdefault(handle, []), self.model.auth_value(handle)
+        if not past or past[-1].value != value:
+            past.append(Since(line, value))
+
+    def moved_since(self, line: int) -> list[Moved]:
+        return [it for it in self.moves if it.line > line]
+
+    def told_words(self, handle: int) -> list[str]:
+        """What a policy session was told, with the lines."""
+        begun = self.sessions.get(handle)
+        return [f"line {it.line}: {it.words}" for it in begun.told] if begun else []
+
+    def gone_words(self, handle: int) -> str:
+        """When what a handle named ended, or that there never was such a thing."""
+        if handle not in self.ended:
+            return "no command before has made it"
+        line, words = self.ended[handle]
+        return f"it ended with line {line} ({words})"

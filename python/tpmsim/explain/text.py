@@ -1,0 +1,133 @@
+"""Explanations as lines of text."""
+
+from __future__ import annotations
+
+import textwrap
+from dataclasses import dataclass, field
+from typing import Iterable, Iterator
+
+from tpmsim.explain import dissection
+from tpmsim.explain.field import Field
+from tpmsim.explain.play import Event
+from tpmsim.explain.reason import Fact, Reason
+from tpmsim.explain.words import command_words, plural
+from tpmsim.standard.commands import NUMBERED
+
+WIDTH = 100
+INDENT = "    "
+
+
+@dataclass
+class Counts:
+    """How many events there were, by what came of them, and the lines where answers differ."""
+
+    commands: int = 0
+    power_cycles: int = 0
+    refused: int = 0
+    notes: int = 0
+    answers: int = 0
+    differing: list[int] = field(default_factory=list)
+
+    def add(self, event: Event) -> None:
+        if event.is_power:
+            self.power_cycles += 1
+            return
+        self.commands += 1
+        self.refused += bool(event.refused)
+        self.notes += len(event.notes)
+        self.answers += event.answers
+        if event.differences:
+            self.differing.append(event.line)
+
+    def words(self) -> str:
+        commands = f"{plural(self.commands, 'command')}, {self.refused:,} of them refused"
+        cycles = plural(self.power_cycles, "power cycle")
+        return f"{commands}, and {cycles}. {self.answer_words()}"
+
+    def answer_words(self) -> str:
+        if self.differing:
+            lines = ", ".join(map(str, self.differing[:8]))
+            more = ", .." if len(self.differing) > 8 else ""
+            return f"The log's answers and the model's differ in the lines {lines}{more}."
+        if not self.answers:
+            return "The log has no answers to compare."
+        return f"{plural(self.answers, 'answer')} of the log are the model's."
+
+
+def name_of(event: Event) -> str:
+    number = event.scene.number
+    return command_words(number) if number in NUMBERED else "A command"
+
+
+def told(event: Event) -> Iterator[str]:
+    """What there is to tell of an event: nothing of most."""
+    if event.reason is not None:
+        yield f"line {event.line}: {title(event)}"
+        yield from of_reason(event.reason)
+    for note in event.notes:
+        yield f"line {event.line}: {name_of(event)}, worth a look"
+        yield from of_reason(note)
+    for it in event.differences:
+        yield f"line {event.line}: {name_of(event)}: {it.words}"
+        yield from facts_words([Fact("the log says", it.log), Fact("the model says", it.model)])
+
+
+def title(event: Event) -> str:
+    """What came of a command."""
+    assert event.outcome is not None
+    if not event.refused:
+        return f"{name_of(event)} is accepted"
+    code = int.from_bytes(event.outcome.response[6:10], "big")
+    return (
+        f"{name_of(event)} is refused: {event.refused} ({code:03x}), by check {event.scene.check}"
+    )
+
+
+def of_reason(reason: Reason) -> Iterator[str]:
+    yield from wrapped(reason.words)
+    yield from facts_words(reason.facts)
+    yield from wrapped(f"By the table: {reason.sentence}")
+    yield f"{INDENT}{reason.link}"
+    yield ""
+
+
+def wrapped(words: str) -> list[str]:
+    return textwrap.wrap(
+        words, WIDTH, initial_indent=INDENT, subsequent_indent=INDENT, break_on_hyphens=False
+    )
+
+
+def facts_words(facts: Iterable[Fact]) -> Iterator[str]:
+    those = list(facts)
+    room = max((len(it.label) for it in those), default=0)
+    for it in those:
+        yield f"{INDENT}  {it.label:{room}}  {it.value}".rstrip()
+
+
+def whole(event: Event) -> Iterator[str]:
+    """All of an event, accepted or refused: its bytes by their fields, and what its HMACs are of."""
+    if event.is_power:
+        yield f"line {event.line}: a power cycle"
+        return
+    assert event.outcome is not None
+    scene = event.scene
+    yield f"line {event.line}: {title(event)}"
+    yield f"{INDENT}locality {scene.locality}, {scene.elapsed:,} ms after the command before"
+    yield f"{INDENT}the command, {plural(len(scene.buffer), 'byte')}"
+    yield from fields_words(dissection.fields_of_command(scene.buffer, scene.plain), scene.buffer)
+    for place, facts in event.entries:
+        yield f"{INDENT}the HMAC of entry {place}"
+        yield from facts_words(facts)
+    response = event.outcome.response
+    yield f"{INDENT}the response, {plural(len(response), 'byte')}"
+    code = NUMBERED.get(scene.number)
+    yield from fields_words(dissection.fields_of_response(code, response, event.answered), response)
+    yield ""
+
+
+def fields_words(fields: list[Field], data: bytes) -> Iterator[str]:
+    """Each field with its first byte, its bytes, its name and what it says."""
+    for it in fields:
+        said = data[it.at + it.front : it.at + it.size].hex() if not it.is_group else ""
+        name = "  " * it.depth + it.name
+        yield f"{INDENT}  {it.at:4}  {name:26} {said} {f'({it.meaning})' if it.meaning else ''}".rstrip()

@@ -1,0 +1,144 @@
+"""How numbers, handles, codes and bytes are said."""
+
+from __future__ import annotations
+
+import enum
+from typing import Iterable
+
+from tpmsim.standard import frames, handle_kinds, lines
+from tpmsim.standard.commands import CC, HandleKind, NUMBERED
+from tpmsim.standard.frames import HMAC_SESSION, NV, PERSISTENT, POLICY_SESSION, TRANSIENT
+
+ALGORITHMS = {
+    frames.SHA1: "SHA-1",
+    frames.SHA256: "SHA-256",
+    frames.AES: "AES",
+    frames.XOR: "XOR",
+    frames.ALG_HMAC: "HMAC",
+    frames.ALG_NULL: "NULL",
+    frames.CFB: "CFB",
+    frames.KEYEDHASH: "KEYEDHASH",
+    frames.SYMCIPHER: "SYMCIPHER",
+}
+
+SESSIONS = {
+    frames.SE_HMAC: "HMAC session",
+    frames.SE_POLICY: "policy session",
+    frames.SE_TRIAL: "trial session",
+}
+
+ATTRIBUTES = {
+    frames.CONTINUE_SESSION: "continueSession",
+    frames.AUDIT_EXCLUSIVE: "auditExclusive",
+    frames.AUDIT_RESET: "auditReset",
+    frames.DECRYPT: "decrypt",
+    frames.ENCRYPT: "encrypt",
+    frames.AUDIT: "audit",
+}
+
+OPERATIONS = (
+    *("EQ", "NEQ", "SIGNED_GT", "UNSIGNED_GT", "SIGNED_LT", "UNSIGNED_LT", "SIGNED_GE"),
+    *("UNSIGNED_GE", "SIGNED_LE", "UNSIGNED_LE", "BITSET", "BITCLEAR"),
+)
+
+# What a handle of each kind has to be.
+KINDS = {
+    HandleKind.PCR: "a PCR, 00000000 to 00000017",
+    HandleKind.PCR_OR_NULL: "a PCR, 00000000 to 00000017, or NULL",
+    HandleKind.NULL: "NULL, 40000007",
+    HandleKind.HIERARCHY_OR_NULL: "OWNER, ENDORSEMENT, PLATFORM or NULL",
+    HandleKind.HIERARCHY_AUTH: "OWNER, ENDORSEMENT, PLATFORM or LOCKOUT",
+    HandleKind.LOCKOUT: "LOCKOUT, 4000000a",
+    HandleKind.CLEAR: "LOCKOUT or PLATFORM",
+    HandleKind.PROVISION: "OWNER or PLATFORM",
+    HandleKind.ENTITY: "a PCR, a hierarchy, LOCKOUT, an object or an NV index",
+    HandleKind.ENTITY_OR_NULL: "a PCR, a hierarchy, LOCKOUT, an object, an NV index or NULL",
+    HandleKind.OBJECT: "an object, 80.. or 81..",
+    HandleKind.NV_AUTH: "OWNER, PLATFORM or an NV index",
+    HandleKind.NV_INDEX: "an NV index, 01..",
+    HandleKind.POLICY: "a policy or trial session, 03..",
+    HandleKind.SESSION: "a session, 02.. or 03..",
+}
+
+OF_FIRST_BYTE = {
+    NV: "an NV index",
+    HMAC_SESSION: "an HMAC session",
+    POLICY_SESSION: "a policy or trial session",
+    TRANSIENT: "a transient object",
+    PERSISTENT: "a persistent object",
+}
+
+
+def algorithm_words(number: int) -> str:
+    return ALGORITHMS.get(number, f"{number:04x}")
+
+
+def handle_words(handle: int) -> str:
+    """A handle as a line has it; a PCR by its number, and the password's by what it is."""
+    if handle_kinds.is_pcr(handle):
+        return f"PCR {handle}"
+    return "the password" if handle == frames.RS_PW else lines.handle_word(handle)
+
+
+def kind_words(handle: int) -> str:
+    """What a handle is by its number."""
+    if handle_kinds.is_pcr(handle):
+        return "a PCR"
+    if handle == frames.RS_PW:
+        return "the handle of a password"
+    if handle in lines.HANDLE_NAMES.values():
+        return handle_words(handle)
+    return OF_FIRST_BYTE.get(handle >> 24, "of no kind that is served")
+
+
+def command_words(code: int) -> str:
+    return CC(code).name if code in NUMBERED else f"{code:08x}"
+
+
+def printable(data: bytes) -> bool:
+    return len(data) > 2 and all(0x20 <= it < 0x7F for it in data)
+
+
+def bytes_words(data: bytes) -> str:
+    """Hex; text behind it where the bytes are one."""
+    if not data:
+        return "empty"
+    return f'{data.hex()} "{data.decode("ascii")}"' if printable(data) else data.hex()
+
+
+def plural(count: int, word: str) -> str:
+    return f"{count:,} {word}" if count == 1 else f"{count:,} {word}s"
+
+
+def listed(words: Iterable[str]) -> str:
+    """a, b and c."""
+    those = list(words)
+    return those[0] if len(those) == 1 else ", ".join(those[:-1]) + " and " + those[-1]
+
+
+def bit_words(value: int, names: dict[int, str]) -> str:
+    """The names of bits that are set; those that have none are given in hex."""
+    found = [name for bit, name in names.items() if value & bit]
+    others = value & ~sum(names)
+    if others:
+        found.append(f"{others:#x}")
+    return ", ".join(found) or "none"
+
+
+def flag_words(value: int, of: type[enum.IntFlag]) -> str:
+    return bit_words(value, {int(it): str(it.name) for it in of})
+
+
+def attribute_words(attributes: int) -> str:
+    """The attributes of an entry."""
+    return f"{attributes:02x} ({bit_words(attributes, ATTRIBUTES)})"
+
+
+def localities_words(bits: int) -> str:
+    return ", ".join(str(it) for it in range(8) if bits >> it & 1) or "none"
+
+
+def seconds_words(milliseconds: int) -> str:
+    """So many milliseconds, in seconds, or in hours where it is many."""
+    seconds = milliseconds / 1000
+    return f"{seconds:,g} s" if seconds < 36_000 else f"{seconds / 3600:,.1f} h"

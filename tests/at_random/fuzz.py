@@ -1,0 +1,255 @@
+"""Compares a program with the device in Python, by what comes at random (tools/fuzz.sh):
+
+    fuzz.py PROGRAM SECONDS [SEED]     rounds of the seeds from SEED on, until the time is over
+    fuzz.py PROGRAM --rounds N SEED    N rounds
+    fuzz.py PROGRAM --replay FILE      a script or a stream that was left
+
+A round has a random script, a bent one, and a stream, which is connections to a served device, in
+runs one after another, some of them on a bent image. It hangs on its seed alone.
+"""
+
+import pathlib
+import random
+import subprocess
+import sys
+import tempfile
+import time
+from collections import Counter
+from dataclasses import dataclass, field
+from itertools import zip_longest
+
+from tpmsim.model.general import Refusal
+from tpmsim.model import player, streams
+from tpmsim.standard.reading import Short
+from tests.at_random import served_runs as serving
+from tests.at_random.bent_script import bent_script
+from tests.at_random.random_script import Writer
+from tests.at_random.random_stream import random_stream
+
+COMMANDS, RUNS = 400, 8
+SHRINKING_SECONDS = 60
+SHOWN = 200
+
+
+# Scripts.
+
+
+def run_script(program, text):
+    """What the program prints, and what it says on standard error."""
+    with tempfile.NamedTemporaryFile() as script:
+        script.write(text)
+        script.flush()
+        ran = subprocess.run(
+            [program, "run", "--trace", script.name], capture_output=True, timeout=60
+        )
+    error = ran.stderr.decode("utf-8", "replace").strip()
+    return ran.stdout.decode("utf-8", "replace").splitlines(), f"status {ran.returncode} {error}"
+
+
+def script_difference(program, text):
+    """The number of the script's line, what is wanted, and what is given; or None."""
+    printed, error = player.played(text)
+    given, ended = run_script(program, text)
+    number = 0
+    for wanted, line in zip_longest(printed, given, fillvalue=None):
+        number, shown = wanted or (number, "no more")
+        if shown != line:
+            return number, shown, line or "no more"
+    status = {"": 0, "tpmsim: file": 3}.get(error, 2)
+    wanted = f"status {status} {error}"
+    return None if wanted == ended else (number, wanted, ended)
+
+
+def bytes_lines(text):
+    return text.removesuffix(b"\n").split(b"\n")
+
+
+def bytes_text(lines):
+    return b"\n".join(lines) + b"\n"
+
+
+# What is compared. A difference in the device in Python is one too: it must not fail.
+
+# What a device in Python raises that has a defect.
+DEFECTS = (
+    *(ArithmeticError, AssertionError, AttributeError, LookupError, TypeError, ValueError),
+    *(Refusal, Short),
+)
+
+
+@dataclass
+class Kind:
+    """Scripts, bent ones or streams: the file's ending, how a file's text is cut into lines and put
+    together, what differs, and how many of them were tried, and what was in them.
+    """
+
+    name: str
+    ending: str
+    difference: callable
+    tried: Counter = field(default_factory=Counter)
+
+    def first_difference(self, program, lines):
+        try:
+            return self.difference(program, lines)
+        except DEFECTS as fault:
+            return 0, "a device in Python that does not fail", repr(fault)
+
+    def told(self):
+        agree, differ = self.tried["texts"] - self.tried["differ"], self.tried["differ"]
+        within = ", ".join(
+            f"{count} {name.replace('_', ' ')}"
+            for name, count in self.tried.items()
+            if name not in ("texts", "differ")
+        )
+        return f"{self.name}: {self.tried['texts']} of {within}: {agree} agree, {differ} differ"
+
+
+def of_script(program, lines):
+    return script_difference(program, bytes_text(lines))
+
+
+def of_stream(program, lines):
+    return serving.first_difference(program, [it.decode("ascii") for it in lines])
+
+
+def shrunken(lines, differs):
+    """The lines without those that the difference does not need."""
+    until = time.monotonic() + SHRINKING_SECONDS
+    size, before = len(lines), len(lines)
+    while size and time.monotonic() < until:
+        at = 0
+        while at < len(lines) and time.monotonic() < until:
+            fewer = lines[:at] + lines[at + size :]
+            if fewer and differs(fewer):
+                lines = fewer
+            else:
+                at += size
+        size //= 2
+        if not size and len(lines) < before:
+            size, before = len(lines), len(lines)
+    return lines
+
+
+def shown(wanted, given):
+    """Two texts, each from shortly before the place at which they differ, if they are long."""
+    same = next((at for at, (a, b) in enumerate(zip(wanted, given)) if a != b), 0)
+    first = max(0, same - SHOWN // 4) if max(len(wanted), len(given)) > SHOWN else 0
+    for text in (wanted, given):
+        before = f"({first} characters).." if first else ""
+        yield before + text[first : first + SHOWN] + (".." if len(text) > first + SHOWN else "")
+
+
+class Fuzz:
+    """Rounds, and what came of them."""
+
+    def __init__(self, program):
+        self.program, self.folder = program, None
+        self.scripts = Kind("random scripts", "tpm", of_script)
+        self.bent = Kind("bent scripts", "tpm", of_script)
+        self.streams = Kind("streams", "stream", of_stream)
+
+    @property
+    def kinds(self):
+        return self.scripts, self.bent, self.streams
+
+    @property
+    def differ(self):
+        return sum(it.tried["differ"] for it in self.kinds)
+
+    def round(self, seed):
+        writer = Writer(seed)
+        for _ in range(COMMANDS):
+            writer.step()
+        lines = [it.encode("ascii") for it in writer.lines]
+        self.compare(seed, self.scripts, lines, commands=COMMANDS)
+
+        text, bent = bent_script(random.Random(f"{seed} bent"), writer.lines)
+        traced = [it for _, it in player.played(text)[0] if it != "power"]
+        self.compare(seed, self.bent, bytes_lines(text), commands=len(traced) // 2, bent=bent)
+
+        lines = random_stream(f"{seed} stream", RUNS)
+        runs = streams.played(lines)
+        connections = [it for run in runs for it in run.connections]
+        self.compare(
+            seed,
+            self.streams,
+            [it.encode("ascii") for it in lines],
+            commands=sum(len(it.answered) for it in connections),
+            connections=len(connections),
+            reloads=sum(it.image_before is not None for it in runs),
+            given_images=sum(it.is_given for it in runs),
+        )
+
+    def compare(self, seed, kind, lines, **counts):
+        kind.tried.update(counts, texts=1)
+        found = kind.first_difference(self.program, lines)
+        if found is None:
+            return
+        kind.tried["differ"] += 1
+        name = f"{seed}.{kind.name.replace(' ', '_')}"
+        print(f"DIFFERS: seed {seed}, {kind.name}")
+        self.leave(f"{name}.{kind.ending}", lines, found)
+        if self.differ == 1:
+            lines = shrunken(lines, lambda it: kind.first_difference(self.program, it))
+            found = kind.first_difference(self.program, lines) or found
+            print(f"    and with {len(lines)} lines alone:")
+            self.leave(f"{name}.shrunken.{kind.ending}", lines, found)
+
+    def leave(self, name, lines, found):
+        """Leaves a file, and says where it differs."""
+        self.folder = self.folder or pathlib.Path(tempfile.mkdtemp(prefix="fuzz."))
+        path = self.folder / name
+        path.write_bytes(bytes_text(lines))
+        show(path, *found)
+
+    def tell(self):
+        for kind in self.kinds:
+            print(kind.told())
+
+
+def show(path, number, wanted, given):
+    wanted, given = shown(wanted, given)
+    print(f"    {path}:{number}")
+    print(f"        wanted: {wanted}")
+    print(f"        given:  {given}", flush=True)
+
+
+def replay(program, name):
+    """Whether what was left still differs."""
+    path = pathlib.Path(name)
+    lines = bytes_lines(path.read_bytes())
+    found = (of_stream if path.suffix == ".stream" else of_script)(program, lines)
+    if found:
+        show(path, *found)
+    print("it differs" if found else "it agrees")
+    return 1 if found else 0
+
+
+def main(program, *words):
+    fuzz, began = Fuzz(program), time.monotonic()
+    if words[0] == "--replay":
+        return replay(program, words[1])
+    if words[0] == "--rounds":
+        first, seconds = int(words[2]), float("inf")
+        last = first + int(words[1])
+    else:
+        first = int(words[1]) if len(words) > 1 else int(time.time())
+        seconds, last = float(words[0]), float("inf")
+    print(f"from seed {first} on", flush=True)
+    seed = first
+    while seed < last and time.monotonic() - began < seconds:
+        is_done = False
+        try:
+            fuzz.round(seed)
+            is_done = True
+        finally:
+            if not is_done:
+                print(f"FAILS: seed {seed}", flush=True)
+        seed += 1
+    print(f"{seed - first} rounds")
+    fuzz.tell()
+    return 1 if fuzz.differ else 0
+
+
+if __name__ == "__main__":
+    sys.exit(main(*sys.argv[1:]))

@@ -1,0 +1,619 @@
+"""A random script, and what the model answers to it:
+
+    random_script.py SEED COUNT FOLDER
+
+writes FOLDER/SEED.tpm, with so many commands, and FOLDER/SEED.out. Most commands are such that they
+may succeed; in some a field is wrong, and in some the bytes. tools/random_scripts.sh compares the
+program's answers with them.
+"""
+
+import pathlib
+import random
+import sys
+from dataclasses import replace
+
+from tpmsim.model import general, nv_commands, persistent, state
+from tpmsim.model.machine import Model
+from tpmsim.standard import AES, ALG_NULL, CC, CONTINUE_SESSION, DECRYPT, ENCRYPT, Entry, Fact
+from tpmsim.standard import HandleKind, KEYEDHASH, RH_NULL, RS_PW, SHA1, SHA256, SYMCIPHER, Short
+from tpmsim.standard import XOR, frames, handle_kinds, number, nv, policy, reading, sessions, sized
+from tpmsim.standard.objects import Attribute, Public
+from tpmsim.caller.outputs import POWER, Played, write_outputs
+from tpmsim.caller.script import line
+
+SELDOM = 0.04
+AUTH_VALUES = b"", b"a", b"secret"
+PCR_NUMBERS = 0, 7, 10, 16, 17, 23
+KINDS = frames.SE_HMAC, frames.SE_HMAC, frames.SE_POLICY, frames.SE_POLICY, frames.SE_TRIAL
+OPEN = Attribute.FIXED_TPM | Attribute.FIXED_PARENT | Attribute.USER_WITH_AUTH
+STORES = OPEN | Attribute.RESTRICTED | Attribute.DECRYPT | Attribute.SENSITIVE_DATA_ORIGIN
+USES = CC.Unseal, CC.HMAC, CC.Create, CC.Load, CC.PolicySecret
+# What an index can authorize, mostly the command that a policy alone can.
+NV_USES = (
+    *(it for it in CC if it.handles and it.handles[0].kind == HandleKind.NV_AUTH),
+    *(CC.NV_ChangeAuth,) * 6,
+)
+INDEX_NUMBERS = range(12)
+TYPES = *(nv.Type.ORDINARY,) * 2, *nv.Type
+ASKERS = frames.RH_OWNER, frames.RH_PLATFORM
+RANDOM_BYTES = 256
+
+# Milliseconds that pass, and the parameters of dictionary attack protection.
+WAITS = 1, 999, 1000, 999_999, 1_000_000, 1_000_001, 2**32 - 1
+MOST_TRIES = 3, 3, 3, 10, 1, 0
+RECOVERIES = 1000, 1000, 1, 0, 2**32 - 1
+
+
+class Writer(random.Random):
+    """Random commands for a device, which it knows from within."""
+
+    def __init__(self, seed):
+        super().__init__(seed)
+        self.device, self.locality = Model(), 0
+        self.events, self.played = [f"# Random script {seed}."], []
+        self.made, self.digests = [], [b""]
+
+    # Choices.
+
+    def happens(self, chance=SELDOM):
+        return self.random() < chance
+
+    def some_bytes(self, most):
+        return self.randbytes(self.choice((0, 1, most // 2, most, most)) + self.happens(0.01))
+
+    def bent(self, data):
+        """With one bit changed."""
+        at = self.randrange(len(data))
+        return data[:at] + bytes([data[at] ^ 1 << self.randrange(8)]) + data[at + 1 :]
+
+    def hash(self):
+        return 0x000C if self.happens(0.01) else self.choice((SHA1, SHA256, SHA256))
+
+    def hierarchy(self):
+        return self.choice(handle_kinds.PRIMARY_HIERARCHIES)
+
+    def object(self, test=lambda it: True):
+        """The handle of a loaded object, if any; seldom of one that is not there."""
+        fitting = [it for it in self.device.objects if test(self.device.objects[it])]
+        if self.happens(0.02) or not fitting:
+            return self.choice((0x80000000 + self.randrange(9), 0x81000000, RH_NULL))
+        return self.choice(fitting)
+
+    def session(self, *kinds):
+        """The handle of a session of one of these kinds, seldom of none or another."""
+        held = self.device.sessions
+        fitting = [it for it in held if held[it].kind in kinds or self.happens(0.02)]
+        return self.choice(fitting) if fitting else 0x03000000 + self.randrange(17)
+
+    def entity(self):
+        return self.choice(
+            (
+                *handle_kinds.HIERARCHIES,
+                *(self.choice(PCR_NUMBERS), self.object(), self.object()),
+                *(self.index(), self.index()),
+            )
+        )
+
+    def index(self, test=lambda it: True):
+        """The handle of an index that is defined, if any; seldom of one that is not."""
+        indices = self.device.indices
+        fitting = [it for it in indices if test(indices[it].public) or self.happens()]
+        if self.happens(0.02) or not indices:
+            return self.choice((*(0x01000000 + it for it in INDEX_NUMBERS), 0x01FFFFFF, RH_NULL))
+        return self.choice(fitting or list(indices))
+
+    def selection(self):
+        banks = self.sample((SHA1, SHA256), self.randrange(3))
+        return [(bank, self.sample(PCR_NUMBERS, self.randrange(4))) for bank in banks]
+
+    # Objects.
+
+    def attributes(self, usual):
+        """The usual attributes of an object, with some changed."""
+        extra = self.choice((0, 0, Attribute.NO_DA, Attribute.NO_DA | Attribute.ADMIN_WITH_POLICY))
+        if self.happens(0.15):
+            usual &= ~Attribute.USER_WITH_AUTH
+        if self.happens(0.05):
+            usual ^= 1 << self.randrange(20)
+        return usual | extra
+
+    def public(self):
+        usual, kind, scheme = self.choice(
+            (
+                (STORES, SYMCIPHER, ALG_NULL),
+                (OPEN, KEYEDHASH, ALG_NULL),
+                (OPEN, KEYEDHASH, ALG_NULL),
+                (OPEN | Attribute.SIGN, KEYEDHASH, self.choice((ALG_NULL, SHA1, SHA256))),
+            )
+        )
+        digest, algorithm = self.choice(self.digests), self.hash()
+        if len(digest) not in (0, 20 if algorithm == SHA1 else 32) and not self.happens(0.1):
+            digest = b""
+        unique = self.some_bytes(32)
+        return Public(kind, algorithm, self.attributes(usual), digest, scheme, unique)
+
+    def creation(self):
+        public = self.public()
+        seals = public.kind == KEYEDHASH and not public.has(Attribute.SIGN)
+        given = public.kind == KEYEDHASH and (seals or self.happens(0.5))
+        data = self.some_bytes(128) if given != self.happens() else b""
+        if public.has(Attribute.SIGN) and not given:
+            attributes = public.attributes | Attribute.SENSITIVE_DATA_ORIGIN
+            public = replace(public, attributes=attributes)
+        user_auth = self.choice(AUTH_VALUES) + bytes(self.randrange(2))
+        sensitive = frames.sensitive_create(user_auth, data)
+        return frames.creation(sensitive, sized(public.text), self.some_bytes(34), self.selection())
+
+    # NV indices.
+
+    def nv_attributes(self, hierarchy):
+        """Who may write and read, what may be locked, and the type."""
+        some = self.getrandbits(32) & self.getrandbits(32) & nv.NAMED & ~nv_commands.NOT_DEFINED
+        attributes = some & ~nv.of_type(nv.TYPE_MASK) | self.choice((0, 0x000E_000E, 0x0006_0006))
+        attributes &= ~nv.Attribute.PLATFORMCREATE
+        if (hierarchy == frames.RH_PLATFORM) != self.happens():
+            attributes |= nv.Attribute.PLATFORMCREATE
+        kind = self.choice(TYPES)
+        if kind == nv.Type.COUNTER and not self.happens():
+            attributes &= ~nv.Attribute.CLEAR_STCLEAR
+        attributes |= nv.of_type(kind)
+        return attributes ^ 1 << self.randrange(32) if self.happens() else attributes
+
+    def nv_size(self, kind, algorithm):
+        if self.happens():
+            return self.randrange(2050)
+        if kind == nv.Type.ORDINARY:
+            return self.choice((0, 1, 8, 16, 32, 64, self.randrange(100), 1200, 2048))
+        return (20 if algorithm == SHA1 else 32) if kind == nv.Type.EXTEND else nv.NUMBER_BYTES
+
+    def nv_policy(self, algorithm):
+        """A digest that a session has now, one that a session will have, or one of before."""
+        held = self.device.sessions.values()
+        told = [it.policy for it in held if it.algorithm == algorithm and not it.is_trial]
+        digests = [it.digest for it in told if it.code == CC.NV_ChangeAuth or self.happens()]
+        if digests and self.happens(0.8):
+            return self.choice(digests)
+        if algorithm in sessions.HASHES and self.happens(0.5):
+            zeros = bytes(sessions.digest_bytes(algorithm))
+            if self.happens(0.4):
+                return policy.after_nv_written(algorithm, zeros, self.happens(0.5))
+            return policy.after_command_code(algorithm, zeros, CC.NV_ChangeAuth)
+        digest = self.choice(self.digests)
+        fits = len(digest) in (0, 20 if algorithm == SHA1 else 32)
+        return digest if fits or self.happens(0.1) else b""
+
+    def nv_define(self):
+        hierarchy, algorithm = self.choice(ASKERS), self.hash()
+        attributes = self.nv_attributes(hierarchy)
+        index = self.choice(INDEX_NUMBERS) + (0x02000000 if self.happens() else 0x01000000)
+        public = nv.Public(index, algorithm, attributes, self.nv_policy(algorithm))
+        public = replace(public, data_size=self.nv_size(public.kind, algorithm))
+        auth = self.choice(AUTH_VALUES) + bytes(self.randrange(2)) + self.happens(0.02) * b"a" * 25
+        return [hierarchy], frames.nv_define_space(public.text, auth)
+
+    def nv_undefine(self):
+        handle = self.index()
+        held = self.device.indices.get(handle)
+        is_platforms = held and held.public.has(nv.Attribute.PLATFORMCREATE)
+        by_platform = is_platforms and not self.happens(0.1)
+        return [frames.RH_PLATFORM if by_platform else self.choice(ASKERS), handle]
+
+    def asked(self, kind=None, reads=False):
+        """An index, mostly of a type, and who asks for it, who mostly may."""
+        handle = self.index(lambda it: kind in (None, it.kind))
+        held = self.device.indices.get(handle)
+        if held is None or self.happens(0.1):
+            return [self.choice((*ASKERS, self.index())), handle]
+        who = frames.RH_PLATFORM, frames.RH_OWNER, handle, handle
+        allowing = [it for it in nv.Attribute if it & (nv.READS if reads else nv.WRITES)]
+        allowed = [asker for asker, it in zip(who, allowing) if held.public.has(it)]
+        return [self.choice(allowed or [handle]), handle]
+
+    def nv_write(self):
+        handles = self.asked(nv.Type.ORDINARY)
+        held = self.device.indices.get(handles[1])
+        size = held.public.data_size if held else 8
+        whole = held and held.public.has(nv.Attribute.WRITEALL) or self.happens(0.2)
+        offset = 0 if whole else self.randrange(size + 2)
+        most = 1024 if self.happens() else min(1024, max(0, size - offset))
+        data = self.randbytes(size) if whole else self.some_bytes(most)
+        return handles, frames.nv_write(data, offset)
+
+    def nv_read(self):
+        handles = self.asked(reads=True)
+        held = self.device.indices.get(handles[1])
+        size = held.public.data_size if held else 8
+        offset = self.choice((0, self.randrange(size + 2)))
+        return handles, frames.nv_read(self.choice((size, max(0, size - offset), 1)), offset)
+
+    def nv_change_auth(self):
+        """Mostly of an index that a session's policy can authorize now."""
+        told = [it.policy for it in self.device.sessions.values()]
+        digests = [it.digest for it in told if it.code == CC.NV_ChangeAuth]
+        handle = self.index(lambda it: it.auth_policy in digests)
+        return [handle], sized(self.choice(AUTH_VALUES) + bytes(self.randrange(33)))
+
+    def policy_nv(self):
+        handles = self.asked(reads=True)
+        held = self.device.indices.get(handles[1])
+        data = held.data if held and held.data else bytes(8)
+        offset = self.randrange(len(data) + 1)
+        operand = data[offset : offset + self.choice((0, 1, 2, 8, 32))]
+        if operand and self.happens(0.4):
+            operand = self.bent(operand)
+        operand += self.happens() * bytes(30)
+        operation = self.randrange(len(nv_commands.OPERATIONS) + self.happens())
+        (session,), _ = self.told()
+        return [*handles, session], frames.policy_nv(operand, offset, operation)
+
+    # The commands: handles and parameters.
+
+    def start(self):
+        algorithm = self.hash()
+        nonce = self.randbytes(self.choice((16, 20, 20)) - self.happens())
+        bind = self.choice((RH_NULL, RH_NULL, self.entity()))
+        cipher, kind = self.choice((ALG_NULL, AES, XOR)), self.choice(KINDS)
+        xor = None
+        if cipher == XOR:
+            xor = self.hash() if self.happens(0.1) else algorithm
+        return frames.start_auth_session(
+            *(nonce, bind, algorithm, cipher == AES), kind=kind, xor=xor
+        )
+
+    def told(self, parameters=b""):
+        return [self.session(frames.SE_POLICY, frames.SE_TRIAL)], parameters
+
+    def policy_secret(self):
+        (handle,), _ = self.told()
+        held = self.device.sessions.get(handle)
+        nonce = self.choice((b"", held.nonce_tpm if held else b"", self.some_bytes(32)))
+        cp_hash = self.choice((b"", b"", self.randbytes(self.choice((20, 32, 31)))))
+        expiration = int(self.happens())
+        parameters = frames.policy_secret(nonce, cp_hash, self.some_bytes(4), expiration)
+        return [self.entity(), handle], parameters
+
+    def policy_cp_hash(self):
+        """Mostly that of a command without parameters, which may come yet, or what is recorded."""
+        (handle,), _ = self.told()
+        held = self.device.sessions.get(handle)
+        algorithm = held.algorithm if held else SHA256
+        code, used = self.choice(
+            (
+                (CC.Unseal, [self.keyed(signs=False)]),
+                (CC.NV_Increment, self.asked(nv.Type.COUNTER)),
+                (CC.NV_WriteLock, self.asked()),
+                (CC.NV_ReadLock, self.asked(reads=True)),
+            )
+        )
+        cp_hash = sessions.command_hash(algorithm, code, map(self.device.name, used), b"")
+        if held and held.policy.cp_hash and self.happens(0.3):
+            cp_hash = held.policy.cp_hash
+        return [handle], sized(self.some_bytes(32) if self.happens(0.1) else cp_hash)
+
+    def policy_nv_written(self):
+        return self.told(number(self.randrange(2) + 2 * self.happens(), 1))
+
+    def policy_or(self):
+        (handle,), _ = self.told()
+        held = self.device.sessions.get(handle)
+        branches = self.choices(self.digests, k=self.choice((2, 3, 8, 9, 1)))
+        if held and not self.happens():
+            branches[-1] = held.policy.digest
+        return [handle], frames.sized_list(*branches)
+
+    def load(self):
+        """What was created before, mostly under the parent that is loaded again."""
+        parent = self.object(lambda it: it.public.is_parent)
+        name = self.device.name(parent)
+        fitting = [it for it in self.made if it[0] == name or self.happens(0.02)]
+        _, private, public = self.choice(fitting or [(b"", self.randbytes(99), self.public().text)])
+        if self.happens():
+            private = self.bent(private)
+        return [parent], sized(private) + sized(public)
+
+    def hmac(self):
+        algorithm = self.choice((SHA1, SHA256, SHA256, ALG_NULL, 0x0012))
+        data = self.some_bytes(self.choice((4, 64, 1024)))
+        return [self.keyed(signs=True)], sized(data) + number(algorithm, 2)
+
+    def keyed(self, signs):
+        """A key of HMACs, or sealed data; seldom the other, or a storage key."""
+        wanted = KEYEDHASH, signs
+        return self.object(
+            lambda it: (it.public.kind, it.public.has(Attribute.SIGN)) == wanted or self.happens()
+        )
+
+    def flushed(self):
+        held = [*self.device.objects, *self.device.sessions, 0x80000007, 0x02000000, RH_NULL]
+        return [], number(self.choice(held), 4)
+
+    # What a device keeps.
+
+    def parameters(self):
+        """Of dictionary attack protection."""
+        numbers = (self.choice(it) for it in (MOST_TRIES, RECOVERIES, RECOVERIES))
+        return [frames.RH_LOCKOUT], frames.attack_parameters(*numbers)
+
+    def capability(self):
+        """Mostly of what is there, from the first or from a handle on."""
+        kinds = 0, 0x40, 1, 2, 2, 3, 0x80, 0x81, 4
+        held = [*self.device.objects, *self.device.sessions, *self.device.indices]
+        wanted = self.choice((self.choice(kinds) << 24, self.choice(held or [0])))
+        capability = self.choice((1, 1, 1, 1, 2, 5, 6, 6, 3))
+        if capability == 2:
+            wanted = self.choice((0, self.choice(list(CC)), 0x18F, 0x190))
+        if capability == 6:
+            wanted = self.choice((0, 0x100, 0x101, 0x129, 0x20E, 0x211, 0x212))
+        count = self.choice((0, 1, 2, 64, 65, 2**32 - 1))
+        return [], b"".join(number(it, 4) for it in (capability, wanted, count))
+
+    def evict(self):
+        handle, asker = self.object(), self.choice(ASKERS)
+        held = self.device.objects.get(handle)
+        if held and not self.happens(0.2):
+            is_platforms = held.hierarchy == frames.RH_PLATFORM
+            asker = frames.RH_PLATFORM if is_platforms else frames.RH_OWNER
+        wanted = 0x81000000 + self.randrange(20)
+        if (asker == frames.RH_PLATFORM) != self.happens():
+            wanted += 0x00800000
+        if persistent.is_persistent(handle) and not self.happens(0.1):
+            wanted = handle
+        return [asker, handle], number(wanted ^ self.happens() << 25, 4)
+
+    def pcr(self):
+        return [self.choice((*PCR_NUMBERS, *PCR_NUMBERS, RH_NULL, 24))]
+
+    def extension(self):
+        values = [(SHA256, self.randbytes(32)), (SHA1, self.randbytes(20))]
+        return self.pcr(), frames.digests(*values[: self.randrange(3)])
+
+    COMMANDS = {
+        CC.Startup: (1, lambda w: ([], number(w.randrange(2) * w.happens(0.5), 2))),
+        CC.GetRandom: (2, lambda w: ([], number(w.randrange(70), 2))),
+        CC.PCR_Read: (2, lambda w: ([], frames.selection(*w.selection()))),
+        CC.PCR_Extend: (2, extension),
+        CC.PCR_Event: (2, lambda w: (w.pcr(), sized(w.some_bytes(1024)))),
+        CC.PCR_Reset: (2, lambda w: (w.pcr(), b"")),
+        CC.HierarchyChangeAuth: (
+            3,
+            lambda w: (
+                [w.choice(handle_kinds.HIERARCHIES)],
+                sized(w.choice(AUTH_VALUES) + bytes(2)),
+            ),
+        ),
+        CC.FlushContext: (12, flushed),
+        CC.StartAuthSession: (14, start),
+        CC.PolicyRestart: (1, told),
+        CC.PolicyPCR: (
+            4,
+            lambda w: w.told(sized(w.happens() * b"given") + frames.selection(*w.selection())),
+        ),
+        CC.PolicyOR: (3, policy_or),
+        CC.PolicyAuthValue: (4, told),
+        CC.PolicyPassword: (4, told),
+        CC.PolicyCommandCode: (6, lambda w: w.told(number(w.choice((*USES, *NV_USES, 0x999)), 4))),
+        CC.PolicyCpHash: (4, policy_cp_hash),
+        CC.PolicyNvWritten: (6, policy_nv_written),
+        CC.PolicyLocality: (3, lambda w: w.told(number(w.choice((0, 1, 3, 31, 31, 32)), 1))),
+        CC.PolicySecret: (6, policy_secret),
+        CC.PolicyGetDigest: (3, told),
+        CC.CreatePrimary: (16, lambda w: ([w.hierarchy()], w.creation())),
+        CC.Create: (16, lambda w: ([w.object(lambda it: it.public.is_parent)], w.creation())),
+        CC.Load: (14, load),
+        CC.ReadPublic: (4, lambda w: ([w.object()], b"")),
+        CC.Unseal: (12, lambda w: ([w.keyed(signs=False)], b"")),
+        CC.HMAC: (10, hmac),
+        CC.NV_DefineSpace: (14, nv_define),
+        CC.NV_UndefineSpace: (4, lambda w: (w.nv_undefine(), b"")),
+        CC.NV_ReadPublic: (4, lambda w: ([w.index()], b"")),
+        CC.NV_Write: (14, nv_write),
+        CC.NV_Increment: (6, lambda w: (w.asked(nv.Type.COUNTER), b"")),
+        CC.NV_SetBits: (4, lambda w: (w.asked(nv.Type.BITS), number(1 << w.randrange(64), 8))),
+        CC.NV_Extend: (
+            4,
+            lambda w: (w.asked(nv.Type.EXTEND), sized(w.some_bytes(w.choice((4, 64, 1024))))),
+        ),
+        CC.NV_Read: (12, nv_read),
+        CC.NV_WriteLock: (2, lambda w: (w.asked(), b"")),
+        CC.NV_ReadLock: (2, lambda w: (w.asked(reads=True), b"")),
+        CC.NV_ChangeAuth: (6, nv_change_auth),
+        CC.PolicyNV: (10, policy_nv),
+        CC.DictionaryAttackLockReset: (3, lambda w: ([frames.RH_LOCKOUT], b"")),
+        CC.DictionaryAttackParameters: (2, parameters),
+        CC.Shutdown: (1, lambda w: ([], number(w.choice((0, 1, 1)) + 2 * w.happens(), 2))),
+        CC.SelfTest: (1, lambda w: ([], number(w.randrange(2) + 2 * w.happens(), 1))),
+        CC.ReadClock: (3, lambda w: ([], b"")),
+        CC.GetCapability: (8, capability),
+        CC.EvictControl: (10, evict),
+        CC.Clear: (0.5, lambda w: ([w.choice((frames.RH_LOCKOUT, frames.RH_PLATFORM))], b"")),
+        CC.ClearControl: (
+            0.5,
+            lambda w: (
+                [w.choice((frames.RH_LOCKOUT, frames.RH_PLATFORM))],
+                number(w.randrange(2) + 2 * w.happens(), 1),
+            ),
+        ),
+    }
+
+    assert COMMANDS.keys() == set(CC)
+
+    # Entries.
+
+    def entries(self, code, handles):
+        """With what a command is authorized: a session or the password for the handle that needs
+        it, and seldom sessions that only encrypt.
+        """
+        found = []
+        if code.authorized and not self.happens(0.01):
+            found.append(self.authorizing(handles[0], code))
+        while not code.has(Fact.NO_SESSIONS) and self.device.sessions and self.happens(0.15):
+            found.append(Entry(self.choice([*self.device.sessions]), b"", 0, b""))
+        for entry in found:
+            self.describe(entry, code)
+        return found
+
+    def authorizing(self, handle, code):
+        held, entity = self.device.sessions, self.device.policy_entity(handle, code)
+        fits = [RS_PW, *(it for it in held if held[it].kind == frames.SE_HMAC or self.happens())]
+        for it in held:
+            if entity and held[it].policy.digest == entity.auth_policy and not held[it].is_trial:
+                fits += [it] * 9
+        return Entry(self.choice(fits), b"", 0, b"")
+
+    def describe(self, entry, code):
+        entry.attributes = CONTINUE_SESSION if self.random() < 0.9 else 0
+        if self.happens(0.01):
+            entry.attributes |= 1 << self.randrange(8)
+        if entry.handle == RS_PW:
+            return
+        held = self.device.sessions[entry.handle]
+        entry.nonce = self.randbytes(self.choice((16, len(held.nonce_tpm))))
+        encrypts = held.cipher != ALG_NULL
+        if encrypts and code.takes_sized and self.happens(0.4):
+            entry.attributes |= DECRYPT
+        if encrypts and code.answers_sized and self.happens(0.4):
+            entry.attributes |= ENCRYPT
+
+    def authenticated(self, command):
+        """The same command with its first parameter encrypted and its hmacs written."""
+        device, found = self.device, command.with_attribute(DECRYPT)
+        if found and found[1].handle in device.sessions:
+            _, entry, handle = found
+            held = device.sessions[entry.handle]
+            key = device.encryption_key(held, handle)
+            command.parameters = sessions.on_first_buffer(
+                lambda data: sessions.encrypted(
+                    *(held.cipher, held.algorithm, key, entry.nonce, held.nonce_tpm, data)
+                ),
+                command.parameters,
+            )
+        for place, entry, handle in command.places():
+            entry.hmac = self.hmac_of(command, place, entry, handle)
+            if self.happens(0.08 if device.touched(entry, handle) else 0.02):
+                entry.hmac = self.choice((b"", self.some_bytes(32), entry.hmac + b"\0"))
+
+    def hmac_of(self, command, place, entry, handle):
+        device = self.device
+        if entry.handle == RS_PW:
+            return device.auth_value(handle) + bytes(self.randrange(2))
+        held = device.sessions[entry.handle]
+        if handle_kinds.is_policy(entry.handle) and handle is not None:
+            entry.demand = held.policy.demand
+            if entry.demand == policy.PASSWORD:
+                return device.auth_value(handle)
+        key = device.key(entry, handle)
+        if not key and self.happens(0.8):
+            return b""
+        names = device.names(command)
+        return sessions.entry_hmac(
+            held.algorithm,
+            key,
+            sessions.command_hash(held.algorithm, command.code, names, command.parameters),
+            entry.nonce,
+            held.nonce_tpm,
+            device.nonces_of_others(command, place, handle),
+            entry.attributes,
+        )
+
+    # Sending.
+
+    @property
+    def lines(self):
+        """Those of the script so far, of which the buffers' are found here."""
+        return [line(it) if isinstance(it, bytes) else it for it in self.events]
+
+    def code(self):
+        """Of a command that is served. Where it is locked, mostly soon of one that unlocks."""
+        if self.device.lockout.is_locked() and self.happens(0.1):
+            return self.choice((CC.DictionaryAttackLockReset, CC.DictionaryAttackParameters))
+        codes = list(self.COMMANDS)
+        (code,) = self.choices(codes, [self.COMMANDS[it][0] for it in codes])
+        return code
+
+    def buffer(self):
+        code = self.code()
+        handles, parameters = self.COMMANDS[code][1](self)
+        if self.happens(0.02):
+            parameters = parameters[: self.randrange(len(parameters) + 1)] + self.some_bytes(2)
+        entries = self.entries(code, handles)
+        command = general.Command(code, handles, entries, parameters)
+        try:
+            self.authenticated(command)
+        except (Short, KeyError, IndexError):
+            pass
+        return self.damaged(self.spelled(command))
+
+    @staticmethod
+    def spelled(command):
+        handles = b"".join(number(it, 4) for it in command.handles)
+        if not command.entries:
+            return frames.command(command.code, handles + command.parameters)
+        entries = [
+            frames.entry(it.handle, it.nonce, it.attributes, it.hmac) for it in command.entries
+        ]
+        body = handles + frames.area(*entries) + command.parameters
+        return frames.command(command.code, body, frames.SESSIONS)
+
+    def damaged(self, buffer):
+        """Seldom with a bit changed, or cut, commandSize being right then."""
+        if self.happens(0.02):
+            return self.bent(buffer)
+        if self.happens(0.01):
+            cut = buffer[: self.randrange(len(buffer))]
+            return cut[:2] + number(len(cut), 4) + cut[6:] if len(cut) > 6 else cut
+        return buffer
+
+    def startup(self):
+        """What was saved is mostly restored."""
+        is_saved = self.device.saved == state.Saved.STATE
+        kind = state.STATE if is_saved and self.happens(0.7) else state.CLEAR
+        return frames.command(CC.Startup, number(kind, 2))
+
+    def step(self):
+        is_saved = self.device.saved != state.Saved.NONE
+        if self.happens(0.2 if is_saved else 0.003):
+            self.device.power_cycle()
+            self.played.append(POWER)
+            self.events.append("power")
+        if self.happens(0.02):
+            self.locality = self.randrange(5)
+            self.events.append(f"loc {self.locality}")
+        if not self.device.started and not self.happens(0.1):
+            buffer = self.startup()
+        else:
+            buffer = self.buffer()
+        seed = self.randbytes(7)
+        drawn = (seed * RANDOM_BYTES)[:RANDOM_BYTES]
+        elapsed = 0
+        if self.happens(0.1) or self.device.lockout.is_closed and self.happens(0.2):
+            elapsed = self.choice((*WAITS, self.randrange(2**32)))
+            self.events.append(f"wait {elapsed}")
+        self.events += [f"entropy {seed.hex()}", buffer]
+        outcome = self.device.execute(buffer, self.locality, drawn, elapsed)
+        self.played.append(Played(outcome, self.locality, elapsed))
+        self.note(buffer, outcome.response, outcome.refused)
+        return outcome.refused
+
+    def note(self, buffer, response, refused):
+        """Keeps what TPM2_Create answered in plain, and the digests that policies have."""
+        if not refused and buffer[:2] == number(frames.SESSIONS, 2):
+            if int.from_bytes(buffer[6:10], "big") == CC.Create:
+                fields = reading.Fields(response[14:])
+                parent = self.device.name(int.from_bytes(buffer[10:14], "big"))
+                self.made = [*self.made[-20:], (parent, fields.sized(), fields.sized())]
+        for held in self.device.sessions.values():
+            if held.policy.digest not in self.digests:
+                self.digests = [b"", *self.digests[-20:], held.policy.digest]
+
+
+def main(seed, count, folder):
+    writer = Writer(int(seed))
+    outcomes = [writer.step() for _ in range(int(count))]
+    path = pathlib.Path(folder) / f"{seed}.tpm"
+    path.write_text("\n".join(writer.lines) + "\n", "ascii")
+    write_outputs(path, writer.played)
+    return outcomes
+
+
+if __name__ == "__main__":
+    main(*sys.argv[1:])

@@ -1,0 +1,54 @@
+/* Asks a device by the words of the module: `ask WORDS ACT..`. An act is a command in hex, whose
+ * response is printed; `power`, a power cycle; or `locality N`. A fault is printed, and ends it. */
+#include "common.h"
+#include "words.h"
+
+static uint8_t locality;
+
+/* Reads the hex of a command. */
+static size_t read_hex(const char *text, uint8_t *room, size_t size) {
+    size_t count = strlen(text) / 2;
+    must(count <= size && strlen(text) == 2 * count, "hex is of another size");
+    for (size_t i = 0; i < count; i++) {
+        unsigned byte;
+        must(sscanf(text + 2 * i, "%2x", &byte) == 1, "a digit is none of hex");
+        room[i] = (uint8_t)byte;
+    }
+    return count;
+}
+
+static bool ask(struct kept *kept, const char *hex, struct reason *reason) {
+    static uint8_t buffer[8192], response[RESPONSE_BYTES];
+    tpmsim_answered answered;
+    size_t size = read_hex(hex, buffer, sizeof buffer);
+    if (!kept_execute(kept, buffer, size, locality, response, &answered, reason)) return false;
+    for (size_t i = 0; i < answered.size; i++) printf("%02x", response[i]);
+    putchar('\n');
+    return true;
+}
+
+static bool act(struct kept *kept, char **words, int *at, struct reason *reason) {
+    if (strcmp(words[*at], "power") == 0) return kept_power(kept, reason);
+    if (strcmp(words[*at], "locality") != 0) return ask(kept, words[*at], reason);
+    must(words[*at + 1] != NULL, "there is no locality");
+    locality = (uint8_t)atoi(words[++*at]);
+    return true;
+}
+
+int main(int count, char **words) {
+    struct words asked;
+    struct reason reason = {{0}};
+    must(count >= 2, "usage: ask WORDS ACT..");
+    if (!words_read(&asked, words[1], &reason)) {
+        printf("no words: %s\n", reason.text);
+        return 2;
+    }
+    locality = asked.locality;
+    struct kept *kept = kept_open(&asked.options, &reason);
+    bool is_done = kept != NULL;
+    for (int i = 2; is_done && i < count; i++) is_done = act(kept, words, &i, &reason);
+    kept_close(kept);
+    words_free(&asked);
+    if (!is_done) printf("fault: %s\n", reason.text);
+    return is_done ? 0 : 3;
+}

@@ -1,0 +1,21 @@
+# Each call of the system that a kept device makes fails in turn: attached/calls.c is the caller.
+tests=$(cd "$(dirname "$0")/.." && pwd -P)
+. "$tests/common/cases.sh"
+. "$tests/common/library.sh"
+. "$tests/common/attached.sh"
+needs python3
+
+wrap=
+for call in mkdir fchmod fchmodat fstat fstatat flock ftruncate fsync fdatasync unlinkat renameat \
+    clock_gettime pread pwrite getrandom malloc calloc strndup open openat geteuid; do
+    wrap="$wrap -Wl,--wrap=$call"
+done
+# shellcheck disable=SC2086 # they are words
+attach_both calls $wrap
+extended 16 >"$room/values"
+python3 -c '
+import sys
+from tpmsim.model import image, machine
+sys.stdout.buffer.write(image.image(machine.Model()))
+' >"$room/image"
+both calls "$room/values" "$room/image"

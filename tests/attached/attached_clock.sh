@@ -1,0 +1,8 @@
+# The host's clock goes on, stands, goes back and jumps: attached/clock.c is the caller.
+tests=$(cd "$(dirname "$0")/.." && pwd -P)
+. "$tests/common/cases.sh"
+. "$tests/common/library.sh"
+. "$tests/common/attached.sh"
+
+attach_both clock -Wl,--wrap=clock_gettime
+both clock

@@ -1,0 +1,11 @@
+# Journals whose bytes are turned and cut, and whose records are left out, doubled and swapped:
+# attached/damage.c is the caller.
+tests=$(cd "$(dirname "$0")/.." && pwd -P)
+. "$tests/common/cases.sh"
+. "$tests/common/library.sh"
+. "$tests/common/attached.sh"
+needs python3
+
+attach_both damage
+extended 16 >"$room/values"
+both damage "$room/values"

@@ -1,0 +1,54 @@
+# What tools/attached.sh makes: the same bytes each time, with two names that are seen, and a line
+# where something is missing.
+tests=$(cd "$(dirname "$0")/.." && pwd -P)
+. "$tests/common/cases.sh"
+. "$tests/common/library.sh"
+. "$tests/common/attached.sh"
+needs objdump
+echo '#include <tss2/tss2_tcti.h>' | cc -E - >"$room/header" 2>&1 ||
+    skip 'there is no header tss2/tss2_tcti.h, which Debian has in libtss2-dev'
+
+# make TOP FOLDER: makes all of it in a folder, of the sources in another one.
+make() {
+    TPMSIM_ARCHIVE=$archive sh "$1/tools/attached.sh" "$2" 2>&1 |
+        sed -e "s,^[^:]*attached.sh: ,," -e "s,$room,ROOM,g"
+}
+
+module=libtss2-tcti-tpmsim.so.0
+top=$tests/..
+make "$top" first
+cp -R "$tests/../attached" "$tests/../tools" "$room/"
+mkdir "$room/other"
+mv "$room/attached" "$room/tools" "$room/other/"
+(umask 077 && make "$room/other" second/folder)
+ls first
+for file in "$module" tpmsim-power; do
+    cmp "first/$file" "second/folder/$file" && echo "$file: the same bytes each time"
+done
+echo 'the module shows:'
+nm --dynamic --defined-only --format=posix "first/$module" | cut -d ' ' -f 1
+echo 'the module needs:'
+objdump -p "first/$module" | sed -n 's/^ *\(NEEDED\|SONAME\) */\1 /p'
+objdump -h "first/$module" | grep -c 'build-id\|debug_info'
+nm "first/$module" 2>&1 | sed 's/^nm: //'
+echo 'tpmsim-power:'
+mkdir empty
+attach ask ask
+"$room/ask" state=kept 80010000000c000001440000 80010000000c0000017b0000
+for words in '' 'one two' none empty kept; do
+    # shellcheck disable=SC2086 # they are words
+    first/tpmsim-power $words
+    echo "status $?"
+done 2>&1
+ls empty
+"$room/ask" state=kept 80010000000c0000017b0000
+echo 'faults:'
+sh "$top/tools/attached.sh" 2>&1 | sed 's,^[^:]*attached.sh: ,,'
+archive=$room/none
+make "$top" third
+: >"$room/empty.a"
+archive=$room/empty.a
+make "$top" third
+archive=$(readlink -f "$program")
+make "$top" "$room/empty.a/folder" | tail -n 1
+ls

@@ -1,0 +1,13 @@
+# Processes that hold a kept device, killed 300 times at random moments: attached/kills.c is the
+# caller.
+tests=$(cd "$(dirname "$0")/.." && pwd -P)
+. "$tests/common/cases.sh"
+. "$tests/common/library.sh"
+. "$tests/common/attached.sh"
+needs python3
+
+attach kills kills
+extended 20000 >"$room/values"
+"$room/kills" "$room/values" 300 2>"$room/counts"
+echo "status $?"
+! grep WRONG "$room/counts" >&2

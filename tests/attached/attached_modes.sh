@@ -1,0 +1,14 @@
+# What a kept device makes is its user's alone, whatever the umask is. attached/ask.c is the caller.
+tests=$(cd "$(dirname "$0")/.." && pwd -P)
+. "$tests/common/cases.sh"
+. "$tests/common/library.sh"
+. "$tests/common/attached.sh"
+
+attach ask ask
+
+for mask in 000 022 077 777; do
+    (umask "$mask" && "$room/ask" state=state,force=always 80010000000c000001440000 power) \
+        >"$room/asked" || echo 'it is not asked'
+    echo "umask $mask: $(stat -c '%n %a' state state/journal state/lock | tr '\n' ' ')"
+    rm -r state
+done

@@ -1,0 +1,10 @@
+# Several processes that hold one device at once: attached/processes.c is the caller.
+tests=$(cd "$(dirname "$0")/.." && pwd -P)
+. "$tests/common/cases.sh"
+. "$tests/common/library.sh"
+. "$tests/common/attached.sh"
+needs python3
+
+attach_both processes
+extended 9000 >"$room/values"
+both processes "$room/values"

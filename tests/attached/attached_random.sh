@@ -1,0 +1,8 @@
+# The random bytes of a kept device: attached/random.c is the caller.
+tests=$(cd "$(dirname "$0")/.." && pwd -P)
+. "$tests/common/cases.sh"
+. "$tests/common/library.sh"
+. "$tests/common/attached.sh"
+
+attach_both random -Wl,--wrap=getrandom
+both random

@@ -1,0 +1,20 @@
+# The module for libtss2: attached/client.c loads it and calls it as libtss2 does.
+tests=$(cd "$(dirname "$0")/.." && pwd -P)
+. "$tests/common/cases.sh"
+. "$tests/common/library.sh"
+. "$tests/common/attached.sh"
+echo '#include <tss2/tss2_tcti.h>' | cc -E - >"$room/header" 2>&1 ||
+    skip 'there is no header tss2/tss2_tcti.h, which Debian has in libtss2-dev'
+
+TPMSIM_ARCHIVE=$archive sh "$tests/../tools/attached.sh" "$room/made" || exit 1
+attach client client -ldl
+# shellcheck disable=SC2086 # they are words
+attach sanitized_client client $sanitizers -ldl
+# shellcheck disable=SC2086 # they are words
+attach sanitized_module tcti $sanitizers -shared -fPIC
+
+mkdir plain sanitized
+(cd plain && "$room/client" "$room/made/libtss2-tcti-tpmsim.so.0") 2>&1
+(cd sanitized && "$room/sanitized_client" "$room/sanitized_module") >"$room/sanitized_output" 2>&1
+(cd plain && rm -r state && "$room/client" "$room/made/libtss2-tcti-tpmsim.so.0") 2>&1 |
+    cmp - "$room/sanitized_output" && echo 'the same beside sanitizers'

@@ -1,0 +1,49 @@
+# The words by which a device is attached, each right one and wrong ones: attached/ask.c is the
+# caller.
+tests=$(cd "$(dirname "$0")/.." && pwd -P)
+. "$tests/common/cases.sh"
+. "$tests/common/library.sh"
+. "$tests/common/attached.sh"
+
+# shellcheck disable=SC2086 # they are words
+attach ask ask $sanitizers
+
+short=
+startup=80010000000c000001440000
+get_random=80010000000c0000017b0010
+extend=80020000004100000182000000140000000940000009000000000000000001000b$(printf '%064d' 0)
+
+# ask LABEL WORDS ACT..: asks a device, and prints what came of it.
+ask() {
+    label=$1
+    shift
+    status=0
+    "$room/ask" "$@" >"$room/asked" 2>&1 || status=$?
+    echo "$label: status $status"
+    sed -e 's/^/    /' -e "$short" "$room/asked"
+}
+
+many=$(printf '%0512d' 0)
+echo 'a device in memory has random bytes 5a, and is another one in each process'
+ask 'no words' '' "$startup"
+ask 'random bytes of one byte' random=5a "$startup" "$get_random" "$get_random"
+ask 'random bytes in either case' random=aBcD "$startup" "$get_random"
+ask 'random bytes of 256 bytes' "random=$many" "$startup" "$get_random"
+ask 'a command before its startup' random=5a "$get_random"
+ask 'a power cycle' random=5a "$startup" power "$get_random"
+ask 'a kept device' state=kept,random=5a,force=never "$startup"
+ask 'the device that is kept' random=01,state=kept,force=always "$get_random"
+ask 'a locality that may extend PCR 20, and one that may not' random=5a,locality=2 "$startup" \
+    "$extend" locality 0 "$extend"
+ask 'a locality that there is not' random=5a "$startup" locality 5 "$startup"
+ask 'every word' locality=4,state=kept,image=none,random=00,force=power "$get_random"
+echo 'wrong words'
+ask 'a word that is none' colour=blue
+short='s/ is none of the words .* or force=always$/ is none of them/'
+for words in state stat=x state= image= complete locality= locality=5 \
+    locality=-1 locality=00 locality=a random= random=0 random=0g "random=${many}00" force \
+    force= force=sometimes force=neverr force=never ',' 'locality=1,' ,locality=1 state=a,,image=b \
+    locality=1,locality=1 state=a,state=b ' locality=1' State=a; do
+    ask "'$(echo "$words" | cut -c 1-40)'" "$words"
+done
+ls

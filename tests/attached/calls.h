@@ -1,0 +1,126 @@
+/* Stands between the parts of a kept device and the C library, linked with --wrap: the call of one
+ * number fails, or moves half of its bytes. */
+#ifndef CALLS_H
+#define CALLS_H
+#include "common.h"
+#include <errno.h>
+#include <stdarg.h>
+#include <sys/file.h>
+#include <sys/random.h>
+#include <sys/stat.h>
+#include <time.h>
+
+/* What happens to the call of the number: it fails with EIO, or with EINTR; it moves half of its
+ * bytes; or it is a request for memory, and there is none. */
+enum fault { NO_FAULT, FAILS, IS_INTERRUPTED, MOVES_HALF, HAS_NO_MEMORY };
+
+static enum fault fault;
+static unsigned counted, number;
+static const char *name_of_it;
+
+/* How often files and folders were forced to the disk, whole or without their times. */
+static unsigned forced, forced_data;
+
+/* Whether this call is one of a kind that is counted, and the one of the number. */
+static bool is_the_one(const char *name, bool is_counted) {
+    if (fault == NO_FAULT || !is_counted || ++counted != number) return false;
+    name_of_it = name;
+    return true;
+}
+
+/* Whether a call of the system fails; `again` says that it may be interrupted. */
+static bool fails(const char *name, bool again) {
+    if (!is_the_one(name, fault == FAILS || (fault == IS_INTERRUPTED && again))) return false;
+    errno = fault == FAILS ? EIO : EINTR;
+    return true;
+}
+
+static bool has_none(const char *name) { return is_the_one(name, fault == HAS_NO_MEMORY); }
+
+static size_t moved(const char *name, size_t size) {
+    return is_the_one(name, fault == MOVES_HALF && size > 1) ? size / 2 : size;
+}
+
+#define WRAPPED(type, name, words, values, again)                                                  \
+    type __real_##name words;                                                                      \
+    type __wrap_##name words;                                                                      \
+    type __wrap_##name words {                                                                     \
+        if (fails(#name, again)) return -1;                                                        \
+        return __real_##name values;                                                               \
+    }
+
+#define WRAPPED_MOVE(name, words, values)                                                          \
+    ssize_t __real_##name words;                                                                   \
+    ssize_t __wrap_##name words;                                                                   \
+    ssize_t __wrap_##name words {                                                                  \
+        if (fails(#name, true)) return -1;                                                         \
+        size = moved(#name, size);                                                                 \
+        return __real_##name values;                                                               \
+    }
+
+#define WRAPPED_MEMORY(type, name, words, values)                                                  \
+    type __real_##name words;                                                                      \
+    type __wrap_##name words;                                                                      \
+    type __wrap_##name words { return has_none(#name) ? NULL : __real_##name values; }
+
+WRAPPED(int, mkdir, (const char *path, mode_t mode), (path, mode), false)
+WRAPPED(int, fchmod, (int file, mode_t mode), (file, mode), false)
+WRAPPED(int, fchmodat, (int folder, const char *path, mode_t mode, int flags),
+        (folder, path, mode, flags), false)
+WRAPPED(int, fstat, (int file, struct stat *status), (file, status), false)
+WRAPPED(int, fstatat, (int folder, const char *path, struct stat *status, int flags),
+        (folder, path, status, flags), false)
+WRAPPED(int, flock, (int file, int operation), (file, operation), operation == LOCK_EX)
+WRAPPED(int, ftruncate, (int file, off_t size), (file, size), true)
+WRAPPED(int, unlinkat, (int folder, const char *path, int flags), (folder, path, flags), false)
+WRAPPED(int, renameat, (int folder, const char *path, int into, const char *name),
+        (folder, path, into, name), false)
+WRAPPED(int, clock_gettime, (clockid_t clock, struct timespec *now), (clock, now), false)
+WRAPPED_MOVE(pread, (int file, void *room, size_t size, off_t place), (file, room, size, place))
+WRAPPED_MOVE(pwrite, (int file, const void *room, size_t size, off_t place),
+             (file, room, size, place))
+WRAPPED_MOVE(getrandom, (void *room, size_t size, unsigned flags), (room, size, flags))
+WRAPPED_MEMORY(void *, malloc, (size_t size), (size))
+WRAPPED_MEMORY(void *, calloc, (size_t count, size_t size), (count, size))
+WRAPPED_MEMORY(char *, strndup, (const char *text, size_t size), (text, size))
+
+int __real_open(const char *path, int flags, ...);
+int __wrap_open(const char *path, int flags, ...);
+int __wrap_open(const char *path, int flags, ...) {
+    va_list words;
+    va_start(words, flags);
+    mode_t mode = flags & O_CREAT ? va_arg(words, mode_t) : 0;
+    va_end(words);
+    return fails("open", false) ? -1 : __real_open(path, flags, mode);
+}
+
+int __real_openat(int folder, const char *path, int flags, ...);
+int __wrap_openat(int folder, const char *path, int flags, ...);
+int __wrap_openat(int folder, const char *path, int flags, ...) {
+    va_list words;
+    va_start(words, flags);
+    mode_t mode = flags & O_CREAT ? va_arg(words, mode_t) : 0;
+    va_end(words);
+    return fails("openat", false) ? -1 : __real_openat(folder, path, flags, mode);
+}
+
+int __real_fsync(int file);
+int __wrap_fsync(int file);
+int __wrap_fsync(int file) {
+    forced++;
+    return fails("fsync", false) ? -1 : __real_fsync(file);
+}
+
+int __real_fdatasync(int file);
+int __wrap_fdatasync(int file);
+int __wrap_fdatasync(int file) {
+    forced_data++;
+    return fails("fdatasync", false) ? -1 : __real_fdatasync(file);
+}
+
+/* The user is another one than whose the files are. */
+uid_t __real_geteuid(void);
+uid_t __wrap_geteuid(void);
+uid_t __wrap_geteuid(void) { return __real_geteuid() + (fails("geteuid", false) ? 1 : 0); }
+
+#endif

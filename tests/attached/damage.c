@@ -1,0 +1,209 @@
+/* A journal whose bytes are turned or cut, in the folder of the process. The argument is the file
+ * of the values of the PCR. */
+#include "common.h"
+
+enum { EXTENDS = 3 };
+
+static const char FOLDER[] = "state", JOURNAL[] = "state/journal";
+
+/* The journal as it is in the file, and the one that was written at first. */
+struct text {
+    uint8_t *bytes;
+    size_t size;
+};
+
+static struct text text_of(void) {
+    struct text text;
+    text.bytes = bytes_of(JOURNAL, &text.size);
+    return text;
+}
+
+static void must_be(const struct text *wanted, const char *what) {
+    struct text there = text_of();
+    must(there.size == wanted->size && memcmp(there.bytes, wanted->bytes, there.size) == 0, what);
+    free(there.bytes);
+}
+
+/* Opens the device, where it has to be refused, and says by which sentence of these. */
+static void refuse_opening(size_t counts[4]) {
+    static const char *const sentences[] = {
+        "state/journal is damaged, and stays as it is", "state/journal is no journal of a device",
+        "state/journal was written by a library that answers otherwise than this one, and stays as "
+        "it is",
+        "state/journal holds "};
+    struct kept_options options = {.folder = FOLDER, .force = KEPT_FORCE_NEVER};
+    struct reason reason = {{0}};
+    struct kept *kept = kept_open(&options, &reason);
+    must(kept == NULL, "a damaged journal opens");
+    for (int i = 0; i < 4; i++) {
+        if (strncmp(reason.text, sentences[i], strlen(sentences[i])) != 0) continue;
+        counts[i]++;
+        return;
+    }
+    must(false, reason.text);
+}
+
+/* Turns each byte of the journal, by one bit and by all. */
+static void turn(const struct text *whole) {
+    static const uint8_t masks[] = {0x01, 0xff};
+    size_t counts[4] = {0}, tried = 0;
+    struct text turned = {malloc(whole->size), whole->size};
+    must(turned.bytes != NULL, "there is no memory");
+    for (size_t i = 0; i < sizeof masks; i++) {
+        for (size_t at = 0; at < whole->size; at++, tried++) {
+            memcpy(turned.bytes, whole->bytes, whole->size);
+            turned.bytes[at] ^= masks[i];
+            put_bytes(JOURNAL, turned.bytes, turned.size);
+            refuse_opening(counts);
+            must_be(&turned, "a damaged journal was changed");
+        }
+    }
+    free(turned.bytes);
+    must(tried == 2 * whole->size, "bytes were left out");
+    must(counts[0] > 0 && counts[0] + counts[1] + counts[2] + counts[3] == tried, "a count is off");
+    puts("each byte turned, by one bit and by all: refused, and the file is as it was");
+}
+
+/* Opens a journal that is cut within its last record: the device is the one before that record,
+ * the file stays until the next command, and has whole records behind it. */
+static void open_cut(const struct text *cut, const struct values *values) {
+    put_bytes(JOURNAL, cut->bytes, cut->size);
+    struct kept *kept = opened(FOLDER);
+    must_be(cut, "a journal was changed before a command was executed");
+    must(extends_of(kept, values) == EXTENDS, "a cut record was executed, or a whole one was not");
+    extend(kept);
+    kept_close(kept);
+    kept = opened(FOLDER);
+    must(extends_of(kept, values) == EXTENDS + 1, "what follows a cut record is lost");
+    kept_close(kept);
+}
+
+/* Cuts the journal at each byte: `heads` bytes of the head, and those of the last record. */
+static void cut(const struct text *whole, size_t head, size_t before_last,
+                const struct values *values) {
+    size_t counts[4] = {0};
+    for (size_t size = 0; size < head; size++) {
+        struct text cut = {whole->bytes, size};
+        put_bytes(JOURNAL, cut.bytes, cut.size);
+        refuse_opening(counts);
+        must_be(&cut, "a journal without its head was changed");
+    }
+    puts("cut at each byte of its head: refused, and the file is as it was");
+    for (size_t size = before_last; size < whole->size; size++) {
+        struct text cut = {whole->bytes, size};
+        open_cut(&cut, values);
+    }
+    puts("cut at each byte of its last record: the state before that record");
+}
+
+/* Takes a record away that others follow, doubles it, and swaps two. */
+static void rearrange(const struct text *whole, size_t first, size_t second, size_t third) {
+    size_t counts[4] = {0};
+    struct text other = {malloc(2 * whole->size), 0};
+    must(other.bytes != NULL, "there is no memory");
+    const struct {
+        const char *label;
+        size_t parts[4][2];
+    } cases[] = {
+        {"left out", {{0, first}, {second, whole->size}}},
+        {"doubled", {{0, second}, {first, whole->size}}},
+        {"swapped", {{0, first}, {second, third}, {first, second}, {third, whole->size}}},
+    };
+    for (size_t i = 0; i < sizeof cases / sizeof *cases; i++) {
+        other.size = 0;
+        for (int part = 0; part < 4; part++) {
+            size_t from = cases[i].parts[part][0], size = cases[i].parts[part][1] - from;
+            memcpy(other.bytes + other.size, whole->bytes + from, size);
+            other.size += size;
+        }
+        put_bytes(JOURNAL, other.bytes, other.size);
+        refuse_opening(counts);
+        must_be(&other, "a damaged journal was changed");
+        printf("a record that is %s: refused, and the file is as it was\n", cases[i].label);
+    }
+    free(other.bytes);
+}
+
+/* Damages each byte of the last record while the device is open, and has not executed that record:
+ * the next command is refused, and the file is as it was. With the byte as it was the device goes
+ * on. */
+static void turn_while_open(const struct text *whole, size_t before_last,
+                            const struct values *values) {
+    struct text turned = {malloc(whole->size), whole->size};
+    must(turned.bytes != NULL, "there is no memory");
+    put_bytes(JOURNAL, whole->bytes, before_last);
+    struct kept *kept = opened(FOLDER);
+    for (size_t at = before_last; at < whole->size; at++) {
+        uint8_t response[RESPONSE_BYTES];
+        tpmsim_answered answered;
+        struct reason reason;
+        memcpy(turned.bytes, whole->bytes, whole->size);
+        turned.bytes[at] ^= 1;
+        put_bytes(JOURNAL, turned.bytes, turned.size);
+        must(!kept_execute(kept, GET_RANDOM, sizeof GET_RANDOM, 0, response, &answered, &reason),
+             "a command behind a damaged record is answered");
+        must_be(&turned, "a damaged journal was changed");
+        put_bytes(JOURNAL, whole->bytes, before_last);
+        must(extends_of(kept, values) == EXTENDS, "the device does not go on");
+    }
+    kept_close(kept);
+    free(turned.bytes);
+    puts("each byte of a record turned while the device is open: refused, and it goes on with the "
+         "record as it was");
+}
+
+/* Shortens the journal under an open device. */
+static void shorten_while_open(const struct text *whole, size_t before_last,
+                               const struct values *values) {
+    uint8_t response[RESPONSE_BYTES];
+    tpmsim_answered answered;
+    struct reason reason;
+    put_bytes(JOURNAL, whole->bytes, whole->size);
+    struct kept *kept = opened(FOLDER);
+    put_bytes(JOURNAL, whole->bytes, before_last);
+    must(!kept_execute(kept, GET_RANDOM, sizeof GET_RANDOM, 0, response, &answered, &reason),
+         "a command is answered though its device's journal is another");
+    printf("shortened while the device is open: %s\n", reason.text);
+    must(extends_of(kept, values) == EXTENDS, "the device is not that of the journal");
+    must(unlink(JOURNAL) == 0, "there is no journal");
+    must(!kept_execute(kept, GET_RANDOM, sizeof GET_RANDOM, 0, response, &answered, &reason),
+         "a command is answered without a journal");
+    printf("removed while the device is open: %s\n", reason.text);
+    must(access(JOURNAL, F_OK) != 0, "a journal is made");
+    kept_close(kept);
+}
+
+/* The size of the journal. */
+static size_t size_now(void) {
+    struct text text = text_of();
+    free(text.bytes);
+    return text.size;
+}
+
+int main(int count, char **words) {
+    must(count == 2, "usage: damage VALUES");
+    struct values values = values_of(words[1]);
+    size_t sizes[EXTENDS + 2];
+    struct kept *kept = opened(FOLDER);
+    size_t head = size_now();
+    start(kept);
+    for (int i = 0; i <= EXTENDS; i++) {
+        sizes[i] = size_now();
+        extend(kept);
+    }
+    kept_close(kept);
+    struct text whole = text_of();
+    turn(&whole);
+    cut(&whole, head, sizes[EXTENDS], &values);
+    rearrange(&whole, sizes[0], sizes[1], sizes[2]);
+    turn_while_open(&whole, sizes[EXTENDS], &values);
+    shorten_while_open(&whole, sizes[EXTENDS], &values);
+    put_bytes(JOURNAL, whole.bytes, whole.size);
+    kept = opened(FOLDER);
+    must(extends_of(kept, &values) == EXTENDS + 1, "the journal as it was does not open");
+    kept_close(kept);
+    free(whole.bytes);
+    free(values.bytes);
+    puts("the journal as it was written: it opens");
+    return 0;
+}

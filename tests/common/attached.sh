@@ -1,0 +1,63 @@
+# What the tests of the kept device share. Each is given the archive, and reads this file behind
+# cases.sh and library.sh.
+# shellcheck shell=sh disable=SC2154 # library.sh has `archive` and `sanitizers`
+attached=$tests/../attached
+callers=$tests/attached
+needs cc nm
+nm --defined-only "$archive" 2>/dev/null | grep -q ' tpmsim_journal_open$' ||
+    skip 'the archive has no calls for journals'
+
+# attach CALLER SOURCE WORDS..: compiles a caller in C, or a main source of attached/, with all
+# parts of the kept device, for which each warning is an error.
+attach() {
+    caller=$room/$1
+    source=$callers/$2.c
+    [ -f "$source" ] || source=$attached/$2.c
+    shift 2
+    for part in "$attached"/*.c; do
+        case $part in
+        */tcti.c | */power.c) ;;
+        *) set -- "$part" "$@" ;;
+        esac
+    done
+    cc -std=c11 -O1 -Wall -Wextra -Werror -Wconversion -I"$dist" -I"$attached" -o "$caller" \
+        "$source" "$@" "$archive" || exit 1
+}
+
+# attach_both SOURCE WORDS..: compiles a caller twice: by its name, and with sanitizers as
+# sanitized_NAME.
+attach_both() {
+    attach "$1" "$@"
+    # shellcheck disable=SC2086 # they are words
+    attach "sanitized_$1" "$@" $sanitizers
+}
+
+# both NAME WORDS..: runs a caller of attach_both each way, prints what the first prints, and says
+# whether the second prints the same. Each has a folder of its own.
+both() {
+    name=$1
+    shift
+    for way in "$name" "sanitized_$name"; do
+        mkdir "$room/$way.folder" || exit 1
+        (cd "$room/$way.folder" && timeout 250 "$room/$way" "$@") >"$room/$way.out" 2>&1
+        echo "status $?" >>"$room/$way.out"
+    done
+    cat "$room/$name.out"
+    if cmp -s "$room/$name.out" "$room/sanitized_$name.out"; then
+        echo 'the same beside sanitizers'
+    else
+        diff "$room/$name.out" "$room/sanitized_$name.out"
+    fi
+}
+
+# extended COUNT: writes the values of a PCR of SHA-256 after 0 to COUNT extends by a digest of 32
+# bytes 5a, to the file of the standard output.
+extended() {
+    python3 -c '
+import hashlib, sys
+value = bytes(32)
+for count in range(int(sys.argv[1]) + 1):
+    sys.stdout.buffer.write(value)
+    value = hashlib.sha256(value + b"\x5a" * 32).digest()
+' "$1"
+}

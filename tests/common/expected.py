@@ -1,0 +1,98 @@
+"""Writes the expected output NAME.out beside scripts NAME.tpm, without running the simulator; and
+NAME.trace, which `--trace` prints, where there is such a file already, be it an empty one.
+
+    tools/python.sh tests/common/expected.py                    for every script in tests/
+    tools/python.sh tests/common/expected.py tests/general/startup.tpm  for these
+
+The comment above a command, or above a few of them, names what must come: `: SUCCESS`, or a
+response code with its number, as in `: VALUE/p1 (1C4)`. It holds up to the next comment or empty
+line. What is answered is computed by the model; where the comment names another outcome, that is a
+fault, and nothing is written.
+"""
+
+import pathlib
+import re
+import sys
+
+from tpmsim.model.machine import Model
+from tpmsim.standard import frames, lines
+from tests.common import places
+from tpmsim.caller.outputs import POWER, Played, write_outputs
+
+WANTED = re.compile(r": (SUCCESS|[A-Z][A-Z0-9_]+(?:/[hps][1-9])?)(?: \(([0-9A-F]{3})\))?[.,;]")
+OUTCOMES = {"SUCCESS", *frames.CODES}
+RANDOM_BYTES = 256
+
+
+def wanted_of(comment):
+    """What a comment says must come: None for a success, else the name of a response code."""
+    named = [it for it in WANTED.findall(comment) if it[0].partition("/")[0] in OUTCOMES]
+    if len(named) != 1:
+        raise ValueError(f"the comment names {len(named)} outcomes:{comment}")
+    name, shown = named[0]
+    if name == "SUCCESS":
+        return None
+    code = frames.code_of(name)
+    if shown != f"{code:03X}":
+        raise ValueError(f"{name} is {code:03X}, and not {shown or 'without a number'}")
+    return name
+
+
+def buffer_of(line):
+    """The buffer of a script's line, or None where it has none."""
+    word, _, argument = line.partition(" ")
+    if word == "do":
+        return lines.assemble(argument.encode("ascii"))
+    return bytes.fromhex(argument) if word == "cmd" else None
+
+
+def played_by(script, device):
+    """What comes of a script's events, up to its end or to a bad line."""
+    locality, random = 0, bytes(RANDOM_BYTES)
+    comment, in_comment, elapsed = "", False, 0
+    for line in script.splitlines():
+        word, _, argument = line.partition(" ")
+        try:
+            buffer = buffer_of(line)
+        except lines.Fault:
+            return
+        if line.startswith("#"):
+            comment = (comment if in_comment else "") + line[1:]
+        elif word == "":
+            comment = ""
+        elif buffer is not None:
+            wanted = wanted_of(comment)
+            outcome = device.execute(buffer, locality, random, elapsed)
+            if outcome.refused != wanted:
+                named = outcome.refused or "a success"
+                raise ValueError(f"it is {named}, which is not said:{comment}")
+            yield Played(outcome, locality, elapsed)
+            elapsed = 0
+        elif word == "loc":
+            locality = int(argument)
+        elif word == "entropy":
+            entropy = bytes.fromhex(argument)
+            random = (entropy * RANDOM_BYTES)[:RANDOM_BYTES]
+        elif word == "power":
+            device.power_cycle()
+            yield POWER
+        elif word == "wait":
+            elapsed += int(argument)
+        else:
+            return
+        in_comment = line.startswith("#")
+
+
+def main(names):
+    for path in map(pathlib.Path, names) if names else places.of_tests():
+        played = []
+        try:
+            for event in played_by(path.read_text("ascii"), Model()):
+                played.append(event)
+        except ValueError as fault:
+            sys.exit(f"{path}, event {len(played) + 1}: {fault}")
+        write_outputs(path, played)
+
+
+if __name__ == "__main__":
+    main(sys.argv[1:])

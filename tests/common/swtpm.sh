@@ -1,0 +1,57 @@
+# What the tests of attached/swtpm share. Each is given the archive of the library, and reads this file
+# behind cases.sh. It builds libtpms.so.0 over that archive, and a caller in swtpm's place, both of them
+# with sanitizers too.
+# shellcheck shell=sh disable=SC2154 # cases.sh has `program`, `room` and `tests`
+needs cc nm strip python3
+echo '#include <libtpms/tpm_library.h>' | cc -E - >"$room/found" 2>&1 ||
+    skip 'there is no libtpms/tpm_library.h (Debian: libtpms-dev)'
+TPMSIM_ARCHIVE=$(readlink -f "$program")
+export TPMSIM_ARCHIVE
+unset CFLAGS
+assemble=$tests/../dist/tpmsim
+sanitizers='-g -fsanitize=address,undefined -fno-sanitize-recover=all'
+
+"$tests/../tools/attached_swtpm.sh" "$room/swtpm" >"$room/built" 2>&1 || { cat "$room/built" && exit 1; }
+CFLAGS=$sanitizers "$tests/../tools/attached_swtpm.sh" "$room/sanitized" >"$room/built" 2>&1 ||
+    { cat "$room/built" && exit 1; }
+for words in '' "$sanitizers"; do
+    # shellcheck disable=SC2086 # they are words
+    cc -std=c11 -D_GNU_SOURCE -O1 -Wall -Wextra -Werror -Wconversion $words \
+        -o "$room/caller${words:+.sanitized}" "$tests"/swtpm/*.c || exit 1
+done
+
+# spell: the lines of standard input, of which `do WORDS` has a command in words.
+spell() {
+    awk -v assemble="$assemble" '
+        $1 == "do" {
+            sub(/^do /, "")
+            spelled = assemble " asm \"" $0 "\""
+            line = "is not spelled"
+            spelled | getline line
+            close(spelled)
+            $0 = "cmd " line
+        }
+        { print }
+    '
+}
+
+# caller: plays the lines of standard input with libtpms.so.0, and prints what comes of them. Each is
+# played with sanitizers too, in a folder that was the same before, and what that prints has to be the
+# same.
+caller() {
+    spell >"$room/lines"
+    rm -rf "$room/again"
+    cp -r . "$room/again"
+    timeout 60 "$room/caller" "$room/swtpm/libtpms.so.0" <"$room/lines" >"$room/given" 2>&1 ||
+        echo "the caller ended with status $?" >>"$room/given"
+    (cd "$room/again" && timeout 200 "$room/caller.sanitized" "$room/sanitized/libtpms.so.0" \
+        <"$room/lines") >"$room/sanitized_given" 2>&1 ||
+        echo "the sanitized caller ended with status $?" >>"$room/sanitized_given"
+    cat "$room/given"
+    diff "$room/given" "$room/sanitized_given" | sed 's/^/    with sanitizers: /'
+}
+
+# label TEXT: a line above what follows.
+label() {
+    echo "$1:"
+}

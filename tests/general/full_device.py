@@ -1,0 +1,163 @@
+"""Writes full_device.tpm: a device that is filled up to each of its limits."""
+
+from tpmsim.caller import BY_OWNER, BY_PLATFORM, BY_POLICY, BY_VALUE, HERE, OPEN, STATE, area, bits
+from tpmsim.caller import counter, extended, hmac_key, sealed, storage_key
+from tpmsim.model import nv_commands
+from tpmsim.standard import ALG_NULL, CC, RH_ENDORSEMENT, RH_LOCKOUT, RH_NULL, RH_OWNER
+from tpmsim.standard import RH_PLATFORM, SE_HMAC, SE_POLICY, SE_TRIAL, SHA1, SHA256, frames, policy
+from tpmsim.standard.nv import Attribute as NvAttribute
+from tpmsim.standard.objects import Attribute
+from tpmsim.caller.script_caller import ScriptCaller
+from tpmsim.caller.script import Script
+
+PERSISTENT, OBJECTS, SESSIONS = 16, 8, 16
+AUTH_VALUES = (
+    (RH_OWNER, b"owner"),
+    (RH_ENDORSEMENT, b"endorsement endorsement 32 bytes"),
+    (RH_PLATFORM, b"p"),
+    (RH_LOCKOUT, b"lockout"),
+)
+POLICIES = {
+    algorithm: policy.after_auth_value(algorithm, bytes(size))
+    for algorithm, size in ((SHA1, 20), (SHA256, 32))
+}
+STAYS = HERE | OPEN
+
+# Objects that stay, of each type, scheme and hash algorithm.
+TEMPLATES = (
+    (storage_key(), b"", b""),
+    (storage_key(SHA1), b"", b"a"),
+    (sealed(), b"a secret", b"pin"),
+    (sealed(attributes=HERE | Attribute.USER_WITH_AUTH), b"x", b""),
+    (sealed(SHA1, attributes=HERE, auth_policy=POLICIES[SHA1]), bytes(range(128)), b"b" * 20),
+    (sealed(auth_policy=POLICIES[SHA256]), bytes(128), b"c" * 32),
+    (hmac_key(), b"a key", b""),
+    (hmac_key(SHA1, scheme=SHA1), b"another key", b"mac"),
+    (hmac_key(scheme=ALG_NULL), b"k", b""),
+    (hmac_key(attributes=STAYS | Attribute.SENSITIVE_DATA_ORIGIN), b"", b""),
+)
+
+script = Script(
+    "tests/general/full_device.tpm",
+    "A device that is filled up to each of its limits: sixteen persistent objects, eight transient "
+    "ones, 64 NV indices of 16,384 bytes in all, and sixteen sessions. tests/images/"
+    "images.py prints the image of what it keeps.",
+)
+tpm = ScriptCaller(script)
+
+
+def indices():
+    """Ordinary ones that are large and small, written or not, and the other types."""
+    locks = NvAttribute.WRITE_STCLEAR | NvAttribute.READ_STCLEAR
+    for_policy = area(0x0100_0003, BY_POLICY, algorithm=SHA1, auth_policy=POLICIES[SHA1], size=3)
+    return (
+        (area(0x0100_0000, BY_OWNER, size=2048), b""),
+        (area(0x01FF_FFFF, BY_OWNER, size=2048), b"a"),
+        (area(0x0100_0001, BY_OWNER | locks, size=2048), b"b" * 32),
+        (area(0x0100_0002, BY_VALUE, size=0), b""),
+        (for_policy, b"c" * 20),
+        (counter(0x0100_0004), b"count"),
+        (counter(0x0100_0005, BY_OWNER | NvAttribute.NO_DA), b""),
+        (bits(0x0100_0006), b""),
+        (extended(0x0100_0007), b""),
+        (extended(0x0100_0008, algorithm=SHA1), b""),
+        (area(0x0100_0009, BY_OWNER | BY_POLICY, auth_policy=POLICIES[SHA256], size=100), b""),
+    )
+
+
+def define_all():
+    script.chapter("NV indices.")
+    defined = indices()
+    for public, auth in defined:
+        tpm.define("One of each kind" if public is defined[0][0] else "", public, auth=auth)
+    platforms = area(0x0180_0000, BY_PLATFORM | NvAttribute.PLATFORMCREATE, size=1)
+    tpm.define("One of the platform", platforms, by=RH_PLATFORM)
+    taken = sum(it.data_size for it, _ in defined) + platforms.data_size
+    count = nv_commands.INDICES - len(defined) - 1
+    for at in range(count):
+        left_for_this = nv_commands.ALL_BYTES - taken - 8 * (count - 1 - at)
+        public = area(0x0140_0000 + at, BY_OWNER, size=min(left_for_this, nv_commands.INDEX_BYTES))
+        tpm.define("As many as there are, and all bytes" if at == 0 else "", public)
+        taken += public.data_size
+    assert taken == nv_commands.ALL_BYTES and len(tpm.publics) == nv_commands.INDICES
+    tpm.fails("One more: NV_SPACE", tpm.defining(area(0x0100_00FF, size=0)))
+
+
+def write_some():
+    tpm.does("Some are written", tpm.writing(0x0100_0000, b"data", by=RH_OWNER, offset=1000))
+    tpm.does("", tpm.writing(0x0100_0001, bytes(range(256)) * 4, by=RH_OWNER))
+    tpm.does("", tpm.writing(0x0100_0002, b""))
+    tpm.does("", tpm.writing(0x0180_0000, b"p", by=RH_PLATFORM))
+    for _ in range(3):
+        tpm.does("", tpm.incrementing(0x0100_0004))
+    tpm.does("", tpm.setting(0x0100_0006, 0x8000_0000_0000_0001))
+    for index in (0x0100_0007, 0x0100_0008):
+        tpm.does("", tpm.extending(index, b"data"))
+    tpm.does("One is locked", tpm.write_locking(0x0100_0001, by=RH_OWNER))
+    tpm.does("And for reading", tpm.read_locking(0x0100_0001, by=RH_OWNER))
+
+
+def keep_all():
+    script.chapter("Persistent objects of all three hierarchies, and of each type.")
+    hierarchies = (RH_OWNER, RH_OWNER), (RH_ENDORSEMENT, RH_OWNER), (RH_PLATFORM, RH_PLATFORM)
+    for at in range(PERSISTENT - 1):
+        public, data, user_auth = TEMPLATES[at % len(TEMPLATES)]
+        hierarchy, asker = hierarchies[at % len(hierarchies)]
+        first = 0x8180_0000 if asker == RH_PLATFORM else 0x8100_0000
+        handle = tpm.create_primary(
+            "A primary object", hierarchy, public, data=data, user_auth=user_auth
+        )
+        tpm.keep("It stays", asker, handle, first + 0x1000 * at)
+        tpm.flush_objects("And is flushed", handle)
+    parent = 0x8100_0000
+    made = tpm.create("A child of the first", parent, hmac_key(), data=b"key")
+    handle = tpm.load("It is loaded", parent, made)
+    tpm.keep("It stays", RH_OWNER, handle, 0x817F_FFFF)
+    tpm.fails("One more: NV_SPACE", tpm.evicting(RH_OWNER, handle, 0x8100_0001))
+    tpm.flush_objects("It is flushed", handle)
+
+
+def transient():
+    script.chapter("Transient objects and sessions, which nothing keeps.")
+    for at in range(OBJECTS):
+        hierarchy = (RH_OWNER, RH_NULL)[at % 2]
+        tpm.create_primary("Eight objects" if at == 0 else "", hierarchy, storage_key())
+    tpm.fails("One more: OBJECT_MEMORY", tpm.primary(RH_NULL, storage_key()))
+    for at in range(SESSIONS):
+        kind = (SE_HMAC, SE_POLICY, SE_TRIAL)[at % 3]
+        tpm.start("Sixteen sessions" if at == 0 else "", kind=kind)
+    start = tpm.prepare(CC.StartAuthSession, *frames.start_auth_session(bytes(16)))
+    tpm.fails("One more: SESSION_MEMORY", start)
+
+
+def the_rest():
+    script.chapter("Authorization values, tries, and what is saved.")
+    tpm.set_protection("TPM2_DictionaryAttackParameters", 5, 0x0102_0304, 0xFFFF_FFFF)
+    for handle, value in AUTH_VALUES:
+        tpm.does("An authorization value", tpm.change_auth(handle, value, b""))
+    tpm.does("TPM2_Clear is disabled", tpm.clear_control(RH_PLATFORM, 1))
+    wrong = tpm.writing(0x0100_0002, b"", b"wrong")
+    tpm.fails("Two tries: AUTH_FAIL/s1", wrong, wrong)
+    tpm.fails("lockoutAuth is closed: AUTH_FAIL/s1", tpm.lock_reset(b"wrong"))
+    for pcr in (0, 3, 15, 16):
+        tpm.does("A PCR is extended", tpm.event(b"event", b"", pcr=pcr))
+    script.wait(123_456_789)
+    tpm.does("TPM2_Shutdown(STATE)", tpm.shutting_down(STATE))
+
+
+def build():
+    script.startup()
+    tpm.does("TPM2_Shutdown(STATE)", tpm.shutting_down(STATE))
+    script.power()
+    tpm.start_up("TPM2_Startup(CLEAR), a restart")
+    define_all()
+    write_some()
+    keep_all()
+    transient()
+    the_rest()
+    return script.device
+
+
+if __name__ == "__main__":
+    build()
+    script.write()

@@ -1,0 +1,187 @@
+"""Writes saved_state.tpm: which commands cancel what TPM2_Shutdown(STATE) saved."""
+
+from tpmsim.caller import BY_OWNER, BY_VALUE, CLEAR, STATE, Use, area, bits, counter, extended
+from tpmsim.caller import hmac_key, sealed, storage_key, wrong
+from tpmsim.standard import CC, Fact, RH_ENDORSEMENT, RH_OWNER, RH_PLATFORM, SHA256, frames, policy
+from tpmsim.standard.nv import Attribute
+from tpmsim.caller.script_caller import FIRST, FOURTH, SECOND, ScriptCaller, THIRD
+from tpmsim.caller.script import Script
+
+FIFTH = 0x0100_0005
+KEPT = 0x8100_0001
+LOCKS = Attribute.WRITE_STCLEAR | Attribute.READ_STCLEAR
+CHANGING = policy.after_command_code(SHA256, bytes(32), CC.NV_ChangeAuth)
+
+script = Script(
+    "tests/general/saved_state.tpm",
+    "A state that TPM2_Shutdown(STATE) saved is good for the next TPM2_Startup as long as nothing "
+    "has happened since. Each command that succeeds cancels it, but those that change nothing. "
+    "Here each command follows a TPM2_Shutdown(STATE); behind a power cycle TPM2_Startup(STATE) "
+    "then says whether the state was there still.",
+)
+tpm = ScriptCaller(script)
+
+
+def session():
+    return tpm.policy("A policy session")
+
+
+def storage():
+    return tpm.create_primary("A storage key", RH_OWNER, storage_key())
+
+
+def sealed_data():
+    return tpm.create_primary("A sealed object", RH_OWNER, sealed(), data=b"data")
+
+
+def key():
+    return tpm.create_primary("An HMAC key", RH_OWNER, hmac_key(), data=b"key")
+
+
+def loading():
+    parent = storage()
+    return tpm.loading(parent, tpm.create("An object", parent, sealed(), data=b"data"))
+
+
+def changing_nv_auth():
+    policy_session = session()
+    told = tpm.command_code(policy_session, CC.NV_ChangeAuth)
+    tpm.says("TPM2_PolicyCommandCode of TPM2_NV_ChangeAuth: SUCCESS", told)
+    return tpm.changing_auth(FIFTH, b"", policy_session)
+
+
+def starting_session():
+    return tpm.prepare(CC.StartAuthSession, *frames.start_auth_session(tpm.nonce()))
+
+
+def extending_pcr(pcr):
+    return tpm.prepare(CC.PCR_Extend, [pcr], frames.digests((SHA256, bytes(32))), b"")
+
+
+def undefining():
+    return tpm.undefining(tpm.define("An index", area(0x0100_0006)))
+
+
+# For each command one that succeeds, behind what has to be done before TPM2_Shutdown(STATE) for it.
+COMMANDS = {
+    CC.SelfTest: lambda: tpm.self_test(1),
+    CC.GetCapability: lambda: tpm.capability(6, 0x100, 1),
+    CC.GetRandom: lambda: tpm.random(8),
+    CC.ReadClock: lambda: tpm.clock(),
+    CC.PCR_Read: lambda: tpm.read_pcr(0),
+    CC.PCR_Extend: lambda: extending_pcr(0),
+    CC.PCR_Event: lambda: tpm.event(b"event", b""),
+    CC.PCR_Reset: lambda: tpm.reset(b""),
+    CC.StartAuthSession: starting_session,
+    CC.PolicyRestart: lambda: tpm.restart(session()),
+    CC.FlushContext: lambda: tpm.flush(session()),
+    CC.PolicyPCR: lambda: tpm.pcrs(session(), [(SHA256, [0])]),
+    CC.PolicyOR: lambda: tpm.branches(session(), bytes(32), b"another"),
+    CC.PolicyAuthValue: lambda: tpm.auth_value_told(session()),
+    CC.PolicyPassword: lambda: tpm.password_told(session()),
+    CC.PolicyCommandCode: lambda: tpm.command_code(session(), CC.Unseal),
+    CC.PolicyNV: lambda: tpm.comparing(session(), FIRST, b"data", by=RH_OWNER),
+    CC.PolicyLocality: lambda: tpm.locality(session(), 1),
+    CC.PolicySecret: lambda: tpm.secret(session()),
+    CC.PolicyGetDigest: lambda: tpm.get_digest(session()),
+    CC.CreatePrimary: lambda: tpm.primary(RH_OWNER, storage_key()),
+    CC.Create: lambda: tpm.child(storage(), sealed(), data=b"data"),
+    CC.Load: loading,
+    CC.ReadPublic: lambda: tpm.public(storage()),
+    CC.Unseal: lambda: tpm.unsealing(sealed_data()),
+    CC.HMAC: lambda: tpm.hmac(key(), b"data", SHA256),
+    CC.EvictControl: lambda: tpm.evicting(RH_OWNER, storage(), KEPT),
+    CC.HierarchyChangeAuth: lambda: tpm.change_auth(RH_ENDORSEMENT, b"", b""),
+    CC.NV_DefineSpace: lambda: tpm.defining(area(0x0100_0008)),
+    CC.NV_UndefineSpace: undefining,
+    CC.NV_ReadPublic: lambda: tpm.index_public(FIRST),
+    CC.NV_Write: lambda: tpm.writing(FIRST, b"data", by=RH_OWNER),
+    CC.NV_Increment: lambda: tpm.incrementing(SECOND),
+    CC.NV_SetBits: lambda: tpm.setting(THIRD, 1),
+    CC.NV_Extend: lambda: tpm.extending(FOURTH, b"data"),
+    CC.NV_Read: lambda: tpm.reading(FIRST, 4, by=RH_OWNER),
+    CC.NV_WriteLock: lambda: tpm.write_locking(FIFTH, by=RH_OWNER),
+    CC.NV_ReadLock: lambda: tpm.read_locking(FIFTH, by=RH_OWNER),
+    CC.NV_ChangeAuth: changing_nv_auth,
+    CC.DictionaryAttackLockReset: lambda: tpm.lock_reset(),
+    CC.DictionaryAttackParameters: lambda: tpm.attack_parameters(3, 1000, 1000),
+    CC.ClearControl: lambda: tpm.clear_control(RH_PLATFORM, 0),
+    CC.Clear: lambda: tpm.clearing(RH_PLATFORM),
+    CC.PolicyCpHash: lambda: tpm.cp_hash_told(session(), bytes(32)),
+    CC.PolicyNvWritten: lambda: tpm.written_told(session(), True),
+}
+assert COMMANDS.keys() == set(CC) - {CC.Startup, CC.Shutdown}
+
+
+def save():
+    tpm.does("TPM2_Shutdown(STATE)", tpm.shutting_down(STATE))
+
+
+def start_again(is_kept):
+    """By the state that was saved, where it was kept."""
+    script.power()
+    if is_kept:
+        tpm.start_up("It was kept: TPM2_Startup(STATE)", STATE)
+    else:
+        tpm.fails("It was cancelled: TPM2_Startup(STATE): VALUE/p1", tpm.starting(STATE))
+        tpm.start_up("TPM2_Startup(CLEAR)")
+
+
+def each_command():
+    for code, make in COMMANDS.items():
+        is_kept = code.has(Fact.KEEPS_SAVED)
+        script.chapter(f"TPM2_{code.name} {'keeps' if is_kept else 'cancels'} it.")
+        prepared = make()
+        save()
+        tpm.accepted(f"TPM2_{code.name}", prepared)
+        start_again(is_kept)
+
+
+def others():
+    script.chapter("A second TPM2_Shutdown takes the place of the first.")
+    save()
+    tpm.does("TPM2_Shutdown(CLEAR)", tpm.shutting_down(CLEAR))
+    start_again(is_kept=False)
+    script.chapter("A command that is refused cancels nothing, not even a try that is counted.")
+    tpm.define("An index", area(0x0100_0007, BY_VALUE), auth=b"a")
+    hmac = tpm.start("An HMAC session")
+    save()
+    tpm.fails("A wrong password: AUTH_FAIL/s1", tpm.writing(0x0100_0007, b"x", b"b"))
+    tpm.fails("TPM2_PCR_Reset of PCR 0: LOCALITY", tpm.reset(b"", pcr=0))
+    tpm.fails("TPM2_Startup: INITIALIZE", tpm.starting(CLEAR))
+    tpm.refused("A wrong hmac: BAD_AUTH/s1", wrong(tpm.reset(hmac)))
+    script.command("The empty buffer: COMMAND_SIZE", b"")
+    start_again(is_kept=True)
+    script.chapter("The use of sessions cancels nothing, where the command does not.")
+    hmac = tpm.start("An HMAC session")
+    other = tpm.start("Another one")
+    save()
+    tpm.accepted("TPM2_GetRandom with both", tpm.random(8, hmac, other))
+    tpm.accepted("With one that ends by it", tpm.random(8, Use(other, attributes=0)))
+    start_again(is_kept=True)
+    script.chapter("TPM2_PCR_Extend on TPM_RH_NULL changes nothing, and cancels it all the same.")
+    save()
+    tpm.does("TPM2_PCR_Extend", extending_pcr(frames.RH_NULL))
+    start_again(is_kept=False)
+    script.chapter("Power cycles and time do not cancel it.")
+    save()
+    script.power()
+    script.power()
+    script.wait(2**32 - 1)
+    script.command("TPM2_GetRandom: INITIALIZE", tpm.random(2).buffer())
+    start_again(is_kept=True)
+
+
+script.startup()
+tpm.define("An ordinary index", area(FIRST))
+tpm.does("It is written", tpm.writing(FIRST, b"data", by=RH_OWNER))
+tpm.define("A counter", counter(SECOND))
+tpm.define("Bits", bits(THIRD))
+tpm.define("An index that is extended", extended(FOURTH))
+tpm.define(
+    "One with locks, and a policy for TPM2_NV_ChangeAuth",
+    area(FIFTH, BY_OWNER | LOCKS, auth_policy=CHANGING),
+)
+others()
+each_command()
+script.write()

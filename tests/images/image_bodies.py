@@ -1,0 +1,367 @@
+"""Bodies of images with one thing wrong, each beside the nearest good one; and good ones with what
+is not looked at.
+"""
+
+import copy
+from dataclasses import replace
+
+from tpmsim.caller import BY_OWNER, HERE, area, bits, counter, extended, hmac_key, sealed
+from tpmsim.caller import storage_key
+from tpmsim.model import nv_commands
+from tpmsim.model.image import BODY_AT, DIGEST_AT_END, VERSION_2, framed, image
+from tpmsim.model.machine import Model
+from tpmsim.model.object_rules import DATA_BYTES, NAME_BYTES, Object, Sensitive
+from tpmsim.model.persistent import PERSISTENT_OBJECTS
+from tpmsim.model.state import SAVED_PCRS, Saved
+from tpmsim.standard import RH_ENDORSEMENT, RH_LOCKOUT, RH_NULL, RH_OWNER, RH_PLATFORM, SHA1
+from tpmsim.standard import frames
+from tpmsim.standard.nv import Attribute, of_type
+from tpmsim.standard.objects import Attribute as ObjectAttribute
+from tests.general import full_device
+from tests.images import image_fields
+from tests.images.image_cases import Case, areas, pair, pairs, plural, with_indices
+from tests.images.image_fields import image_of, indices_of, objects_of
+from tests.images.image_versions import version_cases
+
+WRITTEN = BY_OWNER | Attribute.WRITTEN
+FIRST = 0x8100_0000
+WITH_VALUES = RH_OWNER, RH_ENDORSEMENT, RH_PLATFORM, RH_LOCKOUT
+
+# Where a new device's image has its three bytes of few values. Behind the last are the two counts.
+DISABLE_CLEAR, CLOSED, SAVED = 16 + 4 * 66 + 2, 16 + 4 * 66 + 19, 361 - DIGEST_AT_END - 5
+SAVED_BANKS = SAVED_PCRS * (20 + 32)
+
+# A full device can be built once alone.
+FULL = full_device.build()
+
+
+def largest(version=VERSION_2):
+    """A device of which each field has as many bytes as it can in an image of a version."""
+    device, value = Model(), b"v" * 32
+    device.auth_values = {handle: value for handle in WITH_VALUES}
+    device.saved = Saved.STATE
+    device.saved_banks = {bank: values[:SAVED_PCRS] for bank, values in device.banks.items()}
+    public = storage_key(auth_policy=b"p" * 32, unique=b"u" * 32)
+    sensitive = Sensitive(public.kind, value, b"s" * 32, b"d" * DATA_BYTES)
+    for handle in range(FIRST, FIRST + PERSISTENT_OBJECTS):
+        device.objects[handle] = Object(public, sensitive, RH_OWNER, b"n" * NAME_BYTES)
+    size = version.all_bytes // version.indices
+    for index in range(0x0100_0000, 0x0100_0000 + version.indices):
+        public = area(index, WRITTEN, size=size, auth_policy=b"p" * 32)
+        device.indices[index] = nv_commands.Index(public, value, bytes(range(size)))
+    return device
+
+
+# Images of small devices.
+
+
+def one_index(public, data=b"", auth_value=b"a"):
+    return with_indices(nv_commands.Index(public, auth_value, data))
+
+
+def one_object(public=None, handle=FIRST, hierarchy=RH_OWNER, name=b"", **sensitive):
+    """Of a device with one object, in each of whose fields something else can stand."""
+    public = hmac_key() if public is None else public
+    given = dict(kind=public.kind, auth_value=b"", seed_value=b"", data=b"key")
+    kept = Object(public, Sensitive(**(given | sensitive)), hierarchy, name)
+    return image_of(
+        [
+            *image_fields.body_of(Model())[:-2],
+            image_fields.Counted([image_fields.object_fields(handle, kept)]),
+            image_fields.Counted([]),
+        ]
+    )
+
+
+def with_auth_value(handle, value):
+    device = Model()
+    device.auth_values[handle] = value
+    return image(device)
+
+
+def with_byte(at, value):
+    """The image of a new device with another byte in its body."""
+    text = image(Model())
+    return framed(text[BODY_AT:at] + bytes([value]) + text[at + 1 : -DIGEST_AT_END])
+
+
+def with_saved(value, banks=b""):
+    body = image(Model())[BODY_AT:-DIGEST_AT_END]
+    at = SAVED - BODY_AT
+    return framed(body[:at] + bytes([value]) + banks + body[at + 1 :])
+
+
+# The cases.
+
+
+def hierarchy_cases():
+    names = "the owner", "endorsement", "the platform", "lockout"
+    for handle, name in zip(WITH_VALUES, names):
+        whole = f"of {name} an authorization value"
+        for bad, good in ((b"\0", b""), (b"ab\0", b"ab"), (b"a" * 31 + b"\0", b"a" * 32)):
+            yield from pair(
+                f"{whole} of {plural(len(bad))}, the last a zero",
+                with_auth_value(handle, bad),
+                f"of {plural(len(good))}",
+                with_auth_value(handle, good),
+            )
+        yield from pair(
+            f"{whole} of 33 bytes",
+            with_auth_value(handle, b"a" * 33),
+            "of 32",
+            with_auth_value(handle, b"a" * 32),
+        )
+    yield from pair(
+        "of TPM_RH_NULL an authorization value of a byte",
+        with_auth_value(RH_NULL, b"a"),
+        "of no byte",
+        with_auth_value(RH_NULL, b""),
+    )
+
+
+def flag_cases():
+    for at, words in ((DISABLE_CLEAR, "disableClear"), (CLOSED, "closed")):
+        for value in (2, 0xFF):
+            yield from pairs(with_byte, (f"{words} is {value}", at, value), ("1", at, 1))
+    banks = bytes(SAVED_BANKS)
+    yield from pairs(with_saved, ("what was saved is 3", 3), ("1", 1))
+    yield from pairs(with_saved, ("what was saved is 3, with PCRs", 3, banks), ("2", 2, banks))
+    yield from pairs(with_saved, ("a saved state without PCRs", 2), ("with them", 2, banks))
+    yield from pairs(
+        with_saved, ("a saved state with a byte too few", 2, banks[1:]), ("with all", 2, banks)
+    )
+    yield from pairs(with_saved, ("PCRs without a saved state", 0, banks), ("none", 0))
+
+
+def list_cases():
+    full = image_fields.body_of(FULL)
+    good = image_of(full)
+    for words, find in (("objects", objects_of), ("indices", indices_of)):
+        for at in (0, 7, len(find(full).groups) - 2):
+            turned = copy.deepcopy(full)
+            groups = find(turned).groups
+            groups[at], groups[at + 1] = groups[at + 1], groups[at]
+            text = image_of(turned)
+            yield from pair(f"{words} that do not ascend, at {at}", text, "that do", good)
+        twice = copy.deepcopy(full)
+        groups = find(twice).groups
+        del groups[1]
+        groups.insert(0, groups[0])
+        yield from pair(f"two {words} of one handle", image_of(twice), "of two", good)
+        for added in (-1, 1):
+            counted = copy.deepcopy(full)
+            count = find(counted).count = len(groups) + added
+            text = image_of(counted)
+            yield from pair(f"{len(groups)} {words} with the count {count}", text, "right", good)
+
+    device = copy.deepcopy(FULL)
+    device.indices[0x0100_00FF] = nv_commands.Index(area(0x0100_00FF, size=0), b"")
+    yield from pair("65 indices", image(device), "64", good)
+    device = copy.deepcopy(FULL)
+    device.objects[0x8100_0001] = device.objects[FIRST]
+    yield from pair("17 objects", image(device), "16", good)
+    most = [2048] * 7 + [2047]
+    yield from pairs(areas, ("16,385 bytes of indices", *most, 2), ("16,384", *most, 1))
+    yield from pairs(areas, ("16,392 bytes in 64", *[256] * 63, 264), ("16,384", *[256] * 64))
+
+
+def object_cases():
+    for bad, good in ((0x8000_0001, FIRST), (0x80FF_FFFF, FIRST), (0x8200_0000, 0x81FF_FFFF)):
+        yield from pair(
+            f"an object of the handle {bad:08x}",
+            one_object(handle=bad),
+            f"{good:08x}",
+            one_object(handle=good),
+        )
+    for bad, good in (
+        (RH_NULL, RH_OWNER),
+        (RH_LOCKOUT, RH_ENDORSEMENT),
+        (0x4000_000D, RH_PLATFORM),
+        (0, RH_OWNER),
+        (FIRST, RH_OWNER),
+    ):
+        yield from pair(
+            f"an object of the hierarchy {bad:08x}",
+            one_object(hierarchy=bad),
+            f"{good:08x}",
+            one_object(hierarchy=good),
+        )
+    for public, other in ((hmac_key(), frames.SYMCIPHER), (storage_key(), frames.KEYEDHASH)):
+        yield from pair(
+            f"an object of type {public.kind:04x}, and its sensitive area of {other:04x}",
+            one_object(public, kind=other),
+            "of the same",
+            one_object(public),
+        )
+    for name, bad, good in (
+        ("auth_value", b"a\0", b"a"),
+        ("auth_value", b"a" * 33, b"a" * 32),
+        ("seed_value", b"a" * 33, b"a" * 32),
+        ("data", b"a" * 129, b"a" * 128),
+    ):
+        ends = ", the last a zero" if bad.endswith(b"\0") else ""
+        yield from pair(
+            f"an object's {name.replace('_', ' ')} of {len(bad)} bytes{ends}",
+            one_object(**{name: bad}),
+            f"of {plural(len(good))}",
+            one_object(**{name: good}),
+        )
+    for of, words in (
+        (lambda size: one_object(name=b"n" * size), "qualified name of 35 bytes"),
+        (lambda size: one_object(hmac_key(auth_policy=b"p" * (size - 2))), "policy of 33 bytes"),
+        (lambda size: one_object(hmac_key(unique=b"u" * (size - 2))), "unique buffer of 33 bytes"),
+    ):
+        yield from pair(f"an object's {words}", of(35), "of one less", of(34))
+    yield from public_cases()
+
+
+def public_cases():
+    """Public areas that cannot be read."""
+    key = hmac_key()
+    for words, change in (
+        ("a reserved bit", dict(attributes=key.attributes | 1)),
+        ("the highest bit", dict(attributes=key.attributes | 1 << 31)),
+        ("type 0001", dict(kind=0x0001)),
+        ("the hash algorithm 000c", dict(name_algorithm=0x000C)),
+        ("the hash algorithm NULL", dict(name_algorithm=frames.ALG_NULL)),
+        ("a scheme of the hash algorithm 000c", dict(scheme=0x000C)),
+    ):
+        bad, good = replace(key, **change), key
+        yield from pair(
+            f"an object's public area with {words}", one_object(bad), "without", one_object(good)
+        )
+    for words, at, texts in (
+        ("the cipher NULL", 0, (frames.number(frames.ALG_NULL, 2),)),
+        ("keys of 256 bits", 1, (frames.number(256, 2),)),
+        ("the mode CTR", 2, (frames.number(0x0040, 2),)),
+        ("TPM_ALG_XOR and SHA-256", 0, (frames.symmetric(xor=frames.SHA256), b"", b"")),
+    ):
+        fields = image_fields.body_of(Model())
+        kept = Object(storage_key(), Sensitive(frames.SYMCIPHER, b"", b"", b""), RH_OWNER, b"")
+        objects_of(fields).groups.append(image_fields.object_fields(FIRST, kept))
+        good = image_of(fields)
+        _, _, _, public, _ = objects_of(fields).groups[0]
+        for behind, text in enumerate(texts):
+            public.fields[4 + at + behind].text = text
+        yield from pair(f"a cipher key with {words}", image_of(fields), "AES-128 in CFB", good)
+
+
+def index_cases():
+    yield from pairs(
+        one_index,
+        ("8 bytes of data of an index without WRITTEN", area(), bytes(8)),
+        ("with it", area(attributes=WRITTEN), bytes(8)),
+    )
+    for size in (0, 7, 9):
+        yield from pairs(
+            one_index,
+            (f"{size} bytes of data of an index of 8", area(attributes=WRITTEN), bytes(size)),
+            ("8", area(attributes=WRITTEN), bytes(8)),
+        )
+    for words, bad, good in (
+        ("a counter of 7 bytes", counter(size=7), counter()),
+        ("a counter of 9 bytes", counter(size=9), counter()),
+        ("bits of 7 bytes", bits(size=7), bits()),
+        ("an extended index of 20 bytes by SHA-256", extended(size=20), extended()),
+        ("one of 32 by SHA-1", extended(algorithm=SHA1, size=32), extended(algorithm=SHA1)),
+        ("an ordinary one of 2,049", area(size=2049), area(size=2048)),
+    ):
+        words_good = f"of {good.data_size:,}"
+        yield from pairs(one_index, (words, bad), (words_good, good))
+    for kind in (3, 5, 8, 15):
+        bad = area(attributes=BY_OWNER | of_type(kind))
+        yield from pairs(one_index, (f"an index of type {kind}", bad), ("0", area()))
+    for bit in (8, 9, 20, 21, 22, 23, 24):
+        bad = area(attributes=BY_OWNER | 1 << bit)
+        yield from pairs(one_index, (f"an index with the bit {bit}", bad), ("without", area()))
+    for handle, good in ((0x00FF_FFFF, 0x0100_0000), (0x0200_0000, 0x01FF_FFFF)):
+        yield from pairs(
+            one_index,
+            (f"an index of the handle {handle:08x}", area(handle)),
+            (f"{good:08x}", area(good)),
+        )
+    bad = replace(area(), name_algorithm=0x000C)
+    yield from pairs(one_index, ("an index by the hash algorithm 000c", bad), ("000b", area()))
+    for words, bad, good in (
+        ("2 bytes, the last a zero", b"a\0", b"a"),
+        ("33 bytes", b"a" * 33, b"a" * 32),
+    ):
+        yield from pairs(
+            one_index,
+            (f"of an index an authorization value of {words}", area(), b"", bad),
+            (f"of {plural(len(good))}", area(), b"", good),
+        )
+    bad, good = (replace(area(), auth_policy=b"p" * size) for size in (33, 32))
+    yield from pairs(one_index, ("of an index a policy of 33 bytes", bad), ("of 32", good))
+
+
+def size_cases():
+    """Sized buffers that their structure does not fill, and texts with bytes more or fewer."""
+    for words, find, at in (
+        ("an object's public area", objects_of, 3),
+        ("an object's sensitive area", objects_of, 4),
+        ("an index's public area", indices_of, 0),
+    ):
+        fields = image_fields.body_of(FULL)
+        good = image_of(fields)
+        area_fields = find(fields).groups[0][at].fields
+        area_fields.append(image_fields.Plain(b"\0"))
+        yield from pair(f"{words} and a byte behind it", image_of(fields), "none", good)
+        area_fields.pop()
+        last = area_fields.pop()
+        area_fields.append(image_fields.Plain(last.text[:-1]))
+        yield from pair(f"{words} without its last byte", image_of(fields), "with it", good)
+    new = image(Model())
+    body = new[BODY_AT:-DIGEST_AT_END]
+    yield from pair("a byte behind the indices", framed(body + b"\0"), "none", new)
+    yield from pair("a byte too few", framed(body[:-1]), "none", new)
+    yield from pair("no body", framed(b""), "one", new)
+    most = image(largest())
+    assert len(most) == 28_361
+    for count, words in ((1, "a byte"), (1 << 20, "a mebibyte")):
+        longer = framed(most[BODY_AT:-DIGEST_AT_END] + bytes(count))
+        yield from pair(f"{words} behind the indices of the largest image", longer, "none", most)
+
+
+def not_looked_at():
+    """Images with what no definition and no template would take."""
+    locked = Attribute.GLOBALLOCK | Attribute.ORDERLY | Attribute.POLICY_DELETE
+    device = Model()
+    index = nv_commands.Index(counter(attributes=WRITTEN), b"", bytes([255] * 8))
+    device.indices[0x0100_0001] = index
+    by_sha1, key_by_sha1 = area(algorithm=SHA1), hmac_key(SHA1)
+    st_clear = HERE | ObjectAttribute.ST_CLEAR
+    for words, text in (
+        ("an index's policy of 5 bytes", one_index(replace(area(), auth_policy=b"12345"))),
+        ("an index's value longer than its digest", one_index(by_sha1, b"", b"a" * 32)),
+        ("an index that nobody reads or writes", one_index(area(attributes=0))),
+        ("an index with all attributes but WRITTEN", one_index(every_attribute())),
+        ("an index that no definition takes", one_index(area(attributes=BY_OWNER | locked))),
+        ("an object's policy of 5 bytes", one_object(hmac_key(auth_policy=b"12345"))),
+        ("an object's value longer than a digest", one_object(key_by_sha1, auth_value=b"a" * 32)),
+        ("an object without attributes", one_object(replace(hmac_key(), attributes=0))),
+        ("an object with all attributes", one_object(sealed(attributes=sum(ObjectAttribute)))),
+        ("an object with stClear", one_object(hmac_key(attributes=st_clear))),
+        ("an object without a qualified name", one_object(name=b"")),
+        ("a cipher key of no byte", one_object(storage_key(), data=b"")),
+        ("a cipher key of 17 bytes", one_object(storage_key(), data=bytes(17))),
+        ("the owner's object with a handle of the platform's", one_object(handle=0x81FF_FFFF)),
+        ("a counter above the largest value", image(device)),
+    ):
+        yield Case(words, text, True)
+
+
+def every_attribute():
+    return area(attributes=sum(Attribute) & ~Attribute.WRITTEN)
+
+
+def cases():
+    """Each bad one is followed by the good one next to it."""
+    yield from version_cases()
+    yield from hierarchy_cases()
+    yield from flag_cases()
+    yield from list_cases()
+    yield from object_cases()
+    yield from index_cases()
+    yield from size_cases()
+    yield from not_looked_at()

@@ -1,0 +1,145 @@
+"""Writes images of version 1 that are not there yet, and compares those that are:
+
+    tools/python.sh tests/images/make_version_1.py PROGRAM
+
+PROGRAM is one that writes this version. It serves the device of each script NAME.tpm in
+tests/images/version_1: a run up to each `power` line, of the script's random bytes and at its times,
+which tests/common/clock.c tells it; `cc` builds that. The image that it saves at the end, and that of the
+device in Python behind the same commands, have to be the same. Where there is no NAME.hex, they are
+written there; where there is one, they have to be those of it.
+"""
+
+import os
+import pathlib
+import subprocess
+import sys
+import tempfile
+from dataclasses import dataclass
+
+from tests.common import expected
+from tests.at_random import served_runs as serving
+from tests.common import places
+from tests.images import version_1
+from tpmsim.model.machine import MANUFACTURED, Model
+
+RANDOM_BYTES = 256
+FIRST_SECOND = 1_000_000
+
+
+@dataclass(frozen=True)
+class Event:
+    """A command, of these random bytes, and the milliseconds since the one before."""
+
+    buffer: bytes
+    random: bytes
+    elapsed: int
+
+
+def runs_of(script):
+    """The commands of each run."""
+    runs, random, elapsed = [[]], bytes(RANDOM_BYTES), 0
+    for line in script.splitlines():
+        word, _, argument = line.partition(" ")
+        buffer = expected.buffer_of(line)
+        if buffer is not None:
+            runs[-1].append(Event(buffer, random, elapsed))
+            elapsed = 0
+        elif word == "power":
+            runs.append([])
+        elif word == "entropy":
+            random = (bytes.fromhex(argument) * RANDOM_BYTES)[:RANDOM_BYTES]
+        elif word == "wait":
+            elapsed += int(argument)
+        elif word and not word.startswith("#"):
+            sys.exit(f"a line that is not played here: {line}")
+    if any(run and run[0].elapsed for run in runs):
+        sys.exit("a run's first command comes at once")
+    return runs
+
+
+def played(runs):
+    """The responses of the device in Python, and its image of this version."""
+    device, answers = Model(), []
+    for number, run in enumerate(runs):
+        if number:
+            device.power_cycle()
+        for event in run:
+            outcome = device.execute(event.buffer, 0, event.random, event.elapsed)
+            answers.append(outcome.response)
+    return answers, version_1.image_of(device)
+
+
+class Served:
+    """A device that a program serves in a folder, at times that stand in a file of it. They are in
+    milliseconds since the first command of a run.
+    """
+
+    WORDS = "serve --socket socket --image image --entropy entropy --locality 0 --connections 1"
+
+    def __init__(self, program, path):
+        self.program, self.path = os.path.abspath(program), pathlib.Path(path)
+        self.shim, source = self.path / "clock.so", places.TESTS / "common/clock.c"
+        subprocess.run(["cc", "-O1", "-shared", "-fPIC", "-o", self.shim, source], check=True)
+
+    def is_now(self, time):
+        """The host's clock stands there until it is told another time."""
+        seconds, milliseconds = divmod(time, 1000)
+        told = f"{FIRST_SECOND + seconds} {milliseconds * 1_000_000}\n"
+        (self.path / "clock.new").write_text(told, "ascii")
+        (self.path / "clock.new").replace(self.path / "clock")
+
+    def began(self):
+        told = {"LD_PRELOAD": str(self.shim), "CLOCK": str(self.path / "clock")}
+        return subprocess.Popen(
+            [self.program, *self.WORDS.split()], cwd=self.path, env={**os.environ, **told}
+        )
+
+    def serve(self, run):
+        """The responses in a run, one connection of it."""
+        random = b"" if (self.path / "image").exists() else MANUFACTURED
+        (self.path / "entropy").write_bytes(random + b"".join(it.random for it in run))
+        time = 0
+        self.is_now(time)
+        process = self.began()
+        try:
+            with serving.connected(str(self.path / "socket"), process) as client:
+                answers = []
+                for event in run:
+                    time += event.elapsed
+                    self.is_now(time)
+                    client.sendall(event.buffer)
+                    answers.append(client.recv(4096))
+            if process.wait(serving.SECONDS):
+                sys.exit("the program failed")
+            return answers
+        finally:
+            process.kill()
+            process.wait()
+
+
+def served(program, runs):
+    """The responses of the program, and the image that it leaves."""
+    with tempfile.TemporaryDirectory() as path:
+        device = Served(program, path)
+        answers = [answer for run in runs for answer in device.serve(run)]
+        return answers, (device.path / "image").read_bytes()
+
+
+def main(program):
+    for name in version_1.NAMES:
+        runs = runs_of(version_1.script(name))
+        wanted, given = played(runs), served(program, runs)
+        if wanted != given:
+            sys.exit(f"{name}: the program and the device in Python differ")
+        _, text = given
+        if not version_1.hex_file(name).exists():
+            version_1.hex_file(name).write_text(version_1.spelled(text), "ascii")
+            print(f"{name}: {len(text):,} bytes are written")
+        elif text != version_1.kept(name):
+            sys.exit(f"{name}: these are not the bytes that are kept")
+        else:
+            print(f"{name}: the {len(text):,} bytes that are kept")
+
+
+if __name__ == "__main__":
+    main(*sys.argv[1:])

@@ -1,0 +1,154 @@
+# Of the runs on one image one goes on: another one ends with `tpmsim: file`, and touches nothing. And
+# what a run cannot take as its image or as its random bytes is told at once, whatever would wait.
+tests=$(cd "$(dirname "$0")/.." && pwd -P)
+. "$tests/common/cases.sh"
+. "$tests/common/served.sh"
+
+startup=$(words 'Startup 0')
+change='HierarchyChangeAuth OWNER pw:- 6f776e'
+echo 'do Startup 0' >script
+printf 'do Startup 0\ndo %s\n' "$change" >asks
+mkfifo lines
+
+# script_begins: a script that is played on the image, which is told a line, and waits for more.
+script_begins() {
+    "$program" run --image image - <lines >"$room/first" 2>&1 &
+    exec 3>lines
+    echo 'do Startup 0' >&3
+    until [ -s "$room/first" ]; do sleep 0.01; done
+}
+
+# device_begins CONNECTIONS: a device that is served from the image.
+device_begins() {
+    "$program" serve --socket socket --image image --entropy entropy --locality 0 \
+        --connections "$1" >"$room/first" 2>&1 &
+    there
+}
+
+# ends LABEL: how it ended, and what it said.
+ends() {
+    status=0
+    wait "$!" || status=$?
+    echo "$1: status $status, $(told "$room/first")"
+}
+
+# script_ends: tells the script one more line and no more.
+script_ends() {
+    echo "do $change" >&3
+    exec 3>&-
+    ends 'that script'
+}
+
+# serve LABEL IMAGE: a run with a socket of its own, and without a connection.
+serve() {
+    run "$1" serve --socket own --image "$2" --entropy entropy --locality 0 --connections 0
+    [ ! -e own ] || echo '    its socket is there'
+}
+
+# others LABEL: what runs on the image come to, while another one has it. It and what stands at
+# image.new are as before.
+others() {
+    echo left >image.new
+    [ ! -e image ] || stat -c '%i %y' image >"$room/before"
+    run "$1, another script" run --image image script
+    run "$1, another script with random bytes" run --image image --entropy entropy script
+    run "$1, another one that is not there" run --image image --entropy missing missing
+    serve "$1, a served device" image
+    run "$1, the image by another path" run --image ../folder/./image script
+    [ ! -e image ] || stat -c '%i %y' image | cmp - "$room/before"
+    echo "    at image.new: $(cat image.new)"
+}
+
+# A script's run has it.
+rm -f image
+script_begins
+others 'a script is played'
+script_ends
+[ ! -e image.new ] || echo 'image.new is there'
+run 'what it was told is there' run --image image asks
+
+# A served device has it, also before there is an image.
+rm image
+device_begins 2
+others 'a device is served'
+[ ! -e image ] || echo 'an image is there'
+talk 'the served device' 4096 "$startup" "$(words "$change")"
+talk 'its second connection' 4096 "$(words "$change")"
+ends 'that device'
+run 'what it was told is there' run --image image asks
+
+# A run that is killed leaves no lock.
+for kind in script device; do
+    if [ "$kind" = script ]; then
+        script_begins
+    else
+        device_begins 1
+    fi
+    kill -9 "$!"
+    wait "$!" 2>"$room/killed"
+    exec 3>&-
+    run "a $kind is killed, and the next run" run --image image script
+    serve 'and a served device' image
+    rm -rf socket .0
+done
+
+# Of many runs that begin at once one goes on.
+rm image
+exec 3<>lines
+for number in 1 2 3 4 5 6 7 8; do
+    "$program" run --image image - <lines 2>"$room/many$number" 3>&- &
+done
+while [ "$(cat "$room"/many* | wc -l)" -lt 7 ]; do sleep 0.01; done
+exec 3>&-
+wait
+cat "$room"/many* >"$room/many"
+echo "eight runs at once: $(told "$room/many")"
+
+# The file of the lock is beside the image, and stays. It is its owner's alone, and is empty.
+rm -f image*
+(umask 000 && run 'a new device' run --image image script)
+stat -c '%n %A %s' image*
+echo held >image.lock
+run 'a lock that holds text' run --image image script
+echo "    $(cat image.lock)"
+rm image.lock
+mkfifo image.lock
+run 'a pipe in place of the lock' run --image image script
+rm image.lock
+mkdir image.lock
+run 'a folder in place of the lock' run --image image script
+rmdir image.lock
+ln -s nowhere image.lock
+run 'a link to nowhere in place of the lock' run --image image script
+[ ! -e nowhere ] || echo 'nowhere is there'
+rm image.lock
+
+# A link to an image is an image of its own: the first save puts a file in its place.
+script_begins
+ln -s image link
+run 'a link to the image that a script has' run --image link script
+stat -c '%n %F' link
+script_ends
+rm link link.lock
+
+# What is no file, and no path of one, is no image; and a lock is not made for it.
+mkfifo pipe
+mkdir folder
+ln -s /dev/zero device
+ln -s pipe link
+python3 -c "import socket; socket.socket(socket.AF_UNIX).bind('listener')"
+for kind in pipe folder device link listener folder/ missing/ missing/image ''; do
+    run "the image '$kind', a script" run --image "$kind" script
+    serve "the image '$kind', a served device" "$kind"
+done
+# shellcheck disable=SC2012 # the names are known
+echo "all that is there: $(ls -A | tr '\n' ' ')"
+
+# A folder has no random bytes. A pipe has those that are written to it, once somebody does.
+run 'a folder of random bytes, a script' run --image image --entropy folder script
+run 'a folder of random bytes, a new device' run --image new --entropy folder script
+run 'a folder of random bytes, a served device' serve --socket own --image image --entropy folder \
+    --locality 0 --connections 1
+[ ! -e own ] || echo 'its socket is there'
+(sleep 0.2 && cat entropy >pipe) &
+run 'random bytes through a pipe' run --image new --entropy pipe script

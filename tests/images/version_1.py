@@ -1,0 +1,45 @@
+"""Images of version 1, as bytes that are kept in tests/images/version_1: NAME.hex has one of them,
+which a program of that version saved, and NAME.tpm the script of its device. Neither is ever written
+anew.
+"""
+
+import pathlib
+
+from tpmsim.model import image
+from tpmsim.model.machine import Model
+from tests.common.expected import played_by
+
+FOLDER = pathlib.Path(__file__).with_name("version_1")
+NAMES = "new", "saved", "changed", "locked", "full"
+BYTES_OF_LINE = 32
+
+
+def hex_file(name):
+    return FOLDER / f"{name}.hex"
+
+
+def script(name):
+    return (FOLDER / f"{name}.tpm").read_text("ascii")
+
+
+def kept(name):
+    return bytes.fromhex(hex_file(name).read_text("ascii"))
+
+
+def spelled(text):
+    """The lines of NAME.hex."""
+    pieces = (text[at : at + BYTES_OF_LINE] for at in range(0, len(text), BYTES_OF_LINE))
+    return "".join(f"{it.hex()}\n" for it in pieces)
+
+
+def device_of(name):
+    """The device behind the script, each of whose comments names what must come."""
+    device = Model()
+    for _ in played_by(script(name), device):
+        pass
+    return device
+
+
+def image_of(device):
+    """The image of this version that a device has."""
+    return image.image(device, image.VERSION_1)

@@ -1,0 +1,298 @@
+"""Has a program open the images of version 1 that are kept in tests/images/version_1:
+
+    tools/python.sh tests/images/version_1_images.py PROGRAM
+
+What it answers to commands that look at the device, and use what it has, and what it saves
+afterwards, which is of version 2, has to be what the device in Python answers and saves. It says of
+each image what was tried; the last line is `N agree, M differ`.
+"""
+
+import collections
+import hashlib
+import os
+import sys
+import tempfile
+
+from tpmsim.caller import BY_OWNER, CLEAR, STATE, area, counter, sealed, storage_key
+from tpmsim.model import image, nv_commands, streams
+from tpmsim.model.capability import HANDLES, PROPERTIES
+from tpmsim.standard import ALG_NULL, CC, NV, PERSISTENT, RH_ENDORSEMENT, RH_LOCKOUT, RH_NULL
+from tpmsim.standard import RH_OWNER, RH_PLATFORM, SHA256, SYMCIPHER, TRANSIENT, frames, lines, nv
+from tpmsim.standard.handle_kinds import first_byte
+from tpmsim.standard.objects import Attribute
+from tests.at_random import served_runs as serving
+from tests.images import version_1
+
+PRIMARY = RH_OWNER, RH_ENDORSEMENT, RH_PLATFORM, RH_NULL
+WITH_VALUES = RH_OWNER, RH_ENDORSEMENT, RH_PLATFORM
+AT_ONCE = 1024
+FIRST_TRANSIENT, NEW_COUNTER, LAST_INDEX = 0x8000_0000, 0x0111_1111, 0x01FF_FFFE
+
+# Where TPM2_ReadClock answers the milliseconds since the device has power, and Clock.
+TIME, CLOCK = slice(10, 18), slice(18, 26)
+
+# Where an image has the lower byte of its version.
+VERSION = 5
+
+
+# Commands, for a device as it is.
+
+
+def line(*words):
+    return lines.assemble(" ".join(words).encode("ascii"))
+
+
+def handles(first):
+    return line("GetCapability", str(HANDLES), hex(first << 24), "64")
+
+
+def by(device, handle):
+    """The entry that gives a handle's authorization value."""
+    return [frames.entry(hmac=device.auth_value(handle))]
+
+
+def primary(device, hierarchy):
+    creation = frames.creation(frames.sensitive_create(), frames.sized(storage_key().text))
+    return frames.on_handle(CC.CreatePrimary, hierarchy, creation, by(device, hierarchy))
+
+
+def flush(handle):
+    return frames.command(CC.FlushContext, frames.number(handle, 4))
+
+
+def use(device, handle):
+    """A command that needs the sensitive area of an object: a child of it, a MAC, or its data."""
+    public, entries = device.objects[handle].public, by(device, handle)
+    if public.kind == SYMCIPHER:
+        sensitive = frames.sensitive_create(b"auth", b"data")
+        creation = frames.creation(sensitive, frames.sized(sealed().text))
+        return frames.on_handle(CC.Create, handle, creation, entries)
+    if public.has(Attribute.SIGN):
+        algorithm = SHA256 if public.scheme == ALG_NULL else public.scheme
+        parameters = frames.sized(b"data") + frames.number(algorithm, 2)
+        return frames.on_handle(CC.HMAC, handle, parameters, entries)
+    return frames.on_handle(CC.Unseal, handle, entries=entries)
+
+
+def asker(device, index):
+    """Who reads an index and writes it."""
+    public = device.indices[index].public
+    if public.has(nv.Attribute.OWNERREAD):
+        return RH_OWNER
+    return RH_PLATFORM if public.has(nv.Attribute.PPREAD) else index
+
+
+def on_index(device, code, index, parameters=b""):
+    who = asker(device, index)
+    return frames.on_handles(code, [who, index], parameters, by(device, who))
+
+
+def looks(device):
+    """All that can be seen, a session that was lost, and a use of each secret."""
+    for first in (NV, frames.HMAC_SESSION, TRANSIENT, PERSISTENT):
+        yield handles(first)
+    yield line("PolicyGetDigest", "03000000")
+    yield line("GetCapability", str(PROPERTIES), "0x100", "64")
+    for bank in ("sha1", "sha256"):
+        for pcrs in ("0,1,2,3,4,5,6,7", "8,9,10,11,12,13,14,15", "16,17,18,19,20,21,22,23"):
+            yield line("PCR_Read", f"{bank}:{pcrs}")
+    for handle in sorted(it for it in device.objects if first_byte(it) == PERSISTENT):
+        yield line("ReadPublic", f"{handle:08x}")
+        yield use(device, handle)
+    for index, held in sorted(device.indices.items()):
+        yield line("NV_ReadPublic", f"{index:08x}")
+        size = held.public.data_size
+        for offset in range(0, max(size, 1), AT_ONCE):
+            reading = frames.nv_read(min(AT_ONCE, size - offset), offset)
+            yield on_index(device, CC.NV_Read, index, reading)
+    for hierarchy in PRIMARY:
+        yield primary(device, hierarchy)
+        yield flush(FIRST_TRANSIENT)
+
+
+def changes(device):
+    """What hangs on the largest value of a counter, and on authorization values; and wrong ones. An
+    index more is defined, even if the image has as many as its version can have.
+    """
+    for index, held in sorted(device.indices.items()):
+        if held.public.kind == nv.Type.COUNTER:
+            yield on_index(device, CC.NV_Increment, index)
+            yield on_index(device, CC.NV_Read, index, frames.nv_read(nv.NUMBER_BYTES, 0))
+    define = frames.nv_define_space(counter(NEW_COUNTER, BY_OWNER).text)
+    yield frames.on_handle(CC.NV_DefineSpace, RH_OWNER, define, by(device, RH_OWNER))
+    used, reading = [RH_OWNER, NEW_COUNTER], frames.nv_read(nv.NUMBER_BYTES, 0)
+    yield frames.on_handles(CC.NV_Increment, used, entries=by(device, RH_OWNER))
+    yield frames.on_handles(CC.NV_Read, used, reading, by(device, RH_OWNER))
+    yield line("PCR_Event", "00000005", "pw:-", "6576656e74")
+    for hierarchy in WITH_VALUES:
+        entries = by(device, hierarchy)
+        yield frames.on_handle(CC.HierarchyChangeAuth, hierarchy, frames.sized(b"new"), entries)
+    for handle in sorted(it for it in device.objects if first_byte(it) == PERSISTENT):
+        yield line("Unseal", f"{handle:08x}", "pw:77726f6e67")
+    yield frames.on_handle(CC.DictionaryAttackLockReset, RH_LOCKOUT, entries=by(device, RH_LOCKOUT))
+    yield line("DictionaryAttackLockReset", "LOCKOUT", "pw:77726f6e67")
+
+
+def starting(kind):
+    return line("Startup", str(kind))
+
+
+def resumed(device):
+    """A start by a saved state, or another where nothing is saved; and all of the above."""
+    yield starting(STATE)
+    yield starting(CLEAR)
+    yield from looks(device)
+    yield from changes(device)
+    yield line("Shutdown", str(STATE))
+
+
+def restarted(device):
+    """A start that may be a restart; then what is the owner's goes, where nothing forbids it."""
+    yield starting(CLEAR)
+    yield frames.on_handle(CC.Clear, RH_PLATFORM, entries=by(device, RH_PLATFORM))
+    yield from looks(device)
+
+
+# Comparing.
+
+
+def taken(text, commands):
+    """The commands, each for the device as it is behind those before."""
+    device = image.open_image(text)
+    for buffer in commands(device):
+        yield buffer
+        device.execute(buffer, 0, streams.random_of(buffer))
+
+
+def executed(device, buffers, clock):
+    """What comes of commands in as many milliseconds as passed for the program, which the answer to
+    the last one tells. They pass before that one, but for those that passed before TPM2_Clear: it
+    sets Clock back, which so tells less than Time.
+    """
+    time, clock = int.from_bytes(clock[TIME], "big"), int.from_bytes(clock[CLOCK], "big")
+    before_clear = max(time - clock, 0)
+    elapsed = [before_clear if is_clear(it) else 0 for it in buffers]
+    elapsed[-1] = time - sum(elapsed)
+    return [
+        device.execute(buffer, 0, streams.random_of(buffer), it)
+        for buffer, it in zip(buffers, elapsed)
+    ]
+
+
+def is_clear(buffer):
+    return buffer[6:10] == frames.number(CC.Clear, 4)
+
+
+def told(outcomes):
+    """What came of the commands of each name, in a line each."""
+    counts = {}
+    for outcome in outcomes:
+        refused = outcome.refused or "SUCCESS"
+        counts.setdefault(CC(outcome.row.code).name, collections.Counter())[refused] += 1
+    for name, came in counts.items():
+        yield f"{name}: " + ", ".join(f"{count} {it}" for it, count in sorted(came.items()))
+
+
+class Comparison:
+    def __init__(self, program, path):
+        self.folder = serving.Folder(program, path)
+        self.agree, self.differ = 0, 0
+
+    def check(self, holds, words):
+        """Says what was tried, or what differs."""
+        self.agree, self.differ = self.agree + holds, self.differ + (not holds)
+        print(f"    {words}" if holds else f"    DIFFERS: {words}", flush=True)
+
+    def run(self, text, buffers, connections=1):
+        """What the program answers in a run on an image, what it says, and what it saves."""
+        run = streams.Run(0, 0, text, True)
+        run.random = b"".join(map(streams.random_of, buffers))
+        run.connections = [streams.Connection(AT_ONCE) for _ in range(connections)]
+        for connection in run.connections:
+            connection.sent = b"".join(buffers)
+        answers, error, _ = self.folder.serve(run)
+        return answers, error, self.folder.image.read_bytes()
+
+    def kept(self, text, device):
+        """An image that is kept; the device in Python that its script gives has it, too."""
+        opened = image.open_image(text)
+        again, of_script = version_1.image_of(opened), version_1.image_of(device)
+        self.check(again == text, "the device in Python opens it, and has this image")
+        self.check(of_script == text, "the one behind its script has this image")
+        wanted = [[]], "", image.image(opened)
+        self.check(self.run(text, []) == wanted, "the program opens it, and saves it as version 2")
+        self.check(self.run(wanted[2], []) == wanted, "it opens that, and saves it as it is")
+
+    def opened(self, text, words, commands):
+        """Commands, and TPM2_ReadClock behind them, to the device that an image is of."""
+        buffers = [*taken(text, commands), line("ReadClock")]
+        (answers,), error, saved = self.run(text, buffers)
+        device = image.open_image(text)
+        outcomes = executed(device, buffers, answers[-1] if answers else b"")
+        wanted = [it.response for it in outcomes]
+        self.check((answers, error) == (wanted, ""), f"{words}, it answers the same")
+        for buffer, response, answer in zip(buffers, wanted, answers):
+            if response != answer:
+                shown = lines.line_of(buffer) or buffer.hex()
+                print(f"        {shown}: {response.hex()} is wanted, {answer.hex()} is given")
+        for it in told(outcomes):
+            print(f"        {it}")
+        self.check(saved == image.image(device), f"{words}, it saves the same")
+
+    def refused(self, fault, text, words):
+        """A text that is no image."""
+        _, error, left = self.run(text, [], connections=0)
+        holds = image.fault_of(text) == fault and error == f"tpmsim: image {fault}"
+        self.check(holds and left == text, f"{words}: {fault}")
+
+
+def changed(text, at, byte):
+    return text[:at] + bytes([byte]) + text[at + 1 :]
+
+
+def damaged(text):
+    last = len(text) - 1
+    yield "Short", text[:41], "its first 41 bytes"
+    yield "Magic", changed(text, 0, text[0] ^ 1), "with its first byte changed"
+    yield "Version", changed(text, VERSION, 3), "with version 3"
+    yield "Length", text[:-1], "without its last byte"
+    yield "Length", text + b"\0", "with a byte behind it"
+    yield "Digest", changed(text, last, text[last] ^ 1), "with its last byte changed"
+
+
+def beyond_limits(text):
+    """A full device has as much as an image of this version can have."""
+    device = image.open_image(text)
+    device.indices[LAST_INDEX] = nv_commands.Index(area(LAST_INDEX, BY_OWNER, size=0), b"", b"")
+    assert len(device.indices) == image.VERSION_1.indices + 1
+    yield "Body", version_1.image_of(device), "with an index more, of no bytes"
+
+    device = image.open_image(text)
+    index, held = next(it for it in device.indices.items() if it[1].public.data_size == 0)
+    public = area(index, held.public.attributes & ~nv.Attribute.WRITTEN, size=1)
+    device.indices[index] = nv_commands.Index(public, held.auth_value, b"")
+    taken = sum(it.public.data_size for it in device.indices.values())
+    assert taken == image.VERSION_1.all_bytes + 1
+    yield "Body", version_1.image_of(device), "with a byte of data more"
+
+
+def main(program):
+    with tempfile.TemporaryDirectory() as path:
+        comparison = Comparison(os.path.abspath(program), path)
+        for name in version_1.NAMES:
+            text = version_1.kept(name)
+            digest = hashlib.sha256(text).hexdigest()
+            print(f"{name}: {len(text):,} bytes, whose SHA-256 is {digest}")
+            comparison.kept(text, version_1.device_of(name))
+            comparison.opened(text, "resumed", resumed)
+            comparison.opened(text, "restarted", restarted)
+            for refused in damaged(text):
+                comparison.refused(*refused)
+        for refused in beyond_limits(version_1.kept("full")):
+            comparison.refused(*refused)
+    print(f"{comparison.agree:,} agree, {comparison.differ:,} differ")
+    sys.exit(comparison.differ > 0)
+
+
+if __name__ == "__main__":
+    main(*sys.argv[1:])

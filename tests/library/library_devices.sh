@@ -1,0 +1,25 @@
+# Many devices in one process, and devices in threads of little stack, beside sanitizers and
+# without. library/devices.c and library/threads.c are the callers.
+tests=$(cd "$(dirname "$0")/.." && pwd -P)
+. "$tests/common/cases.sh"
+. "$tests/common/library.sh"
+needs cc python3
+
+# A call takes at most 64 KB of stack, and the rest is the thread's own and its caller's.
+stack=$(((64 + 16) * 1024))
+large_stack=$((512 * 1024))
+
+compile devices devices "$archive"
+compile threads threads "$archive"
+# shellcheck disable=SC2086 # they are words
+{
+    compile sanitized_devices devices $sanitizers "$archive"
+    compile sanitized_threads threads $sanitizers "$archive"
+}
+python3 "$sources/scripts.py" --lines "$tests/../examples/disk_unlock.tpm" >lines || exit 1
+sed -n 's/^cmd //p' lines >commands
+
+"$room/devices" 1000 memory
+"$room/sanitized_devices" 1000
+"$room/threads" "$stack" <commands
+"$room/sanitized_threads" "$large_stack" <commands

@@ -1,0 +1,26 @@
+# Each misuse of the library that has a result, beside sanitizers and without: library/misuse.c has
+# them. An image with a right digest and a wrong body is made here.
+tests=$(cd "$(dirname "$0")/.." && pwd -P)
+. "$tests/common/cases.sh"
+. "$tests/common/library.sh"
+needs cc python3
+
+wrap='-Wl,--wrap=malloc -Wl,--wrap=realloc'
+# shellcheck disable=SC2086 # they are words
+{
+    compile misuse misuse $wrap "$archive"
+    compile sanitized misuse $sanitizers $wrap "$archive"
+}
+python3 -c '
+import sys
+from tpmsim.model import image, machine
+sys.stdout.buffer.write(image.image(machine.Model()))
+' >image
+python3 "$tests/common/damage.py" image body >wrong_body
+
+for caller in misuse sanitized; do
+    "$room/$caller" wrong_body >"$caller" 2>&1
+    echo "status $?" >>"$caller"
+done
+cat misuse
+cmp misuse sanitized && echo 'the same beside sanitizers'

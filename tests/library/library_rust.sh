@@ -1,0 +1,8 @@
+# A caller of the library in Rust: caller.rs.
+tests=$(cd "$(dirname "$0")/.." && pwd -P)
+. "$tests/common/cases.sh"
+. "$tests/common/library.sh"
+PATH=$PATH:${HOME:-/root}/.cargo/bin
+needs rustc
+
+rustc --edition 2021 -D warnings -L "$dist" -o "$room/caller" "$sources/caller.rs" && "$room/caller"

@@ -1,0 +1,14 @@
+# The scripts that end well, over the library: the archive, the archive beside sanitizers, and the
+# shared object. library/scripts.py says what is compared, and how much stack the calls may take.
+tests=$(cd "$(dirname "$0")/.." && pwd -P)
+. "$tests/common/cases.sh"
+. "$tests/common/library.sh"
+needs cc python3
+
+compile static play "$archive"
+# shellcheck disable=SC2086 # they are words
+compile sanitized play $sanitizers "$archive"
+compile shared play "$shared" -Wl,-rpath,"$dist"
+compile stack stack "$archive"
+
+python3 "$sources/scripts.py" "$room/stack" "$room/static" "$room/sanitized" "$room/shared"

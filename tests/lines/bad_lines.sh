@@ -1,0 +1,132 @@
+# Lines that are none of a script's lines. Each stands as the third of four, between two commands,
+# of which the first is answered and the second is not. Lines are written and shown as printf takes
+# them: \t is a tab, \r a carriage return, and \ooo a byte in octal.
+. "$(dirname "$0")/../common/cases.sh"
+
+# third LINE [LABEL]: a script of which this is the third line.
+third() {
+    # shellcheck disable=SC2059 # a line has escapes of printf
+    printf "$startup\n# the second\n$1\n$startup\n" >script
+    run "${2:-\"$1\"}" run script
+}
+
+# zeros BYTES: so many bytes 00 in hex.
+zeros() {
+    printf '%0*d' "$((2 * $1))" 0
+}
+
+# Digits that are no hex, an odd number of them, and more than one space.
+third 'cmd 0'
+third 'cmd 0g'
+third 'cmd 800'
+third 'cmd  00'
+third 'cmd 00 '
+third 'cmd 00 00'
+third 'cmd 0x00'
+third 'cmd 00\r'
+third 'cmd\r'
+third 'cmd 00\000'
+third 'cmd\t00'
+
+# Another word than cmd.
+third ' cmd 00'
+third 'CMD 00'
+third 'cmd00'
+third 'command 00'
+
+# A locality that is none of 0 to 4, or no decimal number.
+third 'loc'
+third 'loc '
+third 'loc 5'
+third 'loc -1'
+third 'loc +1'
+third 'loc 0x1'
+third 'loc 1 '
+third 'loc  1'
+third 'loc 1\r'
+third 'loc 256'
+third 'loc 4294967296'
+third 'loc 18446744073709551616'
+
+# Milliseconds over 4,294,967,295, or no decimal number.
+third 'wait'
+third 'wait '
+third 'wait 4294967296'
+third 'wait 99999999999999999999'
+third 'wait 18446744073709551616'
+third 'wait +1'
+third 'wait -1'
+third 'wait 1\r'
+third 'wait 1 '
+third 'wait  1'
+third 'wait 1.5'
+third 'wait 1s'
+
+# No random bytes, more than 256 of them, or no hex.
+third 'entropy'
+third 'entropy '
+third 'entropy 0'
+third 'entropy 0x00'
+third 'entropy 00 '
+third 'entropy 0g'
+third "entropy $(zeros 257)" 'entropy and 257 bytes'
+third "entropy $(zeros 512)" 'entropy and 512 bytes'
+
+# More than the word, or another.
+third 'power '
+third 'power 1'
+third 'Power'
+third 'power\r'
+third 'poweroff'
+third 'trace'
+
+# What is no command in words; assemble.sh has more of them.
+third 'do'
+third 'do '
+third 'do GetRandom'
+third 'do GetRandom 65536'
+third 'do GetRandom 4 '
+third 'do GetRandom 4\r'
+third 'do GetRandom 4\000'
+third 'do GetRandom \377'
+third 'do  GetRandom 4'
+third 'do\tGetRandom 4'
+third 'do random 4'
+third 'do 80010000000c0000017b0004'
+third 'DO GetRandom 4'
+third 'GetRandom 4'
+third "do PCR_Event NULL pw:- $(zeros 4096)" 'do PCR_Event with 4096 bytes'
+
+# A blank line that is not empty, and a comment that does not begin with its sign.
+third ' '
+third '\t'
+third '\r'
+third ' # late'
+third '; late'
+
+# Bytes that are no ASCII.
+third '\303\251'
+third '\377'
+third '\000'
+
+# Lines right beside these, which are a script's.
+third 'cmd '
+third 'cmd 00'
+third 'do GetRandom 4'
+third 'loc 4'
+third 'wait 4294967295'
+third "entropy $(zeros 256)" 'entropy and 256 bytes'
+third 'power'
+third ''
+third '#\377'
+
+# The first line, and the last, which no line break ends.
+printf '\377\n' >script
+run 'the first line' run script
+printf '%s\n\n\n\ncmd 8' "$startup" >script
+run 'the last line, the fifth' run script
+
+# Of two bad lines the first, and the same from standard input.
+printf '%s\nbad\nworse\n' "$startup" >script
+run 'two of them' run script
+run 'two of them on standard input' run - <script

@@ -1,0 +1,117 @@
+"""Writes nv_large.tpm: indices that are larger than a buffer."""
+
+import hashlib
+
+from tpmsim.caller import BY_OWNER, area
+from tpmsim.standard import RH_OWNER, number
+from tpmsim.standard.nv import Attribute
+from tpmsim.caller.script_caller import FIRST, SECOND, ScriptCaller, THIRD
+from tpmsim.caller.script import Script
+
+script = Script(
+    "tests/nv/nv_large.tpm",
+    "1,024 bytes are written and read at once; an index of 2,048 takes two commands.",
+)
+tpm = ScriptCaller(script)
+
+
+def some(size, seed=b""):
+    """So many bytes, no two pieces of which are the same."""
+    digests = (hashlib.sha256(seed + number(it, 4)).digest() for it in range(size // 32 + 1))
+    return b"".join(digests)[:size]
+
+
+def write(what, index, data, offset=0):
+    tpm.does(what, tpm.writing(index, data, offset=offset, by=RH_OWNER))
+
+
+def read(what, index, data, offset=0):
+    tpm.read(what, index, data, offset=offset, by=RH_OWNER)
+
+
+script.startup()
+script.chapter("An index of 1,024 bytes.")
+tpm.define("TPM2_NV_DefineSpace", area(FIRST, BY_OWNER, size=1024))
+data = some(1024)
+write("TPM2_NV_Write of all", FIRST, data)
+read("TPM2_NV_Read of all", FIRST, data)
+read("Of the second half", FIRST, data[512:], 512)
+
+script.chapter("An index of 2,048 bytes.")
+tpm.define("TPM2_NV_DefineSpace", area(SECOND, BY_OWNER, size=2048))
+whole = some(2048, b"large")
+write("TPM2_NV_Write of the second half", SECOND, whole[1024:], 1024)
+read("TPM2_NV_Read of the first, which is FF", SECOND, b"\xff" * 1024)
+write("TPM2_NV_Write of the first half", SECOND, whole[:1024])
+read("TPM2_NV_Read of the first half", SECOND, whole[:1024])
+read("Of the second half", SECOND, whole[1024:], 1024)
+read("Across the middle", SECOND, whole[512:1536], 512)
+read("The last byte", SECOND, whole[2047:], 2047)
+write("TPM2_NV_Write across the middle", SECOND, data, 512)
+whole = whole[:512] + data + whole[1536:]
+read("TPM2_NV_Read of the first half", SECOND, whole[:1024])
+read("Of the second half", SECOND, whole[1024:], 1024)
+
+script.chapter("More than 1,024 bytes at once.")
+tpm.fails(
+    "TPM2_NV_Write of 1,025 bytes: SIZE/p1",
+    tpm.writing(SECOND, bytes(1025), by=RH_OWNER),
+    tpm.writing(FIRST, bytes(1025), by=RH_OWNER),
+)
+tpm.fails(
+    "TPM2_NV_Read of 1,025, of 2,048 and of FFFF bytes, also past the end: VALUE/p1",
+    *(tpm.reading(SECOND, it, by=RH_OWNER) for it in (1025, 2048, 0xFFFF)),
+    tpm.reading(SECOND, 1025, offset=2000, by=RH_OWNER),
+    tpm.reading(FIRST, 1025, by=RH_OWNER),
+)
+tpm.fails(
+    "TPM2_NV_Read of 1,024 bytes past the end: NV_RANGE",
+    tpm.reading(SECOND, 1024, offset=1025, by=RH_OWNER),
+    tpm.reading(FIRST, 1024, offset=1, by=RH_OWNER),
+)
+tpm.fails(
+    "TPM2_NV_Write of 1,024 bytes past the end: NV_RANGE",
+    tpm.writing(SECOND, bytes(1024), offset=1025, by=RH_OWNER),
+    tpm.writing(FIRST, bytes(1024), offset=1, by=RH_OWNER),
+)
+read("The first is as it was", FIRST, data)
+
+script.chapter("WRITEALL: all bytes at once.")
+public = area(THIRD, BY_OWNER | Attribute.WRITEALL, size=1024)
+tpm.define("TPM2_NV_DefineSpace of 1,024 bytes", public)
+tpm.fails(
+    "TPM2_NV_Write of fewer bytes, and at another offset: NV_RANGE",
+    *(tpm.writing(THIRD, bytes(size), by=RH_OWNER) for size in (0, 1, 1023)),
+    tpm.writing(THIRD, bytes(1023), offset=1, by=RH_OWNER),
+    tpm.writing(THIRD, bytes(1024), offset=1, by=RH_OWNER),
+    tpm.writing(THIRD, b"", offset=1024, by=RH_OWNER),
+)
+tpm.fails("It is not written: NV_UNINITIALIZED", tpm.reading(THIRD, 8, by=RH_OWNER))
+write("TPM2_NV_Write of all", THIRD, data)
+read("A piece of it can be read", THIRD, data[100:200], 100)
+tpm.fails("TPM2_NV_Write of fewer bytes: NV_RANGE", tpm.writing(THIRD, b"x", by=RH_OWNER))
+write("TPM2_NV_Write of all again", THIRD, data[::-1])
+read("TPM2_NV_Read", THIRD, data[::-1])
+tpm.does("It is undefined", tpm.undefining(THIRD))
+tpm.define(
+    "One of 1,025 bytes, which cannot be written at all",
+    area(THIRD, BY_OWNER | Attribute.WRITEALL, size=1025),
+)
+tpm.fails("TPM2_NV_Write of 1,024 bytes: NV_RANGE", tpm.writing(THIRD, bytes(1024), by=RH_OWNER))
+tpm.does("It is undefined", tpm.undefining(THIRD))
+tpm.define("One of no bytes", area(THIRD, BY_OWNER | Attribute.WRITEALL, size=0))
+tpm.fails("TPM2_NV_Read: NV_UNINITIALIZED", tpm.reading(THIRD, 0, by=RH_OWNER))
+tpm.fails("TPM2_NV_Write of a byte: NV_RANGE", tpm.writing(THIRD, b"x", by=RH_OWNER))
+write("TPM2_NV_Write of no bytes, which are all", THIRD, b"")
+tpm.is_now("It is written", THIRD)
+read("TPM2_NV_Read of no bytes", THIRD, b"")
+tpm.fails("Of one: NV_RANGE", tpm.reading(THIRD, 1, by=RH_OWNER))
+
+script.chapter("After the next start.")
+script.power()
+script.startup()
+read("The first", FIRST, data)
+read("The second", SECOND, whole[:1024])
+read("Its second half", SECOND, whole[1024:], 1024)
+read("The third", THIRD, b"")
+script.write()

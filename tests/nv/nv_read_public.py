@@ -1,0 +1,89 @@
+"""Writes nv_read_public.tpm: public areas of indices, and the Names that change with them."""
+
+from tpmsim.caller import BY_OWNER, BY_VALUE, Use, area, counter, extended
+from tpmsim.standard import CONTINUE_SESSION, ENCRYPT, RH_NULL, RH_OWNER, digest, digest_bytes
+from tpmsim.standard import frames, number, sized
+from tpmsim.standard.nv import Attribute
+from tpmsim.caller.script_caller import FIRST, HASHES, SECOND, ScriptCaller
+from tpmsim.caller.script import Script
+
+script = Script(
+    "tests/nv/nv_read_public.tpm",
+    "TPM2_NV_ReadPublic needs no authorization. It answers the public area with the attributes of "
+    "now, and the Name, which is nameAlg and the digest of the public area.",
+)
+tpm = ScriptCaller(script)
+LOCKS = Attribute.WRITE_STCLEAR | Attribute.READ_STCLEAR
+
+script.startup()
+script.chapter("Each fact of a public area, in both hash algorithms.")
+for algorithm, name in HASHES:
+    size = digest_bytes(algorithm)
+    for what, public in (
+        (
+            f"An index of {name} with a policy",
+            area(FIRST, algorithm=algorithm, auth_policy=b"p" * size),
+        ),
+        ("One of no bytes", area(0x01FF_FFFF, algorithm=algorithm, size=0)),
+        ("A counter", counter(FIRST, algorithm=algorithm)),
+        ("One that is extended", extended(FIRST, algorithm=algorithm)),
+    ):
+        tpm.define(what, public)
+        answer = tpm.does("TPM2_NV_ReadPublic", tpm.index_public(public.index))
+        text = number(public.index, 4) + number(algorithm, 2) + number(public.attributes, 4)
+        text += sized(public.auth_policy) + number(public.data_size, 2)
+        assert answer == sized(text) + sized(number(algorithm, 2) + digest(algorithm, text))
+        tpm.does("It is undefined", tpm.undefining(public.index))
+
+script.chapter("Attributes that come and go, and the Name with them.")
+tpm.define("An index with WRITE_STCLEAR and READ_STCLEAR", area(FIRST, BY_OWNER | LOCKS))
+names = set()
+for what, prepared in (
+    ("TPM2_NV_Write", tpm.writing(FIRST, b"x", by=RH_OWNER)),
+    ("TPM2_NV_Write again", tpm.writing(FIRST, b"y", by=RH_OWNER)),
+    ("TPM2_NV_ReadLock", tpm.read_locking(FIRST, by=RH_OWNER)),
+    ("TPM2_NV_WriteLock", tpm.write_locking(FIRST, by=RH_OWNER)),
+):
+    tpm.does(what, prepared)
+    tpm.is_now("TPM2_NV_ReadPublic", FIRST)
+    names.add(tpm.names[FIRST])
+assert len(names) == 3
+script.power()
+script.startup()
+tpm.is_now("After the next start", FIRST, cleared=Attribute.WRITELOCKED | Attribute.READLOCKED)
+assert tpm.names[FIRST] in names
+
+script.chapter("With sessions, which authorize nothing.")
+tpm.define("Another index", area(SECOND, BY_VALUE), auth=b"a")
+plain = tpm.start("A session that is bound to nothing", bind=RH_NULL)
+encrypting = tpm.start("One that is bound to the other index, with AES", bind=SECOND, aes=True)
+tpm.is_now("With both", SECOND, plain, encrypting)
+tpm.is_now("The public area encrypted", SECOND, Use(encrypting, CONTINUE_SESSION | ENCRYPT), plain)
+tpm.fails("With a password: HANDLE/s1", tpm.index_public(SECOND, b"a"))
+tpm.fails(
+    "With decrypt, where no parameter is: ATTRIBUTES/s1",
+    tpm.index_public(SECOND, plain).but_entry(1, attributes=CONTINUE_SESSION | frames.DECRYPT),
+)
+tpm.fails(
+    "A wrong hmac, which is no try of the index's value, but the session's key was made of that: "
+    "AUTH_FAIL/s1",
+    tpm.index_public(SECOND, encrypting).but_entry(1, hmac=bytes(32)),
+)
+tpm.fails(
+    "And of the session without a key: BAD_AUTH/s1",
+    tpm.index_public(SECOND, plain).but_entry(1, hmac=bytes(32)),
+)
+tpm.is_now("And it ends with the command", SECOND, Use(plain, 0))
+
+script.chapter("Handles.")
+right = tpm.index_public(SECOND)
+tpm.fails(
+    "What is no index: the owner, PCR 0, an object, a persistent one and a session: VALUE/h1",
+    *(right.but(handles=[it]) for it in (RH_OWNER, 0, 0x8000_0000, 0x8100_0000, encrypting.handle)),
+)
+tpm.fails(
+    "Indices that are not defined: HANDLE/h1",
+    *(right.but(handles=[it]) for it in (0x0100_0000, 0x0100_0003, 0x01FF_FFFF)),
+)
+tpm.fails("A byte behind the handle: SIZE", right.but(parameters=b"\0"))
+script.write()

@@ -1,0 +1,203 @@
+"""Writes create.tpm: TPM2_Create, which wraps a new object for its parent."""
+
+from tpmsim.caller import HERE, OPEN, STORES, Use, hmac_key, sealed, storage_key
+from tpmsim.model import object_rules
+from tpmsim.standard import ALG_NULL, CC, CONTINUE_SESSION, DECRYPT, ENCRYPT, Fields
+from tpmsim.standard import RH_ENDORSEMENT, RH_NULL, RH_OWNER, RH_PLATFORM, SHA1, SHA256, SYMCIPHER
+from tpmsim.standard import aes, digest, frames, mac, number
+from tpmsim.standard.objects import Attribute, Public
+from tpmsim.caller.script_caller import ScriptCaller
+from tpmsim.caller.script import Script
+
+ORIGIN = Attribute.SENSITIVE_DATA_ORIGIN
+
+script = Script(
+    "tests/objects/create.tpm",
+    "TPM2_Create makes an object and gives it out in a private area, which its parent alone can "
+    "load. Nothing of it stays in the device.",
+)
+tpm = ScriptCaller(script)
+refused = tpm.says
+
+
+def under(handle, *uses):
+    return tpm.child(handle, sealed(), *uses, data=b"x")
+
+
+script.startup()
+script.chapter("parentHandle.")
+refused(
+    "No object's handle: TPM_RH_OWNER, TPM_RH_NULL, PCR 0, an NV index, sessions: VALUE/h1",
+    *map(under, (RH_OWNER, RH_NULL, 0, 0x0100_0000, 0x0200_0000, 0x0300_0000, 0x7F00_0000)),
+)
+refused(
+    "A transient object, while there is none: REFERENCE_H0",
+    *map(under, (0x8000_0000, 0x8000_0007, 0x8000_0008, 0x80FF_FFFF)),
+)
+refused(
+    "A persistent object, while there is none: HANDLE/h1",
+    *map(under, (0x8100_0000, 0x8180_0000, 0x81FF_FFFF)),
+)
+parent = tpm.create_primary(
+    'A storage key, whose value is "parent"', RH_OWNER, storage_key(), user_auth=b"parent"
+)
+refused(
+    "Another number is still not there: REFERENCE_H0",
+    *(under(it, b"parent") for it in (0x8000_0001, 0x8000_0007, 0x8001_0000)),
+)
+script.command(
+    "It has to be authorized: no sessions (tag 8001): AUTH_MISSING",
+    frames.command(CC.Create, number(parent, 4)),
+)
+refused("By another password: BAD_AUTH/s1", under(parent, b"Parent"))
+guarded = tpm.create_primary(
+    "A storage key without noDA",
+    RH_OWNER,
+    storage_key(attributes=HERE | STORES | Attribute.USER_WITH_AUTH),
+)
+refused("By another password: AUTH_FAIL/s1", under(guarded, b"Parent"))
+tpm.create("By the right one, the empty one", guarded, sealed(), data=b"x")
+tpm.flush_objects("It is flushed", guarded)
+
+script.chapter("Not every object is a parent: that has to be a restricted key to decrypt.")
+for what, public, data in (
+    ("Sealed data", sealed(), b"x"),
+    ("An HMAC key", hmac_key(), b"key"),
+    ("A restricted HMAC key", hmac_key(attributes=HERE | OPEN | Attribute.RESTRICTED), b"key"),
+    (
+        "An AES key to decrypt, which is not restricted",
+        Public(SYMCIPHER, SHA256, HERE | OPEN | Attribute.DECRYPT),
+        bytes(16),
+    ),
+    (
+        "One to encrypt and decrypt",
+        Public(SYMCIPHER, SHA256, HERE | OPEN | Attribute.DECRYPT | Attribute.SIGN),
+        bytes(16),
+    ),
+):
+    handle = tpm.create_primary(what, RH_OWNER, public, data=data)
+    refused("As a parent: TYPE/h1", under(handle))
+    tpm.flush_objects("It is flushed", handle)
+
+script.chapter("What is created is new, as its seed is drawn: the same template twice.")
+first = tpm.create("Sealed data", parent, sealed(), data=b"secret")
+second = tpm.create("Once more", parent, sealed(), data=b"secret")
+assert first.public.unique != second.public.unique
+again = tpm.child(parent, sealed(), data=b"secret")
+tpm.says("With the same random bytes it is the same: SUCCESS", again, again)
+
+script.chapter(
+    "The random bytes are drawn from the front: a key, where none is given, then the seed, and "
+    "then the first block of the cipher, which stands in the private area. Here they are 00 to ff."
+)
+script.entropy(bytes(range(256)))
+RANDOM = bytes(range(256))
+for what, public, data, key_bytes in (
+    ("Sealed data: a seed of 32 bytes, and the first block", sealed(), b"data", 0),
+    ("nameAlg SHA-1: a seed of 20 bytes", sealed(SHA1), b"data", 0),
+    ("An HMAC key of SHA-256", hmac_key(attributes=HERE | OPEN | ORIGIN), b"", 32),
+    ("Of SHA-1", hmac_key(attributes=HERE | OPEN | ORIGIN, scheme=SHA1), b"", 20),
+    ("Of scheme NULL", hmac_key(attributes=HERE | OPEN | ORIGIN, scheme=ALG_NULL), b"", 32),
+    ("Of scheme NULL, and nameAlg SHA-1", hmac_key(SHA1, HERE | OPEN | ORIGIN, ALG_NULL), b"", 20),
+    ("Of SHA-256, and nameAlg SHA-1", hmac_key(SHA1, HERE | OPEN | ORIGIN), b"", 32),
+    ("A storage key", storage_key(), b"", 16),
+    ("A storage key, and nameAlg SHA-1", storage_key(SHA1), b"", 16),
+):
+    answer = tpm.says(f"{what}: SUCCESS", tpm.child(parent, public, data=data))
+    fields = Fields(answer[14:])
+    private, made = Fields(fields.sized()), object_rules.Parameters(fields.data)
+    made = made.structure(object_rules.read_public)
+    seed_end = key_bytes + (20 if public.name_algorithm == SHA1 else 32)
+    key, seed = RANDOM[:key_bytes] or data, RANDOM[key_bytes:seed_end]
+    assert made.unique == digest(public.name_algorithm, seed + key)
+    assert (len(private.sized()), private.sized()) == (32, RANDOM[seed_end : seed_end + aes.BLOCK])
+
+script.chapter("The nonces of sessions are drawn behind them.")
+session = tpm.start("A session", aes=True)
+other = tpm.start("And another")
+tpm.create("TPM2_Create with both", parent, storage_key(), session, other)
+long = [
+    tpm.start(f"With a nonce of 32 bytes, the {what}", size=32, aes=True)
+    for what in ("first", "second", "third")
+]
+script.chapter(
+    "A key of 32 bytes, a seed of 32, the first block, and three nonces of 32: 176 random bytes "
+    "are the most that are drawn. What is answered is the longest of a creation, too."
+)
+script.entropy(RANDOM)
+prepared = tpm.child(
+    parent,
+    hmac_key(attributes=HERE | OPEN | ORIGIN, auth_policy=bytes(32), unique=bytes(32)),
+    long[0],
+    Use(long[1], DECRYPT | CONTINUE_SESSION),
+    Use(long[2], ENCRYPT),
+    user_auth=b"a" * 32,
+    outside_info=b"o" * 34,
+    pcrs=16 * [(SHA256, range(24))],
+)
+response = tpm.script.command(
+    "TPM2_Create with three sessions, of which the last ends: SUCCESS", prepared.buffer()
+)
+tpm.received(prepared, response)
+assert [it.nonce_tpm for it in long] == [RANDOM[at : at + 32] for at in (80, 112, 144)]
+
+script.chapter("The creation data, their hash and the ticket.")
+proofs = {RH_OWNER: 0x80, RH_ENDORSEMENT: 0xA0, RH_PLATFORM: 0xC0}
+for hierarchy, name in (
+    (RH_OWNER, "TPM_RH_OWNER"),
+    (RH_ENDORSEMENT, "TPM_RH_ENDORSEMENT"),
+    (RH_PLATFORM, "TPM_RH_PLATFORM"),
+    (RH_NULL, "TPM_RH_NULL"),
+):
+    handle = tpm.create_primary(f"A parent in {name}", hierarchy, storage_key())
+    made = tpm.create("TPM2_Create", handle, sealed(), data=b"secret", outside_info=b"label")
+    ticket_hierarchy, ticket = tpm.ticket
+    assert ticket_hierarchy == hierarchy
+    if hierarchy in proofs:
+        # The device is manufactured with the bytes 00 to ff: the proofs are the second half.
+        proof = bytes(range(proofs[hierarchy], proofs[hierarchy] + 32))
+        text = number(frames.ST_CREATION, 2) + made.public.name
+        assert ticket == mac(SHA256, proof, text + digest(SHA256, tpm.creation_data))
+    fields = Fields(tpm.creation_data)
+    assert fields.take(4) == bytes(4) and fields.sized() == digest(SHA256, b"")
+    assert fields.take(3) == b"\x01" + number(SHA256, 2)
+    assert fields.sized() == tpm.names[handle]
+    qualified = digest(SHA256, number(hierarchy, 4) + tpm.names[handle])
+    assert fields.sized() == number(SHA256, 2) + qualified and fields.sized() == b"label"
+    tpm.flush_objects("It is flushed", handle)
+for what, pcrs in (
+    ("PCR 0 and 17 of the SHA-256 bank", [(SHA256, [0, 17])]),
+    ("PCR 17 of the SHA-1 bank, and PCR 0 of the SHA-256 bank", [(SHA1, [17]), (SHA256, [0])]),
+    ("All of both", [(SHA1, range(24)), (SHA256, range(24))]),
+):
+    for algorithm in (SHA1, SHA256):
+        tpm.create(
+            f"{what}, hashed by {'SHA-1' if algorithm == SHA1 else 'SHA-256'}, which is nameAlg",
+            parent,
+            sealed(algorithm),
+            data=b"secret",
+            pcrs=pcrs,
+        )
+script.locality_is(3)
+tpm.create("From locality 3, which is bit 3", parent, sealed(), data=b"secret")
+assert tpm.creation_data[4 + 34] == 1 << 3
+script.locality_is(0)
+
+script.chapter("Sizes.")
+tpm.create(
+    "The longest of all: 128 bytes of data, 32 bytes of userAuth and of authPolicy",
+    parent,
+    sealed(auth_policy=bytes(32)),
+    user_auth=b"a" * 32,
+    data=b"d" * 128,
+    outside_info=b"o" * 34,
+)
+refused("129 bytes of data: SIZE/p1", tpm.child(parent, sealed(), data=bytes(129)))
+refused(
+    "35 bytes of outsideInfo: SIZE/p3",
+    tpm.child(parent, sealed(), data=b"x", outside_info=bytes(35)),
+)
+refused("17 banks: SIZE/p4", tpm.child(parent, sealed(), data=b"x", pcrs=17 * [(SHA1, [])]))
+whole = under(parent)
+refused("A byte behind creationPCR: SIZE", whole.but(parameters=whole.parameters + b"\0"))
+script.write()

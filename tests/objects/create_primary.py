@@ -1,0 +1,212 @@
+"""Writes create_primary.tpm: TPM2_CreatePrimary, and what it answers."""
+
+from tpmsim.caller import HERE, OPEN, hmac_key, sealed, storage_key
+from tpmsim.standard import ALG_NULL, CC, RH_ENDORSEMENT, RH_LOCKOUT, RH_NULL, RH_OWNER
+from tpmsim.standard import RH_PLATFORM, SHA1, SHA256, SYMCIPHER, digest, frames, mac, number
+from tpmsim.standard import on_handle, sized
+from tpmsim.standard.objects import Attribute, Public
+from tpmsim.caller.script_caller import ScriptCaller
+from tpmsim.caller.script import Script
+
+HIERARCHIES = (
+    (RH_OWNER, "TPM_RH_OWNER"),
+    (RH_ENDORSEMENT, "TPM_RH_ENDORSEMENT"),
+    (RH_PLATFORM, "TPM_RH_PLATFORM"),
+    (RH_NULL, "TPM_RH_NULL"),
+)
+ALGORITHMS = ((SHA1, "SHA-1"), (SHA256, "SHA-256"))
+QUESTION = b"what do ya want for nothing?"
+
+script = Script(
+    "tests/objects/create_primary.tpm",
+    "TPM2_CreatePrimary makes an object out of its template and its hierarchy's seed.",
+)
+tpm = ScriptCaller(script)
+
+
+def creates(what, hierarchy, public, **more):
+    return tpm.create_primary(what, hierarchy, public, **more)
+
+
+def refused(words, hierarchy, public, *uses, **more):
+    tpm.says(words, tpm.primary(hierarchy, public, *uses, **more))
+
+
+script.startup()
+script.chapter(
+    "An HMAC key that is given, byte by byte. inSensitive: userAuth is empty, and the key is "
+    '"Jefe". inPublic: type KEYEDHASH (0008), nameAlg SHA-256 (000B), attributes userWithAuth, '
+    "noDA and sign (00040440), no authPolicy, scheme HMAC (0005) with SHA-256, and unique is "
+    "empty. No outsideInfo, and no PCRs."
+)
+jefe = "0008 0000 0004 4A656665 0010 0008 000B 00040440 0000 0005 000B 0000 0000 00000000"
+script.command(
+    "TPM2_CreatePrimary in TPM_RH_OWNER: the object is 80000000: SUCCESS",
+    on_handle(CC.CreatePrimary, RH_OWNER, bytes.fromhex(jefe)),
+)
+FIRST = 0x8000_0000
+answer = script.command(
+    'TPM2_HMAC of "what do ya want for nothing?" with SHA-256, which is test case 2 of RFC 4231: '
+    "SUCCESS",
+    on_handle(CC.HMAC, FIRST, sized(QUESTION) + number(SHA256, 2)),
+)
+assert mac(SHA256, b"Jefe", QUESTION) in answer
+script.command(
+    "With SHA-1, which is not its scheme's: VALUE/p2",
+    on_handle(CC.HMAC, FIRST, sized(QUESTION) + number(SHA1, 2)),
+)
+script.command("TPM2_Unseal: it is a key: ATTRIBUTES/h1", on_handle(CC.Unseal, FIRST))
+tpm.says("It is flushed: SUCCESS", tpm.flush(FIRST))
+
+script.chapter("primaryHandle.")
+tpm.says(
+    "No hierarchy that has objects: TPM_RH_LOCKOUT, TPM_RS_PW, PCR 0, an NV index, sessions, "
+    "objects: VALUE/h1",
+    *(
+        tpm.primary(it, storage_key())
+        for it in (
+            *(RH_LOCKOUT, frames.RS_PW, 0, 0x0100_0000, 0x0200_0000, 0x0300_0000),
+            *(0x8000_0000, 0x8100_0000, 0x4000_0000, 0xFFFF_FFFF),
+        )
+    ),
+)
+script.command(
+    "It has to be authorized: no sessions (tag 8001): AUTH_MISSING",
+    frames.command(CC.CreatePrimary, number(RH_OWNER, 4)),
+)
+tpm.accepted('The value of TPM_RH_OWNER is "owner"', tpm.change_auth(RH_OWNER, b"owner", b""))
+refused("By the empty password: BAD_AUTH/s1", RH_OWNER, storage_key(), b"")
+session = tpm.start("An HMAC session")
+by_session = tpm.create_primary(
+    "By that session", RH_OWNER, storage_key(), session, user_auth=b"abc"
+)
+tpm.flush_objects("The object is flushed", by_session)
+
+script.chapter("The same template and the same hierarchy give the same object, whatever is drawn.")
+names = set()
+for algorithm, hash_name in ALGORITHMS:
+    for hierarchy, hierarchy_name in HIERARCHIES:
+        first = creates(
+            f"A storage key in {hierarchy_name} with nameAlg {hash_name}",
+            hierarchy,
+            storage_key(algorithm),
+        )
+        second = creates("Once more", hierarchy, storage_key(algorithm))
+        assert tpm.names[first] == tpm.names[second]
+        names.add(tpm.names[first])
+        public, qualified = tpm.read_public("TPM2_ReadPublic", second)
+        assert qualified[2:] == digest(algorithm, number(hierarchy, 4) + public.name)
+        tpm.flush_objects("Both are flushed", first, second)
+assert len(names) == 2 * len(HIERARCHIES)
+
+script.chapter("Whatever is another in inSensitive or inPublic gives another object.")
+names = set()
+for what, public, more in (
+    ("userAuth is empty", storage_key(), {}),
+    ('"a"', storage_key(), {"user_auth": b"a"}),
+    (
+        '"a" and a zero, which is the same authorization value, and another object',
+        storage_key(),
+        {"user_auth": b"a\0"},
+    ),
+    ("unique is one zero", storage_key(unique=b"\0"), {}),
+    ("32 bytes 11", storage_key(unique=b"\x11" * 32), {}),
+    ("An authPolicy", storage_key(auth_policy=bytes(32)), {}),
+    ("stClear", storage_key(attributes=storage_key().attributes | Attribute.ST_CLEAR), {}),
+    (
+        "adminWithPolicy",
+        storage_key(attributes=storage_key().attributes | Attribute.ADMIN_WITH_POLICY),
+        {},
+    ),
+    (
+        "Neither fixedTPM nor fixedParent",
+        storage_key(attributes=storage_key().attributes & ~HERE),
+        {},
+    ),
+):
+    handle = creates(what, RH_OWNER, public, **more)
+    public, _ = tpm.read_public("TPM2_ReadPublic", handle)
+    names.add(public.unique)
+    tpm.flush_objects("It is flushed", handle)
+assert len(names) == 9
+
+script.chapter("outsideInfo, PCRs and the locality are no part of the object, but of its creation.")
+same = []
+for what, more in (
+    ("With nothing", {}),
+    ('outsideInfo is "serial 1"', {"outside_info": b"serial 1"}),
+    ("34 bytes of it, the most that there may be", {"outside_info": bytes(range(34))}),
+    ("PCR 0 to 23 of both banks", {"pcrs": [(SHA1, range(24)), (SHA256, range(24))]}),
+    ("PCR 17 of the SHA-1 bank, twice", {"pcrs": [(SHA1, [17]), (SHA1, [17])]}),
+    ("Banks of which no PCR is selected", {"pcrs": [(SHA1, []), (SHA256, [])]}),
+):
+    handle = creates(what, RH_OWNER, storage_key(), **more)
+    same.append((tpm.names[handle], tpm.creation_data))
+    tpm.flush_objects("It is flushed", handle)
+for locality in (4, 1, 0):
+    script.locality_is(locality)
+    handle = creates(f"From locality {locality}", RH_OWNER, storage_key())
+    same.append((tpm.names[handle], tpm.creation_data))
+    tpm.flush_objects("It is flushed", handle)
+assert len({name for name, _ in same}) == 1 and len({data for _, data in same}) == 8
+refused("35 bytes of outsideInfo: SIZE/p3", RH_OWNER, storage_key(), outside_info=bytes(35))
+refused(
+    "16 banks, the most that there may be, and one more: SIZE/p4",
+    RH_OWNER,
+    storage_key(),
+    pcrs=17 * [(SHA1, [])],
+)
+creates("16 of them", RH_OWNER, storage_key(), pcrs=16 * [(SHA256, [23])])
+tpm.flush_objects("It is flushed", FIRST)
+whole = tpm.primary(RH_OWNER, storage_key())
+tpm.says("A byte behind creationPCR: SIZE", whole.but(parameters=whole.parameters + b"\0"))
+
+script.chapter("Objects of each type, with data that are given and that are generated.")
+GENERATED = Attribute.SENSITIVE_DATA_ORIGIN
+for algorithm, hash_name in ALGORITHMS:
+    script.chapter(f"Their nameAlg is {hash_name}.")
+    handle = creates("Sealed data of one byte", RH_OWNER, sealed(algorithm), data=b"x")
+    tpm.unseal("TPM2_Unseal", handle, b"x")
+    handle = creates(
+        "Sealed data of 128 bytes, the most that there may be, by a value of d bytes",
+        RH_NULL,
+        sealed(algorithm),
+        user_auth=digest(algorithm, b"long"),
+        data=bytes(range(128)),
+    )
+    tpm.unseal("TPM2_Unseal", handle, bytes(range(128)))
+    handle = creates("An HMAC key of 128 bytes", RH_OWNER, hmac_key(algorithm), data=b"k" * 128)
+    _, answer = tpm.accepted("TPM2_HMAC", tpm.hmac(handle, b"text", ALG_NULL))
+    assert answer == sized(mac(SHA256, b"k" * 128, b"text"))
+    handle = creates(
+        "An HMAC key of SHA-1 that is generated",
+        RH_ENDORSEMENT,
+        hmac_key(algorithm, HERE | OPEN | GENERATED, SHA1),
+    )
+    tpm.accepted("TPM2_HMAC", tpm.hmac(handle, b"text", SHA1))
+    handle = creates(
+        "With scheme NULL: as long as a digest of nameAlg",
+        RH_PLATFORM,
+        hmac_key(algorithm, HERE | OPEN | GENERATED, ALG_NULL),
+    )
+    tpm.accepted("TPM2_HMAC with SHA-256", tpm.hmac(handle, b"text", SHA256))
+    handle = creates(
+        "A restricted one",
+        RH_OWNER,
+        hmac_key(algorithm, HERE | OPEN | GENERATED | Attribute.RESTRICTED),
+    )
+    handle = creates(
+        "An AES key of 16 bytes, which may sign and decrypt",
+        RH_OWNER,
+        Public(SYMCIPHER, algorithm, HERE | OPEN | Attribute.SIGN | Attribute.DECRYPT),
+        data=bytes(range(16)),
+    )
+    handle = creates(
+        "A storage key of 16 bytes that are given",
+        RH_OWNER,
+        Public(SYMCIPHER, algorithm, storage_key().attributes & ~GENERATED),
+        data=bytes(range(16)),
+    )
+    refused("A ninth object: OBJECT_MEMORY", RH_OWNER, storage_key())
+    tpm.flush_objects("The eight are flushed", *range(FIRST, FIRST + 8))
+script.write()

@@ -1,0 +1,144 @@
+"""Writes object_vectors.tpm: objects whose every byte is computed here, step by step.
+
+    tools/python.sh tests/objects/object_vectors.py    also prints each step, for tests that want numbers
+
+It uses hashlib and hmac, and aes.py for the cipher, and nothing of object_rules.py: the equations of
+objects stand here once more, each on its own line, with the numbers of one example. The script's
+answers, which the model gives, are compared with them.
+"""
+
+import hashlib
+import hmac
+
+from tpmsim.standard import CC, RH_OWNER, aes, command, number, on_handle, selection, sized
+from tpmsim.caller.script import Script
+
+# The device of a script is manufactured with the bytes 00 to ff, eight pieces of 32: the seeds of
+# the owner's, the endorsement, the platform and the null hierarchy, and then their proofs.
+OWNER_SEED, OWNER_PROOF = bytes(range(0x00, 0x20)), bytes(range(0x80, 0xA0))
+OWNER = number(RH_OWNER, 4)
+SHA256_NUMBER = bytes.fromhex("000B")
+
+
+def sha256(*texts):
+    return hashlib.sha256(b"".join(texts)).digest()
+
+
+def hmac_sha256(key, *texts):
+    return hmac.new(key, b"".join(texts), hashlib.sha256).digest()
+
+
+def kdfa(key, label, u, v, bits):
+    """SP 800-108, counter mode with HMAC-SHA-256."""
+    given, block = b"", 1
+    while len(given) < bits // 8:
+        given += hmac_sha256(key, number(block, 4), label, b"\0", u, v, number(bits, 4))
+        block += 1
+    return given[: bits // 8]
+
+
+def step(name, value):
+    print(f"{name:34} {value.hex()}")
+    return value
+
+
+script = Script(
+    "tests/objects/object_vectors.tpm",
+    "A primary storage key of TPM_RH_OWNER and sealed data under it. Each number of them is "
+    "computed by the program that wrote this script, step by step.",
+)
+script.startup()
+
+# The primary key. inSensitive: the value "owner key", and no data. inPublic: a SYMCIPHER (0025),
+# SHA-256 (000B), attributes fixedTPM, fixedParent, sensitiveDataOrigin, userWithAuth, noDA,
+# restricted and decrypt (00030472), no policy, AES-128 in mode CFB (0006 0080 0043), no unique.
+in_sensitive = sized(b"owner key") + sized(b"")
+template = bytes.fromhex("0025 000B 00030472 0000 0006 0080 0043 0000")
+of_template, of_sensitive = sha256(template), sha256(in_sensitive)
+derived = kdfa(OWNER_SEED, b"PRIMARY", of_template, of_sensitive, 8 * (32 + 16))
+seed_value, key = step("primary seedValue", derived[:32]), step("primary key", derived[32:])
+unique = step("primary unique", sha256(seed_value, key))
+public = template[:-2] + sized(unique)
+name = step("primary Name", SHA256_NUMBER + sha256(public))
+qualified_name = step("primary qualified name", SHA256_NUMBER + sha256(OWNER, name))
+
+# Its creation: no PCRs, locality 0 (bit 0), and the hierarchy in place of a parent.
+creation_data = selection() + sized(sha256(b"")) + b"\x01" + bytes.fromhex("0010")
+creation_data += sized(OWNER) + sized(OWNER) + sized(b"first")
+creation_hash = step("primary creationHash", sha256(creation_data))
+proof_text = b"\x80\x21" + name + creation_hash
+digest = step("primary ticket digest", hmac_sha256(OWNER_PROOF, proof_text))
+ticket = b"\x80\x21" + OWNER + sized(digest)
+
+answer = script.command(
+    'TPM2_CreatePrimary of a storage key, whose value is "owner key": SUCCESS',
+    on_handle(
+        CC.CreatePrimary,
+        RH_OWNER,
+        sized(in_sensitive) + sized(template) + sized(b"first") + selection(),
+    ),
+)
+assert answer[10:14] == number(0x8000_0000, 4)
+parameters = sized(public) + sized(creation_data) + sized(creation_hash) + ticket + sized(name)
+assert answer[18:-5] == parameters
+answer = script.command("TPM2_ReadPublic: SUCCESS", command(CC.ReadPublic, number(0x8000_0000, 4)))
+assert answer[10:] == sized(public) + sized(name) + sized(qualified_name)
+
+# Sealed data under it, created with the random bytes 40, 41, 42, .., of which the seed and then the
+# first block of the cipher are drawn. Attributes fixedTPM, fixedParent, userWithAuth, noDA
+# (00000452); scheme NULL. The value has two zeros behind it, which do not count.
+random = bytes(range(0x40, 0x40 + 64))
+data = b"what is sealed"
+in_sensitive = sized(b"pin\0\0") + sized(data)
+template = bytes.fromhex("0008 000B 00000452 0000 0010 0000")
+parent_seed, parent_name, parent_qualified_name = seed_value, name, qualified_name
+seed_value, iv = random[:32], random[32:48]
+unique = step("sealed unique", sha256(seed_value, data))
+public = template[:-2] + sized(unique)
+name = step("sealed Name", SHA256_NUMBER + sha256(public))
+qualified_name = step("sealed qualified name", SHA256_NUMBER + sha256(parent_qualified_name, name))
+sensitive = step(
+    "sealed TPMT_SENSITIVE", bytes.fromhex("0008") + sized(b"pin") + sized(seed_value) + sized(data)
+)
+storage_key = step("STORAGE key", kdfa(parent_seed, b"STORAGE", name, b"", 128))
+protected = sized(iv) + aes.cfb_encrypt(storage_key, iv, sized(sensitive))
+integrity_key = step("INTEGRITY key", kdfa(parent_seed, b"INTEGRITY", b"", b"", 256))
+integrity = step("sealed integrity", hmac_sha256(integrity_key, protected, name))
+private = step("sealed private area", sized(integrity) + protected)
+
+creation_data = selection() + sized(sha256(b"")) + b"\x01" + SHA256_NUMBER
+creation_data += sized(parent_name) + sized(parent_qualified_name) + sized(b"")
+creation_hash = step("sealed creationHash", sha256(creation_data))
+digest = step("sealed ticket digest", hmac_sha256(OWNER_PROOF, b"\x80\x21", name, creation_hash))
+ticket = b"\x80\x21" + OWNER + sized(digest)
+
+
+def by_password(code, handle, parameters, password):
+    body = number(handle, 4) + number(9 + len(password), 4)
+    body += bytes.fromhex("40000009 0000 01") + sized(password) + parameters
+    return command(code, body, 0x8002)
+
+
+script.chapter("The random bytes are 40, 41, 42 and so on.")
+script.entropy(random)
+answer = script.command(
+    'TPM2_Create of sealed data, whose value is "pin": SUCCESS',
+    by_password(
+        CC.Create,
+        0x8000_0000,
+        sized(in_sensitive) + sized(template) + sized(b"") + selection(),
+        b"owner key",
+    ),
+)
+parameters = sized(private) + sized(public) + sized(creation_data) + sized(creation_hash) + ticket
+assert answer[14:-5] == parameters
+answer = script.command(
+    "TPM2_Load: SUCCESS",
+    by_password(CC.Load, 0x8000_0000, sized(private) + sized(public), b"owner key"),
+)
+assert answer[10:14] == number(0x8000_0001, 4) and answer[18:-5] == sized(name)
+answer = script.command("TPM2_ReadPublic: SUCCESS", command(CC.ReadPublic, number(0x8000_0001, 4)))
+assert answer[10:] == sized(public) + sized(name) + sized(qualified_name)
+answer = script.command("TPM2_Unseal: SUCCESS", by_password(CC.Unseal, 0x8000_0001, b"", b"pin"))
+assert answer[14:-5] == sized(data)
+script.write()

@@ -1,0 +1,102 @@
+"""Writes objects_power_cycle.tpm: what a power cycle leaves of objects."""
+
+from tpmsim.caller import hmac_key, sealed, storage_key
+from tpmsim.standard import CC, RH_ENDORSEMENT, RH_NULL, RH_OWNER, RH_PLATFORM, SHA1, frames
+from tpmsim.standard import number
+from tpmsim.caller.script_caller import ScriptCaller
+from tpmsim.caller.script import Script
+
+NAMES = (
+    (RH_OWNER, "TPM_RH_OWNER"),
+    (RH_ENDORSEMENT, "TPM_RH_ENDORSEMENT"),
+    (RH_PLATFORM, "TPM_RH_PLATFORM"),
+    (RH_NULL, "TPM_RH_NULL"),
+)
+
+script = Script(
+    "tests/objects/objects_power_cycle.tpm",
+    "Transient objects are gone after a power cycle. The seeds of the owner's, the endorsement and "
+    "the platform hierarchy stay, and so the same primary objects can be made again. The null "
+    "hierarchy has a new seed and a new proof after each TPM2_Startup(CLEAR).",
+)
+tpm = ScriptCaller(script)
+
+
+def start(what, seed):
+    script.chapter(what)
+    script.entropy(seed)
+    script.startup()
+
+
+def primaries():
+    """The Name of a storage key in each hierarchy, and a child that was created under each."""
+    names, children = {}, {}
+    for hierarchy, name in NAMES:
+        handle = tpm.create_primary(f"A storage key in {name}", hierarchy, storage_key())
+        names[hierarchy] = tpm.names[handle]
+        children[hierarchy] = tpm.create(
+            "TPM2_Create of sealed data", handle, sealed(), data=b"secret"
+        )
+        tpm.flush_objects("It is flushed", handle)
+    return names, children
+
+
+def tickets():
+    """The tickets of a creation, by two hierarchies."""
+    found = {}
+    for hierarchy, name in (NAMES[0], NAMES[3]):
+        handle = tpm.create_primary(f"A key in {name}", hierarchy, hmac_key(), data=b"key")
+        found[hierarchy] = tpm.ticket
+        tpm.flush_objects("It is flushed", handle)
+    return found
+
+
+start("The first start.", bytes(range(64)))
+names, children = primaries()
+first_tickets = tickets()
+handles = [
+    tpm.create_primary(f"An object in {name}", hierarchy, hmac_key(SHA1), data=b"key")
+    for hierarchy, name in NAMES
+]
+script.power()
+tpm.says("Before TPM2_Startup: INITIALIZE", tpm.public(handles[0]))
+script.chapter("A refused TPM2_Startup draws nothing, and starts nothing.")
+script.entropy(bytes(range(128, 192)))
+script.command(
+    "TPM2_Startup(STATE), while no state is saved: VALUE/p1",
+    frames.command(CC.Startup, number(1, 2)),
+)
+start("The second start, with other random bytes.", bytes(range(64, 128)))
+tpm.forget(*handles)
+tpm.says("The objects are gone: REFERENCE_H0", *map(tpm.public, handles))
+tpm.says("They cannot be flushed: HANDLE/p1", *map(tpm.flush, handles))
+
+again, _ = primaries()
+for hierarchy, _ in NAMES:
+    assert (again[hierarchy] == names[hierarchy]) == (hierarchy != RH_NULL)
+second_tickets = tickets()
+assert first_tickets[RH_OWNER] == second_tickets[RH_OWNER]
+assert first_tickets[RH_NULL] != second_tickets[RH_NULL]
+
+script.chapter("What was created before the power cycle is loaded under the same primary object.")
+for hierarchy, name in NAMES:
+    handle = tpm.create_primary(f"The storage key in {name}", hierarchy, storage_key())
+    loading = tpm.loading(handle, children[hierarchy])
+    if hierarchy == RH_NULL:
+        tpm.says("TPM2_Load: it is another one: INTEGRITY/p1", loading)
+    else:
+        child = tpm.load("TPM2_Load", handle, children[hierarchy])
+        tpm.unseal("TPM2_Unseal", child, b"secret")
+        tpm.flush_objects("It is flushed", child)
+    tpm.flush_objects("The parent is flushed", handle)
+
+script.power()
+start("The third start, with the random bytes of the first.", bytes(range(64)))
+third, _ = primaries()
+assert third == names
+script.chapter("The null hierarchy is that of the first start, as the same bytes were drawn.")
+handle = tpm.create_primary("A storage key in TPM_RH_NULL", RH_NULL, storage_key())
+child = tpm.load("TPM2_Load of what was created at the first start", handle, children[RH_NULL])
+tpm.unseal("TPM2_Unseal", child, b"secret")
+assert tickets() == first_tickets
+script.write()

@@ -1,0 +1,250 @@
+"""Writes order_of_object_refusals.tpm: many faults at once, repaired one by one."""
+
+from tpmsim.caller import HERE, OPEN, Use, hmac_key, sealed, storage_key
+from tpmsim.standard import ALG_NULL, CC, DECRYPT, Entry, RH_LOCKOUT, RH_OWNER, SHA1, SHA256, area
+from tpmsim.standard import command, frames, number, sized
+from tpmsim.standard.objects import Attribute
+from tpmsim.caller.script_caller import ScriptCaller
+from tpmsim.caller.script import Script
+
+script = Script(
+    "tests/objects/order_of_object_refusals.tpm",
+    "The order of refusals in the commands of objects: a buffer with many faults, of which one "
+    "after the other is repaired. What is answered is the first that is left.",
+)
+tpm = ScriptCaller(script)
+ABSENT, SECRET = 0x8000_0007, b"secret"
+ABSENT_SESSION = Entry(0x0200_000F, b"", 1, b"")
+
+
+def wrong(prepared, *places):
+    for place in places:
+        prepared = prepared.but_entry(place, hmac=b"wrong")
+    return prepared
+
+
+def general_refusals(code, handle, other_handle, cut, uses):
+    """Up to the parameters: the handle, the authorization area, the entries, and their hmacs. The
+    parameters are `cut` in all of these.
+    """
+
+    def raw(handle_text, rest=b"", tag=frames.SESSIONS):
+        return command(code, handle_text + rest, tag)
+
+    script.command(
+        "Half a handle, and no sessions (tag 8001): INSUFFICIENT/h1",
+        raw(b"\x80\0", tag=frames.NO_SESSIONS),
+    )
+    script.command(
+        "A handle of another kind, and no sessions: VALUE/h1",
+        raw(number(other_handle, 4), tag=frames.NO_SESSIONS),
+    )
+    if code != CC.CreatePrimary:
+        script.command(
+            "An object that is not there, and no sessions: REFERENCE_H0",
+            raw(number(ABSENT, 4), tag=frames.NO_SESSIONS),
+        )
+    if code != CC.ReadPublic:
+        script.command(
+            "No sessions: AUTH_MISSING", raw(number(handle, 4), cut, tag=frames.NO_SESSIONS)
+        )
+    script.command("An area of eight bytes: AUTHSIZE", raw(number(handle, 4), area(bytes(8)) + cut))
+    prepared = tpm.prepare(code, [handle], cut, *uses)
+    last = len(uses)
+    tpm.refused(
+        f"A wrong first entry, and the last one is not there: REFERENCE_S{last - 1}",
+        wrong(prepared, 1).but(entries=[*wrong(prepared, 1).entries[:-1], ABSENT_SESSION]),
+    )
+    if last > 1:
+        tpm.refused("Both entries are wrong: BAD_AUTH/s1", wrong(prepared, 1, 2))
+    tpm.refused(f"The last one is: BAD_AUTH/s{last}", wrong(prepared, last))
+
+
+def parameters_in_order(code, handle, uses, cases):
+    for what, outcome, parameters in cases:
+        tpm.refused(f"{what}: {outcome}", tpm.prepare(code, [handle], parameters, *uses))
+
+
+script.startup()
+parent = tpm.create_primary("A storage key", RH_OWNER, storage_key(), user_auth=b"parent")
+made = tpm.create("TPM2_Create of sealed data", parent, sealed(), user_auth=b"s", data=SECRET)
+handle = tpm.load("TPM2_Load", parent, made)
+key = tpm.create_primary("An HMAC key", RH_OWNER, hmac_key(), user_auth=b"k", data=b"key")
+restricted = tpm.create_primary(
+    "A restricted one",
+    RH_OWNER,
+    hmac_key(attributes=HERE | OPEN | Attribute.RESTRICTED),
+    user_auth=b"r",
+    data=b"key",
+)
+session = tpm.start("A session with AES, that is bound to TPM_RH_OWNER", bind=RH_OWNER, aes=True)
+DECRYPTS = Use(session, 1 | DECRYPT)
+
+# A template whose authPolicy, attributes and scheme are wrong, and a userAuth that is too long.
+WRONG = hmac_key(SHA1, HERE | OPEN | Attribute.RESTRICTED, ALG_NULL, auth_policy=b"p")
+GOOD_SENSITIVE = frames.sensitive_create(data=SECRET)
+LONG_SENSITIVE = frames.sensitive_create(b"a" * 21, SECRET)
+BANK = number(1, 4) + number(0x000C, 2) + b"\x03\0\0\0"
+LONG_INFO = sized(bytes(35))
+
+for code, name, on, uses in (
+    (CC.CreatePrimary, "TPM2_CreatePrimary", RH_OWNER, [b"", DECRYPTS]),
+    (CC.Create, "TPM2_Create", parent, [b"parent", DECRYPTS]),
+):
+    script.chapter(f"{name}, with inSensitive encrypted.")
+    other = RH_LOCKOUT if code == CC.CreatePrimary else RH_OWNER
+    general_refusals(code, on, other, GOOD_SENSITIVE[:-1], uses)
+    bad_type = sized(number(1, 2))
+    wrong_public = sized(WRONG.text)
+    none, rest = sized(b""), frames.selection()
+    parameters_in_order(
+        code,
+        on,
+        uses,
+        (
+            ("inSensitive is cut", "INSUFFICIENT/p1", GOOD_SENSITIVE[:-1]),
+            (
+                "It is too long for what is in it",
+                "SIZE/p1",
+                sized(LONG_SENSITIVE[2:] + b"\0") + bad_type + LONG_INFO + BANK,
+            ),
+            ("The type", "TYPE/p2", LONG_SENSITIVE + bad_type + LONG_INFO + BANK),
+            (
+                "outsideInfo of 35 bytes",
+                "SIZE/p3",
+                LONG_SENSITIVE + wrong_public + LONG_INFO + BANK,
+            ),
+            ("The hash of a bank", "HASH/p4", LONG_SENSITIVE + wrong_public + none + BANK),
+            (
+                "A byte behind creationPCR",
+                "SIZE",
+                LONG_SENSITIVE + wrong_public + none + rest + b"\0",
+            ),
+        ),
+    )
+    if code == CC.Create:
+        tpm.refused(
+            "Under what is no parent: TYPE/h1",
+            tpm.prepare(
+                code, [handle], LONG_SENSITIVE + wrong_public + none + rest, b"s", DECRYPTS
+            ),
+        )
+
+    def with_public(public, first=LONG_SENSITIVE):
+        return first + sized(public.text) + none + rest
+
+    both = HERE | OPEN | Attribute.SENSITIVE_DATA_ORIGIN
+    parameters_in_order(
+        code,
+        on,
+        uses,
+        (
+            ("authPolicy", "SIZE/p2", with_public(WRONG)),
+            (
+                "fixedTPM without fixedParent",
+                "ATTRIBUTES/p2",
+                with_public(sealed(SHA1, Attribute.FIXED_TPM | OPEN, scheme=SHA1)),
+            ),
+            ("Scheme HMAC without sign", "SCHEME/p2", with_public(sealed(SHA1, scheme=SHA1))),
+            ("userAuth of 21 bytes", "SIZE/p1", with_public(sealed(SHA1, both))),
+            (
+                "sensitiveDataOrigin, with data",
+                "ATTRIBUTES/p2",
+                with_public(sealed(SHA1, both), GOOD_SENSITIVE),
+            ),
+        ),
+    )
+    good = tpm.prepare(code, [on], with_public(sealed(SHA1), GOOD_SENSITIVE), *uses)
+    tpm.accepted("With nothing wrong", good)
+tpm.says("The object of the first is flushed: SUCCESS", tpm.flush(0x8000_0004))
+
+script.chapter("TPM2_Load, with inPrivate encrypted.")
+uses = [b"parent", DECRYPTS]
+private, public = sized(made.private), sized(made.public.text)
+general_refusals(CC.Load, parent, RH_OWNER, private[:-1], uses)
+parameters_in_order(
+    CC.Load,
+    parent,
+    uses,
+    (
+        ("inPrivate is cut", "INSUFFICIENT/p1", private[:-1]),
+        ("It has 257 bytes", "SIZE/p1", sized(bytes(257)) + sized(number(1, 2)) + b"\0"),
+        ("The type", "TYPE/p2", sized(b"") + sized(number(1, 2)) + b"\0"),
+        ("A byte behind inPublic", "SIZE", sized(b"") + sized(WRONG.text) + b"\0"),
+    ),
+)
+tpm.refused(
+    "Under what is no parent: TYPE/h1",
+    tpm.prepare(CC.Load, [handle], sized(b"") + sized(WRONG.text), b"s", DECRYPTS),
+)
+parameters_in_order(
+    CC.Load,
+    parent,
+    uses,
+    (
+        ("authPolicy", "SIZE/p2", sized(b"") + sized(WRONG.text)),
+        (
+            "fixedTPM without fixedParent",
+            "ATTRIBUTES/p2",
+            sized(b"") + sized(sealed(SHA1, Attribute.FIXED_TPM | OPEN, scheme=SHA1).text),
+        ),
+        (
+            "Scheme HMAC without sign",
+            "SCHEME/p2",
+            sized(b"") + sized(sealed(SHA1, scheme=SHA1).text),
+        ),
+    ),
+)
+others = [tpm.load("" if it else "Eight objects are there", parent, made) for it in range(4)]
+parameters_in_order(
+    CC.Load,
+    parent,
+    uses,
+    (
+        ("Another private area", "INTEGRITY/p1", sized(bytes(64)) + public),
+        ("No place", "OBJECT_MEMORY", private + public),
+    ),
+)
+tpm.flush_objects("Some are flushed", *others)
+again = tpm.load("With nothing wrong", parent, made, *uses)
+tpm.flush_objects("It is flushed", again)
+
+script.chapter("TPM2_ReadPublic, with a session that authorizes nothing.")
+general_refusals(CC.ReadPublic, key, RH_OWNER, b"\0", [Use(session)])
+tpm.refused("A byte behind the handle: SIZE", tpm.prepare(CC.ReadPublic, [key], b"\0", session))
+tpm.read_public("With nothing wrong", key, session)
+
+script.chapter("TPM2_Unseal.")
+general_refusals(CC.Unseal, key, RH_OWNER, b"\0", [b"k", Use(session)])
+tpm.refused(
+    "A byte behind the area, of a key: SIZE", tpm.prepare(CC.Unseal, [key], b"\0", b"k", session)
+)
+tpm.refused("A storage key: TYPE/h1", tpm.prepare(CC.Unseal, [parent], b"", b"parent", session))
+tpm.refused("An HMAC key: ATTRIBUTES/h1", tpm.prepare(CC.Unseal, [key], b"", b"k", session))
+tpm.unseal("With nothing wrong", handle, SECRET, b"s", session)
+
+script.chapter("TPM2_HMAC, with the buffer encrypted.")
+uses = [b"k", DECRYPTS]
+data = sized(b"text")
+general_refusals(CC.HMAC, key, RH_OWNER, data[:-1], uses)
+parameters_in_order(
+    CC.HMAC,
+    key,
+    uses,
+    (
+        ("The buffer is cut", "INSUFFICIENT/p1", data[:-1]),
+        ("It has 1,025 bytes", "SIZE/p1", sized(bytes(1025)) + number(0, 2) + b"\0"),
+        ("hashAlg", "HASH/p2", data + number(0, 2) + b"\0"),
+        ("A byte behind it", "SIZE", data + number(SHA1, 2) + b"\0"),
+    ),
+)
+by_sha1 = data + number(SHA1, 2)
+for what, outcome, on, value in (
+    ("A storage key", "TYPE/h1", parent, b"parent"),
+    ("A restricted key", "ATTRIBUTES/h1", restricted, b"r"),
+    ("Sealed data", "KEY/h1", handle, b"s"),
+    ("Another hash algorithm than the scheme's", "VALUE/p2", key, b"k"),
+):
+    tpm.refused(f"{what}: {outcome}", tpm.prepare(CC.HMAC, [on], by_sha1, value, DECRYPTS))
+tpm.accepted("With nothing wrong", tpm.hmac(key, b"text", SHA256, *uses))
+script.write()

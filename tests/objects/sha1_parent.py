@@ -1,0 +1,157 @@
+"""Writes sha1_parent.tpm: parents with nameAlg SHA-1, and what parents hand on."""
+
+from tpmsim.caller import OPEN, STORES, hmac_key, sealed, storage_key
+from tpmsim.standard import CC, Fields, RH_ENDORSEMENT, RH_NULL, RH_OWNER, RH_PLATFORM, SHA1
+from tpmsim.standard import SHA256, digest, digest_bytes, number, policy
+from tpmsim.standard.objects import Attribute
+from tpmsim.caller.script_caller import ScriptCaller
+from tpmsim.caller.script import Script
+
+script = Script(
+    "tests/objects/sha1_parent.tpm",
+    "A private area is protected by the nameAlg of the parent; the Name, the qualified name, the "
+    "hashes in the creation data and unique are by the nameAlg of the object itself. The hierarchy "
+    "comes from the parent.",
+)
+tpm = ScriptCaller(script)
+ALGORITHMS = ((SHA1, "SHA-1"), (SHA256, "SHA-256"))
+
+
+def qualified(above, name, algorithm):
+    return number(algorithm, 2) + digest(algorithm, above + name)
+
+
+script.startup()
+for parent_algorithm, parent_hash in ALGORITHMS:
+    script.chapter(f"A parent with nameAlg {parent_hash}.")
+    parent = tpm.create_primary(
+        "TPM2_CreatePrimary", RH_OWNER, storage_key(parent_algorithm), user_auth=b"parent"
+    )
+    _, above = tpm.read_public("TPM2_ReadPublic", parent)
+    assert above == qualified(number(RH_OWNER, 4), tpm.names[parent], parent_algorithm)
+    for algorithm, hash_name in ALGORITHMS:
+        with_policy = sealed(algorithm, auth_policy=bytes(digest_bytes(algorithm)))
+        for what, public, data in (
+            ("sealed data", with_policy, b"secret"),
+            ("an HMAC key", hmac_key(algorithm, scheme=SHA1), b"key"),
+            ("a storage key", storage_key(algorithm), b""),
+        ):
+            made = tpm.create(
+                f"TPM2_Create of {what} with nameAlg {hash_name}",
+                parent,
+                public,
+                user_auth=b"child",
+                data=data,
+                pcrs=[(SHA1, [0]), (SHA256, [0])],
+            )
+            # integrity is by the parent's hash algorithm, and the first block always of 16 bytes.
+            fields = Fields(made.private)
+            assert len(fields.sized()) == digest_bytes(parent_algorithm)
+            assert len(fields.sized()) == 16
+            assert len(made.public.unique) == digest_bytes(algorithm)
+            fields = Fields(tpm.creation_data)
+            fields.take(4 + 2 * 6)
+            assert fields.sized() == digest(algorithm, bytes(52))
+            assert fields.take(3) == b"\1" + number(parent_algorithm, 2)
+            assert (fields.sized(), fields.sized()) == (tpm.names[parent], above)
+            child = tpm.load("TPM2_Load", parent, made)
+            public, answered = tpm.read_public("TPM2_ReadPublic", child)
+            assert answered == qualified(above, public.name, algorithm)
+            tpm.flush_objects("It is flushed", child)
+    tpm.flush_objects("The parent is flushed", parent)
+
+script.chapter("Children of children: four storage keys under one another, and sealed data.")
+chain = [tpm.create_primary("The primary key", RH_OWNER, storage_key(SHA1))]
+above = [number(RH_OWNER, 4)]
+_, answered = tpm.read_public("TPM2_ReadPublic", chain[0])
+above.append(answered)
+links = []
+for place, algorithm in enumerate((SHA256, SHA1, SHA1, SHA256), 1):
+    name = "SHA-1" if algorithm == SHA1 else "SHA-256"
+    made = tpm.create(
+        f"TPM2_Create of a storage key with {name}",
+        chain[-1],
+        storage_key(algorithm),
+        user_auth=b"%d" % place,
+    )
+    links.append(made)
+    chain.append(tpm.load("TPM2_Load", chain[-1], made))
+    public, answered = tpm.read_public("TPM2_ReadPublic", chain[-1])
+    assert answered == qualified(above[-1], public.name, algorithm)
+    above.append(answered)
+leaf = tpm.create("TPM2_Create of sealed data", chain[-1], sealed(SHA1), data=b"deep")
+handle = tpm.load("TPM2_Load", chain[-1], leaf)
+tpm.unseal("TPM2_Unseal", handle, b"deep")
+_, answered = tpm.read_public("TPM2_ReadPublic", handle)
+assert answered == qualified(above[-1], leaf.public.name, SHA1)
+tpm.says(
+    "It is loaded under its own parent alone: INTEGRITY/p1",
+    *(tpm.loading(it, leaf) for it in chain[:-1]),
+)
+tpm.flush_objects("The parents are flushed", *chain)
+tpm.unseal("What was under them stays", handle, b"deep")
+_, again = tpm.read_public("And keeps its qualified name", handle)
+assert again == answered
+tpm.flush_objects("It is flushed", handle)
+script.chapter("All of it once more, from the primary key on.")
+parent = tpm.create_primary("The primary key", RH_OWNER, storage_key(SHA1))
+for made in links:
+    child = tpm.load("TPM2_Load of the next one", parent, made)
+    tpm.flush_objects("Its parent is flushed", parent)
+    parent = child
+handle = tpm.load("TPM2_Load of the sealed data", parent, leaf)
+tpm.unseal("TPM2_Unseal", handle, b"deep")
+tpm.flush_objects("Both are flushed", handle, parent)
+
+script.chapter("What is under a parent is in its hierarchy: the ticket, and the qualified name.")
+for hierarchy, name in (
+    (RH_PLATFORM, "TPM_RH_PLATFORM"),
+    (RH_ENDORSEMENT, "TPM_RH_ENDORSEMENT"),
+    (RH_NULL, "TPM_RH_NULL"),
+):
+    primary = tpm.create_primary(f"A parent in {name}", hierarchy, storage_key(SHA1))
+    made = tpm.create("TPM2_Create of a storage key under it", primary, storage_key())
+    assert tpm.ticket[0] == hierarchy
+    child = tpm.load("TPM2_Load", primary, made)
+    leaf = tpm.create("TPM2_Create under that", child, sealed(), data=b"leaf")
+    assert tpm.ticket[0] == hierarchy
+    handle = tpm.load("TPM2_Load", child, leaf)
+    first = qualified(number(hierarchy, 4), tpm.names[primary], SHA1)
+    second = qualified(first, tpm.names[child], SHA256)
+    _, answered = tpm.read_public("TPM2_ReadPublic", handle)
+    assert answered == qualified(second, tpm.names[handle], SHA256)
+    tpm.unseal("TPM2_Unseal", handle, b"leaf")
+    tpm.flush_objects("They are flushed", primary, child, handle)
+
+script.chapter("fixedTPM: what is under a parent without it is without it, down to the last.")
+movable = storage_key(attributes=OPEN | STORES)
+primary = tpm.create_primary("A parent without fixedTPM", RH_OWNER, movable)
+inner = storage_key(SHA1, attributes=OPEN | STORES | Attribute.FIXED_PARENT)
+made = tpm.create("TPM2_Create of a storage key with fixedParent", primary, inner)
+child = tpm.load("TPM2_Load", primary, made)
+tpm.says(
+    "TPM2_Create under that, with fixedTPM and fixedParent: ATTRIBUTES/p2",
+    tpm.child(child, sealed(), data=b"leaf"),
+)
+leaf = tpm.create("With neither of them", child, sealed(attributes=OPEN), data=b"leaf")
+handle = tpm.load("TPM2_Load", child, leaf)
+tpm.unseal("TPM2_Unseal", handle, b"leaf")
+tpm.flush_objects("They are flushed", primary, child, handle)
+
+script.chapter("A policy of SHA-1.")
+parent = tpm.create_primary("A parent with SHA-256", RH_OWNER, storage_key())
+made = tpm.create(
+    "Sealed data with nameAlg SHA-1 and a policy: TPM2_Create",
+    parent,
+    sealed(
+        SHA1,
+        attributes=sealed().attributes & ~Attribute.USER_WITH_AUTH,
+        auth_policy=policy.after_command_code(SHA1, bytes(20), CC.Unseal),
+    ),
+    data=b"secret",
+)
+handle = tpm.load("TPM2_Load", parent, made)
+session = tpm.policy("A policy session with SHA-1", algorithm=SHA1)
+tpm.says("TPM2_PolicyCommandCode: SUCCESS", tpm.command_code(session, CC.Unseal))
+tpm.unseal("TPM2_Unseal", handle, b"secret", session)
+script.write()

@@ -1,0 +1,133 @@
+"""Writes policy_sessions_authorize_nothing.tpm: policy sessions as the first entry."""
+
+from tpmsim.caller import Use, flipped
+from tpmsim.standard import CC, CONTINUE_SESSION, DECRYPT, Entry, RH_ENDORSEMENT, RH_LOCKOUT
+from tpmsim.standard import RH_NULL, RH_OWNER, RH_PLATFORM, frames
+from tpmsim.caller.script_caller import ScriptCaller, zeros
+from tpmsim.caller.script import Script
+
+script = Script(
+    "tests/policies/policy_sessions_authorize_nothing.tpm",
+    "A policy session authorizes what has a policy. Hierarchies and PCRs have none: they are "
+    "authorized by their authorization value alone. A trial session never authorizes.",
+)
+tpm = ScriptCaller(script)
+
+script.startup()
+tpm.accepted('ownerAuth is "owner"', tpm.change_auth(RH_OWNER, b"owner", b""))
+hmac = tpm.start("An HMAC session, bound to TPM_RH_OWNER, with AES", RH_OWNER, aes=True)
+policy = tpm.policy("A policy session, bound to nothing, and so without a key")
+bound = tpm.policy("One that is bound to TPM_RH_OWNER, with AES", bind=RH_OWNER, aes=True)
+lockout = tpm.policy("One that is bound to TPM_RH_LOCKOUT", bind=RH_LOCKOUT)
+trial = tpm.trial("A trial session, without a key")
+keyed = tpm.trial("One that is bound to TPM_RH_OWNER, with AES", bind=RH_OWNER, aes=True)
+target = tpm.policy("A policy session that is to be told something")
+
+
+def commands(session):
+    """One of each command with a handle that is authorized, on all of its kinds of handles."""
+    digests = frames.digests((frames.SHA1, bytes(20)))
+    yield tpm.reset(session)
+    yield tpm.prepare(CC.PCR_Extend, [0], digests, session)
+    yield tpm.prepare(CC.PCR_Extend, [RH_NULL], digests, session)
+    yield tpm.event(b"abc", session)
+    yield tpm.event(b"abc", session, pcr=RH_NULL)
+    for handle in (RH_OWNER, RH_ENDORSEMENT, RH_PLATFORM, RH_LOCKOUT):
+        yield tpm.change_auth(handle, b"new", session)
+    for handle in (RH_OWNER, RH_ENDORSEMENT, RH_PLATFORM, RH_LOCKOUT, 0, 16):
+        yield tpm.secret(target, session, of=handle)
+
+
+WHAT = "TPM2_PCR_Reset, Extend, Event, HierarchyChangeAuth and PolicySecret"
+for words, session in (
+    ("without a key", policy),
+    ("bound to TPM_RH_OWNER", bound),
+    ("bound to TPM_RH_LOCKOUT", lockout),
+):
+    tpm.refused(f"{WHAT}, by the policy session {words}: AUTH_UNAVAILABLE", *commands(session))
+for words, session in (("without a key", trial), ("bound to TPM_RH_OWNER", keyed)):
+    tpm.refused(f"{WHAT}, by the trial session {words}: ATTRIBUTES/s1", *commands(session))
+
+script.chapter("Whatever the session was told.")
+for what, told in (
+    ("TPM2_PolicyAuthValue", tpm.auth_value_told),
+    ("TPM2_PolicyPassword", tpm.password_told),
+):
+    tpm.says(f"{what}: SUCCESS", told(policy), told(trial))
+    tpm.refused("TPM2_PCR_Reset by the policy session: AUTH_UNAVAILABLE", tpm.reset(policy))
+    tpm.refused("By the trial session: ATTRIBUTES/s1", tpm.reset(trial))
+for session in (policy, trial):
+    tpm.says(
+        "TPM2_PolicyCommandCode of another command, and of locality 4: SUCCESS",
+        tpm.command_code(session, CC.Unseal),
+        tpm.locality(session, 16),
+        tpm.pcrs(session, [(frames.SHA256, [16])]),
+    )
+tpm.accepted(
+    "PCR 16 changes behind TPM2_PolicyPCR, by the session bound to TPM_RH_OWNER",
+    tpm.event(b"abc", hmac),
+)
+tpm.refused("TPM2_PCR_Reset by the policy session: AUTH_UNAVAILABLE", tpm.reset(policy))
+tpm.refused("By the trial session: ATTRIBUTES/s1", tpm.reset(trial))
+
+script.chapter("It comes before its own hmac, right or wrong, and before the entries behind.")
+reset = tpm.reset(bound, hmac)
+tpm.refused(
+    "The hmac wrong, left out, and that of the second entry wrong: AUTH_UNAVAILABLE",
+    reset.but_entry(1, hmac=flipped(reset.entries[0].hmac)),
+    reset.but_entry(1, hmac=b""),
+    reset.but_entry(2, hmac=flipped(reset.entries[1].hmac)),
+)
+reset = tpm.reset(keyed, hmac)
+tpm.refused(
+    "The same of the trial session: ATTRIBUTES/s1",
+    reset.but_entry(1, hmac=flipped(reset.entries[0].hmac)),
+    reset.but_entry(1, hmac=b""),
+    reset.but_entry(2, hmac=flipped(reset.entries[1].hmac)),
+)
+tpm.refused(
+    "A wrong hmac on TPM_RH_LOCKOUT is no try at its value, as no value is looked at: "
+    "AUTH_UNAVAILABLE",
+    tpm.change_auth(RH_LOCKOUT, b"x", lockout).but_entry(1, hmac=bytes(32)),
+)
+
+script.chapter("But what is refused of entries whatever their hmacs are comes before.")
+absent = Entry(0x0300_0009, b"", CONTINUE_SESSION, b"")
+for session in (bound, keyed):
+    right = tpm.reset(session)
+    tpm.refused(
+        "A session that is not there as the second entry: REFERENCE_S1",
+        right.but(entries=[*right.entries, absent]),
+    )
+    tpm.refused("The same session twice: HANDLE/s2", right.but(entries=2 * right.entries))
+    tpm.refused(
+        "decrypt, where the first parameter is no sized buffer: ATTRIBUTES/s1",
+        right.but_entry(1, attributes=CONTINUE_SESSION | DECRYPT),
+    )
+    tpm.refused("A reserved attribute: RESERVED_BITS/s1", right.but_entry(1, attributes=0x08))
+for session in (policy, trial):
+    tpm.refused(
+        "decrypt in a session without AES, TPM2_PCR_Event: SYMMETRIC/s1",
+        tpm.event(b"abc", Use(session, CONTINUE_SESSION | DECRYPT)),
+    )
+tpm.refused(
+    "A parameter that cannot be decrypted comes behind: AUTH_UNAVAILABLE",
+    tpm.event(b"abc", Use(bound, DECRYPT)).but(parameters=b"\0"),
+)
+tpm.refused(
+    "And in a trial session: ATTRIBUTES/s1",
+    tpm.event(b"abc", Use(keyed, DECRYPT)).but(parameters=b"\0"),
+)
+tpm.refused(
+    "And so do parameters, and LOCALITY of PCR 0: AUTH_UNAVAILABLE",
+    tpm.reset(policy).but(parameters=b"\0"),
+    tpm.reset(policy, pcr=0),
+)
+
+script.chapter("No session was changed, nor anything else.")
+tpm.digest_is("The session that was to be told something", target, zeros(target))
+for session in (policy, bound, lockout, trial, keyed):
+    tpm.accepted("TPM2_GetRandom beside it", tpm.random(1, session))
+tpm.accepted("ownerAuth", tpm.change_auth(RH_OWNER, b"owner", b"owner"))
+tpm.accepted("The others are empty", tpm.secret(target, b"", of=RH_LOCKOUT))
+script.write()

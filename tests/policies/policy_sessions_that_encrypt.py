@@ -1,0 +1,261 @@
+"""Writes policy_sessions_that_encrypt.tpm: policy sessions that authorize nothing."""
+
+from tpmsim.caller import Use, flipped
+from tpmsim.standard import CC, CONTINUE_SESSION, DECRYPT, ENCRYPT, RH_ENDORSEMENT, RH_LOCKOUT
+from tpmsim.standard import RH_OWNER, SE_POLICY, SE_TRIAL, SHA1, digest, frames, name_of, policy
+from tpmsim.caller.script_caller import HASHES, KINDS, ScriptCaller, zeros
+from tpmsim.caller.script import Script
+
+DECRYPTS, ENCRYPTS = CONTINUE_SESSION | DECRYPT, CONTINUE_SESSION | ENCRYPT
+
+script = Script(
+    "tests/policies/policy_sessions_that_encrypt.tpm",
+    "Policy sessions and trial sessions as further entries: they authorize nothing there, and are "
+    "held against their hmac as HMAC sessions are. They can decrypt and encrypt, and keep what "
+    "they were told.",
+)
+tpm = ScriptCaller(script)
+
+
+def wrong(prepared, place):
+    hmac = prepared.entries[place - 1].hmac
+    return prepared.but_entry(place, hmac=flipped(hmac) if hmac else b"\0")
+
+
+script.startup()
+script.allow_tries()
+tpm.accepted('ownerAuth is "owner"', tpm.change_auth(RH_OWNER, b"owner", b""))
+hmac = tpm.start("An HMAC session, bound to TPM_RH_OWNER, with AES", RH_OWNER, aes=True)
+
+for algorithm, hash_name in HASHES:
+    for kind, name in KINDS:
+        script.chapter(f"A {name} session of {hash_name}, bound to TPM_RH_OWNER.")
+        session = tpm.start(
+            "It is started", RH_OWNER, algorithm=algorithm, aes=True, kind=kind, size=20
+        )
+        tpm.says("TPM2_PolicyAuthValue: SUCCESS", tpm.auth_value_told(session))
+        told = policy.after_auth_value(algorithm, zeros(session))
+        tpm.accepted(
+            "TPM2_PCR_Event by a password, and the data is encrypted by it",
+            tpm.event(b"event data", b"", Use(session, DECRYPTS)),
+        )
+        tpm.accepted(
+            "TPM2_HierarchyChangeAuth by a password: its key has no authorization value",
+            tpm.change_auth(RH_OWNER, b"another", b"owner", Use(session, DECRYPTS)),
+        )
+        tpm.accepted(
+            "By an HMAC session, whose hmac has its nonce",
+            tpm.change_auth(RH_OWNER, b"owner", hmac, Use(session, DECRYPTS)),
+        )
+        tpm.accepted("TPM2_GetRandom, which it encrypts", tpm.random(20, Use(session, ENCRYPTS)))
+        tpm.accepted("TPM2_GetRandom that it does not encrypt", tpm.random(20, hmac, session))
+        tpm.digest_is("Its digest is as it was", session, told)
+        encrypted = tpm.get_digest(session, Use(session, ENCRYPTS))
+        tpm.accepted("TPM2_PolicyGetDigest, which it encrypts itself", encrypted)
+        tpm.accepted(
+            "And which the HMAC session encrypts",
+            tpm.get_digest(session, session, Use(hmac, ENCRYPTS)),
+        )
+        right = tpm.event(b"event data", b"", Use(session, DECRYPTS))
+        tpm.refused(
+            "A wrong hmac: by a bit, none, and the attribute taken away: BAD_AUTH/s2",
+            wrong(right, 2),
+            right.but_entry(2, hmac=b""),
+            right.but_entry(2, attributes=CONTINUE_SESSION),
+        )
+        with tpm.breaking(key=lambda *_: session.key + b"owner"):
+            valued = tpm.event(b"event data", b"", Use(session, DECRYPTS))
+        tpm.refused("ownerAuth in its key: BAD_AUTH/s2", valued)
+        tpm.refused(
+            "Parameters that cannot be decrypted: INSUFFICIENT/p1",
+            tpm.prepare(CC.PCR_Event, [16], b"\0\1", b"", Use(session, DECRYPTS)),
+        )
+        tpm.accepted("The right one", right)
+        tpm.refused("It is of a nonce that is past: BAD_AUTH/s2", right)
+        tpm.digest_is("Its digest is as it was", session, told)
+
+        tpm.accepted(
+            "TPM2_PolicyPCR whose digest it decrypts itself|and its digest is of the plain one",
+            tpm.pcrs(session, [], digest(algorithm, b""), [Use(session, DECRYPTS)]),
+        )
+        told = policy.after_pcr(algorithm, told, frames.selection(), digest(algorithm, b""))
+        tpm.digest_is("Its digest", session, told)
+        tpm.accepted(
+            "TPM2_PolicySecret, of which it decrypts nonceTPM itself: the one of before",
+            tpm.secret(
+                session, b"owner", Use(session, DECRYPTS), of=RH_OWNER, nonce_tpm=session.nonce_tpm
+            ),
+        )
+        tpm.accepted(
+            "And which the HMAC session decrypts, that authorizes",
+            tpm.secret(
+                session, Use(hmac, DECRYPTS), session, of=RH_OWNER, nonce_tpm=session.nonce_tpm
+            ),
+        )
+        tpm.accepted(
+            "Decrypted by it, where the HMAC session authorizes and encrypts",
+            tpm.secret(
+                session,
+                Use(hmac, ENCRYPTS),
+                Use(session, DECRYPTS),
+                of=RH_OWNER,
+                nonce_tpm=session.nonce_tpm,
+            ),
+        )
+        tpm.accepted(
+            "It encrypts, behind a password, and there is nothing to encrypt",
+            tpm.secret(session, b"owner", Use(session, ENCRYPTS), of=RH_OWNER),
+        )
+        for _ in range(4):
+            told = policy.after_secret(algorithm, told, name_of(RH_OWNER), b"")
+        tpm.digest_is("Its digest", session, told)
+        if kind == SE_POLICY:
+            given = tpm.secret(
+                session,
+                b"owner",
+                Use(session, DECRYPTS),
+                of=RH_OWNER,
+                nonce_tpm=flipped(session.nonce_tpm),
+            )
+            tpm.refused("Another nonceTPM, decrypted: NONCE/p1", given)
+        tpm.refused(
+            "encrypt, where no sized buffer is answered: TPM2_PolicyPCR and TPM2_PolicyRestart: "
+            "ATTRIBUTES/s1",
+            tpm.pcrs(session, [], b"", [Use(session, ENCRYPTS)]),
+            tpm.restart(session, Use(session, ENCRYPTS)),
+        )
+        parameters = frames.sized_list(bytes(20), bytes(20))
+        tpm.refused(
+            "decrypt, where the first parameter is no sized buffer: TPM2_PolicyOR, "
+            "TPM2_PolicyGetDigest, TPM2_PolicyRestart, TPM2_PolicyCommandCode, "
+            "TPM2_PolicyLocality, TPM2_PolicyAuthValue and TPM2_PolicyPassword: ATTRIBUTES/s1",
+            *(
+                tpm.prepare(code, [session.handle], text, session).but_entry(1, attributes=DECRYPTS)
+                for code, text in (
+                    (CC.PolicyOR, parameters),
+                    (CC.PolicyGetDigest, b""),
+                    (CC.PolicyRestart, b""),
+                    (CC.PolicyCommandCode, bytes(4)),
+                    (CC.PolicyLocality, b"\1"),
+                    (CC.PolicyAuthValue, b""),
+                    (CC.PolicyPassword, b""),
+                )
+            ),
+        )
+        tpm.refused(
+            "encrypt on the others: TPM2_PolicyOR, TPM2_PolicyCommandCode, TPM2_PolicyLocality, "
+            "TPM2_PolicyAuthValue and TPM2_PolicyPassword: ATTRIBUTES/s1",
+            *(
+                tpm.prepare(code, [session.handle], text, session).but_entry(1, attributes=ENCRYPTS)
+                for code, text in (
+                    (CC.PolicyOR, parameters),
+                    (CC.PolicyCommandCode, bytes(4)),
+                    (CC.PolicyLocality, b"\1"),
+                    (CC.PolicyAuthValue, b""),
+                    (CC.PolicyPassword, b""),
+                )
+            ),
+        )
+        tpm.accepted("It encrypts, and ends", tpm.random(20, Use(session, ENCRYPT)))
+
+script.chapter("Without a key: the hmac may be left out.")
+for algorithm, hash_name in HASHES:
+    for kind, name in KINDS:
+        session = tpm.start(
+            f"A {name} session of {hash_name} that is bound to nothing",
+            algorithm=algorithm,
+            aes=True,
+            kind=kind,
+        )
+        tpm.accepted(
+            "Behind a password, with no hmac|and none is answered",
+            tpm.event(b"event data", b"", Use(session, DECRYPTS)),
+        )
+        tpm.accepted(
+            "With an hmac by the empty key",
+            tpm.event(b"event data", b"", Use(session, DECRYPTS, shows_empty_key=True)),
+        )
+        shown = tpm.event(b"event data", b"", Use(session, DECRYPTS, shows_empty_key=True))
+        tpm.refused(
+            "With a wrong one, and with a byte: BAD_AUTH/s2",
+            wrong(shown, 2),
+            shown.but_entry(2, hmac=b"\0"),
+        )
+        tpm.accepted("The right one", shown)
+        tpm.accepted(
+            "TPM2_GetRandom, which it encrypts without a key", tpm.random(8, Use(session, ENCRYPTS))
+        )
+        tpm.accepted(
+            "TPM2_PolicyGetDigest, which it encrypts",
+            tpm.get_digest(session, Use(session, ENCRYPTS)),
+        )
+        tpm.digest_is("Its digest is zeros", session, zeros(session))
+        tpm.says("It is flushed: SUCCESS", tpm.flush(session))
+
+script.chapter("Without AES.")
+plain = tpm.policy("A policy session", bind=RH_OWNER)
+tpm.refused(
+    "decrypt and encrypt: SYMMETRIC/s1",
+    tpm.pcrs(plain, [], b"", [Use(plain, DECRYPTS)]),
+    tpm.get_digest(plain, Use(plain, ENCRYPTS)),
+)
+tpm.refused("Behind a password: SYMMETRIC/s2", tpm.event(b"a", b"", Use(plain, DECRYPTS)))
+
+script.chapter("Started beside others, and with others beside it.")
+first = tpm.policy("A policy session, with AES", bind=RH_OWNER, aes=True)
+second = tpm.start(
+    "TPM2_StartAuthSession of another, by which it is encrypted in both directions",
+    RH_ENDORSEMENT,
+    kind=SE_TRIAL,
+    aes=True,
+    uses=[Use(first, DECRYPTS | ENCRYPT)],
+)
+third = tpm.start(
+    "Of an HMAC session: the trial session decrypts and the policy session encrypts",
+    RH_OWNER,
+    aes=True,
+    uses=[Use(second, DECRYPTS), Use(first, ENCRYPTS)],
+)
+tpm.accepted("Three beside a password would be four; two", tpm.event(b"a", b"", first, second))
+tpm.accepted(
+    "TPM2_HierarchyChangeAuth by the HMAC session, with both: the first hmac has the nonce of the "
+    "one that decrypts",
+    tpm.change_auth(RH_OWNER, b"owner", third, second, Use(first, DECRYPTS)),
+)
+with tpm.breaking(nonces_of_others=lambda *_: []):
+    left_out = tpm.change_auth(RH_OWNER, b"owner", third, second, Use(first, DECRYPTS))
+tpm.refused("Where it is left out: BAD_AUTH/s1", left_out)
+
+
+def secret(*uses):
+    return tpm.secret(first, third, *uses, of=RH_OWNER, nonce_tpm=first.nonce_tpm)
+
+
+tpm.accepted(
+    "TPM2_PolicySecret in the policy session, which encrypts, and the trial session decrypts: the "
+    "first hmac has the nonces of both, in this order",
+    secret(Use(first, ENCRYPTS), Use(second, DECRYPTS)),
+)
+tpm.accepted("The other way round", secret(Use(first, DECRYPTS), Use(second, ENCRYPTS)))
+tpm.accepted("One does both", secret(second, Use(first, DECRYPTS | ENCRYPT)))
+with tpm.breaking(nonces_of_others=lambda *_: [first.nonce_tpm, second.nonce_tpm]):
+    turned = secret(Use(first, ENCRYPTS), Use(second, DECRYPTS))
+tpm.refused("In the other order: BAD_AUTH/s1", turned)
+tpm.says("TPM2_PolicyRestart: SUCCESS", tpm.restart(first))
+for it, kind in ((first, SE_POLICY), (second, SE_TRIAL)):
+    assert it.kind == kind
+    tpm.digest_is("Its digest is zeros", it, zeros(it))
+
+script.chapter("Bound to TPM_RH_LOCKOUT, a wrong hmac is a try at its value.")
+script.wait_each_time()
+locked = tpm.policy("A policy session", bind=RH_LOCKOUT)
+trial = tpm.trial("A trial session, of SHA-1", bind=RH_LOCKOUT, algorithm=SHA1)
+for it in (locked, trial):
+    tpm.refused("Behind a password: AUTH_FAIL/s2", wrong(tpm.event(b"a", b"", it), 2))
+    tpm.refused("As the first entry: AUTH_FAIL/s1", wrong(tpm.random(1, it), 1))
+    tpm.accepted("A right one", tpm.random(1, it))
+tpm.refused(
+    "One that is bound to TPM_RH_OWNER, beside them: BAD_AUTH/s3",
+    wrong(tpm.random(1, locked, trial, first), 3),
+)
+script.write()

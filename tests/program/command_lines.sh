@@ -1,0 +1,87 @@
+# Which words make a command line: `run [--trace] SCRIPT`, where `-` is standard input, `asm LINE`,
+# whose line is one word, and `line HEX`. kept_scripts.sh has those of `run --image`. Help and the version are told on standard output. All others are
+# refused, though the files that they name are there and hold scripts.
+. "$(dirname "$0")/../common/cases.sh"
+
+# Each of the three scripts is answered in its own way.
+echo "$startup" >a
+echo "$startup" >b
+printf '%s\n%s\n' "$startup" "$startup" >./-
+for name in run --trace -x -h --help help; do
+    cp a "./$name"
+done
+
+# words WORDS..: a command line, while standard input has the empty command.
+words() {
+    echo cmd | run "tpmsim${*:+ $*}" "$@"
+}
+
+# A script in a file, though standard input holds another one.
+words run a
+words run ./-
+
+# Standard input, though there is a file of that name.
+words run -
+
+# No words, or no script.
+words
+words run
+
+# A script and something else.
+words run a b
+words run - a
+words run a -
+
+# The one option, before the script or behind it.
+words run --trace a
+words run a --trace
+words run --trace ./-
+words run --trace -
+
+# It alone, and before the command.
+words run --trace
+words --trace run a
+
+# A command in words; assemble.sh has more of them.
+run "tpmsim asm 'Startup 0'" asm 'Startup 0'
+run "tpmsim asm Bogus" asm Bogus
+run "tpmsim asm ''" asm ''
+
+# None, or more than one word.
+words asm
+run "tpmsim asm Startup 0" asm Startup 0
+run "tpmsim asm 'Startup 0' a" asm 'Startup 0' a
+run "tpmsim asm --trace 'Startup 0'" asm --trace 'Startup 0'
+run "tpmsim --trace asm 'Startup 0'" --trace asm 'Startup 0'
+
+# A buffer, whose line is printed; line.sh has more of them.
+words line 80010000000c000001440000
+words line 80010000000c00000144
+words line 8
+words line
+words line 80 01
+words line --trace 80010000000c000001440000
+
+# Other options; help and the version.
+words run -x
+words run -h
+words run --help
+words --trace
+words --help
+words -h
+words --version
+words -V
+
+# Other commands.
+words a
+words walk a
+words ru a
+words RUN a
+words help
+words help run
+words help line
+words version
+
+# A word that is not UTF-8.
+echo cmd | run 'tpmsim run \377' run "$(printf '\377')"
+run "tpmsim asm 'Startup \377'" asm "$(printf 'Startup \377')"

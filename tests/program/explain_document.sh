@@ -1,0 +1,8 @@
+# The lines of docs/EXPLAIN.md that are to be typed: each prints what stands below it there.
+tests=$(cd "$(dirname "$0")/.." && pwd -P)
+. "$tests/common/cases.sh"
+. "$tests/common/typed.sh"
+needs python3
+ln -s "$program" tpmsim
+ln -s "${tests%/*}/tools" tools
+type_lines "${tests%/*}/docs/EXPLAIN.md"

@@ -1,0 +1,67 @@
+# Scripts and streams that cannot be opened, read or written: status 3 and `tpmsim: file`.
+. "$(dirname "$0")/../common/cases.sh"
+
+echo "$startup" >script
+printf '%s\n%s' "$startup" "$startup" >without_line_break
+printf '%s\nbad\n' "$startup" >bad_second_line
+echo bad >bad_first_line
+: >empty
+mkdir a_folder
+
+# Files that are read: with a line break at the end, without one, and with nothing in them.
+run 'a script' run script
+run 'a script by its whole path' run "$room/folder/script"
+run 'a script without a line break at its end' run without_line_break
+run 'an empty script' run empty
+run 'an empty script on standard input' run - <empty
+
+# Files that are not.
+run 'a file that is not there' run missing
+run 'a folder that is not there' run missing/script
+run 'a folder in place of a script' run a_folder
+run 'a file in place of a folder' run script/script
+run 'a folder as standard input' run - <a_folder
+run 'standard input that is closed' run - <&-
+run 'standard input that is closed, and a script in a file' run script <&-
+
+# A reader that fails behind its first lines: this pipe never ends, and has no more to give.
+mkfifo pipe
+exec 3<>pipe
+printf '%s\ncmd\n# half a line' "$startup" >&3
+dd iflag=nonblock count=0 <&3 2>"$room/dd" || cat "$room/dd"
+run 'standard input that fails after two lines and a half' run - <&3
+exec 3<&-
+
+# unseen LABEL SCRIPT: a script whose responses go where the fourth file descriptor does.
+unseen() {
+    rm -f "$room/output"
+    status=0
+    timeout 60 "$program" run "$2" 2>"$room/error" >&4 4>&- || status=$?
+    report "$1" "$status"
+}
+
+# A full device: where responses are lost, the fault is that and not a bad line behind them.
+exec 4>/dev/full
+unseen 'a full device' script
+unseen 'a full device, and no response' empty
+unseen 'a full device, and a bad line behind a command' bad_second_line
+unseen 'a full device, and a bad line before any command' bad_first_line
+
+# A pipe that nobody reads.
+# shellcheck disable=SC2094 # it is a pipe
+exec 3<>pipe 4>pipe 3<&-
+unseen 'a pipe that nobody reads' script
+unseen 'a pipe that nobody reads, and no response' empty
+
+# Standard output that is closed.
+status=0
+timeout 60 "$program" run script 2>"$room/error" >&- || status=$?
+report 'standard output that is closed' "$status"
+
+# Standard error that cannot be written changes no status.
+rm "$room/error"
+for script in script bad_second_line missing; do
+    status=0
+    timeout 60 "$program" run "$script" >"$room/output" 2>/dev/full || status=$?
+    report "standard error on a full device, and $script" "$status"
+done

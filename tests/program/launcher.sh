@@ -1,0 +1,161 @@
+# The launcher: that it runs a proved program, and no other. It stands in a copy of the repository,
+# in a folder with a space in its path. The program of this test is shipped there, as one that was
+# proved; a stand-in for `rt` builds another, which says that it was built.
+tests=$(cd "$(dirname "$0")/.." && pwd -P)
+. "$tests/common/cases.sh"
+needs git
+[ "$(id -u)" -ne 0 ] || needs setpriv
+copy="$room/a copy"
+lib=$copy/crates/tpm_hex/src/lib.rt
+kept=$room/kept
+
+# What the scripts need of a machine, and no `rt`; and folders that are put before it on the path.
+mkdir "$room/tools" "$room/rt" "$room/failing" "$room/other_machine" "$room/no_checksum"
+for tool in awk cat chmod cmp cp dirname find git grep head mkdir mktemp mv readlink rm sed sh \
+    sha256sum sort tar touch uname wc xargs; do
+    ln -s "$(command -v "$tool")" "$room/tools/$tool"
+done
+cat >"$room/rt/rt" <<'END'
+#!/bin/sh
+case $1 in
+version) echo 'a kit' ;;
+ci)
+    mkdir -p crates/tpmsim/out
+    printf '#!/bin/sh\necho built here\n' >crates/tpmsim/out/tpmsim
+    chmod +x crates/tpmsim/out/tpmsim
+    ;;
+esac
+END
+printf '#!/bin/sh\necho another kit\n' >"$room/failing/rt"
+printf '#!/bin/sh\necho Linux aarch64\n' >"$room/other_machine/uname"
+printf '#!/bin/sh\nexit 1\n' >"$room/no_checksum/sha256sum"
+chmod +x "$room"/*/rt "$room/other_machine/uname" "$room/no_checksum/sha256sum"
+
+mkdir "$copy"
+(cd "$tests/.." && tar cf - --exclude=out tpmsim tools crates.txt HANDLES crates) |
+    (cd "$copy" && tar xf -)
+chmod -R a+rX "$room"
+
+# with FOLDER LABEL COMMAND..: runs a command with this folder before the path, or with none for -.
+with() {
+    path=$room/tools
+    [ "$1" = - ] || path=$room/$1:$path
+    label=$2
+    shift 2
+    status=0
+    echo 'do Startup 0' | PATH=$path "$@" >"$room/output" 2>"$room/told" || status=$?
+    sed "s|$room/||g" "$room/told" >"$room/error"
+    report "$label" "$status"
+}
+
+# start FOLDER LABEL: launches it so.
+start() {
+    with "$1" "$2" "$copy/tpmsim" run -
+}
+
+# ship PROGRAM: puts a program into dist/, as if it had been built.
+ship() {
+    mkdir -p "$copy/crates/tpmsim/out"
+    cp "$1" "$copy/crates/tpmsim/out/tpmsim"
+    touch "$copy/crates/tpmsim/out/tpmsim"
+    (PATH=$room/rt:$room/tools && "$copy/tools/dist.sh")
+    rm -r "$copy/crates/tpmsim/out"
+}
+
+# Puts a stand-in for the library into dist/, as if it had been built.
+ship_library() (
+    PATH=$room/rt:$room/tools
+    cd "$copy" || exit 1
+    . tools/proved.sh
+    mkdir library
+    for file in library/tpmsim.h library/tpmsim.pc "$archive" "$shared"; do
+        echo "a stand-in for $file" >"$file"
+    done
+    cp library/* dist/
+    {
+        echo "library sources: $(sources_checksum tpmsim_library)"
+        echo "library archive: $(checksum <"$archive")"
+        echo "library shared object: $(checksum <"$shared")"
+    } >>"$proved"
+)
+
+# changed FILE LABEL: starts it with a byte more in a file that keeps its time, and as it was again.
+changed() {
+    cp -p "$1" "$kept"
+    echo >>"$1"
+    touch -r "$kept" "$1"
+    start - "$2 is changed"
+    cp -p "$kept" "$1"
+    start - 'it is as it was'
+}
+
+start - 'nothing is shipped, and there is no rt'
+ship "$program"
+ship_library
+start - 'it is shipped'
+start no_checksum 'at the next start no checksum is computed'
+ln -s "$copy/tpmsim" "$room/link"
+with - 'by a link' "$room/link" run -
+(cd "$copy" && with - 'in its folder' sh tpmsim run -)
+
+# Another user, whose start leaves no stamp, as in a checkout that nobody can write to.
+rm -r "$copy/crates/tpmsim/out"
+chmod -R a-w "$copy"
+if [ "$(id -u)" -eq 0 ]; then
+    with - 'read-only' "$(command -v setpriv)" --reuid=65534 --regid=65534 --clear-groups \
+        "$copy/tpmsim" run -
+else
+    start - 'read-only'
+fi
+[ ! -e "$copy/crates/tpmsim/out" ] || echo 'it left a stamp'
+chmod -R u+w "$copy"
+
+changed "$copy/dist/tpmsim" 'the program'
+changed "$lib" 'a source'
+changed "$copy/crates.txt" 'crates.txt'
+changed "$copy/crates/tpm_tests/src/lib.rt" 'a crate that it does not stand on'
+
+# Old files and folders that are moved there.
+echo >"$room/more.rt"
+touch -t 200001010000 "$room/more.rt"
+mv "$room/more.rt" "${lib%/*}/more.rt"
+start - 'an old file more'
+rm "${lib%/*}/more.rt"
+cp -Rp "$copy/crates/tpm_hex" "$room/tpm_hex"
+echo >>"$room/tpm_hex/src/lib.rt"
+start - 'it is as it was'
+mv "$copy/crates/tpm_hex" "$kept.crate" && mv "$room/tpm_hex" "$copy/crates/tpm_hex"
+start - 'another crate of its name'
+rm -r "$copy/crates/tpm_hex" && mv "$kept.crate" "$copy/crates/tpm_hex"
+start - 'it is as it was'
+
+# Machines on which it does not run.
+start other_machine 'another machine'
+printf '#!/bin/sh\necho "no GLIBC_9.9"\nexit 1\n' >"$room/new"
+chmod +x "$room/new"
+ship "$room/new"
+start - 'a C library that is too old'
+
+# What is built here comes before what is shipped.
+ship "$program"
+start failing 'it is shipped, and rt can build nothing'
+with rt 'the build' "$copy/tools/build.sh"
+start - 'it is built'
+echo >>"$lib"
+start failing 'a source is newer, and rt can build nothing'
+start rt 'a source is newer, and rt can build it'
+start - 'it is built'
+
+# What the gate says of dist/.
+with rt 'the gate, with other sources' "$copy/tools/dist.sh" --check
+with rt 'made anew' "$copy/tools/dist.sh"
+with rt 'the gate' "$copy/tools/dist.sh" --check
+with failing 'the gate, with another kit' "$copy/tools/dist.sh" --check
+cp -p "$copy/dist/libtpmsim.a" "$kept"
+echo >>"$copy/dist/libtpmsim.a"
+with rt 'the gate, with another archive' "$copy/tools/dist.sh" --check
+cp -p "$kept" "$copy/dist/libtpmsim.a"
+echo >>"$copy/crates/tpmsim/out/tpmsim"
+with rt 'the gate, with other bytes' "$copy/tools/dist.sh" --check
+echo >>"$lib"
+with rt 'made anew, though a source is newer' "$copy/tools/dist.sh"

@@ -1,0 +1,83 @@
+# Each response comes before more of the script is read, so that whoever types or pipes a script
+# sees it before giving the next line.
+. "$(dirname "$0")/../common/cases.sh"
+
+# A program that ends early is no reason for this test to end.
+trap '' PIPE
+mkfifo lines responses
+
+# begin SCRIPT: starts the program, for at most twenty seconds. What is given to it goes into one
+# pipe, and its responses come out of another.
+begin() {
+    timeout 20 "$program" run "$1" <lines >responses 2>"$room/error" &
+    exec 3>lines 4<responses
+}
+
+# give TEXT: more of the script, as printf takes it.
+give() {
+    # shellcheck disable=SC2059 # it has escapes of printf
+    printf "$1" >&3
+}
+
+# answered LABEL: the next response.
+answered() {
+    IFS= read -r response <&4 || response='no response'
+    echo "$1: $response"
+}
+
+# ended LABEL: the rest of the responses, and how the program ended.
+ended() {
+    cat <&4 >"$room/output"
+    status=0
+    wait "$!" || status=$?
+    report "$1" "$status"
+    exec 3>&- 4<&-
+}
+
+# Line by line, from standard input.
+begin -
+give "$startup\n"
+answered 'a line'
+give '# nothing\n\nloc 1\nwait 1\nentropy 07\n'
+give "$startup\n"
+answered 'another one behind lines that print nothing'
+give 'cmd\ncmd 00c10000000a0000017b\n'
+answered 'the first of two lines'
+answered 'the second of them'
+give 'cmd\ncmd 80010000000c00'
+answered 'a line and a half'
+give '00017b0002\n'
+answered 'the rest of the second'
+give 'power\n'
+give 'cmd 80010000000c0000017b0002'
+exec 3>&-
+answered 'a line that the end ends'
+ended 'the end'
+
+# A byte at a time, up to the line break.
+begin -
+for byte in c m d ' ' 8 0 0 1 0 0 0 0 0 0 0 c 0 0 0 0 0 1 4 4 0 0 0 0 '\n'; do
+    give "$byte"
+done
+answered 'a line in pieces'
+exec 3>&-
+ended 'the end'
+
+# A bad line ends the program, though more could come.
+begin -
+give "$startup\n"
+answered 'a line'
+give 'cmd\nbad\ncmd\n'
+answered 'a line before a bad one'
+ended 'a bad line'
+
+# A script that is a pipe is no different.
+mkfifo script
+begin script
+exec 5>script
+printf '%s\n' "$startup" >&5
+answered 'a line of a pipe'
+printf '%s\n' "$startup" >&5
+answered 'another one'
+exec 5>&-
+ended 'the end'

@@ -1,0 +1,42 @@
+# The statements that docs/THEOREMS.md quotes stand in the code, under the files that it names; and
+# a quote that differs in a letter, names no file or is not there is told of.
+tests=$(cd "$(dirname "$0")/.." && pwd -P)
+. "$tests/common/cases.sh"
+needs python3
+top=${tests%/*}
+compare() {
+    python3 "$tests/common/quoted_theorems.py" "$@"
+    echo "status $?"
+}
+
+echo '== docs/THEOREMS.md'
+compare "$top/docs/THEOREMS.md" "$top"
+
+echo '== statements that differ'
+printf 'one\n    two three\nfour\n' >code.antt
+cat >page.md <<'END'
+### Found
+```
+code.antt
+one
+  two three
+```
+### Changed
+```
+code.antt
+two three
+fear
+```
+### No such file
+```
+none.antt
+one
+```
+### A part of a line
+```
+code.antt
+two
+```
+### Nothing
+END
+compare page.md .

@@ -1,0 +1,112 @@
+# Tests that cannot run: tools/scripts.sh skips them with their reasons, and .ci/run fails then.
+# Each stands in a copy of the repository, with other tests, and with stand-ins for what the gate
+# runs beside them.
+tests=$(cd "$(dirname "$0")/.." && pwd -P)
+. "$tests/common/cases.sh"
+copy=$room/copy
+mkdir -p "$copy/tools/lib" "$copy/tests" "$copy/.ci" "$copy/crates/tpmsim/out" \
+    "$copy/crates/tpmsim_lists/out"
+cp "$tests/../tools/scripts.sh" "$copy/tools"
+cp "$tests/../tools/lib/one_test.sh" "$copy/tools/lib"
+cp "$tests/../.ci/run" "$copy/.ci"
+for built in tpmsim/out/tpmsim tpmsim_lists/out/tpmsim_lists; do
+    ln -s "$program" "$copy/crates/$built"
+done
+
+# played LABEL NAME..: what is said of tests, but for what was not built.
+played() {
+    echo "$1:"
+    shift
+    status=0
+    "$copy/tools/scripts.sh" "$@" >"$room/output" 2>&1 || status=$?
+    sed '/is not there$/d; s/^/    /' "$room/output"
+    echo "    status $status"
+}
+
+# a_test NAME LINES: a test of these lines, which is to print `right`.
+a_test() {
+    echo "$2" >"$copy/tests/$1.sh"
+    echo right >"$copy/tests/$1.out"
+}
+a_test passes 'echo right'
+a_test cannot_run 'echo there is no moon; exit 77'
+a_test cannot_run_either 'echo right; exit 77'
+a_test lists_cannot_run 'echo there is no list; exit 77'
+a_test is_wrong 'echo wrong'
+a_test ends_otherwise 'echo right; exit 78'
+a_test gives_no_reason 'exit 77'
+a_test gives_an_empty_reason 'echo; exit 77'
+a_test goes_on 'echo right; echo there is no sun; exit 77'
+played 'a test that passes' passes
+played 'two tests that cannot run, and one that passes' cannot_run passes cannot_run_either
+played 'a test of the device in lists that cannot run' lists_cannot_run
+rm "$copy/crates/tpmsim_lists/out/tpmsim_lists"
+played 'that one, and another, where this device is not built' lists_cannot_run passes
+ln -s "$program" "$copy/crates/tpmsim_lists/out/tpmsim_lists"
+played 'tests that fail, and one that cannot run' is_wrong ends_otherwise gives_no_reason \
+    gives_an_empty_reason goes_on cannot_run
+
+# All that is on the path, but for one tool each time, and the tests that need it. Where the machine
+# itself has no such tool, one stands there in its place that does nothing.
+mkdir "$room/path"
+IFS=:
+for folder in $PATH; do
+    ln -s "$folder"/* "$room/path" 2>"$room/told"
+done
+unset IFS
+for tool in cc nm git python3 unshare; do
+    if [ ! -x "$room/path/$tool" ]; then
+        printf '#!/bin/sh\n' >"$room/path/$tool"
+        chmod +x "$room/path/$tool"
+    fi
+done
+rm -r "$copy/tests"
+ln -s "$tests" "$copy/tests"
+
+# without TOOL NAME..: what is said of tests where a tool is missing.
+without() {
+    missing=$1
+    shift
+    mv "$room/path/$missing" "$room/$missing"
+    # shellcheck disable=SC2123 # the tools are found there
+    (PATH=$room/path && played "without $missing" "$@")
+    mv "$room/$missing" "$room/path/$missing"
+}
+without cc starved torn torn_scripts lists_starved serve_moved_clock
+without nm starved torn torn_scripts lists_starved
+without python3 serve images front
+without unshare serve_full_disk
+
+# The gate. Its stand-ins end well, and tools/scripts.sh says what it is told.
+mkdir "$room/stubs"
+printf '#!/bin/sh\necho 3 passed, 0 failed\n' >"$room/stubs/rt"
+# shellcheck disable=SC2016 # the stand-in expands them
+printf '#!/bin/sh\necho "$SAID"; exit "$STATUS"\n' >"$copy/tools/scripts.sh"
+for stub in dist fuzz histories audits; do
+    printf '#!/bin/sh\n' >"$copy/tools/$stub.sh"
+done
+ln -s "$program" "$copy/crates/tpmsim/out/tpmsim.by-rattle"
+for crate in tpmsim tpmsim_lists; do
+    echo >"$copy/crates/$crate/stdin"
+    echo >"$copy/crates/$crate/stdout"
+done
+chmod +x "$room/stubs/rt" "$copy"/tools/*.sh
+
+# gate LABEL SAID STATUS: what the gate says of failures, where tools/scripts.sh says and ends so.
+gate() {
+    echo "$1:"
+    status=0
+    SAID=$2 STATUS=$3 "$copy/.ci/run" >"$room/output" 2>&1 || status=$?
+    sed -n '/^FAILED/p; /^there is no/p; $s/^[0-9]* passed/N passed/p' "$room/output" |
+        sed 's/^/    /'
+    echo "    status $status"
+}
+PATH=$room/stubs:$room/path
+gate 'the gate' '9 passed, 0 failed' 0
+gate 'two were skipped' '9 passed, 0 failed, 2 skipped' 0
+gate 'one failed, and two were skipped' '9 passed, 1 failed, 2 skipped' 1
+gate 'none was skipped, in these words' '9 passed, 0 failed, 0 skipped' 0
+gate 'no count' 'all is well' 0
+gate 'another status' '9 passed, 0 failed' 1
+rm "$room/path/cc"
+gate 'without cc' '9 passed, 0 failed, 5 skipped' 0

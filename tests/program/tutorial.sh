@@ -1,0 +1,8 @@
+# The lines of docs/TUTORIAL.md that are to be typed: each prints what stands below it there.
+tests=$(cd "$(dirname "$0")/.." && pwd -P)
+. "$tests/common/cases.sh"
+. "$tests/common/typed.sh"
+ln -s "$program" tpmsim
+ln -s "${tests%/*}/tools" tools
+ln -s "${tests%/*}/python" python
+type_lines "${tests%/*}/docs/TUTORIAL.md"

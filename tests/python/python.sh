@@ -1,0 +1,14 @@
+# The unit tests of the package under python/, which runs this program where it needs one.
+# tools/python_types.sh checks its types, and is no part of this, as that needs mypy.
+tests=$(cd "$(dirname "$0")/.." && pwd -P)
+. "$tests/common/cases.sh"
+needs python3
+
+status=0
+TPMSIM=$program python3 -W error::ResourceWarning -m unittest discover -s "${tests%/*}/python/tests" -t "${tests%/*}/python/tests" 2>"$room/error" || status=$?
+if [ "$status" -eq 0 ]; then
+    echo 'all unit tests pass'
+else
+    cat "$room/error"
+fi
+exit "$status"

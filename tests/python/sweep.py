@@ -1,0 +1,120 @@
+"""Audits what a program prints of scripts:
+
+    sweep.py PROGRAM COUNT [SEED]
+
+Of each script of tests/ and examples/, and of so many random ones, of which the first has this
+seed. Each random one is judged once more from the image of its device at a power cycle on, and once
+more with lines that are bent. A script that ends by a bad line is to be judged up to that line. It
+says which logs do not agree, leaves their scripts, and counts. The status is 1 where one does not.
+"""
+
+import pathlib
+import random
+import subprocess
+import sys
+import tempfile
+
+from tpmsim.audit import start
+from tpmsim.audit.auditor import Auditor
+from tpmsim.audit.log import Disagreement, Log
+from tpmsim.audit.report import report
+from tpmsim.model.image import image
+from tpmsim.model.player import Player
+from tests.common import places
+from tests.at_random.bent_script import bent_script
+from tests.at_random.random_script import Writer
+
+COMMANDS = 400
+
+
+def traced(program, path):
+    """What the program prints of a script, and what it says on standard error."""
+    ran = subprocess.run([program, "run", "--trace", path], capture_output=True, timeout=60)
+    return ran.stdout, ran.stderr.decode("ascii", "replace").strip()
+
+
+def wanted_of(error):
+    """The fault that is to be found where the program says so on standard error."""
+    line = error.removeprefix("tpmsim: script line ")
+    return f"script line {line} is no line of a script; up to it the log agrees" if error else None
+
+
+def from_image(script, output):
+    """What a script does from a power cycle on: the image of the device then, and the rest of the
+    script and of what was printed; or None where there is no power cycle.
+    """
+    lines = script.splitlines()
+    cycles = [at for at, line in enumerate(lines) if line == b"power"]
+    if not cycles:
+        return None
+    at, player, printed = cycles[len(cycles) // 2], Player(), 0
+    for line in lines[:at]:
+        printed += len(player.play(line))
+    told = f"loc {player.locality}\nentropy {player.random.hex()}\nwait {player.elapsed}\n"
+    rest = b"".join(line + b"\n" for line in lines[at + 1 :])
+    return image(player.device), told.encode() + rest, output.split(b"\n", printed + 1)[-1]
+
+
+class Sweep:
+    def __init__(self, program):
+        self.program, self.agree, self.differ, self.events = program, 0, 0, 0
+
+    def told(self):
+        return f"{self.agree} agree, {self.differ} differ; {self.events} events"
+
+    def judge(self, path, begin, script, output, wanted=None):
+        """Whether a log agrees, or is at fault as it is to be."""
+        auditor, fault = Auditor(begin, Log(output)), None
+        try:
+            auditor.read(script)
+        except Disagreement as found:
+            fault = str(found)
+        list(report(auditor))
+        self.events += auditor.counts.events
+        self.agree += fault == wanted
+        self.differ += fault != wanted
+        if fault != wanted:
+            print(f"DIFFERS: {path}, {begin.words}: {fault or 'all agrees'}", flush=True)
+        return fault == wanted
+
+    def judge_script(self, path):
+        output, error = traced(self.program, path)
+        return self.judge(path, start.new(), path.read_bytes(), output, wanted_of(error))
+
+    def judge_random(self, seed, folder):
+        writer = Writer(seed)
+        for _ in range(COMMANDS):
+            writer.step()
+        path, bent = folder / f"{seed}.tpm", folder / f"{seed}.bent.tpm"
+        path.write_text("\n".join(writer.lines) + "\n", "ascii")
+        bent.write_bytes(bent_script(random.Random(f"{seed} bent"), writer.lines)[0])
+        if self.judge_script(path) and self.judge_from_image(path):
+            path.unlink()
+        if self.judge_script(bent):
+            bent.unlink()
+
+    def judge_from_image(self, path):
+        script = path.read_bytes()
+        found = from_image(script, traced(self.program, path)[0])
+        if found is None:
+            return True
+        text, rest, output = found
+        return self.judge(path, start.of_image(text), rest, output)
+
+
+def main(program, count, seed="1"):
+    sweep = Sweep(program)
+    for path in places.scripts():
+        sweep.judge_script(path)
+    print(f"scripts of tests/ and examples/: {sweep.told()}", flush=True)
+    folder = pathlib.Path(tempfile.mkdtemp(prefix="audits."))
+    for number in range(int(seed), int(seed) + int(count)):
+        sweep.judge_random(number, folder)
+    if not any(folder.iterdir()):
+        folder.rmdir()
+    print(f"with {count} random ones: {sweep.told()}")
+    return 1 if sweep.differ else 0
+
+
+if __name__ == "__main__":
+    sys.exit(main(*sys.argv[1:]))

@@ -1,0 +1,142 @@
+"""Hashes of policies that are broken in one text each: a session comes to the digest of a policy
+that it does not meet, and the device and its history take it. The audit has to say so. By the last
+hash it meets the policy all the same.
+
+    weak_hashes.py FOLDER
+
+It prints what is told by each policy, and how tools/audit.py ends, of files in a folder. The status
+is 1 where a use that does not meet its policy is taken to meet it, or the other way round.
+"""
+
+import hashlib
+import pathlib
+import sys
+from contextlib import ExitStack
+from unittest import mock
+
+from tpmsim.audit import broken, start
+from tpmsim.audit.auditor import Auditor
+from tpmsim.audit.log import Log
+from tpmsim.model import player
+from tpmsim.policies import policy_texts, written
+from tpmsim.policies.policy_file import PolicyFile
+from tpmsim.standard import SHA1, SHA256, digest, policy
+from tests.python import cases
+
+# What TPM2_PolicyLocality of locality 0 is hashed by, behind the digest of a start.
+LOCALITY_0 = bytes.fromhex("0000016f01")
+AREA = "01000001 {:04x} 00080008 {:04x} {} 0008"
+
+# Two branches of a policy, by SHA-1, and the end of the first with the beginning of the next.
+UNSEAL = hashlib.sha1(bytes(20) + bytes.fromhex("0000016c0000015e")).digest()
+VALUE = hashlib.sha1(bytes(20) + bytes.fromhex("0000016b")).digest()
+MIDDLE = UNSEAL[10:] + VALUE[:10]
+
+# By SHA-256: the owner's secret and that of another hierarchy, before policyRef; and a command.
+OWNER = bytes(32) + bytes.fromhex("0000015140000001")
+PLATFORM = bytes(32) + bytes.fromhex("000001514000000c")
+WRITE = hashlib.sha256(bytes(32) + bytes.fromhex("0000016c00000137")).digest()
+
+
+def script(algorithm, auth_policy, *assertions):
+    """An index that its policy alone authorizes, and a use of it behind assertions."""
+    area = AREA.format(algorithm, len(auth_policy), auth_policy.hex()).replace(" ", "")
+    name = "sha1" if algorithm == SHA1 else "sha256"
+    return [
+        "do Startup 0",
+        f"do NV_DefineSpace OWNER pw:- - {area}",
+        f"do StartAuthSession NULL NULL {bytes(16).hex()} - 1 null {name}",
+        *(f"do {it}" for it in assertions),
+        f"do NV_Write 01000001 01000001 s:03000000:{bytes(16).hex()}:01:- 0000000000000001 0",
+    ]
+
+
+WEAK = (
+    (
+        "two texts have one hash",
+        {PLATFORM: hashlib.sha256(OWNER).digest()},
+        "PolicySecret OWNER -",
+        script(
+            SHA256,
+            hashlib.sha256(hashlib.sha256(OWNER).digest()).digest(),
+            "PolicySecret PLATFORM 03000000 pw:- - - - 0",
+        ),
+        False,
+    ),
+    (
+        "a text has a hash of zeros",
+        {bytes(32) + LOCALITY_0: bytes(32)},
+        "PolicyLocality 0\nPolicyCommandCode NV_Write",
+        script(SHA256, WRITE, "PolicyCommandCode 03000000 0x137"),
+        False,
+    ),
+    (
+        "a text has a hash that is astride two branches",
+        {bytes(20) + LOCALITY_0: MIDDLE},
+        "either\n    PolicyCommandCode Unseal\nor\n    PolicyAuthValue",
+        script(
+            SHA1,
+            hashlib.sha1(bytes(20) + bytes.fromhex("00000171") + UNSEAL + VALUE).digest(),
+            "PolicyLocality 03000000 0x1",
+            f"PolicyOR 03000000 {UNSEAL[:10].hex()}+{MIDDLE.hex()}+{VALUE[10:].hex()}",
+        ),
+        False,
+    ),
+    (
+        "two branches have one hash, and the second one is met",
+        {bytes(20) + LOCALITY_0: UNSEAL},
+        "either\n    PolicyCommandCode Unseal\nor\n    PolicyLocality 0",
+        script(
+            SHA1,
+            hashlib.sha1(bytes(20) + bytes.fromhex("00000171") + UNSEAL + UNSEAL).digest(),
+            "PolicyLocality 03000000 0x1",
+            f"PolicyOR 03000000 {UNSEAL.hex()}+{UNSEAL.hex()}",
+        ),
+        True,
+    ),
+)
+
+
+def weakly(other):
+    """Where policies are hashed, these texts have other hashes."""
+    stack = ExitStack()
+    weak = lambda algorithm, text: other.get(text) or digest(algorithm, text)
+    for module in (policy, policy_texts, broken, written):
+        stack.enter_context(mock.patch.object(module, "digest", weak))
+    return stack
+
+
+def judged(lines, text):
+    """The auditor of what the device prints of a script, by a policy, and what it prints."""
+    played = "\n".join(lines).encode()
+    printed, _ = player.played(played)
+    output = "".join(f"{it}\n" for _, it in printed).encode()
+    auditor = Auditor(start.new(), Log(output), [PolicyFile("policy", text.encode())])
+    auditor.read(played)
+    return auditor, output
+
+
+def ended(folder, lines, output, text):
+    """How the audit of these ends."""
+    files = [folder / it for it in ("script", "output", "policy")]
+    for file, data in zip(files, ("\n".join(lines).encode(), output, text.encode())):
+        file.write_bytes(data)
+    script_name, output_name, policy_name = map(str, files)
+    return cases.run("the audit", script_name, output_name, "--policy", policy_name)
+
+
+def main(folder):
+    missed = 0
+    for words, other, text, lines, is_met in WEAK:
+        honest, _ = judged(lines, text)
+        assert honest.counts.refused or honest.policies.faults(), words
+        with weakly(other):
+            auditor, output = judged(lines, text)
+            told = list(ended(pathlib.Path(folder), lines, output, text))
+        missed += auditor.counts.refused + (is_met == bool(auditor.policies.unmet()))
+        print(f"{words}:", *auditor.policies.report(), *told, sep="\n")
+    return 1 if missed else 0
+
+
+if __name__ == "__main__":
+    sys.exit(main(*sys.argv[1:]))

@@ -1,0 +1,181 @@
+"""Devices in Python that are wrong in one thing each, with a script that shows it: what such a
+device prints of the script is audited beside that same device, so that the history alone can find
+it.
+
+    wrong_devices.py
+
+It prints what is found of each, and status 1 where it finds nothing of one.
+"""
+
+import sys
+from dataclasses import replace
+from unittest import mock
+
+from tpmsim.audit import start
+from tpmsim.audit.auditor import Auditor
+from tpmsim.audit.log import Disagreement, Log
+from tpmsim.model import machine, player, policy_state
+from tpmsim.model.general import Refusal
+from tpmsim.model.machine import Model
+from tpmsim.model.protection import Lockout
+from tpmsim.standard import CC, frames, policy
+from tests.common import places
+
+check_use, accepts, nv_increment = policy_state.check_use, Model.accepts, Model.nv_increment
+restore_pcrs, start_session = Model.restore_pcrs, Model.start_auth_session
+
+
+def unless(refused):
+    """A policy's use that passes over one refusal."""
+
+    def checked(session, entity, use, place):
+        try:
+            check_use(session, entity, use, place)
+        except Refusal as refusal:
+            if refusal.name.partition("/")[0] != refused:
+                raise
+
+    return checked
+
+
+def any_cp_hash(session, entity, use, place):
+    """A policy's use for which it does not matter which cpHash is recorded."""
+    told = session.policy.cp_hash
+    return check_use(session, entity, replace(use, cp_hash=told or use.cp_hash), place)
+
+
+def written_or_not(session, entity, use, place):
+    """A policy's use for which it does not matter whether an index is written."""
+    return check_use(session, entity, replace(use, written=session.policy.nv_written), place)
+
+
+def takes_any_password(self, command, place, entry, handle):
+    is_password = entry.handle == frames.RS_PW or entry.demand == policy.PASSWORD
+    return is_password or accepts(self, command, place, entry, handle)
+
+
+def takes_no_hmac(self, command, place, entry, handle):
+    is_empty = entry.handle != frames.RS_PW and not entry.hmac
+    return is_empty or accepts(self, command, place, entry, handle)
+
+
+def keeps_policy(self, entry, handle):
+    if entry.handle != frames.RS_PW and not entry.attributes & frames.CONTINUE_SESSION:
+        del self.sessions[entry.handle]
+
+
+def restores_16_too(self):
+    restore_pcrs(self)
+    for bank in self.banks.values():
+        bank[16] = max(bank[:16])
+
+
+def counts_from_1(self, request):
+    if not self.indices[request.handles[1]].data:
+        self.largest_counter = 0
+    return nv_increment(self, request)
+
+
+def keeps_a_digest(self, request):
+    """A new session has the digest of one that lives."""
+    was = next((it.policy.digest for it in self.sessions.values()), None)
+    answer = start_session(self, request)
+    session = self.sessions[int.from_bytes(answer.handle, "big")]
+    session.policy.digest = was or session.policy.digest
+    return answer
+
+
+def in_rows(code, row):
+    """A command that does something else."""
+    return mock.patch.dict(machine.ROWS, {code: row})
+
+
+def in_device(name, method):
+    return mock.patch.object(Model, name, method)
+
+
+def in_policies(refused):
+    return mock.patch.object(policy_state, "check_use", unless(refused))
+
+
+def in_lockout(name, method):
+    return mock.patch.object(Lockout, name, method)
+
+
+WRONG = (
+    ("a trial session authorizes", "object_policies", in_policies("ATTRIBUTES")),
+    ("PCRs may change after TPM2_PolicyPCR", "callers_in_turn", in_policies("PCR_CHANGED")),
+    ("any command code will do", "nv_policies", in_policies("POLICY_CC")),
+    ("any locality will do", "object_policies", in_policies("LOCALITY")),
+    ("any digest will do", "object_policies", in_policies("POLICY_FAIL")),
+    (
+        "an index may be written or not",
+        "policy_nv_written",
+        mock.patch.object(policy_state, "check_use", written_or_not),
+    ),
+    (
+        "any cpHash will do",
+        "policy_cp_hash",
+        mock.patch.object(policy_state, "check_use", any_cp_hash),
+    ),
+    ("what has no policy is authorized by one", "clear", in_policies("AUTH_UNAVAILABLE")),
+    ("any password will do", "passwords", in_device("accepts", takes_any_password)),
+    ("an empty hmac will do", "hmac_sessions", in_device("accepts", takes_no_hmac)),
+    (
+        "a value authorizes what has no userWithAuth",
+        "nv_access",
+        in_device("takes_auth_value", lambda self, handle, code: True),
+    ),
+    (
+        "a session is bound whatever the value is",
+        "hmac_sessions",
+        in_device("is_bound", lambda self, session, handle: session.bind == self.name(handle)),
+    ),
+    (
+        "masks are made without the authorization value",
+        "xor_sessions",
+        in_device("encryption_key", lambda self, session, handle: session.key),
+    ),
+    (
+        "nonces stay",
+        "callers_in_turn",
+        in_device("draw_nonces", lambda self, command, random: None),
+    ),
+    ("a policy stays when it was used", "nv_policies", in_device("end_use", keeps_policy)),
+    (
+        "a session begins with a digest",
+        "policy_sessions",
+        in_rows(CC.StartAuthSession, keeps_a_digest),
+    ),
+    ("PCR 16 is saved too", "startup_state", in_device("restore_pcrs", restores_16_too)),
+    ("a counter begins at 1", "nv_counters", in_rows(CC.NV_Increment, counts_from_1)),
+    ("guesses are not counted", "lockout", in_lockout("count", lambda self, touched: None)),
+    ("guesses are no guesses", "lockout", in_device("touched", lambda self, entry, handle: None)),
+)
+
+
+def fault_of(name):
+    """What is found of a device as it is now, by the script of a name."""
+    script = places.script(name).read_bytes()
+    printed, _ = player.played(script)
+    auditor = Auditor(start.new(), Log("".join(f"{it}\n" for _, it in printed).encode()))
+    try:
+        auditor.read(script)
+    except Disagreement as fault:
+        return str(fault)
+    return None
+
+
+def main():
+    missed = 0
+    for words, name, patch in WRONG:
+        assert fault_of(name) is None
+        with patch:
+            fault = fault_of(name)
+        missed += fault is None
+        print(f"{words}, {name}.tpm: {fault or 'nothing is found'}")
+    return 1 if missed else 0
+
+
+if __name__ == "__main__":
+    sys.exit(main())

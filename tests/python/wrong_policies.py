@@ -1,0 +1,123 @@
+"""Devices in Python that are wrong in one thing each, whose logs are audited beside that same
+device, by policies in words:
+
+    wrong_policies.py POLICIES
+
+POLICIES is a folder, which has for each script a folder of its policies. Of each device it prints
+what the audit finds, and then each use that does not meet its policy where policies alone are
+judged. The status is 1 where one of the two is nothing.
+"""
+
+import pathlib
+import sys
+from contextlib import ExitStack
+from unittest import mock
+
+import wrong_devices as wrong  # it lets the parts of the device and of the audit be found
+
+from tpmsim.audit import start
+from tpmsim.audit.auditor import Auditor
+from tpmsim.audit.conditions import Finding
+from tpmsim.audit.ground import Grounds
+from tpmsim.audit.log import Disagreement, Log
+from tpmsim.audit.uses import Uses
+from tpmsim.model import player, policy_state
+from tpmsim.model.general import Answer
+from tpmsim.policies.policy_file import PolicyFile
+from tpmsim.standard import CC, policy
+
+LOST, WRITTEN = "lost_grounds", "written_policies"
+
+
+def or_of_any_digest(self, request):
+    """TPM2_PolicyOR for which the digest before it does not matter."""
+    branches = request.parameters.next().sized_list(policy.LEAST_BRANCHES, policy.MOST_BRANCHES)
+    session = self.sessions[request.handles[0]]
+    session.policy.digest = policy.after_or(session.algorithm, branches)
+    return Answer()
+
+
+def does_nothing(self, request):
+    return Answer()
+
+
+def in_policy(check):
+    return mock.patch.object(policy_state, "check_use", check)
+
+
+WRONG = (
+    ("PCRs may change after TPM2_PolicyPCR", LOST, wrong.in_policies("PCR_CHANGED")),
+    ("the same", WRITTEN, wrong.in_policies("PCR_CHANGED")),
+    ("any command code will do", LOST, wrong.in_policies("POLICY_CC")),
+    ("the same", WRITTEN, wrong.in_policies("POLICY_CC")),
+    ("any locality will do", LOST, wrong.in_policies("LOCALITY")),
+    ("the same", WRITTEN, wrong.in_policies("LOCALITY")),
+    ("an index may be written or not", LOST, in_policy(wrong.written_or_not)),
+    ("the same", WRITTEN, in_policy(wrong.written_or_not)),
+    ("any cpHash will do", WRITTEN, in_policy(wrong.any_cp_hash)),
+    ("a trial session authorizes", LOST, wrong.in_policies("ATTRIBUTES")),
+    ("any digest will do", LOST, wrong.in_policies("POLICY_FAIL")),
+    ("the same", WRITTEN, wrong.in_policies("POLICY_FAIL")),
+    ("any value will do", LOST, wrong.in_device("accepts", lambda *_: True)),
+    ("the same", WRITTEN, wrong.in_device("accepts", lambda *_: True)),
+    ("a policy stays when it was used", WRITTEN, wrong.in_device("end_use", wrong.keeps_policy)),
+    ("TPM2_PolicyRestart does nothing", WRITTEN, wrong.in_rows(CC.PolicyRestart, does_nothing)),
+    ("TPM2_PolicyOR takes any digests", WRITTEN, wrong.in_rows(CC.PolicyOR, or_of_any_digest)),
+)
+
+
+def policies_alone():
+    """Grounds are not judged, nor is the device compared with its history."""
+    stack = ExitStack()
+    ground = Finding(True, "it is not judged")
+    stack.enter_context(mock.patch.object(Grounds, "findings", lambda *_: [ground]))
+    stack.enter_context(mock.patch.object(Uses, "refuse", lambda *_: None))
+    stack.enter_context(mock.patch.object(Auditor, "follow", lambda *_: None))
+    return stack
+
+
+def printed(name):
+    """What a device as it is now prints of a script."""
+    return "".join(f"{it}\n" for _, it in player.played(script_of(name))[0]).encode()
+
+
+def script_of(name):
+    return wrong.places.script(name).read_bytes()
+
+
+def audited(name, output, files):
+    """The auditor of what is printed of a script, and what it finds."""
+    auditor = Auditor(start.new(), Log(output), files)
+    try:
+        auditor.read(script_of(name))
+    except Disagreement as fault:
+        return auditor, str(fault)
+    return auditor, None
+
+
+def files_of(folder):
+    return [PolicyFile(it.name, it.read_bytes()) for it in sorted(folder.iterdir())]
+
+
+def main(folder):
+    missed = 0
+    files = {it: files_of(pathlib.Path(folder) / it) for it in (LOST, WRITTEN)}
+    for name, given in files.items():
+        auditor, fault = audited(name, printed(name), given)
+        assert fault is None and not auditor.policies.faults(), name
+    for words, name, patch in WRONG:
+        with patch:
+            output = printed(name)
+            auditor, fault = audited(name, output, files[name])
+            with policies_alone():
+                alone, stopped = audited(name, output, files[name])
+        assert stopped is None, stopped
+        found = fault or next(iter(auditor.policies.unmet()), None)
+        missed += found is None or not alone.policies.unmet()
+        print(f"{words}, {name}.tpm: {found or 'nothing is found'}")
+        print(*(f"    {it}" for it in alone.policies.unmet()), sep="\n")
+    return 1 if missed else 0
+
+
+if __name__ == "__main__":
+    sys.exit(main(*sys.argv[1:]))

@@ -1,0 +1,15 @@
+# Scripts over the socket, each command in a connection of its own: a session, an object or a PCR of
+# one connection is there for the next, and the responses are those of the script.
+tests=$(cd "$(dirname "$0")/.." && pwd -P)
+. "$tests/common/cases.sh"
+. "$tests/common/served.sh"
+
+for test in objects/sealed_to_pcrs objects/object_sessions sessions/session_encryption; do
+    name=${test#*/}
+    rm -f image
+    count=$(python3 "$tests/common/replay.py" prepare "$program" "$tests/$test.tpm")
+    begin "$count"
+    python3 "$tests/common/replay.py" send socket >"$room/responses"
+    ended "$name"
+    head -n "$count" "$tests/$test.out" | cmp - "$room/responses"
+done

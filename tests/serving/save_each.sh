@@ -1,0 +1,25 @@
+# A device that is served with --save-each: what a client was answered is in the image, wherever the
+# program is killed, as common/save_each.py says by the device in Python. tools/kills.sh kills it more
+# often.
+tests=$(cd "$(dirname "$0")/.." && pwd -P)
+. "$tests/common/cases.sh"
+. "$tests/common/served.sh"
+
+python3 "$tests/common/save_each.py" "$program" 22
+
+# The option stands anywhere, and once. It has no value, and is one of serve alone.
+with='--socket socket --image image --entropy entropy --locality 0 --connections 0'
+echo 'do Startup 0' >script
+# shellcheck disable=SC2086 # they are words
+{
+    run 'in front' serve --save-each $with
+    run 'behind the others' serve $with --save-each
+    run 'between them' serve --locality 0 --save-each --connections 0 --socket socket \
+        --image image --entropy entropy
+    run 'twice' serve --save-each $with --save-each
+    run 'with a value' serve --save-each=yes $with
+    run 'with a value behind it' serve $with --save-each yes
+    run 'cut' serve --save $with
+    run 'in front of serve' --save-each serve $with
+}
+run 'an option of run' run --save-each --image image script

@@ -1,0 +1,88 @@
+# A device on a socket: how commands are cut from a stream, what stays between two runs, and how the
+# program ends.
+tests=$(cd "$(dirname "$0")/.." && pwd -P)
+. "$tests/common/cases.sh"
+. "$tests/common/served.sh"
+
+startup=$(words 'Startup 0')
+random=$(words 'GetRandom 4')
+change=$(words 'HierarchyChangeAuth OWNER pw:- 6f776e')
+
+# Commands as they come: all at once, byte by byte, and in pieces of three bytes.
+for size in 4096 1 3; do
+    rm -f image
+    begin 1
+    talk "a new device, pieces of $size" "$size" "$startup" "$random" "$random"
+    ended 'one connection'
+done
+
+# Ten commands before the first answer is read.
+rm -f image
+begin 1
+talk 'ten commands at once' 4096 "$startup" "$random" "$random" "$random" "$random" "$random" \
+    "$random" "$random" "$random" "$random"
+ended 'one connection'
+
+# A connection that ends within a command has it dropped; the device serves the next one. What the
+# first one did stays.
+rm -f image
+begin 3
+talk 'half a command' 4096 "$startup" 80010000
+talk 'nothing' 4096
+talk 'the next connection' 4096 "$startup" "$random"
+ended 'three connections'
+
+# Two connections at once, which take turns with each byte: the first is served to its end, and then
+# the second, each with the answers to its own commands.
+rm -f image
+begin 2
+echo 'two connections that take turns with each byte:'
+python3 "$tests/common/ends.py" turns socket "$startup" "$random" "$random" | sed 's/^/    /'
+ended 'two connections'
+
+# A size field of 9, or of 4,097, is answered, and ends the connection.
+rm -f image
+begin 2
+talk 'a size of 9' 4096 "$startup" 800100000009 "$random"
+talk 'a size of 4,097' 4096 800100001001 "$random"
+ended 'two connections'
+
+# What the device keeps without power is there in the next run: ownerAuth. A session would not be.
+rm -f image
+begin 1
+talk 'an authorization value' 4096 "$startup" "$change"
+ended 'one connection'
+begin 1
+talk 'it is asked for in the next run' 4096 "$startup" "$change" \
+    "$(words 'HierarchyChangeAuth OWNER pw:6f776e -')"
+ended 'one connection'
+
+# An unfinished image of a run that was killed is written anew.
+echo unfinished >image.new
+begin 1
+talk 'a new image left by a crash' 4096 "$startup"
+ended 'one connection'
+[ ! -e image.new ] || echo 'image.new is still there'
+
+# No connection: the socket is made and removed, and nothing is saved.
+rm -f image
+begin 0
+ended 'no connection'
+[ ! -e image ] || echo 'an image is there'
+
+# A socket that was left is replaced. One that is answered is not, nor is a file. Whoever finds out
+# whether it is answered is one of its connections.
+begin 2
+until [ -S socket ]; do sleep 0.01; done
+run 'a socket that is answered' serve --socket socket --image other --entropy entropy \
+    --locality 0 --connections 1
+talk 'the device of that socket' 4096 "$startup"
+wait "$!"
+python3 -c "import socket; socket.socket(socket.AF_UNIX).bind('socket')"
+begin 1
+talk 'a socket that was left' 4096 "$startup"
+ended 'one connection'
+echo file >socket
+begin 1
+ended 'a file in place of a socket'
+rm -f socket

@@ -1,0 +1,52 @@
+# Clients that break off, clients that keep the device from others, and one that goes on for long.
+# Connections are served one after another, each to its end.
+tests=$(cd "$(dirname "$0")/.." && pwd -P)
+. "$tests/common/cases.sh"
+. "$tests/common/served.sh"
+
+startup=$(words 'Startup 0')
+random=$(words 'GetRandom 4')
+rm -f entropy
+ln -s /dev/zero entropy
+
+# client_of KIND HEX: one of the clients in common/clients.py. The long one is told how long it is to
+# be before that.
+client_of() {
+    python3 "$tests/common/clients.py" "$1" socket "$2" ${3:+"$3"} | sed 's/^/    /'
+}
+
+# Clients that close at once: having sent nothing, a tag, a header, and a command but for its last
+# byte. Nothing of that is done, so that a Startup behind them succeeds. Then one that has sent a
+# whole command, which is done though nobody reads the response.
+rm -f image
+begin 6
+client_of close ''
+client_of close 8001
+client_of close 80010000000c00000144
+client_of close "${startup%00}"
+talk 'behind four clients that sent no whole command' 4096 "$startup"
+client_of close "$(words 'HierarchyChangeAuth OWNER pw:- 6f776e')"
+ended 'six connections'
+begin 1
+talk 'one that did, and read no response, has changed ownerAuth' 4096 "$startup" \
+    "$(words 'HierarchyChangeAuth OWNER pw:6f776e -')"
+ended 'one connection'
+
+# A client that does nothing, or does not read its responses, keeps the device until it closes.
+for kind in idle unread; do
+    rm -f image
+    begin 2
+    echo "a client beside another one, which is $kind:"
+    client_of "$kind" "$startup"
+    ended 'two connections'
+done
+
+# Five million bytes of commands, which are answered while they are sent.
+rm -f image
+begin 3
+talk 'an NV index' 4096 "$startup" \
+    "$(words 'NV_DefineSpace OWNER pw:- - 01000001000b0002000200000400')"
+echo 'five million bytes:'
+client_of long 5 "$(words "NV_Write OWNER 01000001 pw:- $(printf '%02048d' 7) 0")"
+talk 'what was written at last' 4096 "$(words 'NV_Read OWNER 01000001 pw:- 4 1020')" "$random"
+ended 'three connections'

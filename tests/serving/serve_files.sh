@@ -1,0 +1,100 @@
+# The files of a served device that are links, are removed or replaced while it is served, or end.
+tests=$(cd "$(dirname "$0")/.." && pwd -P)
+. "$tests/common/cases.sh"
+. "$tests/common/served.sh"
+
+startup=$(words 'Startup 0')
+change=$(words 'HierarchyChangeAuth OWNER pw:- 6f776e')
+back=$(words 'HierarchyChangeAuth OWNER pw:6f776e -')
+
+# tried LABEL IMAGE: a run with this image and without a connection.
+tried() {
+    run "$1" serve --socket socket --image "$2" --entropy entropy --locality 0 --connections 0
+}
+
+# An image that is a link is read where the link leads to. A new file takes the place of the link;
+# what it led to stays as it was.
+begin 1
+talk 'an authorization value' 4096 "$startup" "$change"
+ended 'one connection'
+mv image target
+cp target kept
+ln -s target link
+image='link'
+begin 1
+talk 'a link to the image: the value is asked for' 4096 "$startup" "$change" "$back"
+ended 'one connection'
+echo "the link is a $(stat -c %F link)"
+cmp target kept && echo 'what it led to is as it was'
+rm link
+ln -s nowhere link
+begin 1
+talk 'a link to nowhere: a new device' 4096 "$startup" "$change"
+ended 'one connection'
+echo "the link is a $(stat -c %F link)"
+[ ! -e nowhere ] || echo 'nowhere is there'
+image=
+mkdir folder
+ln -s folder leads_to_folder
+ln -s itself itself
+tried 'a link to a folder' leads_to_folder
+tried 'a link to itself' itself
+
+# meanwhile LABEL LINE: a connection during which the shell's line is done.
+meanwhile() {
+    begin 1
+    echo "$1:"
+    python3 "$tests/common/clients.py" during socket "$startup" "$2" | sed 's/^/    /'
+    ended 'one connection'
+}
+
+# The image while the device is served. One that was removed is made again. Where it cannot be, the
+# program says so.
+cp kept image
+meanwhile 'the image is removed' 'rm image'
+[ ! -f image ] || echo 'the image is there again'
+meanwhile 'a folder takes the place of the image' 'rm image; mkdir image'
+rmdir image
+mkdir state
+image=state/image
+meanwhile 'the folder of the image is removed' 'rm -r state'
+[ ! -e state ] || echo 'the folder is there again'
+image=
+
+# The socket while the device is served. Whoever has connected is served, also the client that waits.
+# A folder that has taken the path stays there behind the run.
+for kind in removed folder; do
+    rm -f image
+    begin 2
+    echo "two clients, and their socket's path: $kind"
+    python3 "$tests/common/clients.py" "$kind" socket "$startup" | sed 's/^/    /'
+    ended 'two connections'
+done
+rmdir socket
+
+# A file takes the path of the socket, or another run's socket does: it stays there.
+rm -f image
+meanwhile 'a file takes the place of the socket' 'rm socket; echo taken >socket'
+cat socket
+rm -f socket image
+meanwhile 'another run takes the place of the socket' "rm socket
+    '$program' serve --socket socket --image image2 --entropy entropy --locality 0 \
+        --connections 1 >'$room/others' 2>&1 & until [ -S socket ]; do sleep 0.01; done"
+talk 'that run is answered' 4096 "$startup"
+until [ ! -e socket ]; do sleep 0.01; done
+cat "$room/others"
+echo 'it has removed its socket'
+
+# Random bytes for the manufacture, two commands, and a part of a third: they end in the second
+# connection, and what was done until then is saved.
+mv entropy enough
+head -c 868 enough >entropy
+rm -f image
+begin 3
+talk 'random bytes for the first connection' 4096 "$startup"
+talk 'and for one command of the second' 4096 "$change" "$back"
+ended 'three connections'
+mv enough entropy
+begin 1
+talk 'what that command did was saved' 4096 "$startup" "$back"
+ended 'one connection'

@@ -1,0 +1,459 @@
+"""Writes grounds.tpm: each ground on which an entity is authorized, and one use of it."""
+
+from dataclasses import dataclass
+from typing import Callable
+
+from tpmsim.caller import BY_OWNER, BY_PLATFORM, BY_POLICY, HERE, Use, sealed
+from tpmsim.standard import CC, RH_ENDORSEMENT, RH_LOCKOUT, RH_NULL, RH_OWNER, RH_PLATFORM, SHA1
+from tpmsim.standard import SHA256, name_of, policy
+from tpmsim.standard.nv import Attribute
+from tpmsim.standard.objects import Attribute as ObjectAttribute
+from tpmsim.standard.policy import AUTH_VALUE, PASSWORD
+from tests.sessions.grounds_caller import (
+    AFTER_AUTH_VALUE,
+    AFTER_LOCALITY_1,
+    AFTER_PCR_16,
+    AT_LOCALITY_1,
+    DATA,
+)
+from tests.sessions.grounds_caller import (
+    OWNER,
+    PCR_16,
+    PIN,
+    SECRET,
+    ZEROS,
+    GroundsCaller,
+    after_code,
+)
+from tests.sessions.grounds_caller import after_equal_data, after_secret
+from tpmsim.caller.script import Script
+
+USER = ObjectAttribute.USER_WITH_AUTH
+ENDS = 0x00
+KEPT = 0x8100_0001
+REF = b"disk"
+HIERARCHIES = {
+    RH_OWNER: ("The owner", OWNER),
+    RH_ENDORSEMENT: ("The endorsement hierarchy", b"endorsement"),
+    RH_PLATFORM: ("The platform", b"platform"),
+    RH_LOCKOUT: ("TPM_RH_LOCKOUT", b"lockout"),
+}
+
+script = Script(
+    "tests/sessions/grounds.tpm",
+    "By what an entity may be authorized: each ground once, and accepted. The same grounds are "
+    "lost in tests/sessions/lost_grounds.tpm. A ground is a password, the hmac of an HMAC session, "
+    "or a "
+    "policy session whose policy holds.",
+)
+tpm = GroundsCaller(script)
+
+
+# Authorization values: by a password, and in the key of an HMAC session.
+
+
+@dataclass(frozen=True)
+class Entity:
+    """What its value authorizes: its handle, a command for it, and how an entry does it."""
+
+    words: str
+    handle: int
+    command: str
+    prepare: Callable
+
+    @property
+    def value(self):
+        return tpm.auth_value(self.handle)
+
+
+def hierarchy(handle):
+    name, value = HIERARCHIES[handle]
+    return Entity(
+        name, handle, "TPM2_HierarchyChangeAuth", lambda by: tpm.change_auth(handle, value, by)
+    )
+
+
+def entities():
+    """All kinds of entities that have an authorization value."""
+    script.chapter('The entities of this script. The value of objects and indices is "pin".')
+    for handle, (name, value) in HIERARCHIES.items():
+        what = f'{name}, whose value is empty at first, and "{value.decode("ascii")}" from here on'
+        tpm.does(what, tpm.change_auth(handle, value, b""))
+    loaded = tpm.sealed_object("An object with userWithAuth", attributes=HERE | USER, by=RH_OWNER)
+    tpm.keep("A persistent copy of it", RH_OWNER, loaded, KEPT)
+    to_write = tpm.index("An index with AUTHWRITE", Attribute.AUTHWRITE | Attribute.OWNERREAD)
+    tpm.does("It is written", tpm.writing(to_write, DATA))
+    to_read = tpm.written_index(
+        "One with AUTHREAD, which the owner writes", Attribute.AUTHREAD | Attribute.OWNERWRITE
+    )
+    of_owner = tpm.written_index("One with OWNERWRITE and OWNERREAD", BY_OWNER)
+    of_platform = tpm.index("One with PPWRITE and PPREAD", BY_PLATFORM)
+    tpm.does("It is written", tpm.writing(of_platform, DATA, by=RH_PLATFORM))
+
+    def writes(words, asker, index):
+        use = lambda by: tpm.writing(index, DATA, by, by=asker)
+        return Entity(words, asker, "TPM2_NV_Write", use)
+
+    def reads(words, asker, index):
+        use = lambda by: tpm.reading(index, len(DATA), by, by=asker)
+        return Entity(words, asker, "TPM2_NV_Read", use)
+
+    def unseals(words, handle):
+        return Entity(words, handle, "TPM2_Unseal", lambda by: tpm.unsealing(handle, by))
+
+    return (
+        *map(hierarchy, HIERARCHIES),
+        unseals("The object", loaded),
+        unseals("The persistent object", KEPT),
+        writes("The index with AUTHWRITE", to_write, to_write),
+        reads("The index with AUTHREAD", to_read, to_read),
+        writes("The owner, for an index with OWNERWRITE", RH_OWNER, of_owner),
+        reads("The owner, for an index with OWNERREAD", RH_OWNER, of_owner),
+        writes("The platform, for an index with PPWRITE", RH_PLATFORM, of_platform),
+        reads("The platform, for an index with PPREAD", RH_PLATFORM, of_platform),
+    )
+
+
+def at_null(*uses):
+    """The null hierarchy has no other use of its value, which is empty."""
+    return tpm.primary(RH_NULL, sealed(), *uses, data=SECRET)
+
+
+def by_passwords(found):
+    script.chapter("PASSWORDS. The password is the authorization value of the entity.")
+    for entity in found:
+        tpm.does(f"{entity.words}: {entity.command}", entity.prepare(entity.value))
+    tpm.does("A PCR, whose value is always empty: TPM2_PCR_Reset", tpm.reset(b""))
+    tpm.flushed_new("TPM_RH_NULL, whose is too: TPM2_CreatePrimary", at_null(b""))
+    for entity in found[:8]:
+        what = "With zeros behind the value, which do not count" if entity is found[0] else ""
+        tpm.does(what, entity.prepare(entity.value + bytes(2)))
+    tpm.does("And where it is empty", tpm.reset(bytes(32)))
+
+
+def by_hmac_sessions(found):
+    script.chapter(
+        "HMAC SESSIONS. The key of the hmac is the session key, which an unbound session has not, "
+        "and the value of the entity; but where the session is bound to that very entity its value "
+        "is left out."
+    )
+    unbound = tpm.start("A session bound to nothing")
+    other = tpm.start("One bound to PCR 16", 16)
+    for entity in found:
+        script.chapter(f"{entity.words}: {entity.command}.")
+        tpm.does("Bound to nothing: the key is the value", entity.prepare(unbound))
+        tpm.does("Bound to another: the key is both", entity.prepare(other))
+        bound = tpm.start("A session bound to the entity", entity.handle)
+        tpm.does("The key is the session key|and it ends", entity.prepare(Use(bound, ENDS)))
+
+    loaded, kept = found[4:6]
+    script.chapter("A session is bound by the Name, so that it may be a copy that is authorized.")
+    bound = tpm.start("A session of SHA-1, bound to the object", loaded.handle, SHA1)
+    tpm.does("TPM2_Unseal of the object, whose nameAlg is SHA-256", loaded.prepare(bound))
+    tpm.does("Of the persistent object, and the key is the session key", kept.prepare(bound))
+    tpm.flushed(bound)
+
+    script.chapter("Key and hmac are both empty: a session bound to nothing, and an empty value.")
+    openly = tpm.sealed_object(
+        "An object with userWithAuth, whose value is empty", attributes=HERE | USER, value=b""
+    )
+    tpm.does("A PCR: TPM2_PCR_Reset", tpm.reset(unbound))
+    tpm.flushed_new("TPM_RH_NULL: TPM2_CreatePrimary", at_null(unbound))
+    tpm.unseal("The object: TPM2_Unseal", openly, SECRET, unbound)
+    shown = Use(unbound, shows_empty_key=True)
+    tpm.unseal("Or it is the hmac of the empty key", openly, SECRET, shown)
+    tpm.unseal("A session that has a key shows it", openly, SECRET, other)
+    tpm.flushed(openly, unbound, other)
+
+
+# Policies.
+
+
+@dataclass(frozen=True)
+class Condition:
+    """What a policy asks for: its digest; what a session is told before it authorizes a command,
+    as assertions and the words of them; and what is demanded, and from where the command comes.
+    """
+
+    words: str
+    auth_policy: bytes
+    told: str
+    assertions: Callable
+    demand: str = None
+    locality: int = 0
+
+
+def uses_of(handle, index):
+    """A command on an object that a policy authorizes, and two on an index."""
+    return (
+        ("TPM2_Unseal", lambda by: tpm.unsealing(handle, by)),
+        ("TPM2_NV_Write by POLICYWRITE", lambda by: tpm.writing(index, DATA, by)),
+        ("TPM2_NV_Read by POLICYREAD", lambda by: tpm.reading(index, len(DATA), by)),
+    )
+
+
+def with_policy(auth_policy):
+    """A sealed object and an index that this policy alone authorizes."""
+    handle = tpm.sealed_object("An object and an index with this policy", auth_policy)
+    return handle, tpm.index("", BY_POLICY, auth_policy)
+
+
+def in_turn(session, condition):
+    """An object and an index are authorized under a condition."""
+    script.chapter(condition.words)
+    handle, index = with_policy(condition.auth_policy)
+    if condition.locality:
+        script.locality_is(condition.locality)
+    for name, prepare in uses_of(handle, index):
+        prepared = prepare(Use(session, demand=condition.demand))
+        tpm.asserts(f"{condition.told}, and {name}", *condition.assertions(session, prepared))
+        tpm.does("", prepared)
+    if condition.locality:
+        script.locality_is(0)
+    tpm.flushed(handle)
+
+
+def demanding_nothing(session, bound):
+    script.chapter(
+        "Nothing is demanded: the key of the hmac is the session key alone. Here the policy has no "
+        "assertion either: authPolicy is the digest that a session starts with, 32 zeros."
+    )
+    handle, index = with_policy(ZEROS)
+    for name, prepare in uses_of(handle, index):
+        tpm.does(f"{name}: key and hmac are both empty", prepare(session))
+        shown = Use(session, shows_empty_key=True)
+        tpm.does("Or it is the hmac of the empty key", prepare(shown))
+        tpm.does("Or by the session that has a key", prepare(bound))
+    tpm.flushed(handle)
+    both = tpm.sealed_object("An object with userWithAuth and this policy", ZEROS, HERE | USER)
+    tpm.unseal("TPM2_Unseal by the policy", both, SECRET, session)
+    tpm.unseal("And by the password", both, SECRET, PIN)
+    tpm.flushed(both)
+
+
+def demanding_the_value(bound):
+    script.chapter("What is demanded, with other keys and other values.")
+    handle = tpm.sealed_object("An object whose policy is either of the two", AFTER_AUTH_VALUE)
+    tpm.asserts_value(bound)
+    demanded = Use(bound, demand=AUTH_VALUE)
+    tpm.unseal("TPM2_Unseal: the key is the session key and the value", handle, SECRET, demanded)
+    tpm.asserts_password(bound)
+    demanded = Use(bound, demand=PASSWORD)
+    tpm.unseal("TPM2_Unseal by the value, and by no key", handle, SECRET, demanded)
+    to_it = tpm.policy("A policy session bound to the object", bind=handle)
+    tpm.asserts_value(to_it)
+    tpm.unseal(
+        "TPM2_Unseal: here the value is in the key all the same",
+        handle,
+        SECRET,
+        Use(to_it, demand=AUTH_VALUE),
+    )
+    tpm.flushed(to_it, handle)
+    openly = tpm.sealed_object(
+        "An object with this policy, whose value is empty", AFTER_AUTH_VALUE, value=b""
+    )
+    unbound = tpm.policy("A policy session bound to nothing")
+    for told, demand in ((tpm.asserts_value, AUTH_VALUE), (tpm.asserts_password, PASSWORD)):
+        told(unbound)
+        tpm.unseal("TPM2_Unseal by an empty hmac", openly, SECRET, Use(unbound, demand=demand))
+    tpm.flushed(unbound, openly)
+
+
+def command_codes(session):
+    script.chapter(
+        "TPM2_PolicyCommandCode: the command is the one that is recorded. So an object and two "
+        "indices have each a policy of their own. All three are in the USER role."
+    )
+    handle = tpm.sealed_object("An object for TPM2_Unseal", after_code(CC.Unseal))
+    written = tpm.index(
+        "An index for TPM2_NV_Write",
+        Attribute.POLICYWRITE | Attribute.OWNERREAD,
+        after_code(CC.NV_Write),
+    )
+    read = tpm.written_index(
+        "One for TPM2_NV_Read, which the owner writes",
+        Attribute.POLICYREAD | Attribute.OWNERWRITE,
+        after_code(CC.NV_Read),
+    )
+    for name, code, prepared in (
+        ("TPM2_Unseal", CC.Unseal, lambda: tpm.unsealing(handle, session)),
+        ("TPM2_NV_Write", CC.NV_Write, lambda: tpm.writing(written, DATA, session)),
+        ("TPM2_NV_Read", CC.NV_Read, lambda: tpm.reading(read, len(DATA), session)),
+    ):
+        tpm.asserts_code(session, code, name)
+        tpm.does(name, prepared())
+    tpm.flushed(handle)
+
+
+def admin_role(session):
+    script.chapter(
+        "The ADMIN role, in which TPM2_NV_ChangeAuth alone authorizes: the command is recorded. No "
+        "attribute of the index is asked for."
+    )
+    code, name = CC.NV_ChangeAuth, "TPM2_NV_ChangeAuth"
+    recorded = after_code(code)
+    index = tpm.index("An index whose policy is that command", BY_OWNER, recorded)
+    tpm.asserts_code(session, code, name)
+    tpm.does(name, tpm.changing_auth(index, b"new", session))
+    index = tpm.index(
+        "One whose policy has TPM2_PolicyAuthValue or TPM2_PolicyPassword behind it",
+        BY_OWNER,
+        policy.after_auth_value(SHA256, recorded),
+    )
+    tpm.asserts_code(session, code, name)
+    tpm.asserts_value(session)
+    tpm.does(
+        f"{name} by the value, and its answer is by the new one",
+        tpm.changing_auth(index, b"new", Use(session, demand=AUTH_VALUE)),
+    )
+    tpm.asserts_code(session, code, name)
+    tpm.asserts_password(session)
+    tpm.does(f"{name} by it", tpm.changing_auth(index, PIN, Use(session, demand=PASSWORD)))
+
+
+def conditions():
+    """In the order of docs/table/policies.md."""
+    branches = AFTER_PCR_16, AFTER_AUTH_VALUE
+    either = policy.after_or(SHA256, branches)
+    one_to_three, three_or_four = 0b01110, 0b11000
+    at_three = policy.after_locality(
+        SHA256, policy.after_locality(SHA256, ZEROS, one_to_three), three_or_four
+    )
+    compared = tpm.written_index("An index that TPM2_PolicyNV looks at", BY_OWNER)
+
+    def pcrs(session, _):
+        return [tpm.pcrs(session, PCR_16)]
+
+    def value(session, _):
+        return [tpm.auth_value_told(session)]
+
+    def or_behind(first):
+        return lambda session, prepared: [
+            *first(session, prepared),
+            tpm.branches(session, *branches),
+        ]
+
+    def secret_of(handle, uses_cp_hash=False, **parameters):
+        def told(session, prepared):
+            cp_hash = tpm.cp_hash(prepared) if uses_cp_hash else b""
+            value = tpm.auth_value(handle)
+            return [tpm.secret(session, value, of=handle, cp_hash=cp_hash, **parameters)]
+
+        return told
+
+    return (
+        Condition(
+            "TPM2_PolicyPCR: no PCR has changed between the assertion and the command.",
+            AFTER_PCR_16,
+            "TPM2_PolicyPCR of PCR 16",
+            pcrs,
+        ),
+        Condition(
+            "TPM2_PolicyOR of two branches. The first one: PCR 16 is as it was.",
+            either,
+            "TPM2_PolicyPCR of PCR 16, TPM2_PolicyOR",
+            or_behind(pcrs),
+        ),
+        Condition(
+            "TPM2_PolicyOR of the same branches. The second one: the value is known.",
+            either,
+            "TPM2_PolicyAuthValue, TPM2_PolicyOR",
+            or_behind(value),
+            AUTH_VALUE,
+        ),
+        Condition(
+            "TPM2_PolicyAuthValue: the value of the entity is in the key of the hmac.",
+            AFTER_AUTH_VALUE,
+            "TPM2_PolicyAuthValue",
+            value,
+            AUTH_VALUE,
+        ),
+        Condition(
+            "TPM2_PolicyPassword: the hmac is the value of the entity in plain.",
+            AFTER_AUTH_VALUE,
+            "TPM2_PolicyPassword",
+            lambda session, _: [tpm.password_told(session)],
+            PASSWORD,
+        ),
+        Condition(
+            "TPM2_PolicyLocality: the command comes from locality 1.",
+            AFTER_LOCALITY_1,
+            "TPM2_PolicyLocality of 1",
+            lambda session, _: [tpm.locality(session, AT_LOCALITY_1)],
+            locality=1,
+        ),
+        Condition(
+            "TPM2_PolicyLocality twice: the command comes from what both have, locality 3.",
+            at_three,
+            "TPM2_PolicyLocality of 1 to 3, of 3 and 4",
+            lambda session, _: [tpm.locality(session, it) for it in (one_to_three, three_or_four)],
+            locality=3,
+        ),
+        Condition(
+            "TPM2_PolicySecret of the owner, with a policyRef: its value was known.",
+            after_secret(name_of(RH_OWNER), REF),
+            "TPM2_PolicySecret",
+            secret_of(RH_OWNER, policy_ref=REF),
+        ),
+        Condition(
+            "TPM2_PolicySecret of the persistent object. It records a cpHash: the command has just "
+            "this one.",
+            after_secret(tpm.name(KEPT)),
+            "TPM2_PolicySecret with the cpHash of the command",
+            secret_of(KEPT, uses_cp_hash=True),
+        ),
+        Condition(
+            "TPM2_PolicyNV: an index held what it was compared with.",
+            after_equal_data(tpm.name(compared)),
+            "TPM2_PolicyNV",
+            lambda session, _: [tpm.comparing(session, compared, DATA, by=RH_OWNER)],
+        ),
+    )
+
+
+def all_at_once(session):
+    script.chapter("All at once: a PCR, a locality, a command, a cpHash and the value.")
+    auth_policy = AFTER_PCR_16
+    auth_policy = policy.after_locality(SHA256, auth_policy, AT_LOCALITY_1)
+    auth_policy = policy.after_command_code(SHA256, auth_policy, CC.NV_Write)
+    auth_policy = policy.after_secret(SHA256, auth_policy, name_of(RH_OWNER), b"")
+    auth_policy = policy.after_auth_value(SHA256, auth_policy)
+    index = tpm.index("An index with this policy", BY_POLICY, auth_policy)
+    prepared = tpm.writing(index, DATA, Use(session, demand=AUTH_VALUE))
+    script.locality_is(1)
+    tpm.asserts(
+        "What the policy says, in its order",
+        tpm.pcrs(session, PCR_16),
+        tpm.locality(session, AT_LOCALITY_1),
+        tpm.command_code(session, CC.NV_Write),
+        tpm.secret(session, OWNER, of=RH_OWNER, cp_hash=tpm.cp_hash(prepared)),
+        tpm.auth_value_told(session),
+    )
+    tpm.does("TPM2_NV_Write", prepared)
+    script.locality_is(0)
+
+
+def by_policy_sessions():
+    script.chapter(
+        "POLICY SESSIONS, on objects and NV indices: nothing else has a policy. The session is no "
+        "trial session, its hash is the nameAlg of the entity, and its policy digest the "
+        "authPolicy. What it was told holds as the command comes, and counts for one command."
+    )
+    session = tpm.policy("A policy session, which is bound to nothing and so has no key")
+    bound = tpm.policy("One bound to the owner, which has a key", bind=RH_OWNER)
+    demanding_nothing(session, bound)
+    for condition in conditions():
+        in_turn(session, condition)
+    demanding_the_value(bound)
+    command_codes(session)
+    admin_role(session)
+    all_at_once(session)
+    tpm.flushed(session, bound)
+
+
+script.startup()
+found = entities()
+by_passwords(found)
+by_hmac_sessions(found)
+by_policy_sessions()
+script.write()

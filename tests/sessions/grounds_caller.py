@@ -1,0 +1,113 @@
+"""A caller of what grounds.py, lost_grounds.py and replays.py authorize: sealed objects and NV
+indices, whose value is "pin", and the policies that they have.
+"""
+
+from tpmsim.caller import HERE, area, sealed
+from tpmsim.model.capability import LOCKOUT_COUNTER, PROPERTIES
+from tpmsim.standard import CC, RH_OWNER, RH_PLATFORM, SHA256, digest, digest_bytes, frames, number
+from tpmsim.standard import policy
+from tpmsim.caller.script_caller import ScriptCaller
+
+OWNER, PIN, SECRET, DATA = b"owner", b"pin", b"secret", b"8 bytes."
+PCR_16 = [(SHA256, [16])]
+AT_LOCALITY_1 = 0b10
+
+# The digest that a session starts with, and those behind one assertion.
+ZEROS = bytes(32)
+AFTER_AUTH_VALUE = policy.after_auth_value(SHA256, ZEROS)
+AFTER_PCR_16 = policy.after_pcr(SHA256, ZEROS, frames.selection(*PCR_16), digest(SHA256, bytes(32)))
+AFTER_LOCALITY_1 = policy.after_locality(SHA256, ZEROS, AT_LOCALITY_1)
+
+
+def after_code(code, algorithm=SHA256):
+    return policy.after_command_code(algorithm, bytes(digest_bytes(algorithm)), code)
+
+
+def after_secret(name, policy_ref=b""):
+    return policy.after_secret(SHA256, ZEROS, name, policy_ref)
+
+
+def after_equal_data(name, old=ZEROS):
+    """TPM2_PolicyNV of an index of this Name, which holds `DATA`."""
+    compared = frames.policy_nv(DATA)[2:]  # what is hashed has no size
+    return policy.after_nv(SHA256, old, compared, name)
+
+
+class GroundsCaller(ScriptCaller):
+    def __init__(self, script):
+        super().__init__(script)
+        self.free_indices = iter(range(0x0100_0001, 0x0100_0020))
+
+    # Entities.
+
+    def sealed_object(
+        self, what, auth_policy=b"", attributes=HERE, algorithm=SHA256, value=PIN, by=RH_PLATFORM
+    ):
+        """The handle of sealed data; the platform's outlive TPM2_Clear."""
+        template = sealed(algorithm, attributes, auth_policy=auth_policy)
+        return self.create_primary(what, by, template, user_auth=value, data=SECRET)
+
+    def index(self, what, attributes, auth_policy=b"", value=PIN):
+        """The handle of an index of the owner's, which is not written yet."""
+        public = area(next(self.free_indices), attributes, auth_policy=auth_policy)
+        return self.define(what, public, auth=value)
+
+    def written_index(self, what, attributes, auth_policy=b""):
+        """The same, and the owner writes it."""
+        index = self.index(what, attributes, auth_policy)
+        self.does("", self.writing(index, DATA, by=RH_OWNER))
+        return index
+
+    def flushed_new(self, what, primary):
+        """A primary object that must be created, and is flushed behind it."""
+        handle, _ = self.accepted(what, primary)
+        self.says("SUCCESS", self.flush(handle))
+
+    def flushed(self, *those):
+        """Sessions, and objects by their handles."""
+        objects = [it for it in those if isinstance(it, int)]
+        name = "object" if len(objects) == len(those) else "session"
+        what = "They are flushed" if len(those) > 1 else f"The {name} is flushed"
+        self.says(f"{what}: SUCCESS", *map(self.flush, those))
+        self.forget(*objects)
+
+    # What a policy session is told.
+
+    def restarts(self, session):
+        self.does("TPM2_PolicyRestart", self.restart(session))
+
+    def asserts(self, what, *told):
+        """Assertions, in their order."""
+        self.says(f"{what}: SUCCESS", *told)
+
+    def asserts_code(self, session, code=CC.Unseal, name="TPM2_Unseal"):
+        self.asserts(f"TPM2_PolicyCommandCode of {name}", self.command_code(session, code))
+
+    def asserts_pcr(self, session):
+        self.asserts("TPM2_PolicyPCR of PCR 16", self.pcrs(session, PCR_16))
+
+    def asserts_value(self, session):
+        self.asserts("TPM2_PolicyAuthValue", self.auth_value_told(session))
+
+    def asserts_password(self, session):
+        self.asserts("TPM2_PolicyPassword", self.password_told(session))
+
+    # Sending.
+
+    def tries_are(self, what, tries):
+        """TPM2_GetCapability of the failed tries."""
+        asked = self.capability(PROPERTIES, LOCKOUT_COUNTER, 1)
+        others_follow, given = b"\1", number(LOCKOUT_COUNTER, 4) + number(tries, 4)
+        wanted = others_follow + number(PROPERTIES, 4) + number(1, 4) + given
+        answer = self.does(f"{what}. TPM2_GetCapability|which answers {tries}", asked)
+        assert answer == wanted, what
+
+    def refused_by(self, check, words, *prepared):
+        """Sends commands that this check must refuse."""
+        self.fails(words, *prepared)
+        for played in self.script.played[-len(prepared) :]:
+            assert played.outcome.row.check == check, words
+
+    def lost(self, words, *prepared):
+        """Refused by G9, which looks at the entries that authorize."""
+        self.refused_by("G9", words, *prepared)

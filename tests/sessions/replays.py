@@ -1,0 +1,455 @@
+"""Writes replays.tpm: commands that were accepted, and are sent again byte for byte."""
+
+from dataclasses import replace
+
+from tpmsim.caller import BY_POLICY, BY_VALUE, CLEAR, STATE, Use
+from tpmsim.standard import CC, CONTINUE_SESSION, DECRYPT, ENCRYPT, RH_ENDORSEMENT, RH_LOCKOUT
+from tpmsim.standard import RH_NULL, RH_OWNER, SE_HMAC, SE_POLICY, SHA256, frames
+from tpmsim.standard.nv import Attribute
+from tpmsim.standard.policy import AUTH_VALUE, PASSWORD
+from tpmsim.caller.script_caller import FIRST
+from tests.sessions.grounds_caller import AFTER_AUTH_VALUE, DATA, OWNER, ZEROS, GroundsCaller
+from tpmsim.caller.script import Script
+
+VALUE, LOCKOUT_AUTH, OTHER_DATA = b"a", b"lockout", b"to write"
+ENDS = 0x00
+DECRYPTS, ENCRYPTS = CONTINUE_SESSION | DECRYPT, CONTINUE_SESSION | ENCRYPT
+RECOVERY = 1_000_000  # milliseconds of recoveryTime and lockoutRecovery, as they are at first
+
+# Random bytes that are given more than once.
+SEED, OTHER_SEED = b"\xa1", b"\xb2"
+
+script = Script(
+    "tests/sessions/replays.tpm",
+    "Commands that were accepted, and are sent again byte for byte. The hmac of a session is of "
+    "its nonceTPM, which each accepted command makes a new one, so that it is refused where the "
+    "hmac is compared. Where nothing is compared, or random bytes come again, it is accepted. Each "
+    "command of a session has random bytes of its own, where nothing else is said.",
+)
+tpm = GroundsCaller(script)
+
+
+def with_random(what, seed, prepared):
+    """Sends a command that must be accepted, with these random bytes; its answer."""
+    script.chapter(f"{what}: SUCCESS.")
+    script.entropy(seed)
+    return tpm.received(prepared, script.command("SUCCESS", prepared.buffer()))
+
+
+class Start:
+    """TPM2_StartAuthSession with random bytes of a seed. The session that it starts can be started
+    again, by the same buffer or with another nonce.
+    """
+
+    def __init__(self, what, bind=RH_NULL, kind=SE_HMAC):
+        self.bind, self.kind, self.nonce = bind, kind, tpm.nonce()
+        self.session = self.sent(what, SEED, self.nonce)
+        self.at_first = replace(self.session)
+
+    def sent(self, what, seed, nonce):
+        handles, parameters = frames.start_auth_session(nonce, self.bind, kind=self.kind)
+        start = tpm.prepare(CC.StartAuthSession, handles, parameters)
+        answer = with_random(what, seed, start)
+        return tpm.started(answer, nonce, self.bind, SHA256, self.kind)
+
+    def again(self):
+        """The session is then what it was at first."""
+        what = "TPM2_StartAuthSession with the same bytes, and the same random bytes"
+        assert self.sent(what, SEED, self.nonce) == self.at_first
+        self.session.nonce_tpm = self.at_first.nonce_tpm
+
+    def otherwise(self, what, seed=SEED, nonce=None):
+        """In its place is then a session that the caller does not use."""
+        assert self.sent(what, seed, nonce or self.nonce).handle == self.session.handle
+
+
+# Sending again.
+
+
+def again(words, prepared, check="G9"):
+    """Sends a command again, which this check must refuse."""
+    tpm.refused_by(check, words, prepared)
+
+
+def accepted_again(what, prepared):
+    tpm.does(what, prepared)
+
+
+def accepted(what, prepared):
+    """Sends a command the first time, and gives it, to be sent again."""
+    tpm.does(what, prepared)
+    return prepared
+
+
+def unlocked():
+    tpm.does("TPM2_DictionaryAttackLockReset", tpm.lock_reset())
+
+
+def write(by, data=DATA, index=FIRST):
+    return tpm.writing(index, data, by)
+
+
+# What a replay is refused by, and what counts it.
+
+
+def protected():
+    """An unbound session, and a command of it that was accepted."""
+    script.chapter("A PROTECTED INDEX. It is no index with NO_DA, so each wrong entry is a try.")
+    start = Start("TPM2_StartAuthSession of an HMAC session, bound to nothing")
+    session = start.session
+    first = accepted("TPM2_NV_Write by it, and it goes on", write(session))
+    again("The same again: AUTH_FAIL/s1", first)
+    tpm.tries_are("That is a failed try", 1)
+    tpm.does("A refusal has left the nonce, by which another is accepted", write(session))
+    tpm.tries_are("It takes no try away", 1)
+    again("The first again, two nonces later: AUTH_FAIL/s1", first)
+    again("And once more: AUTH_FAIL/s1", first)
+    tpm.tries_are("Three failed tries, as many as maxTries", 3)
+    right = write(session, OTHER_DATA)
+    again("The index is locked: the first again: LOCKOUT", first)
+    again("And one by the nonce of now: LOCKOUT", right)
+    tpm.tries_are("Neither is a try", 3)
+    script.wait(RECOVERY)
+    tpm.tries_are("recoveryTime later one try is forgiven", 2)
+    again("The first again: AUTH_FAIL/s1", first)
+    tpm.tries_are("It is locked again", 3)
+    unlocked()
+    tpm.does("What LOCKOUT has refused was no use, and is accepted now", right)
+    again("But not again: AUTH_FAIL/s1", right)
+    unlocked()
+    return start, first
+
+
+def not_counted(session, to_endorsement):
+    script.chapter("WHAT IS NOT PROTECTED. A wrong entry is no try.")
+    openly = tpm.index("An index with NO_DA", BY_VALUE | Attribute.NO_DA, value=VALUE)
+    tpm.does("", write(VALUE, index=openly))
+    for what, prepare in (
+        ("TPM2_NV_Write of it", lambda: write(session, index=openly)),
+        (
+            "TPM2_HierarchyChangeAuth of the owner",
+            lambda: tpm.change_auth(RH_OWNER, OWNER, session),
+        ),
+        ("TPM2_PCR_Event by a session with a key", lambda: tpm.event(b"event", to_endorsement)),
+    ):
+        again("The same again: BAD_AUTH/s1", accepted(what, prepare()))
+    tpm.tries_are("There is no failed try", 0)
+
+
+def counted_otherwise(session):
+    script.chapter("LOCKOUTAUTH. A wrong entry closes it for lockoutRecovery.")
+    tpm.does('It is "lockout"', tpm.change_auth(RH_LOCKOUT, LOCKOUT_AUTH, b""))
+    first = accepted("TPM2_DictionaryAttackLockReset by the session", tpm.lock_reset(session))
+    again("The same again: AUTH_FAIL/s1", first)
+    tpm.tries_are("It is no failed try", 0)
+    again("But lockoutAuth is closed: the same again: LOCKOUT", first)
+    again("And the password: LOCKOUT", tpm.lock_reset())
+    script.wait(RECOVERY)
+    tpm.does("lockoutRecovery later, the password", tpm.lock_reset())
+
+    script.chapter(
+        "A SESSION THAT WAS BOUND TO THE PROTECTED INDEX. Its wrong entry is a try wherever no "
+        "other value is compared."
+    )
+    bound = tpm.start("TPM2_StartAuthSession", FIRST)
+    first = accepted("TPM2_NV_Write of the index", write(bound))
+    again("The same again: AUTH_FAIL/s1", first)
+    tpm.tries_are("A failed try", 1)
+    first = accepted("TPM2_GetRandom, where it authorizes nothing", tpm.random(2, bound))
+    again("The same again: AUTH_FAIL/s1", first, "G10")
+    tpm.tries_are("A failed try", 2)
+    unlocked()
+    tpm.flushed(bound)
+
+
+# Places.
+
+
+def other_places(session, to_endorsement):
+    script.chapter(
+        "OTHER PLACES. No command has two handles to authorize, so that the sessions in the second "
+        "and in the third entry authorize nothing. The first entry is here a password."
+    )
+    aes = tpm.start("A session with AES, bound to TPM_RH_ENDORSEMENT", RH_ENDORSEMENT, aes=True)
+    unbound = tpm.start("One without, bound to nothing")
+    for what, outcome, prepare in (
+        (
+            "TPM2_NV_Write, with a session in the second entry",
+            "BAD_AUTH/s2",
+            lambda: tpm.writing(FIRST, DATA, VALUE, to_endorsement),
+        ),
+        (
+            "With one in the second entry, whose key and hmac are empty, and one in the third",
+            "BAD_AUTH/s3",
+            lambda: tpm.writing(FIRST, DATA, VALUE, unbound, to_endorsement),
+        ),
+        (
+            "TPM2_NV_Read, and the session encrypts",
+            "BAD_AUTH/s2",
+            lambda: tpm.reading(FIRST, 8, VALUE, Use(aes, ENCRYPTS)),
+        ),
+    ):
+        again(f"The same again: {outcome}", accepted(what, prepare()), "G10")
+    decrypting = accepted(
+        "TPM2_NV_Write, and the session decrypts",
+        tpm.writing(FIRST, OTHER_DATA, VALUE, Use(aes, DECRYPTS)),
+    )
+    tpm.does("Other data are written", write(VALUE))
+    again("What decrypts again: BAD_AUTH/s2", decrypting, "G10")
+    tpm.read("The data are as they were", FIRST, DATA, VALUE)
+    first = accepted("TPM2_GetRandom: the first entry authorizes nothing", tpm.random(2, aes))
+    again("The same again: BAD_AUTH/s1", first, "G10")
+    tpm.tries_are("None of these was a failed try", 0)
+    both = accepted(
+        "TPM2_NV_Write by a session, and another one decrypts",
+        tpm.writing(FIRST, DATA, session, Use(aes, DECRYPTS)),
+    )
+    again("The same again: AUTH_FAIL/s1, which the first entry refuses", both)
+    tpm.tries_are("And that is a failed try", 1)
+    unlocked()
+    tpm.flushed(aes, unbound)
+
+
+def compared_with_nothing(session):
+    script.chapter("NOTHING IS COMPARED where key and hmac are empty, and a password has no nonce.")
+    first = accepted("TPM2_PCR_Event by an empty hmac", tpm.event(b"event", session))
+    accepted_again("The same again, and PCR 16 is extended twice", first)
+    shown = tpm.event(b"event", Use(session, shows_empty_key=True))
+    tpm.does("By an hmac of the empty key", shown)
+    again("The same again: BAD_AUTH/s1", shown)
+    by_password = accepted("TPM2_NV_Write by the password", write(VALUE))
+    accepted_again("The same again", by_password)
+
+    script.chapter("Parameter encryption has the nonce in its key all the same.")
+    aes = tpm.start("A session with AES, bound to nothing", aes=True)
+    decrypting = accepted(
+        "TPM2_NV_Write by the password, and this session decrypts, whose hmac is empty",
+        tpm.writing(FIRST, OTHER_DATA, VALUE, Use(aes, DECRYPTS)),
+    )
+    tpm.read("What was written", FIRST, OTHER_DATA, VALUE)
+    accepted_again("The same again", decrypting)
+    answer = tpm.does("Other bytes were written", tpm.reading(FIRST, 8, VALUE))
+    assert len(answer) == 10 and answer[2:] not in (OTHER_DATA, DATA)
+    tpm.flushed(aes)
+
+
+# Policy sessions.
+
+
+def policy_sessions():
+    script.chapter(
+        "A POLICY SESSION forgets what it was told with each use. Where it is told that again, the "
+        "hmac is compared."
+    )
+    zeros = tpm.index("An index whose authPolicy is 32 zeros", BY_POLICY, ZEROS)
+    start = Start("A policy session, bound to TPM_RH_OWNER, which has a key", RH_OWNER, SE_POLICY)
+    bound = start.session
+    tpm.does("TPM2_NV_Write", write(bound, index=zeros))
+    first = accepted("TPM2_NV_Write, now that it is written", write(bound, index=zeros))
+    again("The same again: BAD_AUTH/s1", first)
+    tpm.restarts(bound)
+    again("The same again: BAD_AUTH/s1, as TPM2_PolicyRestart gives no nonce back", first)
+    unsent = write(bound, index=zeros)
+    tpm.restarts(bound)
+    tpm.does("It takes none away either: what was not sent yet", unsent)
+
+    script.chapter("The same with what TPM2_PolicyAuthValue and TPM2_PolicyPassword demand.")
+    value = tpm.written_index(
+        "An index of their policy", BY_POLICY | Attribute.OWNERWRITE, AFTER_AUTH_VALUE
+    )
+    tpm.asserts_value(bound)
+    first = accepted("TPM2_NV_Write", write(Use(bound, demand=AUTH_VALUE), index=value))
+    again("The same again: POLICY_FAIL/s1, as nothing was told", first)
+    tpm.asserts_value(bound)
+    again("The same again: AUTH_FAIL/s1", first)
+    tpm.tries_are("The index is protected: a failed try", 1)
+    tpm.restarts(bound)
+    tpm.asserts_value(bound)
+    again("And behind TPM2_PolicyRestart: AUTH_FAIL/s1", first)
+    tpm.tries_are("Another one", 2)
+    tpm.restarts(bound)
+    unlocked()
+    tpm.asserts_password(bound)
+    first = accepted("TPM2_NV_Write", write(Use(bound, demand=PASSWORD), index=value))
+    again("The same again: POLICY_FAIL/s1, as nothing was told", first)
+    tpm.asserts_password(bound)
+    accepted_again("The same again|as a password has no nonce", first)
+
+    script.chapter("And where key and hmac are empty.")
+    unbound = tpm.policy("A policy session, bound to nothing")
+    first = accepted("TPM2_NV_Write of the first index", write(unbound, index=zeros))
+    accepted_again("The same again", first)
+    tpm.flushed(bound, unbound)
+
+
+# Sessions that begin again.
+
+
+def new_starts(start, first):
+    script.chapter(
+        "A NEW SESSION WITH THE SAME BYTES. The nonceTPM is of the random bytes: where they come "
+        "again so does it, and that is not refused."
+    )
+    session = start.session
+    tpm.flushed(session)
+    again("The first TPM2_NV_Write again: REFERENCE_S0, as there is no session", first, "G8")
+    start.again()
+    accepted_again("The first TPM2_NV_Write again", first)
+    again("And once more: AUTH_FAIL/s1", first)
+    tpm.tries_are("That is a failed try", 1)
+
+    tpm.flushed(session)
+
+    script.chapter("Other bytes.")
+    start.otherwise("With other random bytes", OTHER_SEED)
+    again("The first again: AUTH_FAIL/s1", first)
+    tpm.flushed(session)
+    start.otherwise(
+        "With another nonceCaller, which is in no key of an unbound session", nonce=tpm.nonce()
+    )
+    accepted_again("The first again", first)
+    unlocked()
+    tpm.flushed(session)
+    other = tpm.policy("A policy session is started in its place")
+    again("The first again: REFERENCE_S0, as this is no HMAC session", first, "G8")
+    elsewhere = start.sent("The same bytes, which start it in another place", SEED, start.nonce)
+    assert replace(elsewhere, handle=session.handle) == start.at_first
+    again("The first again: REFERENCE_S0, as its handle is of no session", first, "G8")
+    tpm.flushed(other, elsewhere)
+
+    script.chapter("A bound session, whose key is of its nonceCaller and of the value.")
+    bound = Start("TPM2_StartAuthSession, bound to TPM_RH_OWNER", RH_OWNER)
+    event = accepted("TPM2_PCR_Event", tpm.event(b"event", bound.session))
+    again("The same again: BAD_AUTH/s1", event)
+    tpm.flushed(bound.session)
+    bound.again()
+    accepted_again("The same again", event)
+    tpm.flushed(bound.session)
+    bound.otherwise("With another nonceCaller", nonce=tpm.nonce())
+    again("The same again: BAD_AUTH/s1", event)
+    tpm.flushed(bound.session)
+    tpm.does("ownerAuth is another", tpm.change_auth(RH_OWNER, b"other", OWNER))
+    bound.otherwise("With the same bytes")
+    again("The same again: BAD_AUTH/s1", event)
+    tpm.flushed(bound.session)
+    tpm.does("ownerAuth is as it was", tpm.change_auth(RH_OWNER, OWNER, b"other"))
+    bound.again()
+    accepted_again("The same again", event)
+    tpm.flushed(bound.session)
+
+
+def new_names(start):
+    script.chapter("The hmac is of the Name, too, which the first write of an index changes.")
+    index = tpm.index("An index", BY_VALUE, value=VALUE)
+    public = tpm.publics[index]
+    start.again()
+    first = accepted("TPM2_NV_Write", write(start.session, index=index))
+    tpm.flushed(start.session)
+    start.again()
+    again("The same again: AUTH_FAIL/s1", first)
+    tpm.does("It is undefined", tpm.undefining(index))
+    tpm.define("And defined as it was", public, auth=VALUE)
+    accepted_again("The same again", first)
+    unlocked()
+    tpm.flushed(start.session)
+
+
+def repeated_nonces(start):
+    script.chapter(
+        "ONE NONCE TWICE IN ONE SESSION, as random bytes come again. Here the session goes on."
+    )
+    start.again()
+    session = start.session
+    with_random("TPM2_NV_Write", OTHER_SEED, write(session))
+    first = write(session, OTHER_DATA)
+    with_random("Another, by which the nonce becomes what it was", OTHER_SEED, first)
+    with_random("The same again", OTHER_SEED, first)
+    accepted_again("And once more, with random bytes of its own", first)
+    again("And once more: AUTH_FAIL/s1", first)
+    with_random("TPM2_NV_Write, with the random bytes of before", OTHER_SEED, write(session))
+    accepted_again("The same again, of a nonce that was past", first)
+    again("And once more: AUTH_FAIL/s1", first)
+    unlocked()
+    tpm.flushed(session)
+
+
+def power_cycles(start, first):
+    script.chapter("A POWER CYCLE ends all sessions.")
+    start.again()
+    told = tpm.policy("A policy session beside it")
+    for kind, words in ((CLEAR, "CLEAR"), (STATE, "STATE")):
+        accepted_again("The first TPM2_NV_Write of the protected index", first)
+        again("The same again: AUTH_FAIL/s1", first)
+        tpm.does(f"TPM2_Shutdown({words})", tpm.shutting_down(kind))
+        script.power()
+        again("The same again: INITIALIZE, as the device is not started", first, "G5")
+        tpm.start_up(f"TPM2_Startup({words})", kind)
+        again("The same again: REFERENCE_S0, as the session is gone", first, "G8")
+        tpm.refused_by(
+            "G6", "TPM2_PolicyGetDigest of the policy session: REFERENCE_H0", tpm.get_digest(told)
+        )
+        tpm.tries_are("The failed try is kept, and there is no other", 1)
+        unlocked()
+        start.again()
+    accepted_again("The first TPM2_NV_Write again", first)
+    again("And once more: AUTH_FAIL/s1", first)
+    unlocked()
+
+
+def ended_sessions(start, to_endorsement):
+    script.chapter("WITHOUT continueSession a session ends with the use of it.")
+    tpm.flushed(start.session)
+    start.again()
+    last = accepted("TPM2_NV_Write", write(Use(start.session, ENDS)))
+    again("The same again: REFERENCE_S0", last, "G8")
+    start.again()
+    accepted_again("The same again", last)
+    again("And once more: REFERENCE_S0", last, "G8")
+    for what, outcome, uses in (
+        ("In the second entry", "REFERENCE_S1", [VALUE]),
+        ("In the third entry", "REFERENCE_S2", [VALUE, to_endorsement]),
+    ):
+        start.again()
+        uses = [*uses, Use(start.session, ENDS)]
+        last = accepted(what, tpm.writing(FIRST, DATA, *uses))
+        again(f"The same again: {outcome}", last, "G8")
+    tpm.tries_are("None of these was a failed try", 0)
+
+
+def refused_before(to_endorsement):
+    script.chapter(
+        "WHAT WAS REFUSED can be sent again until it is accepted: a refusal makes no nonce new."
+    )
+    reset = tpm.reset(to_endorsement, pcr=20)
+    again("TPM2_PCR_Reset of PCR 20 from locality 0: LOCALITY", reset, "A1")
+    again("The same again: LOCALITY", reset, "A1")
+    script.locality_is(4)
+    accepted_again("The same from locality 4", reset)
+    again("And once more: BAD_AUTH/s1", reset)
+    script.locality_is(0)
+    again("From locality 0: BAD_AUTH/s1", reset)
+
+
+script.startup()
+tpm.does('ownerAuth is "owner"', tpm.change_auth(RH_OWNER, OWNER, b""))
+assert FIRST == tpm.index(
+    'An index with AUTHWRITE and AUTHREAD, whose value is "a"', BY_VALUE, value=VALUE
+)
+tpm.does("It is written, so that its Name stays from here on", write(VALUE))
+start, first = protected()
+to_endorsement = tpm.start(
+    "A session bound to TPM_RH_ENDORSEMENT, which is not protected", RH_ENDORSEMENT
+)
+not_counted(start.session, to_endorsement)
+counted_otherwise(start.session)
+other_places(start.session, to_endorsement)
+compared_with_nothing(start.session)
+policy_sessions()
+new_starts(start, first)
+new_names(start)
+repeated_nonces(start)
+power_cycles(start, first)
+to_endorsement = tpm.start("A session bound to TPM_RH_ENDORSEMENT", RH_ENDORSEMENT)
+ended_sessions(start, to_endorsement)
+refused_before(to_endorsement)
+script.write()

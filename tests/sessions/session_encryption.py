@@ -1,0 +1,211 @@
+"""Writes session_encryption.tpm: first parameters and first answers that sessions encrypt."""
+
+from tpmsim.caller import Use, flipped
+from tpmsim.standard import CC, CONTINUE_SESSION, DECRYPT, ENCRYPT, RH_ENDORSEMENT, RH_OWNER, SHA1
+from tpmsim.standard import SHA256, frames, sized
+from tpmsim.caller.script_caller import ScriptCaller
+from tpmsim.caller.script import Script
+
+DECRYPTS = CONTINUE_SESSION | DECRYPT
+ENCRYPTS = CONTINUE_SESSION | ENCRYPT
+NAMES = {SHA1: "SHA-1", SHA256: "SHA-256"}
+
+script = Script(
+    "tests/sessions/session_encryption.tpm",
+    "Parameter encryption by AES-128 in mode CFB: a session with the attribute decrypt has "
+    "encrypted the bytes of the first parameter, and one with encrypt those of the first answer.",
+)
+tpm = ScriptCaller(script)
+
+
+def others_are(*sessions):
+    """The nonces of others that an entry's hmac is made of, other than by the rule."""
+    nonces = [it.nonce_tpm for it in sessions]
+    return tpm.breaking(nonces_of_others=lambda *_: nonces)
+
+
+script.startup()
+tpm.accepted('ownerAuth is "owner"', tpm.change_auth(RH_OWNER, b"owner", b""))
+tpm.accepted(
+    'endorsementAuth is "endorsement"', tpm.change_auth(RH_ENDORSEMENT, b"endorsement", b"")
+)
+
+for algorithm, size in ((SHA1, 16), (SHA1, 20), (SHA256, 16), (SHA256, 32)):
+    script.chapter(f"Sessions of {NAMES[algorithm]}, with nonces of {size} bytes.")
+    choices = dict(algorithm=algorithm, size=size, aes=True)
+    bound = tpm.start("Bound to TPM_RH_OWNER", RH_OWNER, **choices)
+    unbound = tpm.start("Bound to nothing", **choices)
+    tpm.accepted(
+        "The bound one authorizes TPM2_HierarchyChangeAuth of TPM_RH_OWNER and decrypts: the key "
+        "of encryption has ownerAuth, which the hmac's key has not",
+        tpm.change_auth(RH_OWNER, b"a new value", Use(bound, DECRYPTS)),
+    )
+    tpm.accepted(
+        "The unbound one does, to 32 bytes",
+        tpm.change_auth(RH_OWNER, b"0123456789abcdef" * 2, Use(unbound, DECRYPTS)),
+    )
+    tpm.accepted(
+        "What was set is a password now, and sets the first value",
+        tpm.change_auth(RH_OWNER, b"owner", b"0123456789abcdef" * 2),
+    )
+    tpm.accepted(
+        "A value of which only zeros are sent",
+        tpm.change_auth(RH_OWNER, bytes(20), Use(bound, DECRYPTS)),
+    )
+    tpm.accepted(
+        "It is empty now: the unbound one has no key and no hmac, and encrypts all the same",
+        tpm.change_auth(RH_OWNER, b"owner", Use(unbound, DECRYPTS)),
+    )
+    tpm.accepted(
+        "TPM2_PCR_Event into PCR 16, by the bound one|with the digests of the data in plain",
+        tpm.event(b"event data", Use(bound, DECRYPTS)),
+    )
+    tpm.accepted("TPM2_GetRandom of 20 bytes", tpm.random(20, Use(bound, ENCRYPTS)))
+    tpm.accepted("And by the unbound one", tpm.random(20, Use(unbound, ENCRYPTS)))
+    for session in (bound, unbound):
+        tpm.accepted("It is flushed", tpm.flush(session))
+
+script.chapter("Sizes. Blocks have 16 bytes, and the last may be cut.")
+session = tpm.start("A session, bound to TPM_RH_OWNER", RH_OWNER, aes=True)
+for count in (0, 1, 15, 16, 17, 31, 32):
+    tpm.accepted(f"TPM2_GetRandom of {count} bytes", tpm.random(count, Use(session, ENCRYPTS)))
+for count in (0, 1, 15, 16, 17, 1024):
+    tpm.accepted(
+        f"TPM2_PCR_Event of {count} bytes", tpm.event(b"e" * count, Use(session, DECRYPTS))
+    )
+tpm.accepted("TPM2_PCR_Read of PCR 16", tpm.read_pcr(16))
+
+script.chapter("A session that decrypts beside the one that authorizes.")
+other = tpm.start("Another session, bound to TPM_RH_ENDORSEMENT", RH_ENDORSEMENT, aes=True)
+third = tpm.start("A third one, bound to nothing", aes=True, size=32)
+tpm.accepted(
+    "Beside a password: it authorizes nothing, and no authorization value is in any key of it",
+    tpm.change_auth(RH_OWNER, b"owner", b"owner", Use(session, DECRYPTS)),
+)
+tpm.accepted(
+    "Beside a password and another session",
+    tpm.change_auth(RH_OWNER, b"owner", b"owner", other, Use(session, DECRYPTS)),
+)
+tpm.accepted(
+    "Beside a session: its nonce is in the first entry's hmac",
+    tpm.change_auth(RH_OWNER, b"owner", session, Use(other, DECRYPTS)),
+)
+with others_are():
+    left_out = tpm.change_auth(RH_OWNER, b"owner", session, Use(other, DECRYPTS))
+tpm.refused("Where it is left out: BAD_AUTH/s1", left_out)
+with others_are(other, other):
+    twice = tpm.change_auth(RH_OWNER, b"owner", session, Use(other, DECRYPTS))
+tpm.refused("Where it stands twice: BAD_AUTH/s1", twice)
+with others_are(session):
+    own = tpm.change_auth(RH_OWNER, b"owner", session, Use(other, DECRYPTS))
+tpm.refused("Where the first entry's own stands in its place: BAD_AUTH/s1", own)
+tpm.accepted(
+    "As the third entry of three",
+    tpm.change_auth(RH_OWNER, b"owner", session, third, Use(other, DECRYPTS)),
+)
+tpm.accepted(
+    "As the second entry of three, with a nonce of 32 bytes and an empty key",
+    tpm.change_auth(RH_OWNER, b"owner", session, Use(third, DECRYPTS), other),
+)
+tpm.accepted(
+    "Where the first entry decrypts itself no other nonce stands in any hmac",
+    tpm.change_auth(RH_OWNER, b"owner", Use(session, DECRYPTS), other, third),
+)
+with others_are(session):
+    own = tpm.change_auth(RH_OWNER, b"owner", Use(session, DECRYPTS), other)
+tpm.refused("With its own nonce once more: BAD_AUTH/s1", own)
+right = tpm.event(b"event data", session, Use(other, DECRYPTS), third)
+with others_are(other):
+    everywhere = tpm.event(b"event data", session, Use(other, DECRYPTS), third)
+tpm.refused(
+    "The second entry's hmac has no other nonce: BAD_AUTH/s2",
+    right.but(
+        entries=[right.entries[0], everywhere.entries[1], right.entries[2]],
+        parameters=right.parameters,
+    ),
+)
+tpm.accepted("Nothing was changed by the refusals", right)
+tpm.accepted(
+    "It ends as it decrypts", tpm.change_auth(RH_OWNER, b"owner", session, Use(other, DECRYPT))
+)
+tpm.refused(
+    "And is no more: REFERENCE_S1",
+    tpm.change_auth(RH_OWNER, b"owner", session, Use(other, DECRYPTS)),
+)
+
+script.chapter("Sessions that encrypt where nothing is authorized.")
+other = tpm.start("Another session, bound to TPM_RH_ENDORSEMENT", RH_ENDORSEMENT, aes=True)
+tpm.accepted("TPM2_GetRandom: the second of two", tpm.random(32, session, Use(other, ENCRYPTS)))
+tpm.accepted("The first of three", tpm.random(32, Use(other, ENCRYPTS), session, third))
+tpm.accepted("The third of three, which ends", tpm.random(32, session, third, Use(other, ENCRYPT)))
+with others_are(third):
+    foreign = tpm.random(32, session, Use(third, ENCRYPTS))
+tpm.refused(
+    "No other nonce stands in the first entry's hmac, as it authorizes nothing: BAD_AUTH/s1",
+    foreign,
+)
+tpm.accepted("Without", tpm.random(32, session, Use(third, ENCRYPTS)))
+
+script.chapter(
+    "TPM2_StartAuthSession has a sized buffer in both directions. The new session's key is of the "
+    "nonces in plain, and its nonce is drawn before the others'."
+)
+other = tpm.start("Another session, bound to TPM_RH_ENDORSEMENT", RH_ENDORSEMENT, aes=True)
+for words, uses in (
+    ("One session decrypts and encrypts", [Use(session, DECRYPTS | ENCRYPT)]),
+    ("Two sessions", [Use(session, DECRYPTS), Use(other, ENCRYPTS)]),
+    ("The other way round", [Use(session, ENCRYPTS), Use(other, DECRYPTS)]),
+    ("Three sessions", [third, Use(session, DECRYPTS), Use(other, ENCRYPTS)]),
+    ("One of three does both", [session, third, Use(other, DECRYPTS | ENCRYPT)]),
+):
+    new = tpm.start(words, RH_OWNER, size=20, aes=True, uses=uses)
+    tpm.accepted(
+        "By the new session, which ends", tpm.change_auth(RH_OWNER, b"owner", Use(new, DECRYPT))
+    )
+
+script.chapter("What is refused, with right hmacs.")
+
+
+def changing(parameters, *uses):
+    return tpm.prepare(CC.HierarchyChangeAuth, [RH_OWNER], parameters, *uses)
+
+
+tpm.refused(
+    "decrypt, and the first parameter is cut: no size, half of it, or fewer bytes, also where it "
+    "says too many: INSUFFICIENT/p1",
+    *(
+        changing(it, Use(session, DECRYPTS))
+        for it in (b"", b"\0", b"\0\x01", b"\0\x20" + bytes(31), b"\0\x21" + bytes(32), b"\xff\xff")
+    ),
+)
+tpm.refused(
+    "Without decrypt a size that says too many is a fault of its own: SIZE/p1",
+    changing(b"\0\x21" + bytes(32), session),
+    changing(b"\xff\xff", session),
+)
+tpm.refused(
+    "decrypt, and the first parameter is whole and too long: SIZE/p1",
+    changing(sized(bytes(33)), Use(session, DECRYPTS)),
+    changing(sized(b"owner" + bytes(28)), b"owner", Use(session, DECRYPTS)),
+    tpm.event(bytes(1025), Use(session, DECRYPTS)),
+)
+tpm.refused(
+    "TPM2_StartAuthSession with 33 bytes: SIZE/p1",
+    tpm.prepare(CC.StartAuthSession, *frames.start_auth_session(bytes(33)), Use(session, DECRYPTS)),
+)
+tpm.refused(
+    "A byte behind the first parameter, which is not encrypted: SIZE",
+    changing(sized(b"owner") + b"\0", Use(session, DECRYPTS)),
+)
+wrong = tpm.change_auth(RH_OWNER, b"owner", Use(session, DECRYPTS))
+tpm.refused(
+    "One bit of the encrypted bytes, which the hmac is of: BAD_AUTH/s1",
+    wrong.but(parameters=flipped(wrong.parameters)),
+)
+tpm.refused("The same bytes in plain: BAD_AUTH/s1", wrong.but(parameters=sized(b"owner")))
+tpm.refused(
+    "The attribute decrypt taken away: BAD_AUTH/s1", wrong.but_entry(1, attributes=CONTINUE_SESSION)
+)
+tpm.accepted("The right one, with the nonce that no refusal changed", wrong)
+tpm.accepted('ownerAuth is still "owner"', tpm.change_auth(RH_OWNER, b"owner", b"owner"))
+script.write()

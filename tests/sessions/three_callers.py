@@ -1,0 +1,147 @@
+"""Writes callers_in_turn.tpm and two more scripts, of three callers of one device, of
+which each does one thing: the first measures into PCR 10 and reads it; the second has data unsealed
+by a policy on PCR 10; and the third writes an NV index in an HMAC session, and sends one command
+again. They take turns, or take them the other way round, or come one after another:
+
+    tests/sessions/callers_in_turn.tpm
+    tests/sessions/callers_in_reverse_turn.tpm
+    tests/sessions/callers_one_after_another.tpm
+
+What each command is answered hangs on what was accepted before it. After each command the device is
+compared with what its history tells of it, and so is the answer to TPM2_PCR_Read.
+"""
+
+import copy
+
+from tpmsim.caller import HERE, area, sealed, storage_key
+from tpmsim.model.history import History
+from tpmsim.standard import CC, RH_NULL, RH_OWNER, SHA256, digest, digests, policy, selection
+from tpmsim.standard.nv import Attribute
+from tpmsim.standard.objects import Attribute as ObjectAttribute
+from tpmsim.caller.script_caller import ScriptCaller
+from tpmsim.caller.script import Script
+
+CHOSEN = [(SHA256, [10])]
+SECRET = b"the secret"
+EXTENDED = digest(SHA256, bytes(64))
+AUTH_POLICY = policy.after_pcr(SHA256, bytes(32), selection(*CHOSEN), digest(SHA256, EXTENDED))
+ONCE_WRITTEN = Attribute.AUTHREAD | Attribute.AUTHWRITE
+
+
+class Stage:
+    """A script of several callers, and the history of its device."""
+
+    def __init__(self, name, head):
+        self.script, self.history = Script(__file__, head, name), History()
+        self.script.device.tell = self.history.add
+        self.callers = [ScriptCaller(self.script) for _ in range(3)]
+        for number_of, caller in enumerate(self.callers, 1):
+            caller.nonces = 1000 * number_of
+
+    def check(self):
+        differences = list(self.history.differences(self.script.device))
+        assert not differences, differences
+
+    def sends(self, caller, what, prepared):
+        """A command that may be refused; its answer, if it is accepted."""
+        device = copy.deepcopy(self.script.device)
+        device.tell = lambda event: None
+        answered = device.execute(prepared.buffer(), 0, self.script.random)
+        if answered.refused:
+            caller.fails(f"{what}: {answered.refused}", prepared)
+            return None
+        return caller.does(what, prepared)
+
+
+def extending(caller, handle):
+    return caller.prepare(CC.PCR_Extend, [handle], digests((SHA256, bytes(32))), b"")
+
+
+def measuring(stage, caller):
+    """PCR 10 is extended by zeros, and read; and late it is extended again."""
+    caller.says("The first caller extends PCR 10 by zeros: SUCCESS", extending(caller, 10))
+    yield
+    for _ in range(2):
+        reading = caller.prepare(CC.PCR_Read, [], selection(*CHOSEN))
+        response = caller.says("The first caller reads PCR 10: SUCCESS", reading)
+        assert response.endswith(stage.history.pcrs.values[SHA256, 10])
+        yield
+        on_null = "The first caller extends TPM_RH_NULL, which changes nothing"
+        caller.says(f"{on_null}: SUCCESS", extending(caller, RH_NULL))
+        yield
+    caller.says("The first caller extends PCR 10 again: SUCCESS", extending(caller, 10))
+    yield
+
+
+def unsealing(stage, caller):
+    """Data are unsealed by a policy on the value that PCR 10 has after one extension by zeros."""
+    parent = caller.create_primary("The second caller makes a storage key", RH_OWNER, storage_key())
+    yield
+    template = sealed(attributes=HERE | ObjectAttribute.NO_DA, auth_policy=AUTH_POLICY)
+    made = caller.create("The second caller creates sealed data", parent, template, data=SECRET)
+    yield
+    handle = caller.load("The second caller loads them", parent, made)
+    yield
+    session = caller.policy("The second caller starts a policy session")
+    yield
+    stage.sends(caller, "The second caller asserts PCR 10 as it is", caller.pcrs(session, CHOSEN))
+    yield
+    stage.sends(caller, "The second caller asks for the data", caller.unsealing(handle, session))
+    yield
+
+
+def replaying(stage, caller):
+    """An index is written in a session, and the same buffer is sent once more."""
+    public = area(attributes=ONCE_WRITTEN)
+    index = caller.define("The third caller defines an index", public, auth=b"a")
+    yield
+    first = caller.writing(index, bytes(8))
+    caller.does("The third caller writes the index once, by the password", first)
+    yield
+    session = caller.start("The third caller starts an HMAC session")
+    yield
+    writing = caller.writing(index, b"8 bytes.", session)
+    caller.does("The third caller writes in the session", writing)
+    yield
+    caller.fails("The third caller sends the same buffer again: AUTH_FAIL/s1", writing)
+    yield
+    caller.says("The third caller flushes the session: SUCCESS", caller.flush(session))
+    yield
+
+
+def interleaved(plays, is_in_turn):
+    """The plays go on by one command each, in turn; or each goes on to its end."""
+    if not is_in_turn:
+        for play in plays:
+            yield from play
+        return
+    left = list(plays)
+    while left:
+        for play in list(left):
+            if next(play, StopIteration) is StopIteration:
+                left.remove(play)
+            yield
+
+
+def write(name, head, order, is_in_turn):
+    stage = Stage(name, head)
+    stage.script.startup()
+    plays = [
+        play(stage, caller)
+        for play, caller in zip((measuring, unsealing, replaying), stage.callers)
+    ]
+    for _ in interleaved([plays[it] for it in order], is_in_turn):
+        stage.check()
+    stage.script.write()
+
+
+MEANWHILE = "Each has one command executed, and then the next one has its turn."
+write("callers_in_turn", f"Three callers of one device take turns. {MEANWHILE}", (0, 1, 2), True)
+write(
+    "callers_in_reverse_turn",
+    f"Three callers of one device take turns, the third one first. {MEANWHILE}",
+    (2, 1, 0),
+    True,
+)
+ONE_BY_ONE = "Three callers of one device come one after another."
+write("callers_one_after_another", ONE_BY_ONE, (0, 1, 2), False)

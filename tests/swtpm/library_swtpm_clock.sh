@@ -1,0 +1,72 @@
+# The time of a device under swtpm, as the host's clock stands: in one process, and in another one whose
+# host's clock is ahead, behind, or so far behind that the state is refused. common/clock.c is the clock.
+tests=$(cd "$(dirname "$0")/.." && pwd -P)
+. "$tests/common/cases.sh"
+. "$tests/common/swtpm.sh"
+cc -shared -fPIC -o "$room/clock.so" "$tests/common/clock.c" || exit 1
+CLOCK=$room/clock
+export CLOCK
+
+# clocked: plays the lines of standard input as the clock tells.
+clocked() {
+    spell >"$room/lines"
+    LD_PRELOAD=$room/clock.so timeout 60 "$room/caller" "$room/swtpm/libtpms.so.0" <"$room/lines" 2>&1
+}
+
+label 'one process: 0, 5 and 8 seconds, and no time back'
+clocked <<END
+clock 1000
+on
+do Startup 0
+do ReadClock
+clock 1005
+do ReadClock
+clock 1008
+do ReadClock
+save volatile
+END
+cp permall permanent
+
+for clock in 2000 1008 10 1; do
+    label "another process, by a host whose clock stands at $clock, and 7 seconds later"
+    clocked <<END
+clock $clock
+set permanent permanent
+set volatile volatile
+on
+do ReadClock
+clock $((clock + 7))
+do ReadClock
+END
+done
+
+label 'a journal of 31 years later'
+rm permall
+clocked <<END
+clock 1000000000
+on
+do Startup 0
+do ReadClock
+save volatile
+off
+clock 10
+set volatile volatile
+on
+do ReadClock
+clock 12
+do ReadClock
+END
+
+label 'a journal of 317,000 years later'
+rm permall
+clocked <<END
+clock 10000000000000
+on
+do Startup 0
+save volatile
+off
+clock 10
+set volatile volatile
+on
+do ReadClock
+END

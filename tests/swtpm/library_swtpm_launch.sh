@@ -1,0 +1,111 @@
+# A dynamic launch of a device under swtpm, by TPM_IO_Hash_Start, Data and End: PCR 17 has to be what
+# Python's hashlib says for texts of each length that SHA-1 and SHA-256 fill blocks by. swtpm/caller.c is
+# the caller.
+tests=$(cd "$(dirname "$0")/.." && pwd -P)
+. "$tests/common/cases.sh"
+. "$tests/common/swtpm.sh"
+one=0000000000000000000000000000000000000000000000000000000000000001
+
+label 'before TPM2_Startup'
+caller <<END
+on
+hash start
+hash data 61
+hash end
+established
+END
+
+label 'a launch, which is told until it is taken back from locality 3 or 4'
+caller <<END
+on
+do Startup 0
+established
+loc 4
+do PCR_Extend 00000013 pw:- sha256:$one
+loc 0
+hash start
+hash data 61
+do PCR_Read sha256:17,18,19,20,21,22
+hash data 6263
+hash data
+hash end
+hash end
+do PCR_Read sha1:17+sha256:17,22
+established
+reset
+loc 2
+reset
+save launched
+get permanent permanent
+loc 3
+reset
+established
+save taken_back
+loc 4
+reset
+off
+established
+END
+
+label 'it is told in another process, and that it was taken back'
+caller <<END
+set permanent permanent
+set volatile launched
+on
+established
+do PCR_Read sha256:17
+set volatile taken_back
+off
+set permanent permanent
+set volatile taken_back
+on
+established
+END
+
+label 'a command of no bytes from locality 4 is no launch'
+caller <<END
+on
+do Startup 0
+loc 4
+cmd
+save volatile
+off
+set volatile volatile
+on
+established
+END
+
+label 'a state that is not written'
+caller <<END
+on
+store fails
+do Startup 0
+hash start
+END
+
+label 'texts of each length from 0 to 130 bytes, and of 4,000 and 100,000'
+python3 - <<'END'
+import hashlib
+import subprocess
+import sys
+
+room = ".."
+lengths = [*range(131), 4000, 100_000]
+lines, wanted = ["on", "cmd 80010000000c000001440000"], []
+for length in lengths:
+    text = bytes((7 * place + length) % 251 for place in range(length))
+    lines += ["hash start"]
+    pieces = [text[place : place + 4096] for place in range(0, length, 4096)]
+    lines += [f"hash data {piece.hex()}" for piece in pieces]
+    lines += ["hash end", "cmd 80010000001a0000017e00000002000403000002000b03000002"]
+    values = [
+        hashlib.new(name, bytes(size) + hashlib.new(name, text).digest()).digest()
+        for name, size in (("sha1", 20), ("sha256", 32))
+    ]
+    wanted += [b"\0\x14".hex() + values[0].hex() + b"\0\x20".hex() + values[1].hex()]
+for kind, caller in (("swtpm", "caller"), ("sanitized", "caller.sanitized")):
+    words = [f"{room}/{caller}", f"{room}/{kind}/libtpms.so.0"]
+    given = subprocess.run(words, input="\n".join(lines) + "\n", text=True, capture_output=True, timeout=200)
+    values = [line[-len(wanted[0]) :] for line in given.stdout.split() if line.startswith("8001") and len(line) > 100]
+    print(f"{len(values)} launches, {sum(a != b for a, b in zip(values, wanted, strict=True))} wrong")
+END

@@ -1,0 +1,72 @@
+# What libtpms.so.0 records where TPMSIM_RECORD asks for it: a journal of each time of power, which the
+# program plays; and a record that cannot be begun or written. swtpm/caller.c is the caller.
+tests=$(cd "$(dirname "$0")/.." && pwd -P)
+. "$tests/common/cases.sh"
+. "$tests/common/swtpm.sh"
+one=0000000000000000000000000000000000000000000000000000000000000001
+TPMSIM_RECORD=.
+export TPMSIM_RECORD
+umask 0
+
+# power_on_of RECORD: the image that a record begins with.
+power_on_of() {
+    sed -n '2s/^# //p' "$1" | python3 -c \
+        'import sys; sys.stdout.buffer.write(bytes.fromhex(sys.stdin.read()))'
+}
+
+label 'three times of power, the last one from a volatile state'
+caller <<END
+on
+do Startup 0
+do PCR_Extend 00000010 pw:- sha256:$one
+do PCR_Read sha256:16
+off
+on
+do Startup 0
+loc 2
+do PCR_Extend 00000014 pw:- sha256:$one
+do PCR_Read sha256:20
+save volatile
+get permanent permanent
+off
+set permanent permanent
+set volatile volatile
+on
+loc 0
+do PCR_Read sha256:20
+END
+stat -c '%a %n' boot-*
+for record in boot-*; do
+    echo "$record, played by the program:"
+    power_on_of "$record" >image
+    "$assemble" run --image image "$record"
+done
+cmp boot-3.tpm volatile 2>&1 | sed 's/:.*//'
+
+label 'no folder'
+TPMSIM_RECORD=nowhere
+printf 'on\n' | caller
+TPMSIM_RECORD=$(printf '%05000d' 1)
+printf 'on\n' | caller | tr -s 0 | cut -c 1-40
+TPMSIM_RECORD=
+printf 'on\ncmd 80010000000c000001440000\n' | caller
+ls | grep -c boot
+
+label 'a file that has no more room: what is not recorded is not done'
+mkdir full && cd full || exit 1
+TPMSIM_RECORD=.
+{
+    echo on
+    echo 'cmd 80010000000c000001440000'
+    for _ in $(seq 40); do
+        echo "cmd $("$assemble" asm "PCR_Extend 00000010 pw:- sha256:$one")"
+    done
+} >"$room/lines"
+(trap '' XFSZ && ulimit -f 8 && "$room/caller" "$room/swtpm/libtpms.so.0" <"$room/lines" 2>&1) |
+    sed -n '/^80/p' >"$room/given"
+done_count=$(grep -vc '^80010000000a00000101$' "$room/given")
+[ "$done_count" -gt 2 ] && [ "$done_count" -lt 41 ] && echo 'some are done, and some are not'
+[ "$(grep -c '^cmd' boot-1.tpm)" -eq "$done_count" ] && echo 'the record has those that are done'
+power_on_of boot-1.tpm >image
+"$assemble" run --image image boot-1.tpm >played && head -n "$done_count" "$room/given" | cmp - played &&
+    echo 'played by the program they are answered so'

@@ -1,0 +1,142 @@
+# The states of libtpms.so.0 in the hands of a caller in swtpm's place: a device that goes on in another
+# process, the journal in its volatile state, states of other devices, and states with each byte turned,
+# cut, or set at the wrong time. swtpm/caller.c is the caller.
+tests=$(cd "$(dirname "$0")/.." && pwd -P)
+. "$tests/common/cases.sh"
+. "$tests/common/swtpm.sh"
+one=0000000000000000000000000000000000000000000000000000000000000001
+
+label 'a device that is left as it runs'
+caller <<END
+on
+do Startup 0
+do NV_DefineSpace OWNER pw:- 61 01000002000b0004000400000008
+do NV_Write 01000002 01000002 pw:61 6f746865722e2e2e 0
+loc 3
+do PCR_Extend 00000014 pw:- sha256:$one
+loc 0
+do PCR_Extend 00000010 pw:- sha256:$one
+head 80010000002b0000017640000007400000070010654e2c87d7820cbeb1b5b550f43166540000010010000b
+save volatile
+get permanent image
+get saved nothing
+END
+cp permall permanent
+
+label 'it goes on in another process, by the states that swtpm keeps'
+cp volatile volatilestate
+caller <<END
+on
+do PCR_Read sha256:16,20
+do PolicyPCR 03000000 - sha256:16
+do PolicyGetDigest 03000000
+do NV_Read 01000002 01000002 pw:61 8 0
+do Startup 0
+END
+rm volatilestate permall
+
+label 'by states that are set'
+caller <<END
+set permanent permanent
+set volatile volatile
+on
+do PCR_Read sha256:16,20
+do PolicyGetDigest 03000000
+save later
+set volatile volatile
+off
+set permanent permanent
+set volatile later
+on
+do PolicyGetDigest 03000000
+off
+on
+do PolicyGetDigest 03000000
+END
+
+label 'the journal in it'
+sed -n '/^wait\|^loc\|^cmd/p' volatile | sed 's/^wait [0-9]*$/wait/' | uniq -c
+sed '$!d' volatile
+printf 'cmd 8001000000140000017e00000001000b03000011\n' | cat volatile - >journal
+sed -n '2s/^# //p' volatile | python3 -c \
+    'import sys; sys.stdout.buffer.write(bytes.fromhex(sys.stdin.read()))' >power_on
+"$assemble" run --image power_on journal | tail -n 1
+
+label 'another permanent state'
+mkdir other
+(cd other && caller <<END
+on
+do Startup 0
+END
+)
+cp permall before
+caller <<END
+set permanent other/permall
+set volatile volatile
+on
+do Startup 0
+on
+END
+cmp permall before && echo 'what was kept is as it was'
+caller <<END
+on
+do Startup 0
+do NV_Write 01000002 01000002 pw:61 4141414141414141 0
+END
+cp permall before
+cp volatile volatilestate
+printf 'on\nvalidate 7\n' | caller
+cmp permall before && echo 'what was kept is as it was'
+rm volatilestate
+
+label 'each byte of a state'
+caller <<END
+turn permanent permanent
+cut permanent permanent
+turn volatile volatile
+cut volatile volatile
+validate 7
+END
+cmp permall before && echo 'what was kept is as it was'
+
+label 'damage in what swtpm keeps'
+head -c 100 before >permall
+printf 'on\nvalidate 1\nvalidate 2\n' | caller
+: >permall
+printf 'on\n' | caller
+cp before permall
+head -c 1000 volatile >volatilestate
+printf 'on\nvalidate 1\nvalidate 2\n' | caller
+sed '$d' volatile >volatilestate
+printf 'on\n' | caller
+{ sed '$d' volatile | head -c -30 && echo '# the end'; } >volatilestate
+printf 'on\nvalidate 2\n' | caller
+sed '/^wait/s/[0-9]*$/7/' volatile >volatilestate
+printf 'on\n' | caller
+cmp permall before && echo 'what was kept is as it was'
+rm volatilestate
+
+label 'a bad state takes the others with it'
+caller <<END
+set permanent other/permall
+set volatile permanent
+on
+do NV_Read 01000002 01000002 pw:61 8 0
+do Startup 0
+do NV_Read 01000002 01000002 pw:61 8 0
+END
+
+label 'a state at the wrong time'
+caller <<END
+on
+set permanent permanent
+set saved permanent
+off
+set saved permanent
+unset saved
+set permanent other/permall
+unset permanent
+on
+do Startup 0
+do NV_Read 01000002 01000002 pw:61 8 0
+END

@@ -1,7 +1,0 @@
-# Images of version 1, kept as bytes in tests/version_1: what the program answers that opens one, and
-# what it saves then, is what the device in Python answers and saves.
-tests=$(cd "$(dirname "$0")" && pwd -P)
-. "$tests/common/cases.sh"
-needs python3
-
-python3 "$tests/outside/scripts/version_1_images.py" "$program"

@@ -1,0 +1,57 @@
+#!/bin/sh
+# Writes all scripts of tests/ and examples/ anew by their programs, in a copy, and their outputs by
+# the device in Python; and compares what was written with what is there, byte for byte. Needs
+# python3; takes half a minute on four processors. JOBS says how many programs run side by side.
+#
+#   tools/anew.sh           compares
+#   tools/anew.sh --write   takes over what differs
+#
+# It names each file that differs or is not there. The last line is `N files as they are, M others`,
+# and the status is 1 where there are others, or where a program fails.
+set -u
+
+top=$(CDPATH='' cd "$(dirname "$0")/.." && pwd -P) || exit 1
+jobs=${JOBS:-$(getconf _NPROCESSORS_ONLN)}
+case $# in
+0) write= ;;
+1) write=$1 ;;
+*) write=none ;;
+esac
+if [ "$write" ] && [ "$write" != --write ]; then
+    sed -n '2,/^set/s/^# \{0,1\}//p' "$0" >&2
+    exit 2
+fi
+work=$(mktemp -d) || exit 1
+trap 'rm -rf "$work"' EXIT
+mkdir "$work/tools" && cp -R "$top/tests" "$top/examples" "$top/python" "$work" &&
+    cp "$top/tools/python.sh" "$work/tools" || exit 1
+export PYTHONPYCACHEPREFIX="$work/compiled"
+cd "$work" || exit 1
+
+failed=0
+# A program says in its first line what it writes: what has its name goes away first.
+grep -lE '^"""Writes [a-z_0-9]+[.](tpm|lines)' tests/*/*.py examples/*.py >programs
+while read -r program; do
+    rm -f "${program%.py}.tpm" "${program%.py}.lines"
+done <programs
+xargs -P "$jobs" -n 1 tools/python.sh <programs >said || failed=1
+tools/python.sh tests/common/expected.py || failed=1
+
+# files: those that may be written.
+files() {
+    find tests examples -name '*.tpm' -o -name '*.out' -o -name '*.trace' -o -name '*.lines'
+}
+{ files; (cd "$top" && files); } | LC_ALL=C sort -u >names
+same=0
+others=0
+while read -r file; do
+    if cmp -s "$file" "$top/$file" 2>"$work/told"; then
+        same=$((same + 1))
+        continue
+    fi
+    others=$((others + 1))
+    echo "$file"
+    [ ! "$write" ] || cp "$file" "$top/$file" || exit 1
+done <names
+echo "$same files as they are, $others others"
+[ "$failed" -eq 0 ] && { [ "$others" -eq 0 ] || [ "$write" ]; }

@@ -1,0 +1,13 @@
+#!/usr/bin/env python3
+"""Explains the refusals of a log, as python/tpmsim/explain/main.py says; it needs python3 alone."""
+
+import pathlib
+import sys
+
+sys.dont_write_bytecode = True
+sys.path.insert(0, str(pathlib.Path(__file__).resolve().parents[1] / "python"))
+
+from tpmsim.explain.main import run
+
+if __name__ == "__main__":
+    run()
