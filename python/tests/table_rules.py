@@ -50,7 +50,9 @@ def section_at(link):
 
 
 def paragraphs(text):
-    return [it for it in re.split(r"\n\n+", text) if it.strip()]
+    """Those of a text, but for the one that leads to a definition and its code."""
+    found = re.split(r"\n\n+", text)
+    return [it for it in found if it.strip() and not it.startswith("Definition: ")]
 
 
 def table_rows(text):

@@ -6,7 +6,7 @@ tests=$(cd "$(dirname "$0")/.." && pwd -P)
 needs git
 [ "$(id -u)" -ne 0 ] || needs setpriv
 copy="$room/a copy"
-lib=$copy/crates/tpm_hex/src/lib.rt
+lib=$copy/crates/tpm_line/src/lib.rt
 kept=$room/kept
 
 # What the scripts need of a machine, and no `rt`; and folders that are put before it on the path.
@@ -121,12 +121,12 @@ touch -t 200001010000 "$room/more.rt"
 mv "$room/more.rt" "${lib%/*}/more.rt"
 start - 'an old file more'
 rm "${lib%/*}/more.rt"
-cp -Rp "$copy/crates/tpm_hex" "$room/tpm_hex"
-echo >>"$room/tpm_hex/src/lib.rt"
+cp -Rp "$copy/crates/tpm_line" "$room/tpm_line"
+echo >>"$room/tpm_line/src/lib.rt"
 start - 'it is as it was'
-mv "$copy/crates/tpm_hex" "$kept.crate" && mv "$room/tpm_hex" "$copy/crates/tpm_hex"
+mv "$copy/crates/tpm_line" "$kept.crate" && mv "$room/tpm_line" "$copy/crates/tpm_line"
 start - 'another crate of its name'
-rm -r "$copy/crates/tpm_hex" && mv "$kept.crate" "$copy/crates/tpm_hex"
+rm -r "$copy/crates/tpm_line" && mv "$kept.crate" "$copy/crates/tpm_line"
 start - 'it is as it was'
 
 # Machines on which it does not run.

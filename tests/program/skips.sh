@@ -104,6 +104,13 @@ gate() {
 PATH=$room/stubs:$room/path
 gate 'the gate' '9 passed, 0 failed' 0
 gate 'two were skipped' '9 passed, 0 failed, 2 skipped' 0
+there_is_none='skipped: tests/library/library_go.sh: there is no go'
+gate 'two were skipped for what is not there' "$there_is_none
+skipped: tests/attached/attached_tcti.sh: there is no header
+9 passed, 0 failed, 2 skipped" 0
+gate 'one of two was skipped for what is not there' "$there_is_none
+skipped: tests/serving/serve_full_disk.sh with tpmsim: no disk can be mounted
+9 passed, 0 failed, 2 skipped" 0
 gate 'one failed, and two were skipped' '9 passed, 1 failed, 2 skipped' 1
 gate 'none was skipped, in these words' '9 passed, 0 failed, 0 skipped' 0
 gate 'no count' 'all is well' 0

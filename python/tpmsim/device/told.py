@@ -220,7 +220,8 @@ class Device(Transport):
         >>> with Device() as device, tempfile.TemporaryDirectory() as folder:
         ...     Caller(device).start_up()
         ...     device.write(f"{folder}/script.tpm")
-        ...     open(f"{folder}/script.tpm").read().splitlines()[-1]
+        ...     with open(f"{folder}/script.tpm", encoding="ascii") as script:
+        ...         script.read().splitlines()[-1]
         '# Startup L0 +0 ok 00000000'
         """
         pathlib.Path(path).write_text("\n".join(self.trace) + "\n", "ascii")
