@@ -213,6 +213,7 @@ pub extern "C" fn tpmsim_journal_execute(
         × (response.new ≡ response.old) × (answered.new ≡ answered.old)
         × (entry.new ≡ entry.old) × (size.new ≡ size.old) }
     ensures completion { result ≡ no_completion → completes ≢ 0 }
+    ensures device_alone { result ≡ done → completes ≡ 0 }
     ensures locality { result ≡ no_locality → 4 < locality }
     ensures told { result ≢ done → result ≢ no_completion → result ≢ no_locality
         → (result ≡ no_device) × (holder.old.device ≡ None) }
