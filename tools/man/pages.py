@@ -171,7 +171,7 @@ class Manual:
         if words := page.get("commands"):
             return [f"{' '.join(words)} COMMAND ..", f"{' '.join(words)} --help", f"{' '.join(words)} --version"]
         if words := page.get("help"):
-            usage = re.match(r".*?\n\n((?:    .*\n)+)\n", said(words, self.program), re.S)
+            usage = re.search(r"^((?: {4}.*\n)+)", said(words, self.program), re.M)
             return self.installed(usage[1]).replace("\n    ", "\n").strip().split("\n")
         return page["usage"]
 
