@@ -17,22 +17,22 @@ fail() {
     exit 1
 }
 
-# fill FILE: a file of packaging/ with the facts of this package in the places of their names.
-fill() {
-    sed -e "s|@VERSION@|$version|" -e "s|@MAINTAINER@|$maintainer|" -e "s|@SIZE@|$size|" \
-        -e "s|@PURPOSE@|$purpose|" "packaging/$1"
+# Prints packaging/control with the facts of this package in the places of their names.
+control() {
+    size=$(du -sk "$root/usr") && size=${size%%[!0-9]*} &&
+        sed -e "s|@VERSION@|$version|" -e "s|@MAINTAINER@|$maintainer|" -e "s|@SIZE@|$size|" \
+            -e "s|@PURPOSE@|$purpose|" packaging/control
 }
 
 # Puts what Debian wants of each package beside what is installed.
 describe() {
     documents=$root/usr/share/doc/tpmsim
     mkdir "$root/DEBIAN" || return 1
-    fill copyright >"$documents/copyright"
+    install -D -m 644 packaging/copyright "$documents/copyright"
     printf 'tpmsim (%s) unstable; urgency=low\n\n  * As CHANGELOG.md says.\n\n -- %s  %s\n' \
         "$version" "$maintainer" "$(LC_ALL=C date -u -R -d "@$SOURCE_DATE_EPOCH")" |
         gzip -9n >"$documents/changelog.gz"
-    size=$(du -sk "$root/usr") && size=${size%%[!0-9]*} || return 1
-    fill control >"$root/DEBIAN/control"
+    control >"$root/DEBIAN/control" || return 1
     echo 'activate-noawait ldconfig' >"$root/DEBIAN/triggers"
     for library in libtpmsim libtss2-tcti-tpmsim; do
         [ ! -e "$root/usr/lib/x86_64-linux-gnu/$library.so.0" ] ||
