@@ -4,8 +4,9 @@
 #
 #   tools/deb.sh [FOLDER]   in FOLDER; else in out/
 #
-# TPMSIM_MAINTAINER is whom the package names, else who wrote the last commit. tools/install.sh says
-# what is in it. Needs dpkg-deb and python3, and no proof is run.
+# TPMSIM_MAINTAINER is whom the package names, else who wrote the last commit; TPMSIM_PACKING is how
+# dpkg-deb packs, else xz. tools/install.sh says what is in the package. Needs dpkg-deb and python3;
+# no proof is run.
 set -u
 umask 022
 cd "$(dirname "$0")/.." || exit 1
@@ -49,19 +50,18 @@ done
 work=$(mktemp -d) || exit 1
 trap 'rm -rf "$work"' EXIT
 root=$work/root
-told=$(git log -1 --format='%ct %an <%ae>' 2>/dev/null) || told="0 tpmsim <tpmsim@localhost>"
+told=$(git log -1 --format='%ct %an <%ae>' 2>/dev/null) || told='0 tpmsim <tpmsim@localhost>'
 SOURCE_DATE_EPOCH=${SOURCE_DATE_EPOCH:-${told%% *}}
 export SOURCE_DATE_EPOCH
 maintainer=${TPMSIM_MAINTAINER:-${told#* }}
-version=$(dist/tpmsim --version) && version=${version##* } || fail 'dist/tpmsim does not run here'
+version=$(dist/tpmsim --version) || fail 'dist/tpmsim does not run here'
+version=${version##* }
 purpose=$(dist/tpmsim --help | sed -n '1s/^A //p')
 DESTDIR=$root PREFIX=/usr LIBRARIES=lib/x86_64-linux-gnu PACKAGES=lib/python3/dist-packages \
     tools/install.sh || exit 1
 describe || fail 'the package is not described'
 package=$folder/tpmsim_${version}_amd64.deb
-mkdir -p "$folder" &&
-    dpkg-deb --root-owner-group ${TPMSIM_PACKING:--Zxz} -b "$root" "$package" >"$work/said" || {
-    cat "$work/said" >&2
+mkdir -p "$folder" || fail "$folder is no folder"
+dpkg-deb --root-owner-group -Z"${TPMSIM_PACKING:-xz}" -b "$root" "$package" >"$work/said" ||
     fail "$package is not made"
-}
 echo "$package"

@@ -32,7 +32,9 @@ put() {
 
 # link TARGET PLACE: a link, which leads from its own place.
 link() {
-    mkdir -p "$root/$(dirname "$2")" && ln -sf "$1" "$root/$2" || fail "$root/$2 is not written"
+    if ! { mkdir -p "$root/$(dirname "$2")" && ln -sf "$1" "$root/$2"; }; then
+        fail "$root/$2 is not written"
+    fi
 }
 
 # has_header HEADER: whether the compiler finds it.
@@ -52,9 +54,9 @@ put_program() {
 }
 
 put_library() {
-    is_proved 'library archive' "$(checksum <"$archive")" &&
-        is_proved 'library shared object' "$(checksum <"$shared")" ||
-        fail "the library is not that of $proved"
+    is_proved 'library archive' "$(checksum <"$archive")" || fail "$archive is not that of $proved"
+    is_proved 'library shared object' "$(checksum <"$shared")" ||
+        fail "$shared is not that of $proved"
     put 644 "$archive" "$libraries/libtpmsim.a"
     put 644 "$shared" "$libraries/libtpmsim.so.0"
     link libtpmsim.so.0 "$libraries/libtpmsim.so"
