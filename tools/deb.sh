@@ -9,8 +9,7 @@
 # no proof is run.
 set -u
 umask 022
-cd "$(dirname "$0")/.." || exit 1
-folder=${1:-out}
+folder=$(realpath -m "${1:-$(dirname "$0")/../out}") && cd "$(dirname "$0")/.." || exit 1
 
 # fail REASON: ends the script.
 fail() {

@@ -8,6 +8,7 @@
 # CHANGELOG.md begins with the version's section, `## VERSION, DATE`; nothing may differ from the last
 # commit; and dist/ has what is proved of its sources. Needs git, dpkg-deb, tar, gzip and python3.
 set -u
+told_folder=${1:+$(realpath -m "$1")}
 cd "$(dirname "$0")/.." || exit 1
 . tools/proved.sh
 
@@ -49,7 +50,7 @@ work=$(mktemp -d) || exit 1
 trap 'rm -rf "$work"' EXIT
 version=$(dist/tpmsim --version) || fail 'dist/tpmsim does not run here'
 version=${version##* }
-folder=${1:-out/v$version}
+folder=${told_folder:-out/v$version}
 faults=$(faults)
 [ -z "$faults" ] || fail "there is no release: $faults"
 

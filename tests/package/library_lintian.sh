@@ -1,15 +1,22 @@
-# lintian finds no error in the package, which has the modules where their headers are.
+# lintian finds no error in the package, which has the modules where their headers are; and finds one
+# in a package that has no copyright file.
 tests=$(cd "$(dirname "$0")/.." && pwd -P)
 . "$tests/common/cases.sh"
 needs dpkg-deb python3 lintian
 top=${tests%/*}
 
 package=$(TPMSIM_PACKING=gzip "$top/tools/deb.sh" made 2>said) || cat said
-lintian --allow-root --no-cfg "$package" >found 2>&1 || grep '^E: ' found
-echo "errors: $(grep -c '^E: ' found)"
-
-echo '== an error is found'
-mkdir turned
-dpkg-deb -R "$package" turned && rm "turned/usr/share/doc/tpmsim/copyright" &&
-    dpkg-deb -Zgzip --root-owner-group -b turned turned.deb >said &&
-    lintian --allow-root --no-cfg turned.deb | grep '^E: '
+mkdir -p wrong/DEBIAN
+cat >wrong/DEBIAN/control <<'END'
+Package: wrong
+Version: 1
+Architecture: all
+Maintainer: Nobody <nobody@debian.org>
+Description: package without a copyright file
+ It has nothing in it.
+END
+dpkg-deb -Zgzip --root-owner-group -b wrong wrong.deb >said
+lintian --allow-root --no-cfg "$package" wrong.deb >found 2>&1
+echo "status $?"
+grep '^E: ' found
+echo "lines about the package: $(grep -c ': tpmsim: ' found | sed 's/^[1-9].*/some/')"

@@ -22,8 +22,8 @@ chmod +x headers/cc
 
 echo '== it is made'
 version=$("$top/dist/tpmsim" --version | sed 's/.* //')
-(PATH=$room/folder/headers:$PATH && TPMSIM_PACKING=none && export TPMSIM_PACKING &&
-    said "$top/tools/deb.sh" "$room/made" | sed -e "s/$version/VERSION/" -e "s|$room|ROOM|")
+said env PATH="$room/folder/headers:$PATH" TPMSIM_PACKING=none "$top/tools/deb.sh" "$room/made" |
+    sed -e "s/$version/VERSION/" -e "s|$room|ROOM|"
 package=$room/made/tpmsim_${version}_amd64.deb
 dpkg-deb -f "$package" Package Architecture Depends Description | head -n 4
 dpkg-deb -x "$package" "$root" && dpkg-deb -e "$package" control

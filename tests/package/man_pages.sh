@@ -47,7 +47,7 @@ mkdir -p copy/packaging copy/tools
 cp -r "$top/tools/man" copy/tools/
 for name in docs library; do ln -s "$top/$name" "copy/$name"; done
 sed 's/#who-may-use-it/#whom/' "$top/packaging/pages.toml" >copy/packaging/pages.toml
-python3 copy/tools/man/pages.py none --program "$program"
+python3 copy/tools/man/pages.py none --program "$program" 2>&1
 echo "status $?"
 python3 "$make" none --program ./none 2>&1 | sed "s|$room|ROOM|g"
 ls none 2>/dev/null
