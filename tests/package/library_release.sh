@@ -6,7 +6,7 @@ needs git dpkg-deb python3
 top=${tests%/*}
 
 mkdir copy none
-printf '#!/bin/sh\n[ "$1" != -E ]\n' >none/cc
+printf '#!/bin/sh\nexit 1\n' >none/cc
 chmod +x none/cc
 (cd "$top" && tar cf - --exclude=out --exclude=must-fail --exclude=__pycache__ CHANGELOG.md Makefile \
     README.md HANDLES crates crates.txt attached dist docs examples library packaging python/pyproject.toml \
