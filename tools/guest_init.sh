@@ -1,9 +1,12 @@
 #!/bin/busybox sh
+# shellcheck shell=dash
 # What a guest of tools/guest.sh does: it is the first process of its Linux. Each line that begins with
 # RESULT is read by tools/guest.sh. What it does is said by `guest=` on the kernel's command line:
 #
 #   pcrs   tells the PCRs as firmware and kernel left them
-#   work   the same; then it makes an NV index and a sealed object, and reboots. Where they are there
+#   move   extends PCR 20 from locality 2 and PCR 15 from locality 0, waits as its machine moves to another
+#          QEMU, and does the same again there
+#   work   tells the PCRs too; then it makes an NV index and a sealed object, and reboots. Where they are there
 #          already, it opens them. With `sleep` it sleeps between (S3)
 /bin/busybox mkdir -p /proc /sys /dev /tmp /bin /sbin
 /bin/busybox --install -s /bin
@@ -44,6 +47,38 @@ off() {
     poweroff -f
 }
 
+# at_locality_2 HEX: a command by the registers of tpm-tis, which stays at locality 2. It tells the code of
+# the response.
+at_locality_2() {
+    base=0xFED42
+    devmem ${base}000 8 2
+    devmem ${base}018 32 0x40
+    for byte in $(echo "$1" | sed 's/../& /g'); do devmem ${base}024 8 "0x$byte"; done
+    devmem ${base}018 32 0x20
+    until [ $(($(devmem ${base}018 8) & 0x90)) -eq $((0x90)) ]; do sleep 0.1; done
+    code=
+    for place in 0 1 2 3 4 5 6 7 8 9; do
+        byte=$(devmem ${base}024 8)
+        [ "$place" -lt 6 ] || code=$code${byte#0x}
+    done
+    devmem ${base}018 32 0x40
+    result MOVE "locality 2 $code $(devmem ${base}000 8)"
+}
+
+move() {
+    digest=0000000000000000000000000000000000000000000000000000000000000007
+    extend=80020000004100000182000000140000000940000009000001000000000001000b$digest
+    at_locality_2 "$extend"
+    result READY
+    sleep 20
+    at_locality_2 "$extend"
+    devmem 0xFED42000 8 0x20
+    tpm2 pcrextend "15:sha256=$digest"
+    result MOVE "20 $(cat /sys/class/tpm/tpm0/pcr-sha256/20 2>&1)"
+    result MOVE "15 $(cat /sys/class/tpm/tpm0/pcr-sha256/15 2>&1)"
+    result MOVED
+}
+
 result 'VERSION' "$(cat /sys/class/tpm/tpm0/tpm_version_major 2>&1)"
 for bank in sha1 sha256; do
     for pcr in 0 1 2 3 4 5 6 7 8 9 10 15 16 17 23; do
@@ -52,6 +87,10 @@ for bank in sha1 sha256; do
 done
 log=/sys/kernel/security/tpm0/binary_bios_measurements
 result LOG "$([ -s "$log" ] && echo 'is there' || echo 'is not there')"
+if [ "$what" = move ]; then
+    move
+    sleep 30
+fi
 [ "$what" = work ] || off
 
 digest=0000000000000000000000000000000000000000000000000000000000000007

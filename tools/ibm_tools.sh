@@ -1,6 +1,6 @@
 #!/bin/sh
-# Uses a device behind tools/swtpm_front.py with the tools of IBM's TSS (Debian: tss2), by --mssim,
-# which is what they speak by default, and says of each whether it did what was asked: the start,
+# Uses a device behind tpmsim.simulator of python/ with the tools of IBM's TSS (Debian: tss2), by the protocol
+# that they speak by default, Microsoft's, and says of each whether it did what was asked: the start,
 # PCRs, sessions that encrypt by AES and by XOR, the four kinds of NV index, policies, sealed primary objects,
 # lockout, Clear. Not part of the gate. It installs nothing, and leaves nothing behind.
 #
@@ -17,7 +17,8 @@ command -v tssstartup >/dev/null || {
     exit 2
 }
 folder=$(mktemp -d)
-trap 'kill "$(cat "$folder/pid" 2>/dev/null)" 2>/dev/null; rm -rf "$folder"' EXIT
+server=
+trap '[ -z "$server" ] || kill "$server" 2>/dev/null; rm -rf "$folder"' EXIT
 cd "$folder" || exit 1
 mkdir state
 failed=0
@@ -106,13 +107,17 @@ echo secret >secret
 port=${PORT:-24331}
 export TPM_INTERFACE_TYPE=socsim TPM_SERVER_NAME=127.0.0.1 TPM_DATA_DIR=. TPM_ENCRYPT_SESSIONS=0
 export TPM_COMMAND_PORT="$port" TPM_PLATFORM_PORT="$((port + 1))"
-"$tools/swtpm_front.py" socket --tpm2 --tpmstate dir=state --mssim "$port" --daemon \
-    --pid file=pid || exit 1
+PYTHONPATH=$tools/../python python3 -m tpmsim.simulator --port "$port" --image image >served &
+server=$!
+until [ -s served ]; do
+    kill -0 "$server" || exit 1
+    sleep 0.1
+done
 starts_and_pcrs
 indices
 sealing
 lockout
-kill "$(cat pid)"
-while [ -e pid ]; do sleep 0.1; done
+kill "$server"
+wait "$server"
 echo "$failed failed"
 [ "$failed" -eq 0 ]

@@ -9,7 +9,7 @@
 #
 #   tools/scripts.sh                   all of them
 #   tools/scripts.sh pcr_extend files  these
-#   tools/scripts.sh 'nv/*' 'front*'   those of the folder tests/nv, and those whose names begin so
+#   tools/scripts.sh 'nv/*' 'torn*'    those of the folder tests/nv, and those whose names begin so
 #   JOBS=1 tools/scripts.sh            one after another, and not one on each processor
 #
 # NAME.tpm is run as `PROGRAM run NAME.tpm`, or as `tpmsim_lists <NAME.tpm`, and NAME.sh as `sh
@@ -39,7 +39,7 @@ export PYTHONPYCACHEPREFIX="$work/python"
 number=0
 
 # The tests that take longest begin first, then the other shell tests, and then the scripts.
-longest=' starved front library_scripts audit bent_lines images policy_audit torn launcher '
+longest=' starved library_scripts audit bent_lines images policy_audit torn launcher '
 
 # say WORDS: a line that stands between what is said of tests.
 say() {

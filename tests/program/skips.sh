@@ -74,7 +74,7 @@ without() {
 }
 without cc starved torn torn_scripts lists_starved serve_moved_clock
 without nm starved torn torn_scripts lists_starved
-without python3 serve images front
+without python3 serve images line
 without unshare serve_full_disk
 
 # The gate. Its stand-ins end well, and tools/scripts.sh says what it is told.
