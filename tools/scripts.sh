@@ -99,7 +99,7 @@ is_of_library() {
 
 # Whether the program in dist/ is of the sources as they stand.
 shipped_is_of_sources() (
-    cd "$top" && . tools/proved.sh && is_proved sources "$(sources_checksum)"
+    cd "$top" && . tools/lib/proved.sh && is_proved sources "$(sources_checksum)"
 )
 
 # missing PROGRAM: says so, where others were built here.
@@ -154,7 +154,7 @@ done
 
 # Whether the library in dist/ is of the sources as they stand, and the one that was proved.
 library_is_proved() (
-    cd "$top" && . tools/proved.sh &&
+    cd "$top" && . tools/lib/proved.sh &&
         is_proved 'library sources' "$(sources_checksum tpmsim_library)" &&
         is_proved 'library archive' "$(checksum <"$library")"
 )

@@ -1,7 +1,7 @@
 #!/bin/busybox sh
 # shellcheck shell=dash
-# What a guest of tools/guest.sh does: it is the first process of its Linux. Each line that begins with
-# RESULT is read by tools/guest.sh. What it does is said by `guest=` on the kernel's command line:
+# What a guest of tools/interop/guest.sh does: it is the first process of its Linux. Each line that begins with
+# RESULT is read by tools/interop/guest.sh. What it does is said by `guest=` on the kernel's command line:
 #
 #   pcrs   tells the PCRs as firmware and kernel left them
 #   move   extends PCR 20 from locality 2 and PCR 15 from locality 0, waits as its machine moves to another

@@ -3,11 +3,11 @@
 # nothing is wider than a window of 400 pixels or of 1,600, and the keys choose, find and go back. It
 # is no part of the gate, and needs Debian's package chromium, and python3.
 #
-#   tools/page.sh          prints what it found; the status is 1 where something is wrong
-#   tools/page.sh FOLDER   leaves pictures there too, at both widths, in light and dark
+#   tools/interop/page.sh          prints what it found; the status is 1 where something is wrong
+#   tools/interop/page.sh FOLDER   leaves pictures there too, at both widths, in light and dark
 set -u
 
-top=$(CDPATH='' cd "$(dirname "$0")/.." && pwd -P) || exit 1
+top=$(CDPATH='' cd "$(dirname "$0")/../.." && pwd -P) || exit 1
 for tool in chromium python3; do
     command -v "$tool" >/dev/null || { echo "there is no $tool" >&2; exit 77; }
 done

@@ -4,10 +4,10 @@
 # TPM_ALG_XOR, and stay from one tool to the next. Not part of the gate. It installs nothing, and
 # leaves nothing behind. Needs tss2 and socat, and rt where the program is not built yet.
 #
-#   tools/ibm_tss.sh [PORT]    on this port of 127.0.0.1, or on 2321
+#   tools/interop/ibm_tss.sh [PORT]    on this port of 127.0.0.1, or on 2321
 set -u
 
-top=$(CDPATH='' cd "$(dirname "$0")/.." && pwd -P)
+top=$(CDPATH='' cd "$(dirname "$0")/../.." && pwd -P)
 port=${1:-2321}
 for tool in tssstartup socat; do
     command -v "$tool" >/dev/null || {

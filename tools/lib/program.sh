@@ -3,7 +3,7 @@
 # sources. Where there is neither, tools/build.sh builds one first. It is read by `.` in the
 # repository's folder, as the launcher does at each start: so it begins few processes.
 # shellcheck shell=sh
-. tools/proved.sh
+. tools/lib/proved.sh
 stamp=crates/tpmsim/out/verified
 
 # Whether the program of dist/ was verified, and nothing in the repository that it depends on has

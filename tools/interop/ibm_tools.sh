@@ -4,10 +4,10 @@
 # PCRs, sessions that encrypt by AES and by XOR, the four kinds of NV index, policies, sealed primary objects,
 # lockout, Clear. Not part of the gate. It installs nothing, and leaves nothing behind.
 #
-#   tools/ibm_tools.sh [PROGRAM]
+#   tools/interop/ibm_tools.sh [PROGRAM]
 set -u
 
-tools=$(CDPATH='' cd "$(dirname "$0")" && pwd -P)
+top=$(CDPATH='' cd "$(dirname "$0")/../.." && pwd -P) || exit 1
 if [ "$#" -gt 0 ]; then
     TPMSIM=$(realpath "$1")
     export TPMSIM
@@ -107,7 +107,7 @@ echo secret >secret
 port=${PORT:-24331}
 export TPM_INTERFACE_TYPE=socsim TPM_SERVER_NAME=127.0.0.1 TPM_DATA_DIR=. TPM_ENCRYPT_SESSIONS=0
 export TPM_COMMAND_PORT="$port" TPM_PLATFORM_PORT="$((port + 1))"
-PYTHONPATH=$tools/../python python3 -m tpmsim.simulator --port "$port" --image image >served &
+PYTHONPATH=$top/python python3 -m tpmsim.simulator --port "$port" --image image >served &
 server=$!
 until [ -s served ]; do
     kill -0 "$server" || exit 1

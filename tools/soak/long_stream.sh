@@ -2,14 +2,14 @@
 # Sends very many commands to a served device in one connection, and reads the responses meanwhile, as
 # tests/serving/serve_clients.sh does for five million bytes. It is no part of the gate. Needs python3.
 #
-#   tools/long_stream.sh          100 million bytes of commands
-#   tools/long_stream.sh 500      500 million
+#   tools/soak/long_stream.sh          100 million bytes of commands
+#   tools/soak/long_stream.sh 500      500 million
 #
 # Each response has to be there, and SUCCESS; the last line says how the program ended.
 set -u
 
-top=$(CDPATH='' cd "$(dirname "$0")/.." && pwd -P) || exit 1
-program=${PROGRAM:-$(cd "$top" && . tools/program.sh)} || exit 1
+top=$(CDPATH='' cd "$(dirname "$0")/../.." && pwd -P) || exit 1
+program=${PROGRAM:-$(cd "$top" && . tools/lib/program.sh)} || exit 1
 folder=$(mktemp -d) || exit 1
 trap 'rm -rf "$folder"' EXIT
 cd "$folder" || exit 1

@@ -2,7 +2,7 @@
 # Builds libtpms.so.0 over the device: swtpm that is started with it, in place of its own, is a tpmsim.
 # attached/swtpm has its sources. The same sources and the same compiler make the same bytes.
 #
-#   tools/attached_swtpm.sh FOLDER
+#   tools/interop/attached_swtpm.sh FOLDER
 #
 # FOLDER has libtpms.so.0 then, tpmsim-swtpm, which starts swtpm with it, and for libvirt's path swtpm,
 # which is tpmsim-swtpm under another name, and a swtpm_setup that does nothing.
@@ -12,7 +12,7 @@
 # compiler, Debian's binutils and libtpms-dev, whose headers say what swtpm expects.
 set -u
 
-top=$(CDPATH='' cd "$(dirname "$0")/.." && pwd -P) || exit 1
+top=$(CDPATH='' cd "$(dirname "$0")/../.." && pwd -P) || exit 1
 
 # fail REASON: ends the script.
 fail() {
@@ -20,7 +20,7 @@ fail() {
     exit 1
 }
 
-[ "$#" -eq 1 ] || fail 'usage: tools/attached_swtpm.sh FOLDER'
+[ "$#" -eq 1 ] || fail 'usage: tools/interop/attached_swtpm.sh FOLDER'
 archive=${TPMSIM_ARCHIVE:-$top/dist/libtpmsim.a}
 archive=$(realpath -e "$archive") || fail 'there is no archive of the library'
 mkdir -p "$1" || fail "$1 is no folder"

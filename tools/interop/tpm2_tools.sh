@@ -2,16 +2,16 @@
 # Uses a device with Debian's tpm2-tools, each tool a process of its own, and says of each whether
 # it did what was asked. Not part of the gate. It installs nothing, and leaves nothing behind.
 #
-#   tools/tpm2_tools.sh            by each of the two ways
-#   tools/tpm2_tools.sh WAY..      by these:
+#   tools/interop/tpm2_tools.sh            by each of the two ways
+#   tools/interop/tpm2_tools.sh WAY..      by these:
 #
 #   socket    a served device, which the tools reach by their `cmd` transport and socat. Needs
 #             tpm2-tools and socat, and rt where the program is not built yet
-#   module    a kept device, by the module that tools/attached.sh makes. Needs tpm2-tools and what
+#   module    a kept device, by the module that tools/interop/attached.sh makes. Needs tpm2-tools and what
 #             that script needs; TPMSIM_ARCHIVE names another archive here too
 set -u
 
-top=$(CDPATH='' cd "$(dirname "$0")/.." && pwd -P)
+top=$(CDPATH='' cd "$(dirname "$0")/../.." && pwd -P)
 [ "$#" -gt 0 ] || set -- socket module
 folder=$(mktemp -d) || exit 1
 server=
@@ -200,7 +200,7 @@ serve() {
 
 # Makes the module, and has the tools reach a new device by it.
 keep() {
-    [ -e made ] || "$top/tools/attached.sh" made || exit 2
+    [ -e made ] || "$top/tools/interop/attached.sh" made || exit 2
     rm -rf state
     export TPM2TOOLS_TCTI="tpmsim:state=$folder/state" LD_LIBRARY_PATH="$folder/made"
 }

@@ -3,9 +3,9 @@
 prover must refuse it. They are like those in the crates' must-fail/, which every run of the gate
 tries; these are run whole before a piece of work is called done (docs/GATE.md says with which code).
 
-    tools/wrong_bodies.py                       all of them
-    tools/wrong_bodies.py tpm_pcr               those of one crate, or of several
-    tools/wrong_bodies.py --room FOLDER tpm_pcr the same, in a folder that is kept: what was proved
+    tools/soak/wrong_bodies.py                       all of them
+    tools/soak/wrong_bodies.py tpm_pcr               those of one crate, or of several
+    tools/soak/wrong_bodies.py --room FOLDER tpm_pcr the same, in a folder that is kept: what was proved
                                                 there is not proved again
 
 First `rt` proves the crates and those below them, in a copy without wrong bodies; then those of each
@@ -35,7 +35,7 @@ import subprocess
 import sys
 import tempfile
 
-TOP = pathlib.Path(__file__).resolve().parent.parent
+TOP = pathlib.Path(__file__).resolve().parents[2]
 SOURCES = ["src", "specs", "proofs"]
 FUNCTION = re.compile(r"\s*(pub(\([a-z ]+\))? )?(const )?(unsafe )?fn (\w+)")
 PLACE = re.compile(r"(?:note: )?(?:\./)?(\S+?\.(?:rt|antt)):(\d+):\d+: (.*)")

@@ -4,16 +4,16 @@
 # a device that is served with --save-each, straight behind a response, as tests/serving/save_each.sh does. It
 # is no part of the gate. Needs python3.
 #
-#   tools/kills.sh               1,000 kills, of seed 1
-#   tools/kills.sh 5000 7        5,000 kills, of seed 7
+#   tools/soak/kills.sh               1,000 kills, of seed 1
+#   tools/soak/kills.sh 5000 7        5,000 kills, of seed 7
 #
 # Its first line says that all went as it must, or what did not; then the last image is left, and it
 # says where. The second line says where the kills fell, which is not the same in each run. The others
 # are those of --save-each.
 set -u
 
-top=$(CDPATH='' cd "$(dirname "$0")/.." && pwd -P) || exit 1
-program=${PROGRAM:-$(cd "$top" && . tools/program.sh)} || exit 1
+top=$(CDPATH='' cd "$(dirname "$0")/../.." && pwd -P) || exit 1
+program=${PROGRAM:-$(cd "$top" && . tools/lib/program.sh)} || exit 1
 folder=$(mktemp -d) || exit 1
 cd "$folder" || exit 1
 

@@ -5,16 +5,16 @@
 # random, with the length and the digest that they have to have. What is opened of these is saved
 # again, too. It is no part of the gate; tests/images/images.sh is. Needs python3; takes some minutes.
 #
-#   tools/images.sh             ten thousand bent bodies of seed 1
-#   tools/images.sh 7           those of seed 7
-#   tools/images.sh 7 100       a hundred of them
+#   tools/soak/images.sh             ten thousand bent bodies of seed 1
+#   tools/soak/images.sh 7           those of seed 7
+#   tools/soak/images.sh 7 100       a hundred of them
 #
 # Where they differ it says so, leaves the first texts that do, and says where. Its last line is
 # `N agree, M differ`.
 set -u
 
-top=$(CDPATH='' cd "$(dirname "$0")/.." && pwd -P) || exit 1
-program=${PROGRAM:-$(cd "$top" && . tools/program.sh)} || exit 1
+top=$(CDPATH='' cd "$(dirname "$0")/../.." && pwd -P) || exit 1
+program=${PROGRAM:-$(cd "$top" && . tools/lib/program.sh)} || exit 1
 program=$(cd "$(dirname "$program")" && pwd -P)/$(basename "$program")
 folder=$(mktemp -d) || exit 1
 cd "$folder" || exit 1

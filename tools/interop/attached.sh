@@ -2,14 +2,14 @@
 # Makes what attaches a kept device, in a folder: the module for libtss2, libtss2-tcti-tpmsim.so.0,
 # and tpmsim-power. Both have the library within them, and are the same bytes each time.
 #
-#   tools/attached.sh FOLDER
+#   tools/interop/attached.sh FOLDER
 #
 # The library is dist/libtpmsim.a, or the archive that TPMSIM_ARCHIVE names; its header stands
 # beside it. Needs a C compiler, Debian's binutils, and the header of Debian's libtss2-dev.
 set -u
 LC_ALL=C
 export LC_ALL
-sources=$(CDPATH='' cd "$(dirname "$0")/../attached" && pwd -P) || exit 1
+sources=$(CDPATH='' cd "$(dirname "$0")/../../attached" && pwd -P) || exit 1
 archive=${TPMSIM_ARCHIVE:-$sources/../dist/libtpmsim.a}
 
 # fail REASON: ends the script.

@@ -6,8 +6,8 @@
 # called done. Those that name different laws of one crate are tried in one copy, which is a proof of
 # the crates above what they turn, from nothing. Needs rt, and git.
 #
-#   tools/turned_rows.sh                    all of them
-#   tools/turned_rows.sh pcr_16_restored    one of them, or several
+#   tools/soak/turned_rows.sh                    all of them
+#   tools/soak/turned_rows.sh pcr_16_restored    one of them, or several
 #
 # A patch begins with what the device does then, and with two lines, or three:
 #
@@ -18,7 +18,7 @@
 # The last line is `N of M turned rows refused`, and the status is 0 where all are.
 set -eu
 
-cd "$(dirname "$0")/.."
+cd "$(dirname "$0")/../.."
 top=$PWD
 if [ "$#" -eq 0 ]; then
     for patch in wrong/turned/*.patch; do

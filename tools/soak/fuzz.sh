@@ -5,12 +5,12 @@
 # runs one after another on its image, of which some bytes are missing or have wrong sizes, and
 # images that are bent. What comes in a round hangs on its seed alone.
 #
-#   tools/fuzz.sh 600             rounds for 600 seconds, from a seed by the clock on, which it says
-#   tools/fuzz.sh 600 7           from seed 7 on, then 8, and so on
-#   tools/fuzz.sh --rounds 60 1   those of the seeds 1 to 60, the same each time: about a minute
-#   tools/fuzz.sh --replay FILE   a script or a stream that was left
+#   tools/soak/fuzz.sh 600             rounds for 600 seconds, from a seed by the clock on, which it says
+#   tools/soak/fuzz.sh 600 7           from seed 7 on, then 8, and so on
+#   tools/soak/fuzz.sh --rounds 60 1   those of the seeds 1 to 60, the same each time: about a minute
+#   tools/soak/fuzz.sh --replay FILE   a script or a stream that was left
 #
-# It runs PROGRAM, or the one that tools/program.sh names. Where an answer differs it says the seed,
+# It runs PROGRAM, or the one that tools/lib/program.sh names. Where an answer differs it says the seed,
 # leaves the script or the stream, and says at which of its lines; the first one it leaves once
 # more, with no line that the difference does not need; python/tpmsim/model/streams.py says what
 # the lines of a stream are. The last lines count what was tried, and the status is 1 where anything
@@ -33,11 +33,11 @@ are_words() {
     esac
 }
 
-top=$(CDPATH='' cd "$(dirname "$0")/.." && pwd -P) || exit 1
+top=$(CDPATH='' cd "$(dirname "$0")/../.." && pwd -P) || exit 1
 if ! are_words "$@"; then
     sed -n '2,/^set/s/^# \{0,1\}//p' "$0" >&2
     exit 2
 fi
-program=${PROGRAM:-$(cd "$top" && . tools/program.sh)} || exit 1
+program=${PROGRAM:-$(cd "$top" && . tools/lib/program.sh)} || exit 1
 program=$(cd "$(dirname "$program")" && pwd -P)/$(basename "$program") || exit 1
 exec "$top/tools/python.sh" "$top/tests/at_random/fuzz.py" "$program" "$@"

@@ -6,17 +6,17 @@
 # part of the gate: it takes minutes. It installs nothing, and leaves nothing but its folder, where it is
 # told one.
 #
-#   tools/guest.sh [FOLDER]                   all of that
-#   tools/guest.sh FOLDER FIRMWARE DEVICE     one of the four, as seabios tpm-tis
-#   tools/guest.sh FOLDER moves               the guest that is saved as it runs
+#   tools/interop/guest.sh [FOLDER]                   all of that
+#   tools/interop/guest.sh FOLDER FIRMWARE DEVICE     one of the four, as seabios tpm-tis
+#   tools/interop/guest.sh FOLDER moves               the guest that is saved as it runs
 #
 # Needs Debian's qemu-system-x86, qemu-utils, ovmf, swtpm, libtpms-dev, busybox-static, tpm2-tools, socat, and a
 # kernel with the TPM's drivers built in: the file that $KERNEL names, or Debian's cloud kernel, which is
-# fetched by apt-get. The folder of tools/attached_swtpm.sh is that of $ATTACHED, or it is made. QEMU
+# fetched by apt-get. The folder of tools/interop/attached_swtpm.sh is that of $ATTACHED, or it is made. QEMU
 # emulates the processor, unless $ACCELERATOR is kvm.
 set -u
 
-tools=$(CDPATH='' cd "$(dirname "$0")" && pwd -P)
+top=$(CDPATH='' cd "$(dirname "$0")/../.." && pwd -P) || exit 1
 for needed in qemu-system-x86_64 qemu-img swtpm busybox tpm2 socat python3; do
     command -v "$needed" >/dev/null || {
         echo "$0: $needed is not there; the head of this file says what is needed" >&2
@@ -57,7 +57,7 @@ make_guest() {
     mkdir -p "$root/bin" "$root/lib" "$root/lib64" "$root/usr/bin" "$root/tmp"
     cp "$(command -v busybox)" "$root/bin/busybox"
     ln -s busybox "$root/bin/sh"
-    cp "$tools/guest_init.sh" "$root/init"
+    cp "$top/tools/interop/guest_init.sh" "$root/init"
     chmod +x "$root/init"
     cp -L "$(command -v tpm2)" "$root/usr/bin/tpm2"
     tcti=$(ldconfig -p | sed -n 's/.*libtss2-tcti-device\.so\.0 .*=> //p' | head -n 1)
@@ -243,7 +243,7 @@ moves() {
 }
 
 attached=${ATTACHED:-$folder/attached}
-[ -n "${ATTACHED:-}" ] || "$tools/attached_swtpm.sh" "$attached" || exit 1
+[ -n "${ATTACHED:-}" ] || "$top/tools/interop/attached_swtpm.sh" "$attached" || exit 1
 make_guest
 case $# in
 3) combination "$2" "$3" ;;

@@ -3,8 +3,8 @@
 # alone tells of it: each PCR, counter, authorization value, session and policy. Needs python3, and
 # no program.
 #
-#   tools/histories.sh 100000     100,000 events, from seed 1 on: half a minute
-#   tools/histories.sh 5000 7     5,000 events, from seed 7 on
+#   tools/soak/histories.sh 100000     100,000 events, from seed 1 on: half a minute
+#   tools/soak/histories.sh 5000 7     5,000 events, from seed 7 on
 #
 # The last line counts them, and the status is 1 where anything differs.
 set -u
@@ -19,5 +19,5 @@ if [ $# -lt 1 ] || [ $# -gt 2 ] || ! is_number "$1" || ! is_number "${2:-1}"; th
     sed -n '2,/^set/s/^# \{0,1\}//p' "$0" >&2
     exit 2
 fi
-top=$(CDPATH='' cd "$(dirname "$0")/.." && pwd -P) || exit 1
+top=$(CDPATH='' cd "$(dirname "$0")/../.." && pwd -P) || exit 1
 exec "$top/tools/python.sh" "$top/tests/at_random/histories.py" "$@"

@@ -4,14 +4,14 @@
 # the running device from one swtpm to another, kills it, fills its disk, and damages what it keeps. Not part
 # of the gate. It installs nothing, and leaves nothing.
 #
-#   tools/swtpm_tools.sh
+#   tools/interop/swtpm_tools.sh
 #
 # Needs Debian's swtpm, swtpm-tools, libtpms-dev, tpm2-tools, libtss2-tcti-swtpm0, socat and busybox. The folder of
-# tools/attached_swtpm.sh is that of $ATTACHED, or it is made. A case that cannot be tried is told as
+# tools/interop/attached_swtpm.sh is that of $ATTACHED, or it is made. A case that cannot be tried is told as
 # skipped, with its reason.
 set -u
 
-tools=$(CDPATH='' cd "$(dirname "$0")" && pwd -P)
+top=$(CDPATH='' cd "$(dirname "$0")/../.." && pwd -P) || exit 1
 for needed in swtpm swtpm_ioctl tpm2 socat busybox; do
     command -v "$needed" >/dev/null || {
         echo "$0: $needed is not there; the head of this file says what is needed" >&2
@@ -336,7 +336,7 @@ echo 12345678 | head -c 8 >data
 echo event >event
 printf secret >key
 attached=${ATTACHED:-$folder/attached}
-[ -n "${ATTACHED:-}" ] || "$tools/attached_swtpm.sh" "$attached" || exit 1
+[ -n "${ATTACHED:-}" ] || "$top/tools/interop/attached_swtpm.sh" "$attached" || exit 1
 export TPM2TOOLS_TCTI="swtpm:host=127.0.0.1,port=$port"
 mkdir state
 begin_tpm "$folder/state" --flags not-need-init || exit 1
