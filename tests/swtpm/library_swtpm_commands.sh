@@ -133,3 +133,11 @@ profile {"Name":"default-v1"}
 cancel
 blob
 END
+
+label 'completing'
+for complete in 0 1 yes; do
+    TPMSIM_COMPLETE=$complete
+    export TPMSIM_COMPLETE
+    printf 'on\noff\n' | caller
+done
+unset TPMSIM_COMPLETE
