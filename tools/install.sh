@@ -13,7 +13,7 @@
 set -u
 umask 022
 cd "$(dirname "$0")/.." || exit 1
-. tools/proved.sh
+. tools/lib/proved.sh
 prefix=${PREFIX:-/usr/local}
 libraries=${LIBRARIES:-lib}
 packages=${PACKAGES:-lib/tpmsim/python}
@@ -45,11 +45,6 @@ has_header() {
 put_program() {
     is_proved program "$(checksum <"$shipped")" || fail "$shipped is not the program of $proved"
     put 755 "$shipped" bin/tpmsim
-    put 755 packaging/tpmsim-front bin/tpmsim-front
-    put 644 tools/swtpm_front.py lib/tpmsim/front/swtpm_front.py
-    for file in tools/front/*.py; do
-        put 644 "$file" "lib/tpmsim/front/front/${file##*/}"
-    done
     python3 packaging/python.py "$root" "$packages" bin || fail 'the Python package is not written'
 }
 
@@ -69,14 +64,14 @@ put_library() {
 
 put_modules() {
     if has_header tss2/tss2_tcti.h; then
-        tools/attached.sh "$work/libtss2" || exit 1
+        tools/interop/attached.sh "$work/libtss2" || exit 1
         put 755 "$work/libtss2/tpmsim-power" bin/tpmsim-power
         put 644 "$work/libtss2/libtss2-tcti-tpmsim.so.0" "$libraries/libtss2-tcti-tpmsim.so.0"
     else
         echo "$0: there is no module for libtss2, whose header libtss2-dev has" >&2
     fi
     if has_header libtpms/tpm_library.h; then
-        tools/attached_swtpm.sh "$work/swtpm" || exit 1
+        tools/interop/attached_swtpm.sh "$work/swtpm" || exit 1
         put 644 "$work/swtpm/libtpms.so.0" lib/tpmsim/swtpm/libtpms.so.0
         for file in tpmsim-swtpm swtpm_setup; do
             put 755 "$work/swtpm/$file" "lib/tpmsim/swtpm/$file"
@@ -95,7 +90,7 @@ put_documents() {
         put 644 "$page.gz" "share/man/man${page##*.}/${page##*/}.gz"
     done
     put 644 packaging/tpmsim.bash share/bash-completion/completions/tpmsim
-    for tool in audit compare explain front simulator; do
+    for tool in audit compare explain simulator; do
         link tpmsim "share/bash-completion/completions/tpmsim-$tool"
     done
     put 644 packaging/_tpmsim share/zsh/vendor-completions/_tpmsim

@@ -15,7 +15,7 @@ cd copy || exit 1
 version=$(dist/tpmsim --version | sed 's/.* //')
 for of in '' tpmsim_library; do
     # shellcheck disable=SC2086 # an empty word is none
-    sum=$(. tools/proved.sh && sources_checksum $of)
+    sum=$(. tools/lib/proved.sh && sources_checksum $of)
     sed -i "s/^${of:+library }sources: .*/${of:+library }sources: $sum/" dist/PROVED
 done
 printf '# Changelog\n\n## %s, 2026-11-27\n\n- All is new.\n\n## 0.0.1, 2025-01-01\n\n- Old.\n' "$version" >CHANGELOG.md
