@@ -7,6 +7,7 @@
 #     DESTDIR    what stands before that, as of a package that is made; nothing
 #     LIBRARIES  the folder of libraries in PREFIX; lib
 #     PACKAGES   the folder of Python packages in PREFIX; lib/tpmsim/python
+#     FUNCTIONS  the folder of zsh's functions in PREFIX; share/zsh/site-functions
 #
 # The modules for libtss2 and for swtpm are made where the headers are there that they need, and are
 # left out with a line else. Needs python3.
@@ -17,6 +18,7 @@ cd "$(dirname "$0")/.." || exit 1
 prefix=${PREFIX:-/usr/local}
 libraries=${LIBRARIES:-lib}
 packages=${PACKAGES:-lib/tpmsim/python}
+functions=${FUNCTIONS:-share/zsh/site-functions}
 root=${DESTDIR:-}$prefix
 
 # fail REASON: ends the script.
@@ -93,7 +95,7 @@ put_documents() {
     for tool in audit compare explain simulator; do
         link tpmsim "share/bash-completion/completions/tpmsim-$tool"
     done
-    put 644 packaging/_tpmsim share/zsh/vendor-completions/_tpmsim
+    put 644 packaging/_tpmsim "$functions/_tpmsim"
     for file in README.md CHANGELOG.md docs/* docs/table/* examples/*; do
         [ ! -f "$file" ] || put 644 "$file" "share/doc/tpmsim/$file"
     done
