@@ -46,15 +46,20 @@ class Page:
         return f"**{self.name}**({self.section})"
 
 
+def words_of(text: str) -> str:
+    """What a program says of itself, which has no links."""
+    return roff.line(roff.inline(text, lambda text, _: text))
+
+
 def option_lines(text: str) -> Iterator[str]:
     """A help's list of options, arguments or subcommands, as paragraphs with a tag."""
     for each in text.split("\n"):
         found = OPTION.match(each)
         if found and not found[1].startswith(("-h,", "-V,", "help ")):
-            meaning = roff.plain(found[2] or "") or "\\&"
-            yield from (".TP", f"\\fB{roff.escaped(found[1])}\\fR", meaning)
+            yield from (".TP", f"\\fB{roff.escaped(found[1])}\\fR")
+            yield words_of(found[2]) if found[2] else "\\&"
         elif each.strip() and not found:
-            yield roff.line(roff.plain(each.strip()))
+            yield words_of(each.strip())
 
 
 class Manual:
@@ -108,7 +113,7 @@ class Manual:
                 continue
             parts = help_parts(said([*words, name, "--help"], self.program))
             yield f".SS {roff.escaped(parts['Usage'].strip())}"
-            yield from (".PP", roff.line(roff.plain(parts[""].replace("\n", " ")) + "."))
+            yield from (".PP", words_of(parts[""].replace("\n", " ") + "."))
             for heading in "Commands", "Arguments", "Options":
                 yield from option_lines(parts.get(heading, ""))
             if example := parts.get("Example"):
@@ -132,7 +137,7 @@ class Manual:
         purpose = page.purpose or said([*page.commands, "--help"], self.program).split("\n")[0]
         names = ", ".join([page.name, *(other.partition(".")[0] for other in page.also)])
         yield f'.TH "{page.name.upper()}" "{page.section}" "" "tpmsim {self.version}" "tpmsim"'
-        yield from (".SH NAME", f"{roff.escaped(names)} \\- {roff.plain(purpose)}", ".SH SYNOPSIS")
+        yield from (".SH NAME", f"{roff.escaped(names)} \\- {words_of(purpose)}", ".SH SYNOPSIS")
         yield from roff.code(self.synopsis(page))
 
     def lines(self, page: Page) -> Iterator[str]:
@@ -147,7 +152,7 @@ class Manual:
             yield f".SH {heading.upper()}"
             yield from roff.code(said(words, self.program).rstrip().split("\n"))
         others = ", ".join(other.title() for other in self.pages.values() if other is not page)
-        yield from (".SH SEE ALSO", roff.inline(others, lambda text, _: text))
+        yield from (".SH SEE ALSO", words_of(others))
 
     def write(self, folder: pathlib.Path) -> None:
         """Writes all pages, and for each other name of one a page that leads to it."""
