@@ -48,18 +48,22 @@ def install(root: pathlib.Path, packages: pathlib.Path, programs: pathlib.Path) 
         f"Summary: {project['description']}\nRequires-Python: {project['requires-python']}\n"
     )
     groups = {"console_scripts": project["scripts"], **project["entry-points"]}
-    (described / "entry_points.txt").write_text("".join(
-        f"[{group}]\n" + "".join(f"{key} = {value}\n" for key, value in entries.items())
-        for group, entries in groups.items()
-    ))
+    (described / "entry_points.txt").write_text(
+        "".join(
+            f"[{group}]\n" + "".join(f"{key} = {value}\n" for key, value in entries.items())
+            for group, entries in groups.items()
+        )
+    )
 
     (root / programs).mkdir(parents=True, exist_ok=True)
     for program, entry in project["scripts"].items():
         module, _, function = entry.partition(":")
         path = root / programs / program
-        path.write_text(PROGRAM.format(
-            packages=os.path.relpath(packages, programs), module=module, function=function
-        ))
+        path.write_text(
+            PROGRAM.format(
+                packages=os.path.relpath(packages, programs), module=module, function=function
+            )
+        )
         path.chmod(0o755)
 
 

@@ -57,7 +57,7 @@ version=$(dist/tpmsim --version) || fail 'dist/tpmsim does not run here'
 version=${version##* }
 purpose=$(dist/tpmsim --help | sed -n '1s/^A //p')
 DESTDIR=$root PREFIX=/usr LIBRARIES=lib/x86_64-linux-gnu PACKAGES=lib/python3/dist-packages \
-    tools/install.sh || exit 1
+    FUNCTIONS=share/zsh/vendor-completions tools/install.sh || exit 1
 describe || fail 'the package is not described'
 package=$folder/tpmsim_${version}_amd64.deb
 mkdir -p "$folder" || fail "$folder is no folder"

@@ -7,16 +7,18 @@
 #     DESTDIR    what stands before that, as of a package that is made; nothing
 #     LIBRARIES  the folder of libraries in PREFIX; lib
 #     PACKAGES   the folder of Python packages in PREFIX; lib/tpmsim/python
+#     FUNCTIONS  the folder of zsh's functions in PREFIX; share/zsh/site-functions
 #
 # The modules for libtss2 and for swtpm are made where the headers are there that they need, and are
 # left out with a line else. Needs python3.
 set -u
 umask 022
 cd "$(dirname "$0")/.." || exit 1
-. tools/proved.sh
+. tools/lib/proved.sh
 prefix=${PREFIX:-/usr/local}
 libraries=${LIBRARIES:-lib}
 packages=${PACKAGES:-lib/tpmsim/python}
+functions=${FUNCTIONS:-share/zsh/site-functions}
 root=${DESTDIR:-}$prefix
 
 # fail REASON: ends the script.
@@ -45,11 +47,6 @@ has_header() {
 put_program() {
     is_proved program "$(checksum <"$shipped")" || fail "$shipped is not the program of $proved"
     put 755 "$shipped" bin/tpmsim
-    put 755 packaging/tpmsim-front bin/tpmsim-front
-    put 644 tools/swtpm_front.py lib/tpmsim/front/swtpm_front.py
-    for file in tools/front/*.py; do
-        put 644 "$file" "lib/tpmsim/front/front/${file##*/}"
-    done
     python3 packaging/python.py "$root" "$packages" bin || fail 'the Python package is not written'
 }
 
@@ -69,14 +66,14 @@ put_library() {
 
 put_modules() {
     if has_header tss2/tss2_tcti.h; then
-        tools/attached.sh "$work/libtss2" || exit 1
+        tools/interop/attached.sh "$work/libtss2" || exit 1
         put 755 "$work/libtss2/tpmsim-power" bin/tpmsim-power
         put 644 "$work/libtss2/libtss2-tcti-tpmsim.so.0" "$libraries/libtss2-tcti-tpmsim.so.0"
     else
         echo "$0: there is no module for libtss2, whose header libtss2-dev has" >&2
     fi
     if has_header libtpms/tpm_library.h; then
-        tools/attached_swtpm.sh "$work/swtpm" || exit 1
+        tools/interop/attached_swtpm.sh "$work/swtpm" || exit 1
         put 644 "$work/swtpm/libtpms.so.0" lib/tpmsim/swtpm/libtpms.so.0
         for file in tpmsim-swtpm swtpm_setup; do
             put 755 "$work/swtpm/$file" "lib/tpmsim/swtpm/$file"
@@ -95,10 +92,10 @@ put_documents() {
         put 644 "$page.gz" "share/man/man${page##*.}/${page##*/}.gz"
     done
     put 644 packaging/tpmsim.bash share/bash-completion/completions/tpmsim
-    for tool in audit compare explain front simulator; do
+    for tool in audit compare explain simulator; do
         link tpmsim "share/bash-completion/completions/tpmsim-$tool"
     done
-    put 644 packaging/_tpmsim share/zsh/vendor-completions/_tpmsim
+    put 644 packaging/_tpmsim "$functions/_tpmsim"
     for file in README.md CHANGELOG.md docs/* docs/table/* examples/*; do
         [ ! -f "$file" ] || put 644 "$file" "share/doc/tpmsim/$file"
     done

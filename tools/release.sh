@@ -10,7 +10,7 @@
 set -u
 told_folder=${1:+$(realpath -m "$1")}
 cd "$(dirname "$0")/.." || exit 1
-. tools/proved.sh
+. tools/lib/proved.sh
 
 # fail REASON: ends the script.
 fail() {

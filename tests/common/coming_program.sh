@@ -31,7 +31,8 @@ Arguments:
 Options:
       --log <FILE>     Where each stir is written
       --spoon <NUMBER>  How many stirs there are
-      --twice           Stirs twice
+      --twice           Stirs twice, as `stir` does
+      --backwards
   -h, --help            Print help
 
 Example: tpmsim stir --twice tpm

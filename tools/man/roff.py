@@ -95,9 +95,7 @@ def taken(lines: list[str], start: int, belongs: Callable[[str], bool]) -> int:
 
 def goes_on(text: str) -> bool:
     """Whether a line goes on with the paragraph before it."""
-    return bool(text.strip()) and not any(
-        form.match(text) for form in (FENCE, HEADING, ITEM, ROW)
-    )
+    return bool(text.strip()) and not any(form.match(text) for form in (FENCE, HEADING, ITEM, ROW))
 
 
 def paragraph(lines: list[str], link: Link) -> str:
