@@ -7,14 +7,12 @@ from dataclasses import dataclass
 from tpmsim.audit.words import entity_words
 from tpmsim.model import nv_commands
 from tpmsim.policies.policy_texts import or_update
-from tpmsim.policies.written import PolicyAuthValue, PolicyCommandCode, PolicyCpHash
-from tpmsim.policies.written import PolicyLocality, PolicyNv, PolicyNvWritten, PolicyPassword
-from tpmsim.policies.written import PolicyPcr, PolicySecret
-from tpmsim.standard import frames
-from tpmsim.standard.commands import CC
+from tpmsim.policies.written import PolicyAuthValue, PolicyCommandCode, PolicyCpHash, PolicyLocality
+from tpmsim.policies.written import PolicyNv, PolicyNvWritten, PolicyPassword, PolicyPcr
+from tpmsim.policies.written import PolicySecret
+from tpmsim.standard import CC, DIGEST_BYTES, frames
 from tpmsim.standard.lines import handle_word
 from tpmsim.standard.policy import LEAST_BRANCHES, MOST_BRANCHES
-from tpmsim.standard.sessions import DIGEST_BYTES
 
 
 @dataclass(frozen=True)

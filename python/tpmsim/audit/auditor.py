@@ -15,7 +15,7 @@ from tpmsim.audit.uses import Uses
 from tpmsim.audit.value_lines import ValueLines
 from tpmsim.audit.watch import Watch
 from tpmsim.model.player import BadLine, LINES, Player
-from tpmsim.standard.commands import NUMBERED
+from tpmsim.standard import NUMBERED
 
 
 class Counts:

@@ -5,7 +5,7 @@ TPM2_PolicyOR that none takes.
 
 from tpmsim.audit.asserted import PolicyOr
 from tpmsim.policies.policy_texts import policy_digest, policy_texts, texts_after, zeros
-from tpmsim.standard.sessions import digest
+from tpmsim.standard import digest
 
 
 def explanation(algorithm, policy, told):

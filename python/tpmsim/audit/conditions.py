@@ -4,9 +4,7 @@ from dataclasses import dataclass
 
 from tpmsim.audit import hmacs
 from tpmsim.audit.words import command_name
-from tpmsim.standard import frames, nv, policy
-from tpmsim.standard.commands import Fact
-from tpmsim.standard.sessions import HASH_WORDS
+from tpmsim.standard import Fact, frames, HASH_WORDS, nv, policy
 
 
 @dataclass(frozen=True)

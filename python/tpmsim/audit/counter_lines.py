@@ -3,8 +3,7 @@
 from dataclasses import dataclass
 
 from tpmsim.model.history import defined_index
-from tpmsim.standard import nv
-from tpmsim.standard.commands import CC
+from tpmsim.standard import CC, nv
 from tpmsim.standard.lines import handle_word
 
 

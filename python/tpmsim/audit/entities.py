@@ -4,8 +4,7 @@ from dataclasses import dataclass, field
 
 from tpmsim.audit.words import entity_words, index_words, means_words, object_words
 from tpmsim.model.history import defined_index
-from tpmsim.standard import nv
-from tpmsim.standard.commands import CC
+from tpmsim.standard import CC, nv
 from tpmsim.standard.lines import handle_word
 
 

@@ -6,11 +6,9 @@ from dataclasses import dataclass
 
 from tpmsim.audit import conditions, hmacs
 from tpmsim.audit.conditions import Finding
-from tpmsim.audit.words import KINDS, command_name
-from tpmsim.standard import handle_kinds, policy
-from tpmsim.standard.frames import RS_PW
+from tpmsim.audit.words import command_name, KINDS
+from tpmsim.standard import handle_kinds, policy, RS_PW, trimmed
 from tpmsim.standard.lines import handle_word
-from tpmsim.standard.sessions import trimmed
 
 
 @dataclass(frozen=True)

@@ -4,7 +4,7 @@ from dataclasses import dataclass, field
 
 from tpmsim.audit.log import Disagreement
 from tpmsim.model.protection import MILLISECONDS, TRIES
-from tpmsim.standard.commands import CC
+from tpmsim.standard import CC
 
 RESETS = (CC.DictionaryAttackLockReset, CC.DictionaryAttackParameters, CC.Clear)
 

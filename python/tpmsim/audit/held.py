@@ -4,9 +4,9 @@ from tpmsim.audit import hmacs
 from tpmsim.audit.conditions import Finding
 from tpmsim.audit.words import command_name
 from tpmsim.model.parameters import Parameters
-from tpmsim.policies.written import PolicyAuthValue, PolicyCommandCode, PolicyCpHash
-from tpmsim.policies.written import PolicyLocality, PolicyNv, PolicyNvWritten, PolicyPassword
-from tpmsim.policies.written import PolicyPcr, PolicySecret
+from tpmsim.policies.written import PolicyAuthValue, PolicyCommandCode, PolicyCpHash, PolicyLocality
+from tpmsim.policies.written import PolicyNv, PolicyNvWritten, PolicyPassword, PolicyPcr
+from tpmsim.policies.written import PolicySecret
 from tpmsim.standard import nv, policy
 
 

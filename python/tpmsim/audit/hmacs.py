@@ -1,7 +1,6 @@
 """HMACs and plain parameters of a command, with the keys and nonces that a history tells."""
 
-from tpmsim.standard import aes_tables, sessions
-from tpmsim.standard.frames import DECRYPT, ENCRYPT
+from tpmsim.standard import aes_tables, DECRYPT, ENCRYPT, sessions
 
 
 def command_hash(use):

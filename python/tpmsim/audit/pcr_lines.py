@@ -2,10 +2,7 @@
 
 from tpmsim.model import pcrs, state
 from tpmsim.model.history import Pcrs
-from tpmsim.standard import handle_kinds
-from tpmsim.standard.commands import CC
-from tpmsim.standard.frames import SHA1, SHA256
-from tpmsim.standard.sessions import HASH_WORDS
+from tpmsim.standard import CC, handle_kinds, HASH_WORDS, SHA1, SHA256
 
 BANKS = SHA1, SHA256
 OF_IMAGE = "written before the image"

@@ -3,12 +3,10 @@
 from dataclasses import dataclass, field
 
 from tpmsim.audit.asserted import asserted_by
-from tpmsim.audit.words import KINDS, asserted_words, command_name
+from tpmsim.audit.words import asserted_words, command_name, KINDS
 from tpmsim.model import history
-from tpmsim.standard import frames
-from tpmsim.standard.commands import CC
+from tpmsim.standard import CC, frames, HASH_WORDS
 from tpmsim.standard.lines import handle_word
-from tpmsim.standard.sessions import HASH_WORDS
 
 
 @dataclass

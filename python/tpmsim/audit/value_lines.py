@@ -2,8 +2,7 @@
 
 from tpmsim.model import state
 from tpmsim.model.history import defined_index
-from tpmsim.standard.commands import CC
-from tpmsim.standard.frames import RH_ENDORSEMENT, RH_LOCKOUT, RH_OWNER, RH_PLATFORM
+from tpmsim.standard import CC, RH_ENDORSEMENT, RH_LOCKOUT, RH_OWNER, RH_PLATFORM
 
 
 class ValueLines:

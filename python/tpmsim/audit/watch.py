@@ -6,10 +6,8 @@ from functools import cached_property
 from tpmsim.model import nv_commands
 from tpmsim.model.history import PowerCycle
 from tpmsim.model.protection import LOCKOUT_AUTH, TRIES
-from tpmsim.standard import nv
-from tpmsim.standard.frames import RH_LOCKOUT
+from tpmsim.standard import name_of, nv, RH_LOCKOUT
 from tpmsim.standard.objects import Attribute
-from tpmsim.standard.sessions import name_of
 
 
 class View:

@@ -1,10 +1,7 @@
 """Words for handles, commands and what they ask for, as docs/LINES.md has them."""
 
-from tpmsim.standard import frames, handle_kinds, lines, nv
-from tpmsim.standard.commands import CC, NUMBERED
-from tpmsim.standard.frames import KEYEDHASH
+from tpmsim.standard import CC, Fields, frames, handle_kinds, KEYEDHASH, lines, NUMBERED, nv
 from tpmsim.standard.objects import Attribute
-from tpmsim.standard.reading import Fields
 
 KINDS = {
     frames.SE_HMAC: "HMAC session",

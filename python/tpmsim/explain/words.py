@@ -1,13 +1,10 @@
 """How numbers, handles, codes and bytes are said."""
 
-from __future__ import annotations
-
 import enum
 from typing import Iterable
 
-from tpmsim.standard import frames, handle_kinds, lines
-from tpmsim.standard.commands import CC, HandleKind, NUMBERED
-from tpmsim.standard.frames import HMAC_SESSION, NV, PERSISTENT, POLICY_SESSION, TRANSIENT
+from tpmsim.standard import CC, frames, handle_kinds, HandleKind, HMAC_SESSION, lines, NUMBERED, NV
+from tpmsim.standard import PERSISTENT, POLICY_SESSION, TRANSIENT
 
 ALGORITHMS = {
     frames.SHA1: "SHA-1",
@@ -112,8 +109,8 @@ def plural(count: int, word: str) -> str:
 
 def listed(words: Iterable[str]) -> str:
     """a, b and c."""
-    those = list(words)
-    return those[0] if len(those) == 1 else ", ".join(those[:-1]) + " and " + those[-1]
+    *before, last = list(words) or [""]
+    return f"{', '.join(before)} and {last}" if before else last
 
 
 def bit_words(value: int, names: dict[int, str]) -> str:

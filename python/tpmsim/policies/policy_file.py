@@ -4,13 +4,12 @@ further in below `either` and `or`.
 
 from typing import Iterator, Protocol
 
-from tpmsim.policies.policy_rows import EITHER, Fault, NOTHING, NO_DEMAND, OR, STEP, Row, rows_of
-from tpmsim.policies.policy_texts import Policy, Written, policy_digest
-from tpmsim.policies.policy_words import Unsaid, read_assertion
+from tpmsim.policies.policy_rows import EITHER, Fault, NO_DEMAND, NOTHING, OR, Row, rows_of, STEP
+from tpmsim.policies.policy_texts import Policy, policy_digest, Written
+from tpmsim.policies.policy_words import read_assertion, Unsaid
 from tpmsim.policies.written import PolicyCpHash, PolicyPcr
-from tpmsim.standard.frames import SHA1, SHA256
+from tpmsim.standard import digest_bytes, HASH_WORDS, SHA1, SHA256
 from tpmsim.standard.policy import LEAST_BRANCHES, MOST_BRANCHES
-from tpmsim.standard.sessions import HASH_WORDS, digest_bytes
 
 ALGORITHMS = SHA256, SHA1
 

@@ -7,9 +7,7 @@ from __future__ import annotations
 from dataclasses import dataclass
 from typing import Protocol
 
-from tpmsim.standard.commands import CC
-from tpmsim.standard.frames import number
-from tpmsim.standard.sessions import digest, digest_bytes
+from tpmsim.standard import CC, digest, digest_bytes, number
 
 
 @dataclass(frozen=True)

@@ -7,12 +7,9 @@ from tpmsim.policies.policy_texts import Assertion
 from tpmsim.policies.written import OPERATIONS, PolicyAuthValue, PolicyCommandCode, PolicyCpHash
 from tpmsim.policies.written import PolicyLocality, PolicyNv, PolicyNvWritten, PolicyPassword
 from tpmsim.policies.written import PolicyPcr, PolicySecret
-from tpmsim.standard import handle_kinds
-from tpmsim.standard.commands import CC
-from tpmsim.standard.frames import SHA1, SHA256, number
-from tpmsim.standard.handle_kinds import HIERARCHIES
-from tpmsim.standard.lines import HANDLE_NAMES, Wrong, bytes_of, number_up_to, spelled_selection
-from tpmsim.standard.sessions import DIGEST_BYTES, digest_bytes, name_of
+from tpmsim.standard import CC, digest_bytes, DIGEST_BYTES, handle_kinds, HIERARCHIES, name_of
+from tpmsim.standard import number, SHA1, SHA256
+from tpmsim.standard.lines import bytes_of, HANDLE_NAMES, number_up_to, spelled_selection, Wrong
 
 LOCALITIES = {b"0", b"1", b"2", b"3", b"4"}
 

@@ -6,12 +6,10 @@ from dataclasses import dataclass
 
 from tpmsim.policies.policy_file import PolicyFile
 from tpmsim.policies.policy_texts import Assertion, Policy, policy_digest
-from tpmsim.policies.written import PolicyAuthValue, PolicyCommandCode, PolicyCpHash
-from tpmsim.policies.written import PolicyLocality, PolicyNv, PolicyNvWritten, PolicyPassword
-from tpmsim.policies.written import PolicyPcr, PolicySecret
-from tpmsim.standard import frames
-from tpmsim.standard.commands import CC
-from tpmsim.standard.frames import SHA256, sized
+from tpmsim.policies.written import PolicyAuthValue, PolicyCommandCode, PolicyCpHash, PolicyLocality
+from tpmsim.policies.written import PolicyNv, PolicyNvWritten, PolicyPassword, PolicyPcr
+from tpmsim.policies.written import PolicySecret
+from tpmsim.standard import CC, frames, SHA256, sized
 from tpmsim.standard.values import write_in_order
 
 

@@ -6,13 +6,8 @@ from dataclasses import dataclass
 from typing import ClassVar
 
 from tpmsim.policies.policy_texts import Update
-from tpmsim.standard import lines
-from tpmsim.standard.commands import CC, NUMBERED
-from tpmsim.standard.frames import number
-from tpmsim.standard.handle_kinds import HIERARCHIES
+from tpmsim.standard import CC, digest, Fields, HIERARCHIES, lines, name_of, number, NUMBERED
 from tpmsim.standard.lines import handle_word, hex_word
-from tpmsim.standard.reading import Fields
-from tpmsim.standard.sessions import digest, name_of
 
 # How TPM2_PolicyNV compares, by the numbers of its operations.
 OPERATIONS = "eq neq sgt ugt slt ult sge uge sle ule bs bc".split()

@@ -1,9 +1,9 @@
 """Frames of TPM 2.0 commands and responses, byte by byte (TPM 2.0 Library, Part 1, section 18)."""
 
-from __future__ import annotations
-
 from dataclasses import dataclass
-from typing import Iterable
+from typing import Iterable, Iterator
+
+from tpmsim.standard.reading import Fields
 
 # PCRs of banks: the hash algorithm of each, and the numbers.
 Banks = Iterable[tuple[int, Iterable[int]]]
@@ -123,6 +123,18 @@ def entry(
 ) -> bytes:
     """An entry of an authorization area; with nothing given, the empty password."""
     return number(session, 4) + sized(nonce) + number(attributes, 1) + sized(hmac)
+
+
+def read_entry(fields: Fields) -> Entry:
+    """The next entry of an authorization area; Short where it is cut."""
+    return Entry(fields.number(4), fields.sized(), fields.number(1), fields.sized())
+
+
+def entries_of(area: bytes) -> Iterator[Entry]:
+    """Those of an area behind its size; Short where it cannot be divided into entries."""
+    fields = Fields(area)
+    while fields.data:
+        yield read_entry(fields)
 
 
 def area(*entries: bytes, size: int | None = None) -> bytes:

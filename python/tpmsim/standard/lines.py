@@ -9,12 +9,12 @@ from __future__ import annotations
 
 import re
 from dataclasses import dataclass
-from typing import Any, Callable, Iterator, TYPE_CHECKING, TypeVar
+from typing import Any, Callable, TYPE_CHECKING, TypeVar
 
 from tpmsim.standard import frames, handle_kinds
 from tpmsim.standard.commands import CC, HandleKind, Kind, NUMBERED
-from tpmsim.standard.frames import AES, ALG_NULL, CONTINUE_SESSION, Entry, NO_SESSIONS, RS_PW
-from tpmsim.standard.frames import SESSIONS, SHA1, SHA256, XOR, number, sized
+from tpmsim.standard.frames import AES, ALG_NULL, CONTINUE_SESSION, Entry, NO_SESSIONS, number
+from tpmsim.standard.frames import RS_PW, SESSIONS, SHA1, SHA256, sized, XOR
 from tpmsim.standard.reading import Fields, Short
 from tpmsim.standard.sessions import digest_bytes
 
@@ -298,6 +298,10 @@ def words_of_parameters(code: CC) -> list[Words]:
     return [WORDS[it.kind] for it in code.parameters]
 
 
+def parameter_words(code: CC, fields: Fields) -> list[str]:
+    return [it.word(fields) for it in words_of_parameters(code)]
+
+
 # Entries.
 
 PASSWORD_PREFIX, SESSION_PREFIX = b"pw:", b"s:"
@@ -404,15 +408,9 @@ def words_of(fields: Fields) -> list[str]:
     handles = [handle_word(fields.number(4)) for _ in code.handles]
     entries = []
     if tag == SESSIONS:
-        entries = list(entry_words(Fields(fields.take(fields.number(4)))))
-    parameters = [it.word(fields) for it in words_of_parameters(code)]
-    return [code.name, *handles, *entries, *parameters]
-
-
-def entry_words(area: Fields) -> Iterator[str]:
-    while area.data:
-        entry = frames.Entry(area.number(4), area.sized(), area.number(1), area.sized())
-        yield entry_word(entry)
+        area = fields.take(fields.number(4))
+        entries = [entry_word(it) for it in frames.entries_of(area)]
+    return [code.name, *handles, *entries, *parameter_words(code, fields)]
 
 
 # The trace.
