@@ -23,11 +23,11 @@ class Start:
     has_image: bool = False
 
 
-def new():
+def new() -> Start:
     return Start(Model(block_cipher=encrypt_block), History(), "a new device")
 
 
-def of_image(text):
+def of_image(text: bytes) -> Start:
     """The device of an image; one that is none is image.Fault."""
     device, history = open_image(text, encrypt_block), History()
     for handle in (*HIERARCHIES, *device.objects, *device.indices):

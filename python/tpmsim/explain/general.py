@@ -4,11 +4,12 @@ from typing import Callable
 
 from tpmsim.explain.reason import HAD, Reason
 from tpmsim.explain.scene import Scene
-from tpmsim.explain.words import KINDS, attribute_words, command_words, handle_words, kind_words
+from tpmsim.explain.words import attribute_words, command_words, handle_words, kind_words
 from tpmsim.explain.words import plural
 from tpmsim.model.general import LEAST_AREA, MOST_NONCE_OR_HMAC
 from tpmsim.standard import CC, COMMAND_BYTES, DECRYPT, ENCRYPT, Entry, Fields, HEADER_BYTES
 from tpmsim.standard import MOST_ENTRIES, RS_PW, Short, frames, is_session
+from tpmsim.standard.handle_kinds import HANDLES
 
 PLACE_BITS = 0xFF_FFFF
 AUDITS = frames.AUDIT_EXCLUSIVE | frames.AUDIT_RESET | frames.AUDIT
@@ -68,7 +69,7 @@ def handles(scene: Scene) -> Reason:
     said = f"Handle {place}, {wanted.name}, is {handle:08x}, {kind_words(handle)}"
     if scene.name == "VALUE":
         found = Reason("G6/VALUE", f"{said}; {scene.code.name} takes none such there.", at=at)
-        found.compare(KINDS[wanted.kind], f"{handle:08x}")
+        found.compare(HANDLES[wanted.kind].words, f"{handle:08x}")
         return found
     rule = "G6/REFERENCE" if scene.name.startswith("REFERENCE") else "G6/HANDLE"
     return Reason(rule, f"{said}. It is not there: {missing_words(scene, handle)}.", at=at)

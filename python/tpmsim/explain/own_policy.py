@@ -26,8 +26,8 @@ def pcr_changed(look: Look) -> None:
     by = moved_words(moved) if moved else "no command of this log"
     where = recorded_at(look, CC.PolicyPCR)
     look.say(f"Since the session's first PolicyPCR{where} PCRs have moved: by {by}.")
-    counters = look.session.policy.update_counter, look.model.update_counter
-    look.found.compare(*map(str, counters), "update counter")
+    told, now = look.session.policy.update_counter, look.model.update_counter
+    look.found.compare(str(told), str(now), "update counter")
 
 
 def pcr_digest(look: Look) -> None:

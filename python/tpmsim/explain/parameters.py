@@ -163,7 +163,8 @@ def field_at(scene: Scene, at: int) -> Field | None:
     fields = dissection.fields_of_command(scene.buffer, scene.plain)
     those = [it for it in fields if not it.is_group and it.at <= at <= it.at + it.size]
     exact = [it for it in those if it.at == at and it.size]
-    return (exact or those or [None])[-1]
+    found = exact or those
+    return found[-1] if found else None
 
 
 def place_words(scene: Scene, field: Field | None) -> str:

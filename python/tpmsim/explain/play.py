@@ -61,7 +61,7 @@ def reason_of(scene: Scene) -> Reason:
         return general.reason(scene)
     if scene.check in OF_ENTRIES:
         return entries.reason(scene)
-    return (parameters if scene.check == "G11" else own).reason(scene)
+    return parameters.reason(scene) if scene.check == "G11" else own.reason(scene)
 
 
 class Watched:

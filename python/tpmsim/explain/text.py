@@ -81,9 +81,13 @@ def title(event: Event) -> str:
     )
 
 
-def of_reason(reason: Reason) -> Iterator[str]:
+def told_words(reason: Reason) -> Iterator[str]:
     yield from wrapped(reason.words)
     yield from facts_words(reason.facts)
+
+
+def of_reason(reason: Reason) -> Iterator[str]:
+    yield from told_words(reason)
     yield from wrapped(f"By the table: {reason.sentence}")
     yield f"{INDENT}{reason.link}"
     yield ""
