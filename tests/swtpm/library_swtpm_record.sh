@@ -52,6 +52,16 @@ TPMSIM_RECORD=
 printf 'on\ncmd 80010000000c000001440000\n' | play
 find . -name "*boot*" | wc -l
 
+label 'links at the names of records, which are not followed'
+mkdir links && cd links || exit 1
+TPMSIM_RECORD=.
+ln -s "$room/elsewhere" boot-1.tpm
+mkfifo boot-2.tpm
+printf 'on\noff\n' | caller
+find . -name 'boot-*' -printf '%y %P\n' | sort
+[ -e "$room/elsewhere" ] || echo 'nothing is made behind the link'
+cd .. || exit 1
+
 label 'a file that has no more room: what is not recorded is not done'
 mkdir full && cd full || exit 1
 TPMSIM_RECORD=.
