@@ -63,8 +63,8 @@ shell_scripts() {
 }
 
 read_shell() {
-    # shellcheck disable=SC2046 # no name of a script has a space
-    shellcheck -s sh $(shell_scripts) && shellcheck -s bash packaging/tpmsim.bash
+    shell_scripts | xargs -P "$(getconf _NPROCESSORS_ONLN)" -n 12 shellcheck -s sh &&
+        shellcheck -s bash packaging/tpmsim.bash
 }
 
 read_python() {
