@@ -12,7 +12,7 @@ _tpmsim_argument() { sed -n '/^Arguments:/,/^$/s/^  [[<]\([A-Z][A-Z_]*\).*/\1/p'
 # _tpmsim_names PROGRAM: prints the names of the TPM's commands.
 _tpmsim_names() { "$1" lines 2>/dev/null | sed -n 's/^\([A-Z][A-Za-z_]*\).*/\1/p'; }
 
-# _tpmsim PROGRAM WORD BEFORE: what bash calls to complete a word that stands behind another one.
+# _tpmsim PROGRAM WORD BEFORE: what bash calls to complete a word that follows another one.
 _tpmsim() {
     local program=$1 word=$2 before=$3 help kind='' words=''
     local said=("$program")

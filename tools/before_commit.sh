@@ -4,7 +4,7 @@
 #
 #   ln -s ../../tools/before_commit.sh .git/hooks/pre-commit
 #
-# A check whose tool is not there is skipped. The last line is `N passed, M failed`, and behind that
+# A check whose tool is not there is skipped. The last line is `N passed, M failed`, and after that
 # `, K skipped` where a check was. The status is 1 where one failed.
 set -u
 top=$(git rev-parse --show-toplevel) && cd "$top" || exit 1
