@@ -29,6 +29,21 @@ class OtherDevice(Transport):
         raise NotImplementedError
 
 
+class LocatedDevice(OtherDevice):
+    """One that is told the locality of commands, which is 0 at first."""
+
+    at = 0
+
+    @property
+    def locality(self) -> int:
+        return self.at or 0
+
+    @locality.setter
+    def locality(self, place: int) -> None:
+        self.at = checked_locality(place)
+        self.events.append(f"loc {place}")
+
+
 class ServedDevice(OtherDevice):
     """A connection to `tpmsim serve` on a Unix socket, or to another that takes commands alone. The
     locality is that of the run. A response has to come within so many seconds.
@@ -80,7 +95,7 @@ class FileDevice(OtherDevice):
 POWER_ON, POWER_OFF, SEND_COMMAND, NV_ON, SESSION_END = 1, 2, 8, 11, 20
 
 
-class SimulatorDevice(OtherDevice):
+class SimulatorDevice(LocatedDevice):
     """A device behind Microsoft's protocol: commands at a port, and the platform at the next one.
     Its power is switched on, and off again where `power_cycle` asks for it.
 
@@ -92,7 +107,6 @@ class SimulatorDevice(OtherDevice):
 
     def __init__(self, host: str = "127.0.0.1", port: int = 2321, seconds: float = 60) -> None:
         super().__init__()
-        self.at = 0
         self.data = Connection((host, port), seconds)
         try:
             self.platform = Connection((host, port + 1), seconds)
@@ -106,15 +120,6 @@ class SimulatorDevice(OtherDevice):
         told = self.platform.send(number(request, 4)).number()
         if told:
             raise DeviceEnded(f"the platform refuses request {request} with {told}")
-
-    @property
-    def locality(self) -> int:
-        return self.at or 0
-
-    @locality.setter
-    def locality(self, place: int) -> None:
-        self.at = checked_locality(place)
-        self.events.append(f"loc {place}")
 
     def power_cycle(self) -> None:
         for request in (POWER_OFF, POWER_ON, NV_ON):
