@@ -2,13 +2,17 @@
 
 from __future__ import annotations
 
+import functools
 from dataclasses import dataclass
-from typing import Callable, Iterable, TypeVar
+from typing import Any, Callable, Iterable, TypeVar
 
-from tpmsim.model.general import Refusal
+from tpmsim.model.general import Answer, Refusal
 from tpmsim.standard import DIGEST_BYTES, Fields, frames, HASHES, PCRS, Short
 
 T = TypeVar("T")
+
+# The banks of a selection of PCRs, each with its hash algorithm and the PCRs' numbers.
+Selection = list[tuple[int, list[int]]]
 
 # The most banks of a selection.
 MOST_BANKS = 16
@@ -69,8 +73,7 @@ class Parameters:
             raise self.refusal("SIZE")
         return count
 
-    def selection(self) -> list[tuple[int, list[int]]]:
-        """The banks of a selection of PCRs, each with its hash algorithm and the PCRs' numbers."""
+    def selection(self) -> Selection:
         banks = []
         for _ in range(self.count(MOST_BANKS)):
             algorithm = self.hash()
@@ -103,6 +106,26 @@ class Parameters:
             raise Refusal("SIZE", "G11")
 
 
+# How a parameter is read.
+Reader = Callable[[Parameters], Any]
+
+
+def integer(size: int) -> Reader:
+    return lambda fields: fields.number(size)
+
+
+def buffer(most: int = DIGEST_BYTES) -> Reader:
+    return lambda fields: fields.sized(most)
+
+
+def choice(size: int, allowed: Iterable[int], code: str = "VALUE") -> Reader:
+    return lambda fields: fields.one_of(size, allowed, code)
+
+
+def structure(read: Callable[[Parameters], T]) -> Reader:
+    return lambda fields: fields.structure(read)
+
+
 @dataclass(frozen=True)
 class Request:
     """What a command asks for, its parameters in plain; where it comes from; and random bytes."""
@@ -111,3 +134,23 @@ class Request:
     parameters: Parameters
     locality: int
     random: bytes
+
+
+# What does a command, and the command as it is asked for.
+Act = Callable[..., Answer]
+Row = Callable[[Any, Request], Answer]
+
+
+def takes(*readers: Reader) -> Callable[[Act], Row]:
+    """The parameters of a command, each as it is read, and nothing behind them."""
+
+    def row_of(act: Act) -> Row:
+        @functools.wraps(act)
+        def row(device: Any, request: Request) -> Answer:
+            given = [read(request.parameters.next()) for read in readers]
+            request.parameters.end()
+            return act(device, request, *given)
+
+        return row
+
+    return row_of
