@@ -3,11 +3,10 @@
 import secrets
 from typing import Any, Callable, Protocol, Sequence
 
-from tpmsim.caller.entries import Made, Means, Prepared, Session, Use
+from tpmsim.caller.entries import Made, Means, Prepared, Refused, Response, Session, Use
 from tpmsim.caller.knowledge import CLEAR, NONCE_BYTES
 from tpmsim.caller.prepared_commands import PreparedCommands
-from tpmsim.caller.responses import Refused, Response
-from tpmsim.policies.told import policy_of, Step, steps_of
+from tpmsim.policies.policy_file import policy_of, Step, steps_of
 from tpmsim.standard import ALG_NULL, CC, nv, objects, policy, RH_NULL, RH_OWNER, SE_HMAC, SE_POLICY
 from tpmsim.standard import SE_TRIAL, SHA256, trimmed, XOR
 from tpmsim.standard.values import Cipher

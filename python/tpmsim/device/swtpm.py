@@ -7,8 +7,7 @@ import time
 from typing import Self
 
 from tpmsim.device.base import DeviceEnded
-from tpmsim.device.served import LocatedDevice
-from tpmsim.device.sockets import Address, Connection
+from tpmsim.device.served import Address, Connection, LocatedDevice
 from tpmsim.standard import CC, frames, handle_kinds, number, RH_PLATFORM, SHA1, SHA256
 
 # Requests of the control channel (swtpm's tpm_ioctl.h).

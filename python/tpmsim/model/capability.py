@@ -1,8 +1,7 @@
 """TPM2_GetCapability: what the device has and is (TPM 2.0 Library, Part 3, section 30.2)."""
 
 from tpmsim.model.general import Answer, Refusal
-from tpmsim.model.held import Held
-from tpmsim.model.parameters import Request, integer, takes
+from tpmsim.model.parameters import Held, integer, Request, takes
 from tpmsim.standard import CC, frames, handle_kinds, HASHES, HMAC_SESSION, number, NV, PERSISTENT
 from tpmsim.standard import POLICY_SESSION, TRANSIENT
 

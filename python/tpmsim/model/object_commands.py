@@ -5,9 +5,8 @@ from typing import Any
 
 from tpmsim.model import object_rules
 from tpmsim.model.general import Answer, Refusal
-from tpmsim.model.held import Held
 from tpmsim.model.object_rules import Object, Template
-from tpmsim.model.parameters import Request, buffer, choice, structure, takes
+from tpmsim.model.parameters import buffer, choice, Held, Request, structure, takes
 from tpmsim.standard import aes, ALG_NULL, digest, HASHES, KEYEDHASH, mac, number, sized, TRANSIENT
 from tpmsim.standard import trimmed
 from tpmsim.standard.objects import Attribute, Public

@@ -4,10 +4,18 @@ from __future__ import annotations
 
 import functools
 from dataclasses import dataclass
-from typing import Any, Callable, Iterable, TypeVar
+from typing import Any, Callable, Iterable, TYPE_CHECKING, TypeVar
 
 from tpmsim.model.general import Answer, Refusal
 from tpmsim.standard import DIGEST_BYTES, Fields, frames, HASHES, PCRS, Short
+
+if TYPE_CHECKING:
+    from tpmsim.model.machine import Session
+    from tpmsim.model.nv_commands import Index
+    from tpmsim.model.object_rules import Object
+    from tpmsim.model.protection import Lockout
+    from tpmsim.model.state import Saved
+    from tpmsim.standard.aes import BlockCipher
 
 T = TypeVar("T")
 
@@ -154,3 +162,33 @@ def takes(*readers: Reader) -> Callable[[Act], Row]:
         return row
 
     return row_of
+
+
+class Held:
+    """Values by the handles of what they are of. The times are in milliseconds."""
+
+    block_cipher: BlockCipher
+    started: bool
+    auth_values: dict[int, bytes]
+    seeds: dict[int, bytes]
+    proofs: dict[int, bytes]
+    disable_clear: bool
+    lockout: Lockout
+    banks: dict[int, list[bytes]]
+    update_counter: int
+    objects: dict[int, Object]
+    indices: dict[int, Index]
+    largest_counter: int
+    sessions: dict[int, Session]
+    time: int
+    clock: int
+    reset_count: int
+    restart_count: int
+    saved: Saved
+    saved_banks: dict[int, list[bytes]]
+
+    def name(self, handle: int) -> bytes:
+        raise NotImplementedError
+
+    def values(self, selection: list[tuple[int, list[int]]]) -> bytes:
+        raise NotImplementedError

@@ -5,8 +5,7 @@
 from typing import Sequence
 
 from tpmsim.model.general import Answer, Refusal
-from tpmsim.model.held import Held
-from tpmsim.model.parameters import Parameters, Request, Selection, buffer, takes
+from tpmsim.model.parameters import buffer, Held, Parameters, Request, Selection, takes
 from tpmsim.standard import digest, digest_bytes, frames, HASHES, number, PCRS, RH_NULL, SHA1
 from tpmsim.standard import SHA256, sized
 

@@ -1,9 +1,8 @@
 """TPM2_EvictControl: objects that outlive power cycles (TPM 2.0 Library, Part 3, section 28.5)."""
 
 from tpmsim.model.general import Answer, Refusal
-from tpmsim.model.held import Held
 from tpmsim.model.object_rules import Object
-from tpmsim.model.parameters import Parameters, Request, takes
+from tpmsim.model.parameters import Held, Parameters, Request, takes
 from tpmsim.standard import first_byte, PERSISTENT, RH_ENDORSEMENT, RH_OWNER, RH_PLATFORM
 from tpmsim.standard.objects import Attribute
 

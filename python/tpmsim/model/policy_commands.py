@@ -5,10 +5,9 @@ A trial session is told what need not be so.
 
 from tpmsim.model import nv_commands, policy_state
 from tpmsim.model.general import Answer, Refusal
-from tpmsim.model.held import Held
-from tpmsim.model.parameters import Parameters, Request, Selection, buffer, choice, integer, takes
-from tpmsim.standard import digest, digest_bytes, frames, number, NUMBERED, policy
-from tpmsim.standard import sized
+from tpmsim.model.parameters import buffer, choice, Held, integer, Parameters, Request, Selection
+from tpmsim.model.parameters import takes
+from tpmsim.standard import digest, digest_bytes, frames, number, NUMBERED, policy, sized
 
 
 class Commands(Held):

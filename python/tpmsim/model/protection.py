@@ -7,8 +7,7 @@ lockoutAuth, the value of TPM_RH_LOCKOUT, is protected in a way of its own: one 
 from dataclasses import dataclass
 
 from tpmsim.model.general import Answer
-from tpmsim.model.held import Held
-from tpmsim.model.parameters import Request, integer, takes
+from tpmsim.model.parameters import Held, integer, Request, takes
 
 # What a wrong try counts at: at all protected objects and NV indices together, or at lockoutAuth.
 TRIES, LOCKOUT_AUTH = "tries", "lockoutAuth"

@@ -7,8 +7,7 @@ import enum
 
 from tpmsim.model import nv_commands
 from tpmsim.model.general import Answer, Refusal
-from tpmsim.model.held import Held
-from tpmsim.model.parameters import Request, choice, takes
+from tpmsim.model.parameters import choice, Held, Request, takes
 from tpmsim.standard import number, nv, RH_ENDORSEMENT, RH_LOCKOUT, RH_NULL, RH_OWNER, RH_PLATFORM
 
 CLEAR, STATE = 0, 1
