@@ -3,7 +3,7 @@ that is recorded:
 
     python3 swtpm.py ATTACHED
 
-ATTACHED is the folder of tools/attached_swtpm.sh, and the states are kept below the folder that it
+ATTACHED is the folder of tools/interop/attached_swtpm.sh, and the states are kept below the folder that it
 runs in. Each number is the median of seven rounds in microseconds, and in brackets the least.
 """
 
