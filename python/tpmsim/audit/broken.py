@@ -13,7 +13,6 @@ Told = Sequence[Asserted]
 
 
 def explanation(algorithm: int, policy: Policy, told: Told) -> str:
-    """It, in words."""
     for find in (wrong_or, collision, hash_of_zeros, astride):
         found = find(algorithm, policy, told)
         if found:

@@ -159,7 +159,6 @@ class Judged:
         self.uses: dict[int, list[str]] = {}
 
     def note(self, use: Use, entity: Entity, grounds: Grounds) -> None:
-        """A use that is accepted."""
         told, line = self.uses.setdefault(id(entity), []), use.seen.line
         name = command_words(use.code)
         words = f"line {line}: {name} {grounds.title(use)}"

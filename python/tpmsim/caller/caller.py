@@ -159,7 +159,6 @@ class Caller(PreparedCommands):
         return Made(response["outPrivate"], area, trimmed(user_auth))
 
     def load(self, parent: int, made: Made, *uses: Means) -> int:
-        """The handle of an object that is loaded."""
         handle = self.send(self.loading(parent, made, *uses)).handle
         assert handle is not None
         self.auth_values[handle] = made.auth_value

@@ -85,7 +85,6 @@ def is_there() -> bool:
 
 
 def saved(found: ctypes.CDLL, handle: int) -> bytes:
-    """The image of a device."""
     size = found.tpmsim_save(handle, b"", 0)
     room = ctypes.create_string_buffer(size)
     found.tpmsim_save(handle, room, size)

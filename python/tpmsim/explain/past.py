@@ -148,7 +148,6 @@ class Begun:
     own_nonces: dict[bytes, int] = field(default_factory=dict)
 
     def take(self, line: int) -> None:
-        """The session's nonce is a new one."""
         self.nonces.append(Since(line, self.session.nonce_tpm))
         self.own_nonces.setdefault(self.session.nonce_tpm, line)
 
@@ -269,7 +268,6 @@ class Past:
     # What is there, and what was.
 
     def follow(self, line: int, words: str) -> None:
-        """What came and went with an event."""
         model = self.model
         now: dict[int, tuple[object, object]] = {}
         for handle, session in model.sessions.items():

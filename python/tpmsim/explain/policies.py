@@ -92,7 +92,6 @@ def is_like(own: Step, its: Step, algorithm: int) -> bool:
 
 
 def step_words(use: Use, own: Step, its: Step, earlier: Made, found: Reason) -> str:
-    """How two assertions differ."""
     if own.selected is not None and own.selected == its.selected:
         return "The PCRs differ: " + moved(use, own, earlier.banks, found)
     if own.handle is not None and is_like(own.but(its.given), its, use.session.algorithm):

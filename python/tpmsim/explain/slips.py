@@ -45,7 +45,6 @@ def value_slip(name: str, words: str, value: bytes) -> Slip:
 
 
 def auth_values(use: Use) -> Iterator[Slip]:
-    """The authorization value in the key."""
     if use.handle is None:
         yield from values_put_in(use)
         return
@@ -220,7 +219,6 @@ def nonces(use: Use) -> Iterator[Slip]:
 
 
 def names(use: Use) -> Iterator[Slip]:
-    """Those in cpHash."""
     handles, past, right = use.command.handles, use.scene.past, use.right().names
 
     def renamed(handle: int, name: bytes) -> tuple[bytes, ...]:
@@ -247,8 +245,6 @@ def names(use: Use) -> Iterator[Slip]:
 
 
 def parameters(use: Use) -> Iterator[Slip]:
-    """Those in cpHash."""
-
     def slip(name: str, words: str, **changes: Any) -> Slip:
         return Slip(name, words, "parameters", **changes)
 

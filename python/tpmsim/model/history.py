@@ -163,7 +163,6 @@ class AuthValues:
 
 
 def defined_index(it: Accepted) -> int:
-    """The handle of the index that TPM2_NV_DefineSpace defines."""
     fields = it.read().next()
     fields.sized(DIGEST_BYTES)
     return fields.next().structure(nv_commands.read_public).index

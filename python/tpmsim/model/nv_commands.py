@@ -222,7 +222,6 @@ class Commands(Held):
     """The commands on indices, of a device that has `indices` and the `largest_counter` ever."""
 
     def asked(self, request: Request) -> tuple[int, Index]:
-        """Who asks, and for which index."""
         asker, handle = request.handles
         return asker, self.indices[handle]
 

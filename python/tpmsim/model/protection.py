@@ -35,7 +35,6 @@ class Lockout:
         self.forgiving_time = self.closed_time = 0
 
     def tick(self, elapsed: int) -> None:
-        """Milliseconds pass."""
         self.forgive(elapsed)
         self.closed_time += elapsed
         recovery = MILLISECONDS * self.lockout_recovery

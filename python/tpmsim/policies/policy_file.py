@@ -177,7 +177,6 @@ class PolicyFile:
         return found is not None and found == public.auth_policy
 
     def report(self) -> Iterator[str]:
-        """What is written in it, and its digests."""
         yield f"Policy {self.name}"
         width = len(str(self.rows[-1].number))
         for row in self.rows:
