@@ -1,4 +1,3 @@
-#!/usr/bin/env python3
 """Prints a script that nv_sessions.sh measures: a command on an NV index, or on a PCR, by an HMAC
 session.
 

@@ -366,8 +366,9 @@ class History:
         held = WITHOUT_VALUES | device.auth_values
         held |= {handle: it.sensitive.auth_value for handle, it in device.objects.items()}
         held |= {handle: it.auth_value for handle, it in device.indices.items()}
+        told = self.auth_values.values
         for handle, auth_value in held.items():
-            if auth_value != self.auth_values.of(handle):
+            if auth_value != told.get(handle, b""):
                 yield f"the authorization value of {handle:08x}"
 
     def counter_differences(self, device: Model) -> Iterator[str]:
