@@ -35,7 +35,9 @@ class Teller(ScriptCaller):
         """
         named = [it[1] for it in OUTCOME.finditer(words) if it[1] in frames.CODES]
         if not named:
-            return self.does(words.removesuffix(f": {SUCCESS}"), prepared)
+            return self.does(
+                "" if words == SUCCESS else words.removesuffix(f": {SUCCESS}"), prepared
+            )
         self.fails(words, prepared)
         return b""
 

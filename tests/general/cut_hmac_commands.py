@@ -30,7 +30,7 @@ tpm = GroundsCaller(
 
 
 def unlock() -> None:
-    tpm.does("TPM2_DictionaryAttackLockReset", tpm.lock_reset())
+    tpm("TPM2_DictionaryAttackLockReset").lock_reset()
 
 
 def refused(what: str, outcome: str, tries: int, *buffers: bytes) -> None:
@@ -69,26 +69,6 @@ def cut(name: str, prepared: Prepared, outcome: str = "AUTH_FAIL/s1", tries: int
     comes_whole(prepared)
 
 
-def by_each_session() -> tuple[Session, ...]:
-    """TPM2_NV_Write of the first index, by each kind of session."""
-    unbound = tpm.start("A session that is bound to nothing: the value of the index is the key")
-    cut("TPM2_NV_Write by it", tpm.writing(FIRST, DATA, unbound, offset=2))
-    sha1 = tpm.start("One of SHA-1", algorithm=SHA1)
-    cut("TPM2_NV_Write by it", tpm.writing(FIRST, DATA, sha1, offset=2))
-    bound = tpm.start("One that is bound to the index", FIRST)
-    cut("TPM2_NV_Write by it", tpm.writing(FIRST, DATA, bound, offset=2))
-    to_owner = tpm.start("One that is bound to TPM_RH_OWNER, with AES", RH_OWNER, aes=True)
-    cut(
-        "TPM2_NV_Write by it, with encrypted data",
-        tpm.writing(FIRST, DATA, Use(to_owner, DECRYPTS), offset=2),
-    )
-    told = tpm.policy("A policy session")
-    tpm.says("TPM2_PolicyAuthValue: SUCCESS", tpm.auth_value_told(told))
-    by_policy = Use(told, demand=policy.AUTH_VALUE)
-    cut("TPM2_NV_Write by it", tpm.writing(FIRST, DATA, by_policy, offset=2))
-    return unbound, sha1, bound, to_owner, told
-
-
 def by_each_command(session: Session, told: Session, key: int) -> None:
     """Other commands at a protected index or object, by a session that is bound to nothing."""
     cut("TPM2_NV_Read", tpm.reading(FIRST, 3, session, offset=2))
@@ -113,23 +93,6 @@ def beside(session: Session, bound: Session) -> None:
         "that is left out, as its key is empty; so only the second one's is wrong",
         tpm.event(DATA, session, bound),
         "AUTH_FAIL/s2",
-    )
-
-
-def without_try(session: Session) -> None:
-    """The same where nothing protected is tried."""
-    cut(
-        "TPM2_NV_Write of the index with TPMA_NV_NO_DA",
-        tpm.writing(FOURTH, DATA, session),
-        "BAD_AUTH/s1",
-        NO_TRY,
-    )
-    tpm.does('ownerAuth is "pin"', tpm.change_auth(RH_OWNER, PIN, b""))
-    cut(
-        "TPM2_HierarchyChangeAuth of TPM_RH_OWNER",
-        tpm.change_auth(RH_OWNER, b"", session),
-        "BAD_AUTH/s1",
-        NO_TRY,
     )
 
 
@@ -194,7 +157,7 @@ def at_lockout_auth(session: Session) -> None:
         "TPM2_DictionaryAttackParameters by a session: a try at lockoutAuth counts nothing, and "
         "closes it for lockoutRecovery, which is 1,000 seconds."
     )
-    tpm.does('lockoutAuth is "lockout"', tpm.change_auth(RH_LOCKOUT, LOCKOUT, b""))
+    tpm('lockoutAuth is "lockout"').change_auth(RH_LOCKOUT, LOCKOUT, b"")
     prepared = tpm.attack_parameters(3, 1000, 1000, session)
     for what, buffer in cuts_of(prepared):
         refused(what, "AUTH_FAIL/s1", NO_TRY, buffer)
@@ -212,7 +175,7 @@ tpm.define(
 tpm.define("Protected bits", bits(SECOND, BY_VALUE), auth=PIN)
 tpm.define("A protected index that is extended", extended(THIRD, BY_VALUE), auth=PIN)
 tpm.define("One with TPMA_NV_NO_DA", area(FOURTH, BY_VALUE | NvAttribute.NO_DA), auth=PIN)
-tpm.does("The first is written", tpm.writing(FIRST, DATA, offset=2))
+tpm("The first is written").writing(FIRST, DATA, offset=2)
 KEY = tpm.create_primary(
     "A protected HMAC key",
     RH_OWNER,
@@ -220,14 +183,48 @@ KEY = tpm.create_primary(
     user_auth=PIN,
     data=b"a key",
 )
-UNBOUND, OF_SHA1, BOUND, TO_OWNER, TOLD = by_each_session()
-tpm.does("A session is flushed", tpm.flush(OF_SHA1))
+
+# TPM2_NV_Write of the first index, by each kind of session.
+unbound = tpm.start("A session that is bound to nothing: the value of the index is the key")
+cut("TPM2_NV_Write by it", tpm.writing(FIRST, DATA, unbound, offset=2))
+sha1 = tpm.start("One of SHA-1", algorithm=SHA1)
+cut("TPM2_NV_Write by it", tpm.writing(FIRST, DATA, sha1, offset=2))
+bound = tpm.start("One that is bound to the index", FIRST)
+cut("TPM2_NV_Write by it", tpm.writing(FIRST, DATA, bound, offset=2))
+to_owner = tpm.start("One that is bound to TPM_RH_OWNER, with AES", RH_OWNER, aes=True)
+cut(
+    "TPM2_NV_Write by it, with encrypted data",
+    tpm.writing(FIRST, DATA, Use(to_owner, DECRYPTS), offset=2),
+)
+told = tpm.policy("A policy session")
+tpm("TPM2_PolicyAuthValue").auth_value_told(told)
+by_policy = Use(told, demand=policy.AUTH_VALUE)
+cut("TPM2_NV_Write by it", tpm.writing(FIRST, DATA, by_policy, offset=2))
+UNBOUND, OF_SHA1, BOUND, TO_OWNER, TOLD = unbound, sha1, bound, to_owner, told
+
+tpm("A session is flushed").flush(OF_SHA1)
 before_the_parameters(tpm.writing(FIRST, DATA, UNBOUND, offset=2))
 of_what_is_left(UNBOUND)
 up_to_lockout(UNBOUND)
 tpm.set_protection("maxTries is 3 again", 3, 1000, 1000)
-tpm.says("TPM2_PolicyRestart: SUCCESS", tpm.restart(TOLD))
+tpm("TPM2_PolicyRestart").restart(TOLD)
 by_each_command(UNBOUND, TOLD, KEY)
 beside(UNBOUND, BOUND)
-without_try(UNBOUND)
+
+# The same where nothing protected is tried.
+session = UNBOUND
+cut(
+    "TPM2_NV_Write of the index with TPMA_NV_NO_DA",
+    tpm.writing(FOURTH, DATA, session),
+    "BAD_AUTH/s1",
+    NO_TRY,
+)
+tpm('ownerAuth is "pin"').change_auth(RH_OWNER, PIN, b"")
+cut(
+    "TPM2_HierarchyChangeAuth of TPM_RH_OWNER",
+    tpm.change_auth(RH_OWNER, b"", session),
+    "BAD_AUTH/s1",
+    NO_TRY,
+)
+
 at_lockout_auth(UNBOUND)

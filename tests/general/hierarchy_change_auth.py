@@ -109,57 +109,39 @@ tpm.chapter(
 )
 for handle, name, old in HIERARCHIES:
     session = starts(f"bound to {name}", bind=handle)
-    tpm.accepted(f'{name} to "new"', tpm.change_auth(handle, b"new", session))
-    tpm.accepted(
-        'Now with "new" in the command\'s key, to "newer"|which is in the response\'s',
-        tpm.change_auth(handle, b"newer", session),
-    )
-    tpm.accepted(
-        "Back to the value of the start, and the response's hmac is without it",
-        tpm.change_auth(handle, old, session),
-    )
-    tpm.accepted(
-        "The binding holds as at first|also where the value stays the same",
-        tpm.change_auth(handle, old + b"\0", session),
-    )
-    tpm.accepted(
-        "To no value, in a session that ends|and its response has no value in its key",
-        tpm.change_auth(handle, b"", Use(session, 0)),
-    )
+    tpm(f'{name} to "new"').change_auth(handle, b"new", session)
+    said = tpm('Now with "new" in the command\'s key, to "newer"|which is in the response\'s')
+    said.change_auth(handle, b"newer", session)
+    said = tpm("Back to the value of the start, and the response's hmac is without it")
+    said.change_auth(handle, old, session)
+    said = tpm("The binding holds as at first|also where the value stays the same")
+    said.change_auth(handle, old + b"\0", session)
+    said = tpm("To no value, in a session that ends|and its response has no value in its key")
+    said.change_auth(handle, b"", Use(session, 0))
     tpm.accepted("By the empty password, to the first value", tpm.change_auth(handle, old, b""))
 
 tpm.chapter("Through sessions that are not bound to the entity.")
 unbound = starts("bound to nothing, of SHA-1", algorithm=SHA1)
 to_owner = starts("bound to TPM_RH_OWNER", bind=RH_OWNER)
 for session, words in ((unbound, "The first"), (to_owner, "The second")):
-    tpm.accepted(
-        f'{words} on TPM_RH_PLATFORM, from "platform" to "p"',
-        tpm.change_auth(RH_PLATFORM, b"p", session),
-    )
-    tpm.accepted("And back", tpm.change_auth(RH_PLATFORM, b"platform", session))
+    said = tpm(f'{words} on TPM_RH_PLATFORM, from "platform" to "p"')
+    said.change_auth(RH_PLATFORM, b"p", session)
+    tpm("And back").change_auth(RH_PLATFORM, b"platform", session)
 tpm.accepted(
     "A password changes ownerAuth, while a session is bound to TPM_RH_OWNER",
     tpm.change_auth(RH_OWNER, b"another", b"owner"),
 )
-tpm.accepted(
-    'The session needs "another" in its key, and sets "owner" again',
-    tpm.change_auth(RH_OWNER, b"owner", to_owner),
-)
-tpm.accepted("And then not", tpm.change_auth(RH_OWNER, b"owner", to_owner))
+said = tpm('The session needs "another" in its key, and sets "owner" again')
+said.change_auth(RH_OWNER, b"owner", to_owner)
+tpm("And then not").change_auth(RH_OWNER, b"owner", to_owner)
 
 tpm.chapter("An empty key and an empty hmac, while the key does not stay empty.")
 tpm.accepted("ownerAuth is empty", tpm.change_auth(RH_OWNER, b"", b"owner"))
-tpm.accepted(
-    'An empty hmac of the unbound session, to "owner", is answered by an empty one',
-    tpm.change_auth(RH_OWNER, b"owner", unbound),
-)
-tpm.accepted(
-    "A key that becomes empty gives an hmac all the same", tpm.change_auth(RH_OWNER, b"", unbound)
-)
-tpm.accepted(
-    'A computed hmac of the empty key, to "owner", is answered by one of the new key',
-    tpm.change_auth(RH_OWNER, b"owner", Use(unbound, shows_empty_key=True)),
-)
+said = tpm('An empty hmac of the unbound session, to "owner", is answered by an empty one')
+said.change_auth(RH_OWNER, b"owner", unbound)
+tpm("A key that becomes empty gives an hmac all the same").change_auth(RH_OWNER, b"", unbound)
+said = tpm('A computed hmac of the empty key, to "owner", is answered by one of the new key')
+said.change_auth(RH_OWNER, b"owner", Use(unbound, shows_empty_key=True))
 
 tpm.chapter("What a power cycle and the TPM Reset behind it leave.")
 tpm.power()

@@ -25,11 +25,11 @@ says(
     command(CC.SelfTest, frames.area(frames.entry()) + b"\1", frames.SESSIONS),
 )
 session = tpm.start("An HMAC session with AES", aes=True)
-tpm.accepted("TPM2_SelfTest with it", tpm.self_test(1, session))
+tpm("TPM2_SelfTest with it").self_test(1, session)
 tpm.refused("A wrong hmac: BAD_AUTH/s1", wrong(tpm.self_test(1, session)))
 for attribute, words in ((DECRYPT, "decrypted"), (ENCRYPT, "encrypted")):
     tpm.refused(
         f"Nothing can be {words}: ATTRIBUTES/s1",
         tpm.self_test(1, session).but_entry(1, attributes=CONTINUE_SESSION | attribute),
     )
-tpm.does("Nothing has changed: TPM2_PCR_Read", tpm.read_pcr(16))
+tpm("Nothing has changed: TPM2_PCR_Read").read_pcr(16)

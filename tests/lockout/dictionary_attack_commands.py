@@ -68,15 +68,13 @@ says(
 )
 
 tpm.chapter("By sessions.")
-tpm.does('lockoutAuth is "lockout"', tpm.change_auth(RH_LOCKOUT, b"lockout", b""))
+tpm('lockoutAuth is "lockout"').change_auth(RH_LOCKOUT, b"lockout", b"")
 unbound = tpm.start("An HMAC session that is bound to nothing, with AES", aes=True)
 bound = tpm.start("One that is bound to TPM_RH_LOCKOUT", RH_LOCKOUT)
 for session, words in ((unbound, "The first one"), (bound, "The second one")):
-    tpm.accepted(f"{words}: TPM2_DictionaryAttackLockReset", tpm.lock_reset(session))
-    tpm.accepted(
-        f"{words}: TPM2_DictionaryAttackParameters", tpm.attack_parameters(3, 1000, 1, session)
-    )
-tpm.accepted("Both in one command", tpm.lock_reset(bound, unbound))
+    tpm(f"{words}: TPM2_DictionaryAttackLockReset").lock_reset(session)
+    tpm(f"{words}: TPM2_DictionaryAttackParameters").attack_parameters(3, 1000, 1, session)
+tpm("Both in one command").lock_reset(bound, unbound)
 for attribute, words in ((DECRYPT, "decrypted"), (ENCRYPT, "encrypted")):
     tpm.refused(
         f"Nothing can be {words}: ATTRIBUTES/s1",
@@ -89,9 +87,9 @@ tpm.refused(
     tpm.lock_reset(policy),
     tpm.attack_parameters(3, 1000, 1, policy),
 )
-tpm.accepted("Behind the password it may stand", tpm.lock_reset(b"lockout", policy))
-tpm.accepted("A session that ends", tpm.lock_reset(Use(bound, attributes=0)))
-tpm.refused("It is gone: REFERENCE_S0", tpm.lock_reset(bound))
+tpm("Behind the password it may stand").lock_reset(b"lockout", policy)
+tpm("A session that ends").lock_reset(Use(bound, attributes=0))
+tpm("It is gone: REFERENCE_S0").lock_reset(bound)
 says(
     "Wrong parameters of a wrong password: the password is looked at first: AUTH_FAIL/s1",
     on_handle(PARAMETERS, RH_LOCKOUT, b"", [frames.entry(hmac=b"x")]),

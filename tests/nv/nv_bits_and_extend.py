@@ -17,14 +17,14 @@ tpm = Teller(
 
 
 def set_bits(what, index, more, value):
-    tpm.does(what, tpm.setting(index, more, by=RH_OWNER))
+    tpm(what).setting(index, more, by=RH_OWNER)
     tpm.read(f"It is {value:X}", index, number(value, 8), by=RH_OWNER)
 
 
 tpm.startup()
 tpm.chapter("Bits.")
 tpm.define("TPM2_NV_DefineSpace (attributes 00020022)", bits(FIRST, BY_OWNER))
-tpm.fails("TPM2_NV_Read before the first bit: NV_UNINITIALIZED", tpm.reading(FIRST, 8, by=RH_OWNER))
+tpm("TPM2_NV_Read before the first bit: NV_UNINITIALIZED").reading(FIRST, 8, by=RH_OWNER)
 set_bits("TPM2_NV_SetBits of 1", FIRST, 1, 1)
 set_bits("Of 4", FIRST, 4, 5)
 set_bits("Of 4 again", FIRST, 4, 5)
@@ -52,9 +52,7 @@ for index, (algorithm, name) in zip((THIRD, THIRD + 1), HASHES):
         f"TPM2_NV_DefineSpace (attributes 00020042), of {size} bytes",
         extended(index, BY_OWNER, algorithm=algorithm),
     )
-    tpm.fails(
-        "TPM2_NV_Read before the first: NV_UNINITIALIZED", tpm.reading(index, size, by=RH_OWNER)
-    )
+    tpm("TPM2_NV_Read before the first: NV_UNINITIALIZED").reading(index, size, by=RH_OWNER)
     value = zeros
     for what, data in (
         ('TPM2_NV_Extend by "abc", itself and not its digest', b"abc"),
@@ -62,7 +60,7 @@ for index, (algorithm, name) in zip((THIRD, THIRD + 1), HASHES):
         ("By a digest", digest(algorithm, b"abc")),
         ("By 1,024 bytes", bytes(1024)),
     ):
-        tpm.does(what, tpm.extending(index, data, by=RH_OWNER))
+        tpm(what).extending(index, data, by=RH_OWNER)
         value = digest(algorithm, value + data)
         tpm.read("It is the digest of the value before and the data", index, value, by=RH_OWNER)
     wrong = tpm.extending(index, bytes(1025), by=RH_OWNER)
@@ -76,19 +74,19 @@ tpm.chapter("At the next start the first is as it was, and the second is not wri
 tpm.power()
 tpm.startup()
 tpm.read("TPM2_NV_Read of the first", FIRST, b"\xff" * 8, by=RH_OWNER)
-tpm.fails("Of the second: NV_UNINITIALIZED", tpm.reading(SECOND, 8, by=RH_OWNER))
+tpm("Of the second: NV_UNINITIALIZED").reading(SECOND, 8, by=RH_OWNER)
 set_bits("TPM2_NV_SetBits of 2 in the second", SECOND, 2, 2)
 tpm.read("The last one goes on", THIRD + 1, value, by=RH_OWNER)
-tpm.does('TPM2_NV_Extend by "next"', tpm.extending(THIRD + 1, b"next", by=RH_OWNER))
+tpm('TPM2_NV_Extend by "next"').extending(THIRD + 1, b"next", by=RH_OWNER)
 tpm.read("It is the digest of both", THIRD + 1, digest(algorithm, value + b"next"), by=RH_OWNER)
-tpm.does("It is undefined", tpm.undefining(THIRD + 1))
+tpm("It is undefined").undefining(THIRD + 1)
 tpm.define(
     "And defined so that each start clears it",
     extended(THIRD + 1, BY_OWNER | CLEARED, algorithm=algorithm),
 )
 once = digest(algorithm, zeros + b"next")
 for what in ('TPM2_NV_Extend by "next"', "After the next start, the same"):
-    tpm.does(what, tpm.extending(THIRD + 1, b"next", by=RH_OWNER))
+    tpm(what).extending(THIRD + 1, b"next", by=RH_OWNER)
     tpm.read("It is the digest of zeros and the data", THIRD + 1, once, by=RH_OWNER)
     tpm.power()
     tpm.startup()

@@ -32,7 +32,7 @@ def told(session, what="TPM2_PolicyCommandCode of TPM2_NV_ChangeAuth"):
 
 def undefine(*indices):
     for index in indices:
-        tpm.does("It is undefined" if index == indices[0] else "", tpm.undefining(index))
+        tpm("It is undefined" if index == indices[0] else "").undefining(index)
 
 
 tpm.startup()
@@ -45,35 +45,33 @@ tpm.define(
     area(FIRST, BY_VALUE, auth_policy=changing_policy()),
     auth=b"old",
 )
-tpm.fails("By the password: AUTH_UNAVAILABLE", tpm.changing_auth(FIRST, b"new"))
-tpm.fails("By a wrong one: AUTH_UNAVAILABLE", tpm.changing_auth(FIRST, b"new", b"x"))
+tpm("By the password: AUTH_UNAVAILABLE").changing_auth(FIRST, b"new")
+tpm("By a wrong one: AUTH_UNAVAILABLE").changing_auth(FIRST, b"new", b"x")
 plain = tpm.start("An HMAC session that is bound to it", bind=FIRST)
-tpm.fails("By the session: AUTH_UNAVAILABLE", tpm.changing_auth(FIRST, b"new", plain))
+tpm("By the session: AUTH_UNAVAILABLE").changing_auth(FIRST, b"new", plain)
 session = tpm.policy("A policy session")
-tpm.fails(
-    "Before TPM2_PolicyCommandCode: POLICY_FAIL/s1", tpm.changing_auth(FIRST, b"new", session)
-)
+tpm("Before TPM2_PolicyCommandCode: POLICY_FAIL/s1").changing_auth(FIRST, b"new", session)
 trial = tpm.trial("A trial session")
 told(trial)
-tpm.fails("By it: ATTRIBUTES/s1", tpm.changing_auth(FIRST, b"new", trial))
+tpm("By it: ATTRIBUTES/s1").changing_auth(FIRST, b"new", trial)
 says("TPM2_PolicyCommandCode of TPM2_NV_Write", tpm.command_code(session, CC.NV_Write))
-tpm.fails("By this session: POLICY_CC/s1", tpm.changing_auth(FIRST, b"new", session))
+tpm("By this session: POLICY_CC/s1").changing_auth(FIRST, b"new", session)
 says("TPM2_PolicyRestart", tpm.restart(session))
-tpm.does("The value is as it was: TPM2_NV_Write by it", tpm.writing(FIRST, b"x"))
+tpm("The value is as it was: TPM2_NV_Write by it").writing(FIRST, b"x")
 
 tpm.chapter("By the policy.")
 told(session)
-tpm.does('TPM2_NV_ChangeAuth to "new"', tpm.changing_auth(FIRST, b"new", session))
+tpm('TPM2_NV_ChangeAuth to "new"').changing_auth(FIRST, b"new", session)
 tpm.digest_is("The policy counts once", session, zeros(session))
-tpm.fails("Again: POLICY_FAIL/s1", tpm.changing_auth(FIRST, b"newer", session))
-tpm.fails("TPM2_NV_Write by the old value: AUTH_FAIL/s1", tpm.writing(FIRST, b"y", b"old"))
-tpm.does("By the new one", tpm.writing(FIRST, b"y"))
+tpm("Again: POLICY_FAIL/s1").changing_auth(FIRST, b"newer", session)
+tpm("TPM2_NV_Write by the old value: AUTH_FAIL/s1").writing(FIRST, b"y", b"old")
+tpm("By the new one").writing(FIRST, b"y")
 tpm.is_now("Its Name is as it was, as no value is in it", FIRST)
 told(session)
-tpm.does("To the empty one", tpm.changing_auth(FIRST, b"", session))
+tpm("To the empty one").changing_auth(FIRST, b"", session)
 tpm.read("TPM2_NV_Read by the empty password", FIRST, b"y")
 told(session)
-tpm.does('To "a" and zeros behind it', tpm.changing_auth(FIRST, b"a" + bytes(31), session))
+tpm('To "a" and zeros behind it').changing_auth(FIRST, b"a" + bytes(31), session)
 tpm.read("They do not count", FIRST, b"y", b"a")
 tpm.power()
 tpm.startup()
@@ -89,15 +87,10 @@ tpm.define(
 session = tpm.policy("A policy session")
 says("TPM2_PolicyAuthValue", tpm.auth_value_told(session))
 by_value = Use(session, demand=AUTH_VALUE)
-tpm.does(
-    "TPM2_NV_Write by it: what is no ADMIN role asks for no code",
-    tpm.writing(FIRST, b"x", by_value),
-)
+tpm("TPM2_NV_Write by it: what is no ADMIN role asks for no code").writing(FIRST, b"x", by_value)
 says("TPM2_PolicyAuthValue", tpm.auth_value_told(session))
-tpm.fails(
-    "TPM2_NV_ChangeAuth: POLICY_FAIL/s1",
-    tpm.changing_auth(FIRST, b"new", Use(session, demand=AUTH_VALUE)),
-)
+said = tpm("TPM2_NV_ChangeAuth: POLICY_FAIL/s1")
+said.changing_auth(FIRST, b"new", Use(session, demand=AUTH_VALUE))
 undefine(FIRST)
 tpm.define(
     "One whose policy is TPM2_PolicyCommandCode of TPM2_NV_Write",
@@ -105,12 +98,12 @@ tpm.define(
 )
 says("TPM2_PolicyRestart", tpm.restart(session))
 says("TPM2_PolicyCommandCode of TPM2_NV_Write", tpm.command_code(session, CC.NV_Write))
-tpm.fails("TPM2_NV_ChangeAuth: POLICY_CC/s1", tpm.changing_auth(FIRST, b"new", session))
-tpm.does("TPM2_NV_Write", tpm.writing(FIRST, b"x", session))
+tpm("TPM2_NV_ChangeAuth: POLICY_CC/s1").changing_auth(FIRST, b"new", session)
+tpm("TPM2_NV_Write").writing(FIRST, b"x", session)
 undefine(FIRST)
 tpm.define("One without a policy", area(FIRST, BY_VALUE))
 told(session)
-tpm.fails("TPM2_NV_ChangeAuth: AUTH_UNAVAILABLE", tpm.changing_auth(FIRST, b"new", session))
+tpm("TPM2_NV_ChangeAuth: AUTH_UNAVAILABLE").changing_auth(FIRST, b"new", session)
 says("TPM2_PolicyRestart", tpm.restart(session))
 undefine(FIRST)
 
@@ -128,13 +121,13 @@ for what, prepared in (
 ):
     tpm.does(what, prepared)
 told(session)
-tpm.does("TPM2_NV_ChangeAuth", tpm.changing_auth(FIRST, b"new", session))
+tpm("TPM2_NV_ChangeAuth").changing_auth(FIRST, b"new", session)
 undefine(FIRST)
 created = area(SECOND, BY_OWNER | Attribute.PLATFORMCREATE, auth_policy=changing_policy())
 tpm.define("One of the platform's", created, by=RH_PLATFORM)
 told(session)
-tpm.does("TPM2_NV_ChangeAuth", tpm.changing_auth(SECOND, b"new", session))
-tpm.does("It is undefined", tpm.undefining(SECOND, by=RH_PLATFORM))
+tpm("TPM2_NV_ChangeAuth").changing_auth(SECOND, b"new", session)
+tpm("It is undefined").undefining(SECOND, by=RH_PLATFORM)
 
 for algorithm, name in HASHES:
     size = digest_bytes(algorithm)
@@ -160,11 +153,11 @@ for algorithm, name in HASHES:
             tpm.changing_auth(FIRST, b"a" * 21, session),
             tpm.changing_auth(FIRST, b"a" * 32, session),
         )
-    tpm.does(f"{size} bytes", tpm.changing_auth(FIRST, b"a" * size, session))
-    tpm.does("TPM2_NV_Write by it", tpm.writing(FIRST, b"x"))
+    tpm(f"{size} bytes").changing_auth(FIRST, b"a" * size, session)
+    tpm("TPM2_NV_Write by it").writing(FIRST, b"x")
     told(session)
-    tpm.does("32 zeros", tpm.changing_auth(FIRST, bytes(32), session))
-    tpm.does("TPM2_NV_Write by the empty password", tpm.writing(FIRST, b"x", b""))
+    tpm("32 zeros").changing_auth(FIRST, bytes(32), session)
+    tpm("TPM2_NV_Write by the empty password").writing(FIRST, b"x", b"")
     undefine(FIRST)
 
 tpm.chapter("A policy that asks for the old value too. The response shows the new one.")
@@ -185,38 +178,30 @@ tpm.fails(
     "A wrong hmac: AUTH_FAIL/s1",
     tpm.changing_auth(FIRST, b"new", Use(aes, demand=AUTH_VALUE)).but_entry(1, hmac=bytes(32)),
 )
-tpm.does(
-    "By an hmac, whose key has the old value; that of the response has the new one",
-    tpm.changing_auth(FIRST, b"new", Use(aes, demand=AUTH_VALUE)),
-)
+said = tpm("By an hmac, whose key has the old value; that of the response has the new one")
+said.changing_auth(FIRST, b"new", Use(aes, demand=AUTH_VALUE))
 both_told(AUTH_VALUE)
-tpm.does(
-    "With the new value encrypted",
-    tpm.changing_auth(FIRST, b"hidden", Use(aes, CONTINUE_SESSION | DECRYPT, demand=AUTH_VALUE)),
-)
-tpm.does("TPM2_NV_Write by it", tpm.writing(FIRST, b"x"))
+said = tpm("With the new value encrypted")
+said.changing_auth(FIRST, b"hidden", Use(aes, CONTINUE_SESSION | DECRYPT, demand=AUTH_VALUE))
+tpm("TPM2_NV_Write by it").writing(FIRST, b"x")
 both_told(PASSWORD)
 tpm.fails(
     "By a wrong password: AUTH_FAIL/s1",
     tpm.changing_auth(FIRST, b"new", Use(aes, demand=PASSWORD)).but_entry(1, hmac=b"x"),
 )
-tpm.does("By the right one", tpm.changing_auth(FIRST, b"open", Use(aes, demand=PASSWORD)))
-tpm.does("TPM2_NV_Write by it", tpm.writing(FIRST, b"x"))
+tpm("By the right one").changing_auth(FIRST, b"open", Use(aes, demand=PASSWORD))
+tpm("TPM2_NV_Write by it").writing(FIRST, b"x")
 
 tpm.chapter("A session that was bound to the index is so while it has the value of then.")
 bound = tpm.start("An HMAC session that is bound to it", bind=FIRST)
-tpm.does("TPM2_NV_Write by it", tpm.writing(FIRST, b"y", bound))
+tpm("TPM2_NV_Write by it").writing(FIRST, b"y", bound)
 both_told(AUTH_VALUE)
-tpm.does(
-    "TPM2_NV_ChangeAuth, with this session beside the one that authorizes",
-    tpm.changing_auth(FIRST, b"another", Use(aes, demand=AUTH_VALUE), bound),
-)
-tpm.does("TPM2_NV_Write: the new value is in the hmac's key", tpm.writing(FIRST, b"z", bound))
+said = tpm("TPM2_NV_ChangeAuth, with this session beside the one that authorizes")
+said.changing_auth(FIRST, b"another", Use(aes, demand=AUTH_VALUE), bound)
+tpm("TPM2_NV_Write: the new value is in the hmac's key").writing(FIRST, b"z", bound)
 both_told(AUTH_VALUE)
-tpm.does(
-    "Back to the value of then", tpm.changing_auth(FIRST, b"open", Use(aes, demand=AUTH_VALUE))
-)
-tpm.does("TPM2_NV_Write: it is bound again", tpm.writing(FIRST, b"x", bound))
+tpm("Back to the value of then").changing_auth(FIRST, b"open", Use(aes, demand=AUTH_VALUE))
+tpm("TPM2_NV_Write: it is bound again").writing(FIRST, b"x", bound)
 
 tpm.chapter("Handles.")
 told(session)

@@ -27,20 +27,18 @@ def define(what, index, **more):
 
 
 def define_again(what, index):
-    tpm.does("TPM2_NV_UndefineSpace", tpm.undefining(index))
+    tpm("TPM2_NV_UndefineSpace").undefining(index)
     define(what, index)
 
 
 tpm.startup()
 define("TPM2_NV_DefineSpace of 01000002", SECOND)
 assert tpm.publics[SECOND].attributes == 0x0002_0012
-tpm.fails(
-    "TPM2_NV_Read before the first TPM2_NV_Increment: NV_UNINITIALIZED",
-    tpm.reading(SECOND, 8, by=RH_OWNER),
-)
+said = tpm("TPM2_NV_Read before the first TPM2_NV_Increment: NV_UNINITIALIZED")
+said.reading(SECOND, 8, by=RH_OWNER)
 count("Three times TPM2_NV_Increment", SECOND, 3, times=3)
 define_again("It is defined again", SECOND)
-tpm.fails("TPM2_NV_Read: NV_UNINITIALIZED", tpm.reading(SECOND, 8, by=RH_OWNER))
+tpm("TPM2_NV_Read: NV_UNINITIALIZED").reading(SECOND, 8, by=RH_OWNER)
 count("TPM2_NV_Increment: it goes on behind 3", SECOND, 4)
 assert tpm.last.response == bytes.fromhex(
     "8002 0000001D 00000000 0000000A 0008 0000000000000004 0000 01 0000"
@@ -55,7 +53,7 @@ count("So does the other, which is behind it now", FIRST, 6)
 define("A third one", THIRD)
 count("It begins behind the largest of the two", THIRD, 8)
 count("The other again", FIRST, 7)
-tpm.does("The third is undefined", tpm.undefining(THIRD))
+tpm("The third is undefined").undefining(THIRD)
 define("A fourth one", FOURTH)
 count("It begins behind what the third had", FOURTH, 9)
 count("The first", SECOND, 8)
@@ -79,22 +77,22 @@ count("It begins behind the largest", FIRST, 11)
 tpm.chapter("Its bytes are read as those of any index.")
 tpm.read("The last byte", FIRST, b"\x0b", offset=7, by=RH_OWNER)
 tpm.read("Four in the middle", FIRST, bytes(4), offset=2, by=RH_OWNER)
-tpm.fails("Past the end: NV_RANGE", tpm.reading(FIRST, 2, offset=7, by=RH_OWNER))
+tpm("Past the end: NV_RANGE").reading(FIRST, 2, offset=7, by=RH_OWNER)
 
 tpm.chapter("What is no counter does not count.")
 tpm.define("An ordinary index of eight bytes", area(THIRD, BY_OWNER))
-tpm.does("TPM2_NV_Write of 255", tpm.writing(THIRD, number(255, 8), by=RH_OWNER))
-tpm.fails("TPM2_NV_Increment: ATTRIBUTES/h2", tpm.incrementing(THIRD, by=RH_OWNER))
+tpm("TPM2_NV_Write of 255").writing(THIRD, number(255, 8), by=RH_OWNER)
+tpm("TPM2_NV_Increment: ATTRIBUTES/h2").incrementing(THIRD, by=RH_OWNER)
 define_again("01000001 again", FIRST)
 count("TPM2_NV_Increment: the ordinary index does not matter", FIRST, 12)
 
 tpm.chapter("Locked until the next start.")
 lockable = counter(FOURTH, BY_OWNER | Attribute.WRITE_STCLEAR)
-tpm.does("TPM2_NV_UndefineSpace", tpm.undefining(FOURTH))
+tpm("TPM2_NV_UndefineSpace").undefining(FOURTH)
 tpm.define("A counter with WRITE_STCLEAR", lockable)
 count("TPM2_NV_Increment", FOURTH, 13)
-tpm.does("TPM2_NV_WriteLock", tpm.write_locking(FOURTH, by=RH_OWNER))
-tpm.fails("TPM2_NV_Increment: NV_LOCKED", tpm.incrementing(FOURTH, by=RH_OWNER))
+tpm("TPM2_NV_WriteLock").write_locking(FOURTH, by=RH_OWNER)
+tpm("TPM2_NV_Increment: NV_LOCKED").incrementing(FOURTH, by=RH_OWNER)
 tpm.read("It is read as before", FOURTH, number(13, 8), by=RH_OWNER)
 tpm.power()
 tpm.startup()

@@ -21,7 +21,7 @@ def fitting(what, public, **more):
     by = more.get("by", RH_OWNER)
     tpm.define(what, public, **more)
     tpm.is_now("", public.index)
-    tpm.does("", tpm.undefining(public.index, by=by))
+    tpm("").undefining(public.index, by=by)
 
 
 def unfitting(words, *publics, **more):
@@ -31,61 +31,6 @@ def unfitting(words, *publics, **more):
 def raw(text):
     """The parameters are the text."""
     return tpm.defining(area()).but(parameters=text)
-
-
-def parameters():
-    tpm.chapter("The parameters: auth and publicInfo.")
-    good = sized(area().text)
-    tpm.fails(
-        "auth that is cut: before its size, within it, and within its bytes: INSUFFICIENT/p1",
-        *(raw(it) for it in (b"", b"\0", b"\0\1", b"\0\x20" + bytes(31))),
-    )
-    tpm.fails(
-        "auth of 33 bytes, whole or cut, also where they are zeros: SIZE/p1",
-        raw(sized(b"a" * 33) + good),
-        raw(sized(bytes(33)) + good),
-        raw(number(33, 2)),
-    )
-    empty = sized(b"")
-    tpm.fails(
-        "publicInfo that is cut: before its size, within it, and within its bytes: INSUFFICIENT/p2",
-        *(raw(empty + it) for it in (b"", b"\0", good[:-1], b"\xff\xff")),
-    )
-    text = area().text
-    tpm.fails(
-        "Its size does not reach to the end of its fields: SIZE/p2",
-        *(raw(empty + sized(text[:length])) for length in range(len(text))),
-    )
-    tpm.fails(
-        "Its size reaches beyond them, or dataSize is behind it: SIZE/p2",
-        raw(empty + sized(text + b"\0")),
-        raw(empty + sized(text[:-2]) + text[-2:]),
-    )
-    tpm.fails("A byte behind publicInfo: SIZE", raw(empty + good + b"\0"))
-    unfitting(
-        "nvIndex that is no handle of an index: VALUE/p2",
-        *(area(it) for it in (0, 0x0000_0001, 0x0200_0001, RH_OWNER, 0x8100_0001, 0xFFFF_FFFF)),
-    )
-    for what, code, at, bad in (
-        ("nameAlg: SHA-384, NULL and none", "HASH/p2", 4, (0x000C, 0x0010, 0)),
-        ("Reserved attributes 8, 9 and 20 to 24", "RESERVED_BITS/p2", 6, (1 << 8, 1 << 9)),
-    ):
-        size = 2 if at == 4 else 4
-        texts = [text[:at] + number(it, size) + text[at + size :] for it in bad]
-        if at == 6:
-            texts += [
-                text[:at] + number(BY_OWNER | 1 << it, 4) + text[at + size :]
-                for it in range(20, 25)
-            ]
-        tpm.fails(f"{what}: {code}", *(raw(empty + sized(it)) for it in texts))
-    tpm.fails(
-        "authPolicy of 33 bytes: SIZE/p2",
-        *(raw(empty + sized(area(auth_policy=it).text)) for it in (bytes(33), b"p" * 33)),
-    )
-    tpm.fails(
-        "A wrong nvIndex is found before a wrong nameAlg, as they are read in order: VALUE/p2",
-        raw(empty + sized(number(0, 6))),
-    )
 
 
 def handles():
@@ -108,10 +53,10 @@ def handles():
     )
     unfitting("By the owner, with it: ATTRIBUTES/p2", area(attributes=BY_OWNER | CREATED))
     unfitting("By the platform, without it: ATTRIBUTES/p2", area(), by=RH_PLATFORM)
-    tpm.does('ownerAuth becomes "abc"', tpm.change_auth(RH_OWNER, b"abc", b""))
-    tpm.fails("By the empty password: BAD_AUTH/s1", tpm.defining(area(), b""))
+    tpm('ownerAuth becomes "abc"').change_auth(RH_OWNER, b"abc", b"")
+    tpm("By the empty password: BAD_AUTH/s1").defining(area(), b"")
     fitting("By the right one", area())
-    tpm.does("It is empty again", tpm.change_auth(RH_OWNER, b"", b"abc"))
+    tpm("It is empty again").change_auth(RH_OWNER, b"", b"abc")
 
 
 def sizes():
@@ -190,18 +135,6 @@ def attributes():
     fitting("All of these", area(attributes=every))
 
 
-def numbers():
-    tpm.chapter("Numbers of indices.")
-    for each in (0x0100_0000, 0x0140_0001, 0x01C0_0000, 0x01FF_FFFF):
-        fitting(f"{each:08X}", area(each))
-    tpm.define("01000001", area())
-    unfitting("The same, or with anything else in it: NV_DEFINED", area(), counter())
-    unfitting(
-        "Also by the platform: NV_DEFINED", area(attributes=BY_OWNER | CREATED), by=RH_PLATFORM
-    )
-    tpm.does("It is undefined", tpm.undefining(FIRST))
-
-
 def limit_of_numbers():
     tpm.chapter("There are at most 64 indices, by whomever they are defined.")
     every = range(FIRST, FIRST + 64)
@@ -217,14 +150,14 @@ def limit_of_numbers():
     tpm.power()
     tpm.script.startup()
     unfitting("One more after a power cycle: NV_SPACE", area(0x0100_0100))
-    tpm.does("One is undefined", tpm.undefining(FIRST + 7))
+    tpm("One is undefined").undefining(FIRST + 7)
     tpm.define("And another one defined", area(0x0100_0100))
     unfitting("But no second one: NV_SPACE", area(FIRST + 7))
     for index in (*every, 0x0100_0100):
         if index != FIRST + 7:
             by = RH_PLATFORM if index in every and index % 2 else RH_OWNER
             what = "All are undefined" if index == FIRST else ""
-            tpm.does(what, tpm.undefining(index, by=by))
+            tpm(what).undefining(index, by=by)
 
 
 def limit_of_bytes():
@@ -238,9 +171,9 @@ def limit_of_bytes():
         for half in (0, 1024):
             what = "All are written, each in two halves" if (index, half) == (FIRST, 0) else ""
             part = values[index][half : half + 1024]
-            tpm.does(what, tpm.writing(index, part, offset=half))
+            tpm(what).writing(index, part, offset=half)
     unfitting("Another one, of a byte: NV_SPACE", area(FIRST + 8, size=1))
-    tpm.does("The second is undefined", tpm.undefining(FIRST + 1))
+    tpm("The second is undefined").undefining(FIRST + 1)
     unfitting("One of 2,049 bytes: SIZE/p2", area(FIRST + 8, size=2049))
     for index in (FIRST + 8, FIRST + 9):
         what = "Two of 1,024 bytes are defined" if index == FIRST + 8 else ""
@@ -253,7 +186,7 @@ def limit_of_bytes():
         for half in (0, 1024):
             what = "The others read as written" if (index, half) == (FIRST, 0) else ""
             tpm.read(what, index, values[index][half : half + 1024], offset=half)
-    tpm.does("The last one is undefined", tpm.undefining(FIRST + 9))
+    tpm("The last one is undefined").undefining(FIRST + 9)
     unfitting("One of 1,025 bytes: NV_SPACE", area(FIRST + 9, size=1025))
     tpm.define("One of 1,016", area(FIRST + 9, size=1016))
     unfitting("One of nine: NV_SPACE", area(FIRST + 10, size=9))
@@ -262,10 +195,69 @@ def limit_of_bytes():
     unfitting("An index that is extended: NV_SPACE", extended(FIRST + 11))
 
 
-parameters()
+tpm.chapter("The parameters: auth and publicInfo.")
+good = sized(area().text)
+tpm.fails(
+    "auth that is cut: before its size, within it, and within its bytes: INSUFFICIENT/p1",
+    *(raw(it) for it in (b"", b"\0", b"\0\1", b"\0\x20" + bytes(31))),
+)
+tpm.fails(
+    "auth of 33 bytes, whole or cut, also where they are zeros: SIZE/p1",
+    raw(sized(b"a" * 33) + good),
+    raw(sized(bytes(33)) + good),
+    raw(number(33, 2)),
+)
+empty = sized(b"")
+tpm.fails(
+    "publicInfo that is cut: before its size, within it, and within its bytes: INSUFFICIENT/p2",
+    *(raw(empty + it) for it in (b"", b"\0", good[:-1], b"\xff\xff")),
+)
+text = area().text
+tpm.fails(
+    "Its size does not reach to the end of its fields: SIZE/p2",
+    *(raw(empty + sized(text[:length])) for length in range(len(text))),
+)
+tpm.fails(
+    "Its size reaches beyond them, or dataSize is behind it: SIZE/p2",
+    raw(empty + sized(text + b"\0")),
+    raw(empty + sized(text[:-2]) + text[-2:]),
+)
+tpm.fails("A byte behind publicInfo: SIZE", raw(empty + good + b"\0"))
+unfitting(
+    "nvIndex that is no handle of an index: VALUE/p2",
+    *(area(it) for it in (0, 0x0000_0001, 0x0200_0001, RH_OWNER, 0x8100_0001, 0xFFFF_FFFF)),
+)
+for what, code, at, bad in (
+    ("nameAlg: SHA-384, NULL and none", "HASH/p2", 4, (0x000C, 0x0010, 0)),
+    ("Reserved attributes 8, 9 and 20 to 24", "RESERVED_BITS/p2", 6, (1 << 8, 1 << 9)),
+):
+    size = 2 if at == 4 else 4
+    texts = [text[:at] + number(it, size) + text[at + size :] for it in bad]
+    if at == 6:
+        texts += [
+            text[:at] + number(BY_OWNER | 1 << it, 4) + text[at + size :] for it in range(20, 25)
+        ]
+    tpm.fails(f"{what}: {code}", *(raw(empty + sized(it)) for it in texts))
+tpm.fails(
+    "authPolicy of 33 bytes: SIZE/p2",
+    *(raw(empty + sized(area(auth_policy=it).text)) for it in (bytes(33), b"p" * 33)),
+)
+tpm.fails(
+    "A wrong nvIndex is found before a wrong nameAlg, as they are read in order: VALUE/p2",
+    raw(empty + sized(number(0, 6))),
+)
+
 handles()
 sizes()
 attributes()
-numbers()
+
+tpm.chapter("Numbers of indices.")
+for each in (0x0100_0000, 0x0140_0001, 0x01C0_0000, 0x01FF_FFFF):
+    fitting(f"{each:08X}", area(each))
+tpm.define("01000001", area())
+unfitting("The same, or with anything else in it: NV_DEFINED", area(), counter())
+unfitting("Also by the platform: NV_DEFINED", area(attributes=BY_OWNER | CREATED), by=RH_PLATFORM)
+tpm("It is undefined").undefining(FIRST)
+
 limit_of_numbers()
 limit_of_bytes()

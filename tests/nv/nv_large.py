@@ -22,7 +22,7 @@ def some(size, seed=b""):
 
 
 def write(what, index, data, offset=0):
-    tpm.does(what, tpm.writing(index, data, offset=offset, by=RH_OWNER))
+    tpm(what).writing(index, data, offset=offset, by=RH_OWNER)
 
 
 def read(what, index, data, offset=0):
@@ -86,26 +86,26 @@ tpm.fails(
     tpm.writing(THIRD, bytes(1024), offset=1, by=RH_OWNER),
     tpm.writing(THIRD, b"", offset=1024, by=RH_OWNER),
 )
-tpm.fails("It is not written: NV_UNINITIALIZED", tpm.reading(THIRD, 8, by=RH_OWNER))
+tpm("It is not written: NV_UNINITIALIZED").reading(THIRD, 8, by=RH_OWNER)
 write("TPM2_NV_Write of all", THIRD, data)
 read("A piece of it can be read", THIRD, data[100:200], 100)
-tpm.fails("TPM2_NV_Write of fewer bytes: NV_RANGE", tpm.writing(THIRD, b"x", by=RH_OWNER))
+tpm("TPM2_NV_Write of fewer bytes: NV_RANGE").writing(THIRD, b"x", by=RH_OWNER)
 write("TPM2_NV_Write of all again", THIRD, data[::-1])
 read("TPM2_NV_Read", THIRD, data[::-1])
-tpm.does("It is undefined", tpm.undefining(THIRD))
+tpm("It is undefined").undefining(THIRD)
 tpm.define(
     "One of 1,025 bytes, which cannot be written at all",
     area(THIRD, BY_OWNER | Attribute.WRITEALL, size=1025),
 )
-tpm.fails("TPM2_NV_Write of 1,024 bytes: NV_RANGE", tpm.writing(THIRD, bytes(1024), by=RH_OWNER))
-tpm.does("It is undefined", tpm.undefining(THIRD))
+tpm("TPM2_NV_Write of 1,024 bytes: NV_RANGE").writing(THIRD, bytes(1024), by=RH_OWNER)
+tpm("It is undefined").undefining(THIRD)
 tpm.define("One of no bytes", area(THIRD, BY_OWNER | Attribute.WRITEALL, size=0))
-tpm.fails("TPM2_NV_Read: NV_UNINITIALIZED", tpm.reading(THIRD, 0, by=RH_OWNER))
-tpm.fails("TPM2_NV_Write of a byte: NV_RANGE", tpm.writing(THIRD, b"x", by=RH_OWNER))
+tpm("TPM2_NV_Read: NV_UNINITIALIZED").reading(THIRD, 0, by=RH_OWNER)
+tpm("TPM2_NV_Write of a byte: NV_RANGE").writing(THIRD, b"x", by=RH_OWNER)
 write("TPM2_NV_Write of no bytes, which are all", THIRD, b"")
 tpm.is_now("It is written", THIRD)
 read("TPM2_NV_Read of no bytes", THIRD, b"")
-tpm.fails("Of one: NV_RANGE", tpm.reading(THIRD, 1, by=RH_OWNER))
+tpm("Of one: NV_RANGE").reading(THIRD, 1, by=RH_OWNER)
 
 tpm.chapter("After the next start.")
 tpm.power()

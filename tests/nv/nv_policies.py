@@ -26,50 +26,11 @@ def says(what, prepared):
 
 def undefine(*indices):
     for index in indices:
-        tpm.does("It is undefined" if index == indices[0] else "", tpm.undefining(index))
+        tpm("It is undefined" if index == indices[0] else "").undefining(index)
 
 
 def after_auth_value(algorithm=SHA256):
     return policy.after_auth_value(algorithm, bytes(digest_bytes(algorithm)))
-
-
-def demands():
-    for algorithm, name in HASHES:
-        tpm.chapter(f"TPM2_PolicyAuthValue and TPM2_PolicyPassword, of {name}.")
-        public = area(
-            FIRST, BY_POLICY, algorithm=algorithm, auth_policy=after_auth_value(algorithm)
-        )
-        tpm.define("An index that a policy alone may use", public, auth=b"a")
-        tpm.fails("TPM2_NV_Write by the password: AUTH_UNAVAILABLE", tpm.writing(FIRST, DATA))
-        tpm.fails("By the owner: NV_AUTHORIZATION", tpm.writing(FIRST, DATA, by=RH_OWNER))
-        session = tpm.policy("A policy session", algorithm=algorithm)
-        tpm.fails("Without an assertion: POLICY_FAIL/s1", tpm.writing(FIRST, DATA, session))
-        for demand, name, prepare in (
-            (AUTH_VALUE, "TPM2_PolicyAuthValue", tpm.auth_value_told),
-            (PASSWORD, "TPM2_PolicyPassword", tpm.password_told),
-        ):
-            use = lambda: Use(session, demand=demand)
-            says(name, prepare(session))
-            wrong = tpm.writing(FIRST, DATA, use())
-            tpm.fails(
-                "TPM2_NV_Write by a wrong value: AUTH_FAIL/s1", wrong.but_entry(1, hmac=b"wrong")
-            )
-            tpm.does("TPM2_NV_Write", tpm.writing(FIRST, DATA, use()))
-            tpm.digest_is("It counts once", session, zeros(session))
-            tpm.fails("TPM2_NV_Read: POLICY_FAIL/s1", tpm.reading(FIRST, 8, use()))
-            says(name, prepare(session))
-            tpm.read("TPM2_NV_Read", FIRST, DATA, use())
-        undefine(FIRST)
-        other = tpm.policy("A session of the other hash", algorithm=SHA1 + SHA256 - algorithm)
-        tpm.define("The index again", public, auth=b"a")
-        says("TPM2_PolicyAuthValue", tpm.auth_value_told(other))
-        tpm.fails(
-            "TPM2_NV_Write by it: POLICY_FAIL/s1",
-            tpm.writing(FIRST, DATA, Use(other, demand=AUTH_VALUE)),
-        )
-        undefine(FIRST)
-        for each in (session, other):
-            says("A session is flushed", tpm.flush(each))
 
 
 # Every command that an index can authorize, on itself, and whether it asks for what allows to read.
@@ -163,22 +124,22 @@ def by_code_and_pcrs():
 
     by_value = lambda: Use(session, demand=AUTH_VALUE)
     writer()
-    tpm.fails("TPM2_NV_Read by the writer's: POLICY_CC/s1", tpm.reading(FIRST, 8, by_value()))
-    tpm.does("TPM2_NV_Write", tpm.writing(FIRST, DATA, by_value()))
+    tpm("TPM2_NV_Read by the writer's: POLICY_CC/s1").reading(FIRST, 8, by_value())
+    tpm("TPM2_NV_Write").writing(FIRST, DATA, by_value())
     reader()
-    tpm.fails("TPM2_NV_Write by the reader's: POLICY_CC/s1", tpm.writing(FIRST, DATA, session))
+    tpm("TPM2_NV_Write by the reader's: POLICY_CC/s1").writing(FIRST, DATA, session)
     tpm.read("TPM2_NV_Read", FIRST, DATA, session)
     reader()
-    tpm.does("PCR 10 is extended", tpm.event(b"program", b"", pcr=10))
-    tpm.fails("TPM2_NV_Read: PCR_CHANGED", tpm.reading(FIRST, 8, session))
+    tpm("PCR 10 is extended").event(b"program", b"", pcr=10)
+    tpm("TPM2_NV_Read: PCR_CHANGED").reading(FIRST, 8, session)
     says("TPM2_PolicyRestart", tpm.restart(session))
     says("TPM2_PolicyPCR of PCR 10", tpm.pcrs(session, chosen))
     says("TPM2_PolicyCommandCode of TPM2_NV_Read", tpm.command_code(session, CC.NV_Read))
-    tpm.says("TPM2_PolicyOR: VALUE/p1", tpm.branches(session, to_write, to_read))
-    tpm.fails("TPM2_NV_Read: POLICY_FAIL/s1", tpm.reading(FIRST, 8, session))
+    tpm("TPM2_PolicyOR: VALUE/p1").branches(session, to_write, to_read)
+    tpm("TPM2_NV_Read: POLICY_FAIL/s1").reading(FIRST, 8, session)
     says("TPM2_PolicyRestart", tpm.restart(session))
     writer()
-    tpm.does("TPM2_NV_Write is as before", tpm.writing(FIRST, DATA[::-1], by_value()))
+    tpm("TPM2_NV_Write is as before").writing(FIRST, DATA[::-1], by_value())
     undefine(FIRST)
     says("The session is flushed", tpm.flush(session))
 
@@ -190,9 +151,9 @@ def by_locality():
     tpm.define("The index", public)
     session = tpm.policy("A policy session")
     says("TPM2_PolicyLocality", tpm.locality(session, 0b10))
-    tpm.fails("TPM2_NV_Write at locality 0: LOCALITY", tpm.writing(FIRST, DATA, session))
+    tpm("TPM2_NV_Write at locality 0: LOCALITY").writing(FIRST, DATA, session)
     tpm.locality_is(1)
-    tpm.does("At locality 1", tpm.writing(FIRST, DATA, session))
+    tpm("At locality 1").writing(FIRST, DATA, session)
     tpm.locality_is(0)
     tpm.read("TPM2_NV_Read by the owner", FIRST, DATA, by=RH_OWNER)
     undefine(FIRST)
@@ -208,15 +169,13 @@ def bound_and_encrypting():
         ("Once more, with its data encrypted", CONTINUE_SESSION | DECRYPT),
     ):
         says("TPM2_PolicyAuthValue", tpm.auth_value_told(session))
-        tpm.does(what, tpm.writing(FIRST, DATA, Use(session, attributes, demand=AUTH_VALUE)))
+        tpm(what).writing(FIRST, DATA, Use(session, attributes, demand=AUTH_VALUE))
     says("TPM2_PolicyPassword", tpm.password_told(session))
     use = Use(session, CONTINUE_SESSION | ENCRYPT, demand=PASSWORD)
     tpm.read("TPM2_NV_Read by the password, with what is read encrypted", FIRST, DATA, use)
     says("TPM2_PolicyAuthValue", tpm.auth_value_told(session))
-    tpm.does(
-        "It ends with the command", tpm.writing(FIRST, DATA, Use(session, 0, demand=AUTH_VALUE))
-    )
-    tpm.says("It is no more: REFERENCE_H0", tpm.get_digest(session))
+    tpm("It ends with the command").writing(FIRST, DATA, Use(session, 0, demand=AUTH_VALUE))
+    tpm("It is no more: REFERENCE_H0").get_digest(session)
     undefine(FIRST)
 
 
@@ -230,35 +189,56 @@ def who_authorizes():
     tpm.define("A third one with another", area(THIRD, BY_POLICY, auth_policy=bytes(32)), auth=b"a")
     session = tpm.policy("A policy session")
     by_value = lambda: Use(session, demand=AUTH_VALUE)
-    tpm.does(
-        "The third, whose policy is zeros, asks for no assertion", tpm.writing(THIRD, DATA, session)
-    )
+    tpm("The third, whose policy is zeros, asks for no assertion").writing(THIRD, DATA, session)
     says("TPM2_PolicyAuthValue", tpm.auth_value_told(session))
-    tpm.fails("The third by another digest: POLICY_FAIL/s1", tpm.writing(THIRD, DATA, by_value()))
-    tpm.fails(
-        "The first, by the second: NV_AUTHORIZATION",
-        tpm.writing(FIRST, DATA, by_value(), by=SECOND),
-    )
-    tpm.fails(
-        "The first, by the owner: AUTH_UNAVAILABLE",
-        tpm.writing(FIRST, DATA, by_value(), by=RH_OWNER),
-    )
-    tpm.does("The first, by itself", tpm.writing(FIRST, DATA, by_value()))
+    tpm("The third by another digest: POLICY_FAIL/s1").writing(THIRD, DATA, by_value())
+    tpm("The first, by the second: NV_AUTHORIZATION").writing(FIRST, DATA, by_value(), by=SECOND)
+    tpm("The first, by the owner: AUTH_UNAVAILABLE").writing(FIRST, DATA, by_value(), by=RH_OWNER)
+    tpm("The first, by itself").writing(FIRST, DATA, by_value())
     trial = tpm.trial("A trial session")
     says("TPM2_PolicyAuthValue", tpm.auth_value_told(trial))
-    tpm.fails("By it: ATTRIBUTES/s1", tpm.writing(FIRST, DATA, trial))
-    tpm.fails("Also where nothing can: ATTRIBUTES/s1", tpm.writing(FIRST, DATA, trial, by=RH_OWNER))
-    tpm.does("The first is undefined: its policy is nobody's", tpm.undefining(FIRST))
+    tpm("By it: ATTRIBUTES/s1").writing(FIRST, DATA, trial)
+    tpm("Also where nothing can: ATTRIBUTES/s1").writing(FIRST, DATA, trial, by=RH_OWNER)
+    tpm("The first is undefined: its policy is nobody's").undefining(FIRST)
     says("TPM2_PolicyAuthValue", tpm.auth_value_told(session))
-    tpm.does("The second", tpm.writing(SECOND, DATA, by_value()))
-    tpm.does(
-        "TPM2_NV_Write through the session, which then returns to its start",
-        tpm.writing(THIRD, DATA, session),
-    )
+    tpm("The second").writing(SECOND, DATA, by_value())
+    said = tpm("TPM2_NV_Write through the session, which then returns to its start")
+    said.writing(THIRD, DATA, session)
 
 
 told = tpm.policy("A session that TPM2_PolicyNV and TPM2_PolicySecret are told to")
-demands()
+
+for algorithm, name in HASHES:
+    tpm.chapter(f"TPM2_PolicyAuthValue and TPM2_PolicyPassword, of {name}.")
+    public = area(FIRST, BY_POLICY, algorithm=algorithm, auth_policy=after_auth_value(algorithm))
+    tpm.define("An index that a policy alone may use", public, auth=b"a")
+    tpm("TPM2_NV_Write by the password: AUTH_UNAVAILABLE").writing(FIRST, DATA)
+    tpm("By the owner: NV_AUTHORIZATION").writing(FIRST, DATA, by=RH_OWNER)
+    session = tpm.policy("A policy session", algorithm=algorithm)
+    tpm("Without an assertion: POLICY_FAIL/s1").writing(FIRST, DATA, session)
+    for demand, name, prepare in (
+        (AUTH_VALUE, "TPM2_PolicyAuthValue", tpm.auth_value_told),
+        (PASSWORD, "TPM2_PolicyPassword", tpm.password_told),
+    ):
+        use = lambda: Use(session, demand=demand)
+        says(name, prepare(session))
+        wrong = tpm.writing(FIRST, DATA, use())
+        tpm.fails("TPM2_NV_Write by a wrong value: AUTH_FAIL/s1", wrong.but_entry(1, hmac=b"wrong"))
+        tpm("TPM2_NV_Write").writing(FIRST, DATA, use())
+        tpm.digest_is("It counts once", session, zeros(session))
+        tpm("TPM2_NV_Read: POLICY_FAIL/s1").reading(FIRST, 8, use())
+        says(name, prepare(session))
+        tpm.read("TPM2_NV_Read", FIRST, DATA, use())
+    undefine(FIRST)
+    other = tpm.policy("A session of the other hash", algorithm=SHA1 + SHA256 - algorithm)
+    tpm.define("The index again", public, auth=b"a")
+    says("TPM2_PolicyAuthValue", tpm.auth_value_told(other))
+    said = tpm("TPM2_NV_Write by it: POLICY_FAIL/s1")
+    said.writing(FIRST, DATA, Use(other, demand=AUTH_VALUE))
+    undefine(FIRST)
+    for each in (session, other):
+        says("A session is flushed", tpm.flush(each))
+
 availability()
 by_code_and_pcrs()
 by_locality()

@@ -29,11 +29,11 @@ for algorithm, name in HASHES:
         ("One that is extended", extended(FIRST, algorithm=algorithm)),
     ):
         tpm.define(what, public)
-        answer = tpm.does("TPM2_NV_ReadPublic", tpm.index_public(public.index))
+        answer = tpm("TPM2_NV_ReadPublic").index_public(public.index)
         text = number(public.index, 4) + number(algorithm, 2) + number(public.attributes, 4)
         text += sized(public.auth_policy) + number(public.data_size, 2)
         assert answer == sized(text) + sized(number(algorithm, 2) + digest(algorithm, text))
-        tpm.does("It is undefined", tpm.undefining(public.index))
+        tpm("It is undefined").undefining(public.index)
 
 tpm.chapter("Attributes that come and go, and the Name with them.")
 tpm.define("An index with WRITE_STCLEAR and READ_STCLEAR", area(FIRST, BY_OWNER | LOCKS))
@@ -59,7 +59,7 @@ plain = tpm.start("A session that is bound to nothing", bind=RH_NULL)
 encrypting = tpm.start("One that is bound to the other index, with AES", bind=SECOND, aes=True)
 tpm.is_now("With both", SECOND, plain, encrypting)
 tpm.is_now("The public area encrypted", SECOND, Use(encrypting, CONTINUE_SESSION | ENCRYPT), plain)
-tpm.fails("With a password: HANDLE/s1", tpm.index_public(SECOND, b"a"))
+tpm("With a password: HANDLE/s1").index_public(SECOND, b"a")
 tpm.fails(
     "With decrypt, where no parameter is: ATTRIBUTES/s1",
     tpm.index_public(SECOND, plain).but_entry(1, attributes=CONTINUE_SESSION | frames.DECRYPT),

@@ -149,30 +149,7 @@ def define_space():
         case("2,048 bytes, for which there is no space", "NV_SPACE", defined(NEW), none),
         case("With nothing wrong", "SUCCESS", defined(NEW, size=4), none),
     )
-    tpm.says("It is undefined: SUCCESS", tpm.undefining(NEW))
-
-
-def undefine_space():
-    tpm.chapter("TPM2_NV_UndefineSpace.")
-    code, uses = CC.NV_UndefineSpace, [b"", Use(session)]
-    general_refusals(code, [RH_OWNER, PLATFORMS], b"\0", uses)
-    in_order(
-        code,
-        uses,
-        ("A byte behind the area", "SIZE", [RH_OWNER, PLATFORMS], b"\0"),
-        ("An index of the platform's", "NV_AUTHORIZATION", [RH_OWNER, PLATFORMS], b""),
-        ("With nothing wrong", "SUCCESS", [RH_PLATFORM, PLATFORMS], b""),
-    )
-
-
-def read_public():
-    tpm.chapter("TPM2_NV_ReadPublic, with a session that authorizes nothing.")
-    general_refusals(CC.NV_ReadPublic, [ORDINARY], b"\0", [Use(session)])
-    wrong_size = tpm.index_public(ORDINARY, session).handles
-    tpm.refused(
-        "A byte behind the handle: SIZE", tpm.prepare(CC.NV_ReadPublic, wrong_size, b"\0", session)
-    )
-    tpm.is_now("With nothing wrong", ORDINARY, session)
+    tpm("It is undefined").undefining(NEW)
 
 
 def read():
@@ -247,38 +224,28 @@ def change_auth():
         "A policy session, on an index without a policy: AUTH_UNAVAILABLE",
         wrong(prepared(cut, Use(told, shows_empty_key=True), hides, index=ORDINARY), 1, 2),
     )
-    tpm.says("TPM2_PolicyPCR of no PCRs: SUCCESS", tpm.pcrs(told, []))
-    tpm.says(
-        "TPM2_PolicyCommandCode of TPM2_NV_Write: SUCCESS", tpm.command_code(told, CC.NV_Write)
-    )
-    tpm.says("TPM2_PolicyLocality of locality 1: SUCCESS", tpm.locality(told, 2))
-    tpm.does("A PCR is extended", tpm.event(b"", b""))
+    tpm("TPM2_PolicyPCR of no PCRs").pcrs(told, [])
+    tpm("TPM2_PolicyCommandCode of TPM2_NV_Write").command_code(told, CC.NV_Write)
+    tpm("TPM2_PolicyLocality of locality 1").locality(told, 2)
+    tpm("A PCR is extended").event(b"", b"")
 
     def all_wrong():
         return wrong(prepared(cut, Use(told, shows_empty_key=True), hides), 1, 2)
 
     refused("A PCR has changed, and another code is recorded: PCR_CHANGED", all_wrong())
-    tpm.says("TPM2_PolicyRestart: SUCCESS", tpm.restart(told))
-    tpm.says(
-        "TPM2_PolicyCommandCode of TPM2_NV_Write: SUCCESS", tpm.command_code(told, CC.NV_Write)
-    )
-    tpm.says("TPM2_PolicyLocality of locality 1: SUCCESS", tpm.locality(told, 2))
+    tpm("TPM2_PolicyRestart").restart(told)
+    tpm("TPM2_PolicyCommandCode of TPM2_NV_Write").command_code(told, CC.NV_Write)
+    tpm("TPM2_PolicyLocality of locality 1").locality(told, 2)
     refused("Another code, and another locality: POLICY_CC/s1", all_wrong())
-    tpm.says("TPM2_PolicyRestart: SUCCESS", tpm.restart(told))
-    tpm.says("TPM2_PolicyLocality of locality 1: SUCCESS", tpm.locality(told, 2))
+    tpm("TPM2_PolicyRestart").restart(told)
+    tpm("TPM2_PolicyLocality of locality 1").locality(told, 2)
     refused("No code, and another locality: POLICY_FAIL/s1", all_wrong())
-    tpm.says(
-        "TPM2_PolicyCommandCode of TPM2_NV_ChangeAuth: SUCCESS",
-        tpm.command_code(told, CC.NV_ChangeAuth),
-    )
+    tpm("TPM2_PolicyCommandCode of TPM2_NV_ChangeAuth").command_code(told, CC.NV_ChangeAuth)
     refused("Another locality, and another digest: LOCALITY", all_wrong())
     tpm.locality_is(1)
     refused("Another digest: POLICY_FAIL/s1", all_wrong())
-    tpm.says("TPM2_PolicyRestart: SUCCESS", tpm.restart(told))
-    tpm.says(
-        "TPM2_PolicyCommandCode of TPM2_NV_ChangeAuth: SUCCESS",
-        tpm.command_code(told, CC.NV_ChangeAuth),
-    )
+    tpm("TPM2_PolicyRestart").restart(told)
+    tpm("TPM2_PolicyCommandCode of TPM2_NV_ChangeAuth").command_code(told, CC.NV_ChangeAuth)
     refused("Both hmacs are wrong: BAD_AUTH/s1", all_wrong())
     refused(
         "The last one is: BAD_AUTH/s2",
@@ -356,7 +323,7 @@ tpm.define(
     auth=VALUE,
     by=RH_PLATFORM,
 )
-tpm.does("The ordinary one is written", tpm.writing(ORDINARY, b"8 bytes."))
+tpm("The ordinary one is written").writing(ORDINARY, b"8 bytes.")
 for index, lock in (
     (LOCKED_ORDINARY, tpm.write_locking),
     (LOCKED_COUNTER, tpm.write_locking),
@@ -366,8 +333,25 @@ for index, lock in (
 session = tpm.start("A session with AES, that is bound to TPM_RH_OWNER", bind=RH_OWNER, aes=True)
 
 define_space()
-undefine_space()
-read_public()
+
+tpm.chapter("TPM2_NV_UndefineSpace.")
+code, uses = CC.NV_UndefineSpace, [b"", Use(session)]
+general_refusals(code, [RH_OWNER, PLATFORMS], b"\0", uses)
+in_order(
+    code,
+    uses,
+    ("A byte behind the area", "SIZE", [RH_OWNER, PLATFORMS], b"\0"),
+    ("An index of the platform's", "NV_AUTHORIZATION", [RH_OWNER, PLATFORMS], b""),
+    ("With nothing wrong", "SUCCESS", [RH_PLATFORM, PLATFORMS], b""),
+)
+
+
+tpm.chapter("TPM2_NV_ReadPublic, with a session that authorizes nothing.")
+general_refusals(CC.NV_ReadPublic, [ORDINARY], b"\0", [Use(session)])
+wrong_size = tpm.index_public(ORDINARY, session).handles
+tpm("A byte behind the handle: SIZE").prepare(CC.NV_ReadPublic, wrong_size, b"\0", session)
+tpm.is_now("With nothing wrong", ORDINARY, session)
+
 LONG = sized(bytes(1025))
 changes(
     CC.NV_Write,

@@ -100,8 +100,7 @@ for what, public, data, key_bytes in (
     ("A storage key", storage_key(), b"", 16),
     ("A storage key, and nameAlg SHA-1", storage_key(SHA1), b"", 16),
 ):
-    answer = tpm.says(f"{what}: SUCCESS", tpm.child(parent, public, data=data))
-    fields = Fields(answer[14:])
+    fields = Fields(tpm(what).child(parent, public, data=data))
     private, made = Fields(fields.sized()), object_rules.Parameters(fields.data)
     made = made.structure(object_rules.read_public)
     seed_end = key_bytes + (20 if public.name_algorithm == SHA1 else 32)

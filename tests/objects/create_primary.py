@@ -27,7 +27,7 @@ def creates(what, hierarchy, public, **more):
 
 
 def refused(words, hierarchy, public, *uses, **more):
-    tpm.says(words, tpm.primary(hierarchy, public, *uses, **more))
+    tpm(words).primary(hierarchy, public, *uses, **more)
 
 
 tpm.chapter(
@@ -53,7 +53,7 @@ tpm.raw(
     on_handle(CC.HMAC, FIRST, sized(QUESTION) + number(SHA1, 2)),
 )
 tpm.raw("TPM2_Unseal: it is a key: ATTRIBUTES/h1", on_handle(CC.Unseal, FIRST))
-tpm.says("It is flushed: SUCCESS", tpm.flush(FIRST))
+tpm("It is flushed").flush(FIRST)
 
 tpm.chapter("primaryHandle.")
 tpm.says(

@@ -44,7 +44,7 @@ def primary(what, hierarchy, template=None):
 def kept_handles(what, *handles):
     """All persistent objects, as TPM2_GetCapability lists them."""
     listed = number(len(handles), 4) + b"".join(number(it, 4) for it in handles)
-    given = tpm.does(what, tpm.capability(HANDLES, FIRST, 64))
+    given = tpm(what).capability(HANDLES, FIRST, 64)
     assert given == b"\0" + number(HANDLES, 4) + listed, what
 
 
@@ -165,48 +165,13 @@ def borders(owners, endorsements, platforms):
         (RH_PLATFORM, platforms, LAST),
     )
     tpm.remove("The owner takes the last one away", RH_OWNER, OWNERS_LAST)
-    tpm.fails("It is gone: HANDLE/h1", tpm.public(OWNERS_LAST))
+    tpm("It is gone: HANDLE/h1").public(OWNERS_LAST)
     kept_handles("Three are left", FIRST, PLATFORMS_FIRST, LAST)
     tpm.remove("The platform takes away what is the owner's", RH_PLATFORM, FIRST)
     tpm.remove("And its own", RH_PLATFORM, PLATFORMS_FIRST)
     tpm.remove("And its own", RH_PLATFORM, LAST)
     kept_handles("None")
     fails("None is there: HANDLE/h2", (RH_PLATFORM, LAST, LAST), (RH_OWNER, FIRST, FIRST))
-
-
-def places():
-    tpm.chapter("Sixteen persistent objects, and no more.")
-    transient = primary("An object of the owner", RH_OWNER)
-    platforms = primary("And one of the platform", RH_PLATFORM)
-    handles = [FIRST + 3 * it for it in range(MOST - 1)] + [LAST]
-    for handle in handles[:-1]:
-        words = "Fifteen of the owner" if handle == FIRST else ""
-        tpm.keep(words, RH_OWNER, transient, handle)
-    tpm.keep("One of the platform", RH_PLATFORM, platforms, LAST)
-    kept_handles("They are there, and the transient ones beside them", *handles)
-    fails(
-        "One more, of either: NV_SPACE",
-        (RH_OWNER, transient, OTHER),
-        (RH_PLATFORM, platforms, PLATFORMS_FIRST),
-    )
-    fails("At a handle that is taken: NV_DEFINED", (RH_OWNER, transient, FIRST))
-    fails("In the wrong range: RANGE/p1", (RH_OWNER, transient, LAST))
-    tpm.chapter("They take no place of a transient object, and no NV index takes one of theirs.")
-    for count in range(6):
-        primary("Six more transient ones" if not count else "", RH_OWNER)
-    tpm.fails("The ninth: OBJECT_MEMORY", tpm.primary(RH_OWNER, storage_key()))
-    tpm.define("An NV index", area(size=2048))
-    tpm.does("It is undefined", tpm.undefining(0x0100_0001))
-    tpm.remove("One is taken away", RH_OWNER, handles[5])
-    tpm.keep("There is a place for another", RH_OWNER, transient, OTHER)
-    kept_handles("They ascend", *sorted({*handles, OTHER} - {handles[5]}))
-    tpm.power()
-    tpm.startup()
-    kept_handles("A power cycle later", *sorted({*handles, OTHER} - {handles[5]}))
-    for handle in sorted({*handles, OTHER} - {handles[5]}):
-        words = "The platform takes all away" if handle == FIRST else ""
-        tpm.remove(words, RH_PLATFORM, handle)
-    kept_handles("None")
 
 
 def use():
@@ -216,7 +181,7 @@ def use():
     tpm.keep("It stays as 81000000", RH_OWNER, root, FIRST)
     assert tpm.read_public("The same public area and names", FIRST) == (public, qualified)
     tpm.flush_objects("The transient one is flushed", root)
-    tpm.fails("The persistent one cannot be: VALUE/p1", tpm.flush(FIRST))
+    tpm("The persistent one cannot be: VALUE/p1").flush(FIRST)
     secret = tpm.create(
         "TPM2_Create under the persistent one",
         FIRST,
@@ -237,11 +202,10 @@ def use():
     )
     session = tpm.start("A session that is bound to it", mac_key)
     tpm.keep("It stays as 81000002", RH_OWNER, mac_key, 0x8100_0002)
-    first = tpm.does("TPM2_HMAC by it", tpm.hmac(mac_key, b"data", SHA256, session))
+    first = tpm("TPM2_HMAC by it").hmac(mac_key, b"data", SHA256, session)
     tpm.flush_objects("The transient one is flushed", mac_key)
-    second = tpm.does(
-        "The session is bound to the persistent one too, as both have one Name",
-        tpm.hmac(0x8100_0002, b"data", SHA256, session),
+    second = tpm("The session is bound to the persistent one too, as both have one Name").hmac(
+        0x8100_0002, b"data", SHA256, session
     )
     assert first == second
     restarts()
@@ -250,29 +214,29 @@ def use():
 def restarts():
     tpm.chapter("After a power cycle.")
     tpm.power()
-    tpm.fails("Before TPM2_Startup: INITIALIZE", tpm.public(OTHER))
+    tpm("Before TPM2_Startup: INITIALIZE").public(OTHER)
     tpm.startup()
     tpm.unseal("TPM2_Unseal by the password", OTHER, b"a secret", b"pin")
     session = tpm.start("A session that is bound to it, with AES", OTHER, aes=True)
     tpm.unseal("TPM2_Unseal by it, encrypted", OTHER, b"a secret", Use(session, ENCRYPTING))
     tpm.fails("A wrong hmac: AUTH_FAIL/s1", wrong(tpm.unsealing(OTHER, session)))
-    tpm.fails("A wrong password: AUTH_FAIL/s1", tpm.unsealing(OTHER, b"nip"))
+    tpm("A wrong password: AUTH_FAIL/s1").unsealing(OTHER, b"nip")
     policy = tpm.policy("A policy session")
     tpm.accepted("TPM2_PolicySecret of it", tpm.secret(policy, b"pin", of=OTHER))
     made = tpm.create("TPM2_Create under 81000000", FIRST, sealed(), data=b"another")
     handle = tpm.load("TPM2_Load", FIRST, made)
     tpm.unseal("TPM2_Unseal", handle, b"another")
-    tpm.fails("A third wrong password locks: AUTH_FAIL/s1", tpm.unsealing(OTHER, b"nip"))
-    tpm.fails("The right one: LOCKOUT", tpm.unsealing(OTHER, b"pin"))
-    tpm.does("TPM2_DictionaryAttackLockReset", tpm.lock_reset())
+    tpm("A third wrong password locks: AUTH_FAIL/s1").unsealing(OTHER, b"nip")
+    tpm("The right one: LOCKOUT").unsealing(OTHER, b"pin")
+    tpm("TPM2_DictionaryAttackLockReset").lock_reset()
     start_again()
     tpm.unseal("It is there", OTHER, b"a secret", b"pin")
-    tpm.fails("What was loaded is not: REFERENCE_H0", tpm.public(handle))
+    tpm("What was loaded is not: REFERENCE_H0").public(handle)
 
 
 def start_again():
     """Through TPM2_Shutdown."""
-    tpm.does("TPM2_Shutdown(STATE)", tpm.shutting_down(STATE))
+    tpm("TPM2_Shutdown(STATE)").shutting_down(STATE)
     tpm.power()
     tpm.start_up("TPM2_Startup(STATE)", STATE)
 
@@ -281,7 +245,7 @@ def sessions():
     tpm.chapter("TPM2_EvictControl by sessions.")
     handle = primary("An object of the owner", RH_OWNER)
     wanted = 0x8100_0003
-    tpm.does('ownerAuth is "owner"', tpm.change_auth(RH_OWNER, b"owner", b""))
+    tpm('ownerAuth is "owner"').change_auth(RH_OWNER, b"owner", b"")
     session = tpm.start("An HMAC session, bound to TPM_RH_OWNER", RH_OWNER, aes=True)
     evicting = tpm.evicting(RH_OWNER, handle, wanted, session)
     tpm.fails("A wrong hmac: BAD_AUTH/s1", wrong(evicting))
@@ -295,14 +259,12 @@ def sessions():
         ),
     )
     policy = tpm.policy("A policy session")
-    tpm.fails(
-        "No policy authorizes a hierarchy: AUTH_UNAVAILABLE",
-        tpm.evicting(RH_OWNER, handle, wanted, policy),
-    )
-    tpm.does("ownerAuth is empty", tpm.change_auth(RH_OWNER, b"", b"owner"))
+    said = tpm("No policy authorizes a hierarchy: AUTH_UNAVAILABLE")
+    said.evicting(RH_OWNER, handle, wanted, policy)
+    tpm("ownerAuth is empty").change_auth(RH_OWNER, b"", b"owner")
     for kept in (FIRST, OTHER, 0x8100_0002):
         tpm.remove("All are taken away" if kept == FIRST else "", RH_OWNER, kept)
-    tpm.fails("They are gone: HANDLE/h1", tpm.public(FIRST))
+    tpm("They are gone: HANDLE/h1").public(FIRST)
     kept_handles("None")
 
 
@@ -310,6 +272,39 @@ tpm.startup()
 borders(*in_order())
 tpm.power()
 tpm.startup()
-places()
+
+tpm.chapter("Sixteen persistent objects, and no more.")
+transient = primary("An object of the owner", RH_OWNER)
+platforms = primary("And one of the platform", RH_PLATFORM)
+handles = [FIRST + 3 * it for it in range(MOST - 1)] + [LAST]
+for handle in handles[:-1]:
+    words = "Fifteen of the owner" if handle == FIRST else ""
+    tpm.keep(words, RH_OWNER, transient, handle)
+tpm.keep("One of the platform", RH_PLATFORM, platforms, LAST)
+kept_handles("They are there, and the transient ones beside them", *handles)
+fails(
+    "One more, of either: NV_SPACE",
+    (RH_OWNER, transient, OTHER),
+    (RH_PLATFORM, platforms, PLATFORMS_FIRST),
+)
+fails("At a handle that is taken: NV_DEFINED", (RH_OWNER, transient, FIRST))
+fails("In the wrong range: RANGE/p1", (RH_OWNER, transient, LAST))
+tpm.chapter("They take no place of a transient object, and no NV index takes one of theirs.")
+for count in range(6):
+    primary("Six more transient ones" if not count else "", RH_OWNER)
+tpm("The ninth: OBJECT_MEMORY").primary(RH_OWNER, storage_key())
+tpm.define("An NV index", area(size=2048))
+tpm("It is undefined").undefining(0x0100_0001)
+tpm.remove("One is taken away", RH_OWNER, handles[5])
+tpm.keep("There is a place for another", RH_OWNER, transient, OTHER)
+kept_handles("They ascend", *sorted({*handles, OTHER} - {handles[5]}))
+tpm.power()
+tpm.startup()
+kept_handles("A power cycle later", *sorted({*handles, OTHER} - {handles[5]}))
+for handle in sorted({*handles, OTHER} - {handles[5]}):
+    words = "The platform takes all away" if handle == FIRST else ""
+    tpm.remove(words, RH_PLATFORM, handle)
+kept_handles("None")
+
 use()
 sessions()

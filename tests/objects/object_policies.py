@@ -56,7 +56,7 @@ for algorithm, hash_name in ((SHA256, "SHA-256"), (SHA1, "SHA-1")):
     )
     handle = sealed_by('Sealed data whose value is "pin"', AFTER_AUTH_VALUE[algorithm], algorithm)
     session = tpm.policy("A policy session", algorithm=algorithm)
-    tpm.refused("Nothing is asserted: POLICY_FAIL/s1", tpm.unsealing(handle, session))
+    tpm("Nothing is asserted: POLICY_FAIL/s1").unsealing(handle, session)
 
     tpm.chapter("TPM2_PolicyPassword: the hmac is the value itself, and is answered empty.")
     says("TPM2_PolicyPassword", tpm.password_told(session))
@@ -69,13 +69,11 @@ for algorithm, hash_name in ((SHA256, "SHA-256"), (SHA1, "SHA-1")):
         "Another value: BAD_AUTH/s1",
         *(right.but_entry(1, hmac=it) for it in (b"pi", b"pin1", b"\0pin", bytes(32))),
     )
-    tpm.refused(
-        "An hmac with the value in its key: BAD_AUTH/s1",
-        tpm.unsealing(handle, Use(session, demand=AUTH_VALUE)),
-    )
+    said = tpm("An hmac with the value in its key: BAD_AUTH/s1")
+    said.unsealing(handle, Use(session, demand=AUTH_VALUE))
     tpm.unseal("The value, in plain, with continueSession", handle, SECRET, by_password)
     start_again(session)
-    tpm.refused("Once more: POLICY_FAIL/s1", tpm.unsealing(handle, by_password))
+    tpm("Once more: POLICY_FAIL/s1").unsealing(handle, by_password)
     says("TPM2_PolicyPassword again", tpm.password_told(session))
     padded = tpm.unsealing(handle, by_password).but_entry(1, hmac=PIN + bytes(29))
     tpm.accepted("The value, and zeros behind it", padded)
@@ -83,15 +81,12 @@ for algorithm, hash_name in ((SHA256, "SHA-256"), (SHA1, "SHA-1")):
     tpm.chapter("TPM2_PolicyAuthValue: the value is in the key of the hmac and of the answer's.")
     says("TPM2_PolicyAuthValue", tpm.auth_value_told(session))
     by_value = Use(session, demand=AUTH_VALUE)
-    tpm.refused("The value in plain: BAD_AUTH/s1", tpm.unsealing(handle, by_password))
-    tpm.refused("An empty hmac: BAD_AUTH/s1", tpm.unsealing(handle, Use(session)))
-    tpm.refused(
-        "One of an empty key: BAD_AUTH/s1",
-        tpm.unsealing(handle, Use(session, shows_empty_key=True)),
-    )
+    tpm("The value in plain: BAD_AUTH/s1").unsealing(handle, by_password)
+    tpm("An empty hmac: BAD_AUTH/s1").unsealing(handle, Use(session))
+    tpm("One of an empty key: BAD_AUTH/s1").unsealing(handle, Use(session, shows_empty_key=True))
     tpm.unseal("With continueSession", handle, SECRET, by_value)
     start_again(session)
-    tpm.refused("Once more: POLICY_FAIL/s1", tpm.unsealing(handle, by_value))
+    tpm("Once more: POLICY_FAIL/s1").unsealing(handle, by_value)
 
     tpm.chapter("Of the two the later one counts.")
     VALUE, PLAIN = "TPM2_PolicyAuthValue", "TPM2_PolicyPassword"
@@ -104,21 +99,19 @@ for algorithm, hash_name in ((SHA256, "SHA-256"), (SHA1, "SHA-1")):
         says(names[0], first(session))
         says(names[1], last(session))
         other = by_value if use is by_password else by_password
-        tpm.refused("What the first asks for: BAD_AUTH/s1", tpm.unsealing(double, other))
+        tpm("What the first asks for: BAD_AUTH/s1").unsealing(double, other)
         tpm.unseal("What the second asks for", double, SECRET, use)
         tpm.flush_objects("The object is flushed", double)
 
     tpm.chapter("Without continueSession the session ends.")
     says("TPM2_PolicyPassword", tpm.password_told(session))
     tpm.unseal("By the password", handle, SECRET, Use(session, 0, demand=PASSWORD))
-    tpm.says("It is no more: REFERENCE_H0", tpm.get_digest(session))
+    tpm("It is no more: REFERENCE_H0").get_digest(session)
 
     tpm.chapter("A session that is bound to the object.")
     session = tpm.policy("The object is bind", bind=handle, algorithm=algorithm, aes=True)
     says("TPM2_PolicyAuthValue: it is in the key, bound or not", tpm.auth_value_told(session))
-    tpm.refused(
-        "An hmac without the value in its key: BAD_AUTH/s1", tpm.unsealing(handle, Use(session))
-    )
+    tpm("An hmac without the value in its key: BAD_AUTH/s1").unsealing(handle, Use(session))
     tpm.unseal("With it", handle, SECRET, Use(session, demand=AUTH_VALUE))
     tpm.chapter("As a further entry it authorizes nothing, and has an hmac whatever is asked for.")
     says("TPM2_PolicyPassword", tpm.password_told(session))
@@ -148,7 +141,7 @@ for algorithm, hash_name in ((SHA256, "SHA-256"), (SHA1, "SHA-1")):
     shown = Use(session, shows_empty_key=True, demand=AUTH_VALUE)
     tpm.unseal("With the hmac of an empty key, and it is answered by one", handle, SECRET, shown)
     says("TPM2_PolicyPassword", tpm.password_told(session))
-    tpm.refused("That, where the password is asked for: BAD_AUTH/s1", tpm.unsealing(handle, shown))
+    tpm("That, where the password is asked for: BAD_AUTH/s1").unsealing(handle, shown)
     by_password = tpm.unsealing(handle, Use(session, demand=PASSWORD))
     tpm.accepted("Three zeros, as the password", by_password.but_entry(1, hmac=bytes(3)))
     says("The session is flushed", tpm.flush(session))
@@ -161,11 +154,9 @@ AFTER_CODE = policy.after_command_code(SHA256, bytes(32), CC.Unseal)
 handle = sealed_by("An object for TPM2_Unseal alone", AFTER_CODE)
 session = tpm.policy("A session that is bound to nothing")
 says("TPM2_PolicyCommandCode", tpm.command_code(session, CC.Unseal))
-tpm.refused("By the value: BAD_AUTH/s1", tpm.unsealing(handle, Use(session, demand=PASSWORD)))
-tpm.refused(
-    "By an hmac with the value in its key: BAD_AUTH/s1",
-    tpm.unsealing(handle, Use(session, demand=AUTH_VALUE)),
-)
+tpm("By the value: BAD_AUTH/s1").unsealing(handle, Use(session, demand=PASSWORD))
+said = tpm("By an hmac with the value in its key: BAD_AUTH/s1")
+said.unsealing(handle, Use(session, demand=AUTH_VALUE))
 tpm.unseal("By an empty hmac, as the key is empty", handle, SECRET, session)
 says("TPM2_PolicyCommandCode", tpm.command_code(session, CC.Unseal))
 tpm.unseal("By one of the empty key", handle, SECRET, Use(session, shows_empty_key=True))
@@ -227,14 +218,14 @@ def wrong(handle, session):
 
 trial = tpm.trial("A trial session")
 tell_all(trial, wrong_hash, CC.Load, 2)
-tpm.says("PCR 16 is reset: SUCCESS", tpm.reset(b""))
+tpm("PCR 16 is reset").reset(b"")
 tpm.refused(
     "A trial session, for either object: ATTRIBUTES/s1", wrong(handle, trial), wrong(without, trial)
 )
 says("It is flushed", tpm.flush(trial))
 session = tpm.policy("A policy session, with SHA-256")
 tell_all(session, wrong_hash, CC.Load, 2)
-tpm.says("PCR 16 is reset: SUCCESS", tpm.reset(b""))
+tpm("PCR 16 is reset").reset(b"")
 tpm.refused("An object that has no policy: AUTH_UNAVAILABLE", wrong(without, session))
 tpm.refused("The PCRs have changed: PCR_CHANGED", wrong(handle, session))
 says("TPM2_PolicyRestart", tpm.restart(session))
@@ -256,37 +247,37 @@ tpm.unseal("With nothing wrong", handle, SECRET, session)
 
 tpm.chapter("Each of them alone.")
 tell_all(session, cp_hash_of(handle))
-tpm.says("PCR 16 is reset: SUCCESS", tpm.reset(b""))
-tpm.refused("The PCRs have changed: PCR_CHANGED", tpm.unsealing(handle, session))
+tpm("PCR 16 is reset").reset(b"")
+tpm("The PCRs have changed: PCR_CHANGED").unsealing(handle, session)
 says("TPM2_PolicyRestart", tpm.restart(session))
 tell_all(session, wrong_hash)
-tpm.refused("The cpHash is of another command: POLICY_FAIL/s1", tpm.unsealing(handle, session))
+tpm("The cpHash is of another command: POLICY_FAIL/s1").unsealing(handle, session)
 says("TPM2_PolicyRestart", tpm.restart(session))
 tell_all(session, cp_hash_of(without))
-tpm.refused("Of another object: POLICY_FAIL/s1", tpm.unsealing(handle, session))
+tpm("Of another object: POLICY_FAIL/s1").unsealing(handle, session)
 says("TPM2_PolicyRestart", tpm.restart(session))
 tell_all(session, cp_hash_of(handle))
 for locality in (1, 2, 3, 4):
     tpm.locality_is(locality)
-    tpm.refused("From another locality: LOCALITY", tpm.unsealing(handle, session))
+    tpm("From another locality: LOCALITY").unsealing(handle, session)
 tpm.locality_is(0)
 tpm.unseal("From locality 0", handle, SECRET, session)
 says("The same assertions in another order: first the code", tpm.command_code(session, CC.Unseal))
 says("Then the PCRs", tpm.pcrs(session, PCR_16))
 says("TPM2_PolicySecret", tpm.secret(session, cp_hash=cp_hash_of(handle)))
 says("TPM2_PolicyLocality", tpm.locality(session, 1))
-tpm.refused("It is another digest: POLICY_FAIL/s1", tpm.unsealing(handle, session))
+tpm("It is another digest: POLICY_FAIL/s1").unsealing(handle, session)
 
 tpm.chapter("The hash of the session is not nameAlg.")
 sha1 = tpm.policy("A session with SHA-1", algorithm=SHA1)
 says("TPM2_PolicyPassword", tpm.password_told(sha1))
 thirty_two = sealed_by("An object with nameAlg SHA-256", AFTER_AUTH_VALUE[SHA256])
 twenty = sealed_by("One with SHA-1", AFTER_AUTH_VALUE[SHA1], SHA1)
-tpm.refused("The first: POLICY_FAIL/s1", tpm.unsealing(thirty_two, Use(sha1, demand=PASSWORD)))
+tpm("The first: POLICY_FAIL/s1").unsealing(thirty_two, Use(sha1, demand=PASSWORD))
 tpm.unseal("The second", twenty, SECRET, Use(sha1, demand=PASSWORD))
 says("TPM2_PolicyRestart", tpm.restart(session))
 says("TPM2_PolicyPassword in the session with SHA-256", tpm.password_told(session))
-tpm.refused("The second: POLICY_FAIL/s1", tpm.unsealing(twenty, Use(session, demand=PASSWORD)))
+tpm("The second: POLICY_FAIL/s1").unsealing(twenty, Use(session, demand=PASSWORD))
 tpm.unseal("The first", thirty_two, SECRET, Use(session, demand=PASSWORD))
 tpm.flush_objects("All are flushed", handle, without, thirty_two, twenty)
 says("A session, too", tpm.flush(sha1))
@@ -298,10 +289,10 @@ after = policy.after_auth_value(
 handle = sealed_by("An object with PCR 16 and TPM2_PolicyPassword in its policy", after)
 by_password = Use(session, demand=PASSWORD)
 says("TPM2_PolicyPCR", tpm.pcrs(session, PCR_16))
-tpm.says("PCR 16 is reset, to what it was: SUCCESS", tpm.reset(b""))
+tpm("PCR 16 is reset, to what it was").reset(b"")
 says("TPM2_PolicyPassword", tpm.password_told(session))
 tpm.digest_is("The digest is the right one", session, after)
-tpm.refused("TPM2_Unseal: PCR_CHANGED", tpm.unsealing(handle, by_password))
+tpm("TPM2_Unseal: PCR_CHANGED").unsealing(handle, by_password)
 says("TPM2_PolicyRestart", tpm.restart(session))
 says("TPM2_PolicyPCR", tpm.pcrs(session, PCR_16))
 says("TPM2_PolicyPassword", tpm.password_told(session))
@@ -332,9 +323,9 @@ for what, attributes, by_value in (
         else:
             tpm.refused(f"{words}: AUTH_UNAVAILABLE", prepared)
     says("TPM2_PolicyCommandCode of TPM2_HMAC", tpm.command_code(session, CC.HMAC))
-    tpm.refused("TPM2_Unseal by this policy: POLICY_CC/s1", tpm.unsealing(handle, session))
-    tpm.accepted("TPM2_HMAC by this policy", tpm.hmac(handle, b"text", ALG_NULL, session))
-    tpm.refused("Once more: POLICY_FAIL/s1", tpm.hmac(handle, b"text", ALG_NULL, session))
+    tpm("TPM2_Unseal by this policy: POLICY_CC/s1").unsealing(handle, session)
+    tpm("TPM2_HMAC by this policy").hmac(handle, b"text", ALG_NULL, session)
+    tpm("Once more: POLICY_FAIL/s1").hmac(handle, b"text", ALG_NULL, session)
     for each in (plain, bound):
         says("An HMAC session is flushed", tpm.flush(each))
     tpm.flush_objects("The object is flushed", handle)
@@ -347,7 +338,7 @@ guarded = tpm.create_primary(
     storage_key(auth_policy=PARENT_POLICY, attributes=storage_key().attributes & ~USER),
     user_auth=b"parent",
 )
-tpm.says("TPM2_Create by the password: AUTH_UNAVAILABLE", tpm.child(guarded, sealed(), data=b"x"))
+tpm("TPM2_Create by the password: AUTH_UNAVAILABLE").child(guarded, sealed(), data=b"x")
 by_value = Use(session, demand=AUTH_VALUE)
 says("TPM2_PolicyAuthValue", tpm.auth_value_told(session))
 made = tpm.create("TPM2_Create by the policy", guarded, sealed(), by_value, data=SECRET)
@@ -366,7 +357,7 @@ for what, attributes, outcome in (
     ("Without noDA", 0, "AUTH_FAIL/s1"),
 ):
     handle = sealed_by(what, AFTER_AUTH_VALUE[SHA256], attributes=HERE | USER | attributes)
-    tpm.says(f"A wrong password: {outcome}", tpm.unsealing(handle, b"nip"))
+    tpm(f"A wrong password: {outcome}").unsealing(handle, b"nip")
     plain = tpm.start("An HMAC session")
     tpm.refused(
         f"A wrong hmac: {outcome}", tpm.unsealing(handle, plain).but_entry(1, hmac=bytes(32))
@@ -422,28 +413,22 @@ tpm.accepted("TPM2_PolicySecret, first asserted, and then the session starts aga
 start_again(session)
 other = tpm.policy("Another session")
 says("TPM2_PolicyAuthValue in the first", tpm.auth_value_told(session))
-tpm.accepted(
-    "TPM2_PolicySecret to the other, authorized by the first",
-    tpm.secret(other, Use(session, demand=AUTH_VALUE), of=handle),
-)
+said = tpm("TPM2_PolicySecret to the other, authorized by the first")
+said.secret(other, Use(session, demand=AUTH_VALUE), of=handle)
 start_again(session)
 wanted = policy.after_secret(SHA256, bytes(32), tpm.names[handle], b"")
 tpm.digest_is("The other has the Name of the object in its digest", other, wanted)
 says("TPM2_PolicyPassword in the first", tpm.password_told(session))
-tpm.accepted(
-    "It ends with the command that asserts in it",
-    tpm.secret(session, Use(session, 0, demand=PASSWORD), of=handle),
-)
-tpm.says("It is no more: REFERENCE_H0", tpm.get_digest(session))
+said = tpm("It ends with the command that asserts in it")
+said.secret(session, Use(session, 0, demand=PASSWORD), of=handle)
+tpm("It is no more: REFERENCE_H0").get_digest(session)
 target = sealed_by("An object with that secret as its policy", wanted)
 tpm.unseal("TPM2_Unseal of it by the other session", target, SECRET, other)
 start_again(other)
-tpm.refused("Once more: POLICY_FAIL/s1", tpm.unsealing(target, other))
+tpm("Once more: POLICY_FAIL/s1").unsealing(target, other)
 trial = tpm.trial("A trial session")
 says("TPM2_PolicyAuthValue in the other", tpm.auth_value_told(other))
-tpm.accepted(
-    "TPM2_PolicySecret to the trial session",
-    tpm.secret(trial, Use(other, demand=AUTH_VALUE), of=handle),
-)
+said = tpm("TPM2_PolicySecret to the trial session")
+said.secret(trial, Use(other, demand=AUTH_VALUE), of=handle)
 tpm.digest_is("It is the same digest", trial, wanted)
-tpm.refused("By the trial session itself: ATTRIBUTES/s1", tpm.secret(trial, trial, of=handle))
+tpm("By the trial session itself: ATTRIBUTES/s1").secret(trial, trial, of=handle)

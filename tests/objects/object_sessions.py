@@ -45,13 +45,11 @@ for algorithm, hash_name in ((SHA256, "SHA-256"), (SHA1, "SHA-1")):
         tpm.refused("The same buffer again: BAD_AUTH/s1", right)
         tpm.unseal("A new one", handle, SECRET, session)
     with tpm.breaking(key=lambda use, handle: use.session.key + PIN):
-        tpm.refused(
-            "By the bound one, with the value in the key: BAD_AUTH/s1", tpm.unsealing(handle, bound)
-        )
+        tpm("By the bound one, with the value in the key: BAD_AUTH/s1").unsealing(handle, bound)
     tpm.unseal("The bound one authorizes the other object, too", twin, SECRET, bound)
     with tpm.breaking(key=lambda use, handle: use.session.key):
-        tpm.refused("But with that one's value in the key: BAD_AUTH/s1", tpm.unsealing(twin, bound))
-    tpm.accepted("And a PCR", tpm.reset(bound))
+        tpm("But with that one's value in the key: BAD_AUTH/s1").unsealing(twin, bound)
+    tpm("And a PCR").reset(bound)
 
     tpm.chapter("The hash of a command has the object's Name in it, and not its handle.")
     tpm.refused(
@@ -60,9 +58,7 @@ for algorithm, hash_name in ((SHA256, "SHA-256"), (SHA1, "SHA-1")):
     )
     names = dict(tpm.names)
     tpm.names.clear()
-    tpm.refused(
-        "An hmac with the handle in place of the Name: BAD_AUTH/s1", tpm.unsealing(handle, unbound)
-    )
+    tpm("An hmac with the handle in place of the Name: BAD_AUTH/s1").unsealing(handle, unbound)
     tpm.names.update(names)
     again = tpm.load("The object once more, with another handle", parent, made)
     assert again != handle
@@ -76,10 +72,8 @@ for algorithm, hash_name in ((SHA256, "SHA-256"), (SHA1, "SHA-1")):
 
     tpm.chapter("The object is flushed, and loaded again.")
     tpm.flush_objects("Both are flushed", handle, again)
-    tpm.accepted("The session that is bound to it lives on", tpm.reset(bound))
-    tpm.refused(
-        "But there is no object: REFERENCE_H0", tpm.prepare(CC.Unseal, [handle], b"", bound)
-    )
+    tpm("The session that is bound to it lives on").reset(bound)
+    tpm("But there is no object: REFERENCE_H0").prepare(CC.Unseal, [handle], b"", bound)
     stranger = tpm.create_primary(
         "Another object takes the place of one", RH_OWNER, sealed(), user_auth=PIN, data=b"x"
     )
@@ -90,7 +84,7 @@ for algorithm, hash_name in ((SHA256, "SHA-256"), (SHA1, "SHA-1")):
     tpm.unseal("To this it is bound: its key is the session's alone", handle, SECRET, bound)
     tpm.flush_objects("The other is flushed", stranger)
     for each in (unbound, bound, owner):
-        tpm.says("A session is flushed: SUCCESS", tpm.flush(each))
+        tpm("A session is flushed").flush(each)
 
 tpm.chapter("TPM2_StartAuthSession: bind is an object.")
 
@@ -111,9 +105,9 @@ for what, public, data in (
 ):
     other = tpm.create_primary(what, RH_ENDORSEMENT, public, user_auth=b"other", data=data)
     session = tpm.start("A session that is bound to it", bind=other)
-    tpm.accepted("TPM2_PCR_Reset by that", tpm.reset(session))
+    tpm("TPM2_PCR_Reset by that").reset(session)
     tpm.flush_objects("The object is flushed", other)
-    tpm.accepted("TPM2_PCR_Reset by the session", tpm.reset(Use(session, 0)))
+    tpm("TPM2_PCR_Reset by the session").reset(Use(session, 0))
 
 tpm.chapter("A wrong entry is a try where it uses the value of an object without noDA.")
 guarded = tpm.create_primary(
@@ -170,7 +164,7 @@ tpm.refused(
     wrong(tpm.random(1, to_guarded)),
 )
 for each in (plain, to_guarded, to_open):
-    tpm.says("A session is flushed: SUCCESS", tpm.flush(each))
+    tpm("A session is flushed").flush(each)
 
 tpm.chapter("TPM2_PolicySecret with an object as authHandle.")
 for algorithm, hash_name in ((SHA256, "SHA-256"), (SHA1, "SHA-1")):
@@ -190,12 +184,12 @@ for algorithm, hash_name in ((SHA256, "SHA-256"), (SHA1, "SHA-1")):
         ("No sessions (tag 8001)", "AUTH_MISSING", handles[1]),
     ):
         tpm.raw(f"{what}: {outcome}", command(CC.PolicySecret, handles[0] + handle_text))
-    tpm.says("By a wrong value: BAD_AUTH/s1", tpm.secret(session, b"nip", of=key))
+    tpm("By a wrong value: BAD_AUTH/s1").secret(session, b"nip", of=key)
     tpm.accepted("By its value", tpm.secret(session, PIN, of=key, policy_ref=b"ref"))
     told = policy.after_secret(SHA256, zeros(session), tpm.names[key], b"ref")
     tpm.digest_is("The Name of the object is in the digest", session, told)
     bound = tpm.start("An HMAC session that is bound to it", bind=key, algorithm=algorithm)
-    tpm.accepted("By that session", tpm.secret(session, bound, of=key))
+    tpm("By that session").secret(session, bound, of=key)
     told = policy.after_secret(SHA256, told, tpm.names[key], b"")
     tpm.digest_is("The digest goes on", session, told)
     made = tpm.create(
@@ -207,13 +201,11 @@ for algorithm, hash_name in ((SHA256, "SHA-256"), (SHA1, "SHA-1")):
     target = tpm.load("TPM2_Load", parent, made)
     tpm.flush_objects("The key is flushed", key)
     tpm.unseal("TPM2_Unseal: what was shown counts", target, SECRET, session)
-    tpm.says(
-        "The key is no more: REFERENCE_H0",
-        tpm.prepare(CC.PolicySecret, [key, session.handle], policy_secret(), b""),
-    )
+    said = tpm("The key is no more: REFERENCE_H0")
+    said.prepare(CC.PolicySecret, [key, session.handle], policy_secret(), b"")
     tpm.flush_objects("The object is flushed", target)
     for each in (session, bound):
-        tpm.says("A session is flushed: SUCCESS", tpm.flush(each))
+        tpm("A session is flushed").flush(each)
 
 tpm.chapter("Three sessions at once.")
 first, second, third = (tpm.start("One with AES", bind=it, aes=True) for it in (handle, twin, 10))
@@ -223,8 +215,6 @@ tpm.unseal(
 key = tpm.create_primary(
     "An HMAC key", RH_OWNER, hmac_key(), third, Use(first, 0x21), Use(second, 0x41), data=b"k"
 )
-tpm.accepted(
-    "The second authorizes, the third decrypts, and the first encrypts",
-    tpm.hmac(key, b"text", ALG_NULL, second, Use(third, 0x21), Use(first, 0x41)),
-)
+said = tpm("The second authorizes, the third decrypts, and the first encrypts")
+said.hmac(key, b"text", ALG_NULL, second, Use(third, 0x21), Use(first, 0x41))
 tpm.flush_objects("All are flushed", key, handle, twin, parent)

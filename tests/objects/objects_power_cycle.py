@@ -58,7 +58,7 @@ handles = [
     for hierarchy, name in NAMES
 ]
 tpm.power()
-tpm.says("Before TPM2_Startup: INITIALIZE", tpm.public(handles[0]))
+tpm("Before TPM2_Startup: INITIALIZE").public(handles[0])
 tpm.chapter("A refused TPM2_Startup draws nothing, and starts nothing.")
 tpm.script.entropy(bytes(range(128, 192)))
 tpm.raw(

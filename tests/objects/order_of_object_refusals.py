@@ -58,7 +58,7 @@ def general_refusals(code, handle, other_handle, cut, uses):
 
 def parameters_in_order(code, handle, uses, cases):
     for what, outcome, parameters in cases:
-        tpm.refused(f"{what}: {outcome}", tpm.prepare(code, [handle], parameters, *uses))
+        tpm(f"{what}: {outcome}").prepare(code, [handle], parameters, *uses)
 
 
 parent = tpm.create_primary("A storage key", RH_OWNER, storage_key(), user_auth=b"parent")
@@ -118,12 +118,8 @@ for code, name, on, uses in (
         ),
     )
     if code == CC.Create:
-        tpm.refused(
-            "Under what is no parent: TYPE/h1",
-            tpm.prepare(
-                code, [handle], LONG_SENSITIVE + wrong_public + none + rest, b"s", DECRYPTS
-            ),
-        )
+        said = tpm("Under what is no parent: TYPE/h1")
+        said.prepare(code, [handle], LONG_SENSITIVE + wrong_public + none + rest, b"s", DECRYPTS)
 
     def with_public(public, first=LONG_SENSITIVE):
         return first + sized(public.text) + none + rest
@@ -151,7 +147,7 @@ for code, name, on, uses in (
     )
     good = tpm.prepare(code, [on], with_public(sealed(SHA1), GOOD_SENSITIVE), *uses)
     tpm.accepted("With nothing wrong", good)
-tpm.says("The object of the first is flushed: SUCCESS", tpm.flush(0x8000_0004))
+tpm("The object of the first is flushed").flush(0x8000_0004)
 
 tpm.chapter("TPM2_Load, with inPrivate encrypted.")
 uses = [b"parent", DECRYPTS]
@@ -168,10 +164,8 @@ parameters_in_order(
         ("A byte behind inPublic", "SIZE", sized(b"") + sized(WRONG.text) + b"\0"),
     ),
 )
-tpm.refused(
-    "Under what is no parent: TYPE/h1",
-    tpm.prepare(CC.Load, [handle], sized(b"") + sized(WRONG.text), b"s", DECRYPTS),
-)
+said = tpm("Under what is no parent: TYPE/h1")
+said.prepare(CC.Load, [handle], sized(b"") + sized(WRONG.text), b"s", DECRYPTS)
 parameters_in_order(
     CC.Load,
     parent,
@@ -206,16 +200,14 @@ tpm.flush_objects("It is flushed", again)
 
 tpm.chapter("TPM2_ReadPublic, with a session that authorizes nothing.")
 general_refusals(CC.ReadPublic, key, RH_OWNER, b"\0", [Use(session)])
-tpm.refused("A byte behind the handle: SIZE", tpm.prepare(CC.ReadPublic, [key], b"\0", session))
+tpm("A byte behind the handle: SIZE").prepare(CC.ReadPublic, [key], b"\0", session)
 tpm.read_public("With nothing wrong", key, session)
 
 tpm.chapter("TPM2_Unseal.")
 general_refusals(CC.Unseal, key, RH_OWNER, b"\0", [b"k", Use(session)])
-tpm.refused(
-    "A byte behind the area, of a key: SIZE", tpm.prepare(CC.Unseal, [key], b"\0", b"k", session)
-)
-tpm.refused("A storage key: TYPE/h1", tpm.prepare(CC.Unseal, [parent], b"", b"parent", session))
-tpm.refused("An HMAC key: ATTRIBUTES/h1", tpm.prepare(CC.Unseal, [key], b"", b"k", session))
+tpm("A byte behind the area, of a key: SIZE").prepare(CC.Unseal, [key], b"\0", b"k", session)
+tpm("A storage key: TYPE/h1").prepare(CC.Unseal, [parent], b"", b"parent", session)
+tpm("An HMAC key: ATTRIBUTES/h1").prepare(CC.Unseal, [key], b"", b"k", session)
 tpm.unseal("With nothing wrong", handle, SECRET, b"s", session)
 
 tpm.chapter("TPM2_HMAC, with the buffer encrypted.")
@@ -240,5 +232,5 @@ for what, outcome, on, value in (
     ("Sealed data", "KEY/h1", handle, b"s"),
     ("Another hash algorithm than the scheme's", "VALUE/p2", key, b"k"),
 ):
-    tpm.refused(f"{what}: {outcome}", tpm.prepare(CC.HMAC, [on], by_sha1, value, DECRYPTS))
-tpm.accepted("With nothing wrong", tpm.hmac(key, b"text", SHA256, *uses))
+    tpm(f"{what}: {outcome}").prepare(CC.HMAC, [on], by_sha1, value, DECRYPTS)
+tpm("With nothing wrong").hmac(key, b"text", SHA256, *uses)

@@ -186,8 +186,8 @@ for algorithm, hash_name in ((SHA1, "SHA-1"), (SHA256, "SHA-256")):
         tpm.unseal("TPM2_Unseal", handle, b"forged")
         session = tpm.start("A session that is bound to it", bind=handle)
         tpm.unseal("TPM2_Unseal by that", handle, b"forged", session)
-        tpm.says("By another value: BAD_AUTH/s1", tpm.unsealing(handle, b"b"))
-        tpm.says("The session is flushed: SUCCESS", tpm.flush(session))
+        tpm("By another value: BAD_AUTH/s1").unsealing(handle, b"b")
+        tpm("The session is flushed").flush(session)
         tpm.flush_objects("The object is flushed", handle)
     first, second = (
         Made(forge(parent, public, sensitive(auth=it)), public, it) for it in (b"a", b"b")
@@ -200,9 +200,9 @@ for algorithm, hash_name in ((SHA1, "SHA-1"), (SHA256, "SHA-256")):
         "To this the session is not bound: its value is in the key", twin, b"forged", session
     )
     with tpm.breaking(key=lambda use, handle: use.session.key):
-        tpm.refused("Without it: BAD_AUTH/s1", tpm.unsealing(twin, session))
+        tpm("Without it: BAD_AUTH/s1").unsealing(twin, session)
     tpm.unseal("To the first it is", handle, b"forged", session)
-    tpm.says("The session is flushed: SUCCESS", tpm.flush(session))
+    tpm("The session is flushed").flush(session)
     tpm.flush_objects("The objects are flushed", handle, twin)
     short = sealed(SHA1, unique=b"")
     private = forge(parent, short, sensitive(auth=b"a" * 32))

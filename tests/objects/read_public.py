@@ -60,7 +60,7 @@ key = tpm.create_primary(
 )
 whole = tpm.public(key)
 tpm.says("A byte behind the handle: SIZE", whole.but(parameters=b"\0"))
-tpm.says("A password, as it needs none: HANDLE/s1", tpm.public(key, b"a"))
+tpm("A password, as it needs none: HANDLE/s1").public(key, b"a")
 session, other = tpm.start("A session", aes=True), tpm.start("And another")
 tpm.read_public("TPM2_ReadPublic with both", key, session, other)
 tpm.read_public("With outPublic encrypted", key, Use(session, 0x01 | ENCRYPT))

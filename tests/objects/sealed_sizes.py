@@ -61,15 +61,14 @@ for algorithm, hash_name in ((SHA256, "SHA-256"), (SHA1, "SHA-1")):
         tpm.flush_objects("It is flushed", again)
 
     tpm.chapter("129 bytes.")
-    tpm.says("In plain: SIZE/p1", tpm.child(parent, sealed(), data=bytes(129)))
+    tpm("In plain: SIZE/p1").child(parent, sealed(), data=bytes(129))
     long = tpm.child(parent, sealed(), Use(session, IN), data=bytes(129))
     tpm.refused("Encrypted: SIZE/p1", long)
     with tpm.breaking(encrypted=lambda use, handle, parameters: parameters):
-        tpm.refused(
+        tpm(
             "128 bytes that are said to be encrypted, and are not: they are read as something "
-            "else: SIZE/p1",
-            tpm.child(parent, sealed(), Use(session, IN), data=data),
-        )
+            "else: SIZE/p1"
+        ).child(parent, sealed(), Use(session, IN), data=data)
     whole = tpm.child(parent, sealed(), data=data).parameters
     tpm.refused(
         "inSensitive is cut, and encrypted: INSUFFICIENT/p1",
@@ -134,7 +133,7 @@ for algorithm, hash_name in ((SHA256, "SHA-256"), (SHA1, "SHA-1")):
     tpm.read_public("TPM2_ReadPublic with outPublic encrypted", key, Use(session, OUT))
     tpm.flush_objects("All but the parent are flushed", key, handle)
     for each in (session, bound, unrelated):
-        tpm.says("A session is flushed: SUCCESS", tpm.flush(each))
+        tpm("A session is flushed").flush(each)
 
 tpm.chapter("What cannot be encrypted.")
 plain = tpm.start("A session without AES")

@@ -126,10 +126,8 @@ primary = tpm.create_primary("A parent without fixedTPM", RH_OWNER, movable)
 inner = storage_key(SHA1, attributes=OPEN | STORES | Attribute.FIXED_PARENT)
 made = tpm.create("TPM2_Create of a storage key with fixedParent", primary, inner)
 child = tpm.load("TPM2_Load", primary, made)
-tpm.says(
-    "TPM2_Create under that, with fixedTPM and fixedParent: ATTRIBUTES/p2",
-    tpm.child(child, sealed(), data=b"leaf"),
-)
+said = tpm("TPM2_Create under that, with fixedTPM and fixedParent: ATTRIBUTES/p2")
+said.child(child, sealed(), data=b"leaf")
 leaf = tpm.create("With neither of them", child, sealed(attributes=OPEN), data=b"leaf")
 handle = tpm.load("TPM2_Load", child, leaf)
 tpm.unseal("TPM2_Unseal", handle, b"leaf")
@@ -149,5 +147,5 @@ made = tpm.create(
 )
 handle = tpm.load("TPM2_Load", parent, made)
 session = tpm.policy("A policy session with SHA-1", algorithm=SHA1)
-tpm.says("TPM2_PolicyCommandCode: SUCCESS", tpm.command_code(session, CC.Unseal))
+tpm("TPM2_PolicyCommandCode").command_code(session, CC.Unseal)
 tpm.unseal("TPM2_Unseal", handle, b"secret", session)

@@ -393,5 +393,5 @@ tpm.says(
     "And fixedTPM without fixedParent: ATTRIBUTES/p2",
     raw(CC.Load, parent, sized(b""), sized(sealed(attributes=FIXED_TPM | OPEN).text)),
 )
-tpm.says("With nothing wrong: OBJECT_MEMORY", tpm.loading(parent, child))
+tpm("With nothing wrong: OBJECT_MEMORY").loading(parent, child)
 tpm.create("TPM2_Create needs no place", parent, sealed(), data=b"secret")

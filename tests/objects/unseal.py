@@ -68,8 +68,8 @@ refused(
     tpm.unsealing(handle, b"pin"),
     tpm.unsealing(handle, b"nip"),
 )
-tpm.refused("Nor a session: AUTH_UNAVAILABLE", tpm.unsealing(handle, session))
-tpm.refused("Of either type: AUTH_UNAVAILABLE", tpm.unsealing(handle, policy))
+tpm("Nor a session: AUTH_UNAVAILABLE").unsealing(handle, session)
+tpm("Of either type: AUTH_UNAVAILABLE").unsealing(handle, policy)
 tpm.raw(
     "It has to be authorized: no sessions (tag 8001): AUTH_MISSING",
     frames.command(CC.Unseal, number(handle, 4)),

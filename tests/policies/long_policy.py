@@ -37,11 +37,9 @@ for algorithm, name in HASHES:
     wanted = zeros(session)
 
     given = values_digest(algorithm)
-    tpm.says(
-        "TPM2_PolicyPCR in the trial session, with the digest that the values will have: SUCCESS",
-        tpm.pcrs(trial, BANKS, given),
-    )
-    tpm.says("In the policy session, without: SUCCESS", tpm.pcrs(session, BANKS))
+    said = tpm("TPM2_PolicyPCR in the trial session, with the digest that the values will have")
+    said.pcrs(trial, BANKS, given)
+    tpm("In the policy session, without").pcrs(session, BANKS)
     wanted = policy.after_pcr(algorithm, wanted, frames.selection(*BANKS), given)
 
     both("For the localities 0 and 1", trial, session, lambda it: tpm.locality(it, 3))
@@ -70,11 +68,11 @@ for algorithm, name in HASHES:
     tpm.chapter("A trial session makes it with nothing being so, and a policy session does not.")
     both("Both from the start", trial, session, tpm.restart)
     future = digest(algorithm, b"values that the PCRs do not have")
-    tpm.says("PCRs of a future: SUCCESS", tpm.pcrs(trial, BANKS, future))
-    tpm.says("In the policy session: VALUE/p1", tpm.pcrs(session, BANKS, future))
-    tpm.says("Branches of which it is none: SUCCESS", tpm.branches(trial, *branches))
-    tpm.says("In the policy session: VALUE/p1", tpm.branches(session, *branches))
+    tpm("PCRs of a future").pcrs(trial, BANKS, future)
+    tpm("In the policy session: VALUE/p1").pcrs(session, BANKS, future)
+    tpm("Branches of which it is none").branches(trial, *branches)
+    tpm("In the policy session: VALUE/p1").branches(session, *branches)
     tpm.digest_is("The trial session's digest", trial, policy.after_or(algorithm, branches))
     tpm.digest_is("The policy session's is zeros yet", session, zeros(session))
     for it in (trial, session):
-        tpm.says("It is flushed: SUCCESS", tpm.flush(it))
+        tpm("It is flushed").flush(it)

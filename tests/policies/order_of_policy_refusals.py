@@ -69,11 +69,11 @@ def up_to_hmacs(code, text):
 
 
 def says(words, code, text, session=policy):
-    tpm.refused(words, tpm.told(code, session, text, hmac))
+    tpm(words).told(code, session, text, hmac)
 
 
 def ends_well(code, text):
-    tpm.accepted("No fault is left", tpm.told(code, policy, text, hmac))
+    tpm("No fault is left").told(code, policy, text, hmac)
 
 
 for name, code in (
@@ -104,12 +104,12 @@ says("0: RANGE/p1", CC.PolicyLocality, b"\0")
 ends_well(CC.PolicyLocality, b"\1")
 
 tpm.chapter("TPM2_PolicyCommandCode behind TPM2_PolicyCommandCode of Unseal.")
-tpm.says("Unseal: SUCCESS", tpm.command_code(policy, CC.Unseal))
+tpm("Unseal").command_code(policy, CC.Unseal)
 up_to_hmacs(CC.PolicyCommandCode, b"\0\0\1")
 says("Three bytes: INSUFFICIENT/p1", CC.PolicyCommandCode, b"\0\0\1")
 says("Another code, 0, and a byte behind it: SIZE", CC.PolicyCommandCode, bytes(5))
 says("0, which is no code, and another: VALUE/p1", CC.PolicyCommandCode, bytes(4))
-tpm.says("TPM2_PolicyRestart: SUCCESS", tpm.restart(policy))
+tpm("TPM2_PolicyRestart").restart(policy)
 says("0, and none is recorded: POLICY_CC/p1", CC.PolicyCommandCode, bytes(4))
 ends_well(CC.PolicyCommandCode, number(CC.Unseal, 4))
 
@@ -128,12 +128,12 @@ says(
 )
 says("A byte behind two of others: SIZE", OR, frames.sized_list(b"x", b"y") + b"\0")
 says("Two of others: VALUE/p1", OR, frames.sized_list(b"x", b"y"))
-tpm.says("TPM2_PolicyRestart: SUCCESS", tpm.restart(policy))
+tpm("TPM2_PolicyRestart").restart(policy)
 ends_well(OR, frames.sized_list(b"x", bytes(32)))
 
 tpm.chapter("TPM2_PolicyPCR behind TPM2_PolicyPCR, and PCR 16 has changed; hmac decrypts.")
-tpm.says("TPM2_PolicyRestart: SUCCESS", tpm.restart(policy))
-tpm.says("TPM2_PolicyPCR: SUCCESS", tpm.pcrs(policy, [(SHA256, [0])]))
+tpm("TPM2_PolicyRestart").restart(policy)
+tpm("TPM2_PolicyPCR").pcrs(policy, [(SHA256, [0])])
 tpm.accepted("TPM2_PCR_Reset of PCR 16", tpm.reset(b""))
 PCR = CC.PolicyPCR
 up_to_hmacs(PCR, sized(bytes(32))[:-1])
@@ -144,7 +144,7 @@ tpm.refused(
 
 
 def pcr(words, text, session=policy):
-    tpm.refused(words, tpm.told(PCR, session, text, Use(hmac, DECRYPTS)))
+    tpm(words).told(PCR, session, text, Use(hmac, DECRYPTS))
 
 
 pcr("pcrDigest that is cut, and cannot be decrypted: INSUFFICIENT/p1", sized(bytes(32))[:-1])
@@ -157,13 +157,13 @@ pcr("Of four octets, and cut: VALUE/p2", GIVEN + number(1, 4) + b"\0\x0b\4")
 pcr("Cut: INSUFFICIENT/p2", GIVEN + selection((SHA256, [0]))[:-1])
 pcr("A byte behind it: SIZE", GIVEN + selection((SHA256, [0])) + b"\0")
 pcr("The PCR that has changed, and a wrong pcrDigest: PCR_CHANGED", GIVEN + selection())
-tpm.says("TPM2_PolicyRestart: SUCCESS", tpm.restart(policy))
+tpm("TPM2_PolicyRestart").restart(policy)
 pcr("The pcrDigest: VALUE/p1", GIVEN + selection())
-tpm.accepted("No fault is left", tpm.pcrs(policy, [], b"", [Use(hmac, DECRYPTS)]))
+tpm("No fault is left").pcrs(policy, [], b"", [Use(hmac, DECRYPTS)])
 
 tpm.chapter("TPM2_PolicySecret of TPM_RH_LOCKOUT.")
 tpm.script.wait_each_time()
-tpm.says("TPM2_PolicyRestart: SUCCESS", tpm.restart(policy))
+tpm("TPM2_PolicyRestart").restart(policy)
 CP_HASH = bytes([1]) * 32
 tpm.accepted('lockoutAuth is "lockout"', tpm.change_auth(RH_LOCKOUT, b"lockout", b""))
 tpm.accepted("A cpHash", tpm.secret(policy, cp_hash=CP_HASH))
@@ -263,20 +263,20 @@ tpm.refused(
     "A byte behind TPM2_PolicyOR of others: SIZE",
     tpm.told(OR, trial, frames.sized_list(b"x", b"y") + b"\0"),
 )
-tpm.says("TPM2_PolicyOR of others: SUCCESS", tpm.branches(trial, b"x", b"y"))
-tpm.says("TPM2_PolicyPCR: SUCCESS", tpm.pcrs(trial, []))
+tpm("TPM2_PolicyOR of others").branches(trial, b"x", b"y")
+tpm("TPM2_PolicyPCR").pcrs(trial, [])
 tpm.accepted("TPM2_PCR_Reset of PCR 16", tpm.reset(b""))
 tpm.refused(
     "A byte behind TPM2_PolicyPCR with another pcrDigest: SIZE",
     tpm.told(PCR, trial, GIVEN + selection() + b"\0"),
 )
-tpm.says("TPM2_PolicyPCR with it: SUCCESS", tpm.pcrs(trial, [], bytes(32)))
+tpm("TPM2_PolicyPCR with it").pcrs(trial, [], bytes(32))
 
 tpm.chapter("TPM2_PolicyCpHash behind TPM2_PolicyCpHash; hmac decrypts.")
 tpm.says("TPM2_PolicyRestart: SUCCESS", tpm.restart(policy), tpm.restart(trial))
 CP = CC.PolicyCpHash
-tpm.says("A cpHash: SUCCESS", tpm.cp_hash_told(policy, CP_HASH))
-tpm.says("In the trial session too: SUCCESS", tpm.cp_hash_told(trial, CP_HASH))
+tpm("A cpHash").cp_hash_told(policy, CP_HASH)
+tpm("In the trial session too").cp_hash_told(trial, CP_HASH)
 up_to_hmacs(CP, sized(bytes(32))[:-1])
 tpm.refused(
     "decrypt in a session that cannot, and a wrong hmac before: SYMMETRIC/s2",
@@ -287,10 +287,8 @@ tpm.refused(
 def cp_hash(what, outcome, text):
     """In a policy session and in a trial session."""
     for session in (policy, trial):
-        tpm.refused(
-            f"{what if session == policy else ''}: {outcome}",
-            tpm.told(CP, session, text, Use(hmac, DECRYPTS)),
-        )
+        said = tpm(f"{what if session == policy else ''}: {outcome}")
+        said.told(CP, session, text, Use(hmac, DECRYPTS))
 
 
 cp_hash("cpHashA that is cut, and cannot be decrypted", "INSUFFICIENT/p1", sized(bytes(32))[:-1])
@@ -299,16 +297,16 @@ cp_hash("A byte behind one of 31", "SIZE", sized(bytes(31)) + b"\0")
 cp_hash("One of 31, which is another", "SIZE/p1", sized(bytes(31)))
 cp_hash("Another one", "CPHASH", sized(bytes(32)))
 for session in (policy, trial):
-    tpm.accepted("No fault is left", tpm.told(CP, session, sized(CP_HASH), Use(hmac, DECRYPTS)))
+    tpm("No fault is left").told(CP, session, sized(CP_HASH), Use(hmac, DECRYPTS))
 
 tpm.chapter("TPM2_PolicyNvWritten behind TPM2_PolicyNvWritten of 1.")
 WRITTEN = CC.PolicyNvWritten
-tpm.says("In a policy session: SUCCESS", tpm.written_told(policy, True))
-tpm.says("In a trial session: SUCCESS", tpm.written_told(trial, True))
+tpm("In a policy session").written_told(policy, True)
+tpm("In a trial session").written_told(trial, True)
 up_to_hmacs(WRITTEN, b"")
 for session in (policy, trial):
     says("No byte: INSUFFICIENT/p1", WRITTEN, b"", session)
     says("2, and a byte behind it: VALUE/p1", WRITTEN, b"\2\0", session)
     says("A byte behind 0: SIZE", WRITTEN, b"\0\0", session)
     says("0, and 1 is recorded: VALUE/p1", WRITTEN, b"\0", session)
-    tpm.accepted("No fault is left", tpm.told(WRITTEN, session, b"\1", hmac))
+    tpm("No fault is left").told(WRITTEN, session, b"\1", hmac)

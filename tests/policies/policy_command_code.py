@@ -31,7 +31,7 @@ for session in tpm.each_session():
     tpm.digest_is("The digest is zeros", session, zeros(session))
 
     once = policy.after_command_code(session.algorithm, zeros(session), CC.Unseal)
-    tpm.says("The code of Unseal: SUCCESS", tpm.command_code(session, CC.Unseal))
+    tpm("The code of Unseal").command_code(session, CC.Unseal)
     tpm.digest_is("Its digest", session, once)
     tpm.says(
         "Another code, in a trial session too, NV_Read and ReadPublic: VALUE/p1",
@@ -45,10 +45,10 @@ for session in tpm.each_session():
     )
     tpm.says("Cut, all the same: INSUFFICIENT/p1", raw(session, number(CC.NV_Read, 4)[:3]))
     tpm.digest_is("The digest is as it was", session, once)
-    tpm.says("The code of Unseal once more: SUCCESS", tpm.command_code(session, CC.Unseal))
+    tpm("The code of Unseal once more").command_code(session, CC.Unseal)
     twice = policy.after_command_code(session.algorithm, once, CC.Unseal)
     tpm.digest_is("And it is in the digest again", session, twice)
-    tpm.says("NV_Read: VALUE/p1", tpm.command_code(session, CC.NV_Read))
+    tpm("NV_Read: VALUE/p1").command_code(session, CC.NV_Read)
 
 for kind, name, algorithm, hash_name in (
     (SE_POLICY, "policy", SHA256, "SHA-256"),
@@ -66,7 +66,7 @@ for kind, name, algorithm, hash_name in (
         tpm.digest_is("", session, after)
 
     tpm.chapter("And each number between 11F and 190 that is no code.")
-    tpm.says("TPM2_PolicyRestart: SUCCESS", tpm.restart(session))
+    tpm("TPM2_PolicyRestart").restart(session)
     others = sorted(set(range(0x11F, 0x191)) - set(CC))
     tpm.says("All of them: POLICY_CC/p1", *(tpm.command_code(session, it) for it in others))
     tpm.says(

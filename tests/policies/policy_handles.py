@@ -98,7 +98,7 @@ def handles_of(name, code, text):
         in_policy.but_entry(2, hmac=flipped(in_policy.entries[1].hmac)),
     )
     tpm.accepted("And the right one", in_policy)
-    tpm.accepted("The trial session alone", tpm.told(code, trial, text, trial))
+    tpm("The trial session alone").told(code, trial, text, trial)
     tpm.says("They are restarted: SUCCESS", tpm.restart(policy), tpm.restart(trial))
     tpm.says(
         "Each without sessions (tag 8001), and restarted again: SUCCESS",
@@ -164,10 +164,7 @@ refused(
     plain(CC.PolicySecret, number(RH_OWNER, 4) + number(0x0300_0000, 4) + NOTHING),
 )
 tpm.refused("A second password, which authorizes nothing: HANDLE/s2", tpm.secret(policy, b"", b""))
-tpm.accepted(
-    "A password, the HMAC session and the policy session itself",
-    tpm.secret(policy, b"", hmac, policy),
-)
+tpm("A password, the HMAC session and the policy session itself").secret(policy, b"", hmac, policy)
 
 tpm.chapter("The place of an HMAC session is no policy session's, and the other way round.")
 other = tpm.start("An HMAC session, 02000003", algorithm=SHA1)
@@ -175,10 +172,10 @@ refused(
     "TPM2_PolicyGetDigest of 03000003: REFERENCE_H0",
     plain(CC.PolicyGetDigest, number(0x0300_0003, 4)),
 )
-tpm.says("It is flushed: SUCCESS", tpm.flush(other))
+tpm("It is flushed").flush(other)
 other = tpm.policy("A policy session takes its place", algorithm=SHA1)
 assert other.handle == 0x0300_0003
-tpm.says("Its digest: SUCCESS", tpm.get_digest(other))
+tpm("Its digest").get_digest(other)
 
 for command in LATER:
     handles_of(*command)

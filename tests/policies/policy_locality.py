@@ -22,7 +22,7 @@ for session in tpm.each_session():
         "Localities that there are not: bit 5, 6 and 7, alone and beside others: RANGE/p1",
         *(session, 0x20, 0x21, 0x3F, 0x40, 0x5F, 0x80, 0x81, 0xE0, 0xFF),
     )
-    tpm.says("No parameter: INSUFFICIENT/p1", tpm.told(CC.PolicyLocality, session, b""))
+    tpm("No parameter: INSUFFICIENT/p1").told(CC.PolicyLocality, session, b"")
     tpm.says(
         "A byte behind it, also where it is 0: SIZE",
         tpm.told(CC.PolicyLocality, session, b"\1\0"),

@@ -27,13 +27,13 @@ def after(session, banks, old=None, given=b""):
 
 
 def restarted(session):
-    tpm.says("TPM2_PolicyRestart: SUCCESS", tpm.restart(session))
+    tpm("TPM2_PolicyRestart").restart(session)
 
 
 def changed(what, session, banks):
     """Refused in a policy session, and not in a trial session."""
     outcome = "SUCCESS" if is_trial(session) else "PCR_CHANGED"
-    tpm.says(f"{what}: {outcome}", tpm.pcrs(session, banks))
+    tpm(f"{what}: {outcome}").pcrs(session, banks)
 
 
 def raw(session, text):
@@ -113,11 +113,11 @@ for session in tpm.each_session():
     both = [(SHA1, [1]), (SHA256, [0, 23])]
     right = values_digest(session, both)
     restarted(session)
-    tpm.says("The right one: SUCCESS", tpm.pcrs(session, both, right))
+    tpm("The right one").pcrs(session, both, right)
     once = after(session, both)
     tpm.digest_is("It is as if none were given", session, once)
     nothing = digest(session.algorithm, b"")
-    tpm.says("The right one of no values: SUCCESS", tpm.pcrs(session, [], nothing))
+    tpm("The right one of no values").pcrs(session, [], nothing)
     twice = after(session, [], once)
     tpm.digest_is("Its digest, behind the one before", session, twice)
     for words, given in (
@@ -133,7 +133,7 @@ for session in tpm.each_session():
             continue
         restarted(session)
         outcome = "SUCCESS" if is_trial(session) else "VALUE/p1"
-        tpm.says(f"{words}: {outcome}", tpm.pcrs(session, both, given))
+        tpm(f"{words}: {outcome}").pcrs(session, both, given)
         wanted = after(session, both, given=given) if is_trial(session) else zeros(session)
         words = "It is in the digest as it is" if is_trial(session) else "The digest is as it was"
         tpm.digest_is(words, session, wanted)
@@ -141,21 +141,20 @@ for session in tpm.each_session():
     tpm.chapter("PCRs that change behind it.")
     zero = [(SHA256, [0])]
     restarted(session)
-    tpm.says("PCR 0: SUCCESS", tpm.pcrs(session, zero))
-    tpm.says("Once more, and nothing has changed: SUCCESS", tpm.pcrs(session, zero))
+    tpm("PCR 0").pcrs(session, zero)
+    tpm("Once more, and nothing has changed").pcrs(session, zero)
     value = digest(SHA256, b"more")
     extend = frames.digests((SHA256, value))
     tpm.accepted("TPM2_PCR_Extend of PCR 0", tpm.prepare(CC.PCR_Extend, [0], extend, b""))
     changed("TPM2_PolicyPCR again", session, zero)
     changed("And of PCRs that are as they were, or of none", session, [(SHA256, [1])])
     changed("", session, [])
-    tpm.says(
+    tpm(
         "With a wrong digest it is no other refusal: "
-        + ("SUCCESS" if is_trial(session) else "PCR_CHANGED"),
-        tpm.pcrs(session, zero, b"wrong"),
-    )
+        + ("SUCCESS" if is_trial(session) else "PCR_CHANGED")
+    ).pcrs(session, zero, b"wrong")
     restarted(session)
-    tpm.says("A policy from the start has the new value: SUCCESS", tpm.pcrs(session, zero))
+    tpm("A policy from the start has the new value").pcrs(session, zero)
     tpm.digest_is("Its digest", session, after(session, zero))
     tpm.accepted(
         "PCR 16, which is not selected, is extended in one bank",
@@ -163,17 +162,17 @@ for session in tpm.each_session():
     )
     changed("TPM2_PolicyPCR again", session, zero)
     restarted(session)
-    tpm.says("From the start: SUCCESS", tpm.pcrs(session, zero))
+    tpm("From the start").pcrs(session, zero)
     tpm.accepted("TPM2_PCR_Reset of PCR 23", tpm.reset(b"", pcr=23))
     changed("TPM2_PolicyPCR again", session, zero)
     restarted(session)
-    tpm.says("From the start: SUCCESS", tpm.pcrs(session, zero))
+    tpm("From the start").pcrs(session, zero)
     tpm.accepted("TPM2_PCR_Event into PCR 23", tpm.event(b"abc", b"", pcr=23))
     changed("TPM2_PolicyPCR again", session, zero)
 
     tpm.chapter("What changes no PCR.")
     restarted(session)
-    tpm.says("From the start: SUCCESS", tpm.pcrs(session, zero))
+    tpm("From the start").pcrs(session, zero)
     tpm.accepted("TPM2_PCR_Event on TPM_RH_NULL", tpm.event(b"abc", b"", pcr=RH_NULL))
     tpm.accepted(
         "TPM2_PCR_Extend of PCR 0 by no digest",
@@ -182,36 +181,36 @@ for session in tpm.each_session():
     tpm.refused("TPM2_PCR_Reset of PCR 0: LOCALITY", tpm.reset(b"", pcr=0))
     tpm.refused("TPM2_PCR_Event by a wrong password: BAD_AUTH/s1", tpm.event(b"a", b"x"))
     tpm.accepted("TPM2_PCR_Read", tpm.read_pcr(0))
-    tpm.says("TPM2_PolicyPCR again: SUCCESS", tpm.pcrs(session, zero))
+    tpm("TPM2_PolicyPCR again").pcrs(session, zero)
     twice = after(session, zero, after(session, zero))
     tpm.digest_is("Its digest, of twice the same", session, twice)
 
 tpm.chapter("Other assertions are not refused where a PCR has changed.")
 session = tpm.policy("A policy session")
 zero = [(SHA256, [0])]
-tpm.says("TPM2_PolicyPCR: SUCCESS", tpm.pcrs(session, zero))
+tpm("TPM2_PolicyPCR").pcrs(session, zero)
 told = after(session, zero)
 tpm.accepted("TPM2_PCR_Event into PCR 0", tpm.event(b"abc", b"", pcr=0))
-tpm.says("TPM2_PolicyAuthValue: SUCCESS", tpm.auth_value_told(session))
+tpm("TPM2_PolicyAuthValue").auth_value_told(session)
 told = policy.after_auth_value(session.algorithm, told)
 tpm.digest_is("Its digest", session, told)
 
 tpm.chapter("That nothing changes is asked from the first one on, also where it selects none.")
 restarted(session)
-tpm.says("No PCR: SUCCESS", tpm.pcrs(session, []))
+tpm("No PCR").pcrs(session, [])
 tpm.accepted("TPM2_PCR_Event into PCR 0", tpm.event(b"abc", b"", pcr=0))
-tpm.says("PCR 0: PCR_CHANGED", tpm.pcrs(session, zero))
+tpm("PCR 0: PCR_CHANGED").pcrs(session, zero)
 
 tpm.chapter("But not from one that was refused.")
 restarted(session)
-tpm.says("A wrong digest: VALUE/p1", tpm.pcrs(session, zero, bytes(32)))
+tpm("A wrong digest: VALUE/p1").pcrs(session, zero, bytes(32))
 tpm.digest_is("The digest is zeros", session, zeros(session))
 tpm.accepted("TPM2_PCR_Event into PCR 0", tpm.event(b"abc", b"", pcr=0))
-tpm.says("PCR 0: SUCCESS", tpm.pcrs(session, zero))
+tpm("PCR 0").pcrs(session, zero)
 tpm.digest_is("Its digest", session, after(session, zero))
 
 tpm.chapter("Each session by itself.")
 other = tpm.policy("Another policy session")
 tpm.accepted("TPM2_PCR_Reset of PCR 16", tpm.reset(b""))
-tpm.says("It has not been told of a PCR: SUCCESS", tpm.pcrs(other, zero))
-tpm.says("But the one before has: PCR_CHANGED", tpm.pcrs(session, zero))
+tpm("It has not been told of a PCR").pcrs(other, zero)
+tpm("But the one before has: PCR_CHANGED").pcrs(session, zero)

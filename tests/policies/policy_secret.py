@@ -32,7 +32,7 @@ def raw(session, text):
 
 
 def restarted(session):
-    tpm.says("TPM2_PolicyRestart: SUCCESS", tpm.restart(session))
+    tpm("TPM2_PolicyRestart").restart(session)
 
 
 def digests(session):
@@ -75,7 +75,7 @@ def nonces(session):
     else:
         tpm.refused(f"{what}: NONCE/p1", *buffers)
     tpm.digest_is("Its digest", session, digest)
-    tpm.accepted("The session has a new nonce, by TPM2_GetRandom", tpm.random(1, session))
+    tpm("The session has a new nonce, by TPM2_GetRandom").random(1, session)
     if not is_trial(session):
         tpm.refused("The one before: NONCE/p1", tpm.secret(session, nonce_tpm=right))
     tpm.accepted("The new one", tpm.secret(session, nonce_tpm=session.nonce_tpm))
@@ -173,17 +173,14 @@ other = tpm.policy("Another session", size=32)
 tpm.refused("The other's: NONCE/p1", tpm.secret(session, nonce_tpm=other.nonce_tpm))
 tpm.refused("The other way round: NONCE/p1", tpm.secret(other, nonce_tpm=session.nonce_tpm))
 
-tpm.accepted(
-    "nonceTPM, cpHashA and policyRef of 32 bytes, and two entries of 32 bytes each behind",
-    tpm.secret(
-        session,
-        b"",
-        session,
-        Use(other, shows_empty_key=True),
-        nonce_tpm=session.nonce_tpm,
-        cp_hash=bytes(range(32)),
-        policy_ref=bytes(32),
-    ),
+tpm("nonceTPM, cpHashA and policyRef of 32 bytes, and two entries of 32 bytes each behind").secret(
+    session,
+    b"",
+    session,
+    Use(other, shows_empty_key=True),
+    nonce_tpm=session.nonce_tpm,
+    cp_hash=bytes(range(32)),
+    policy_ref=bytes(32),
 )
 digest = after(session, after(session, zeros(session)), policy_ref=bytes(32))
 tpm.digest_is("Its digest", session, digest)
@@ -191,23 +188,19 @@ tpm.digest_is("Its digest", session, digest)
 tpm.chapter("On the policy session that is named as a further entry too.")
 session = tpm.policy("The session, bound to TPM_RH_OWNER", bind=RH_OWNER, algorithm=SHA256)
 old = session.nonce_tpm
-tpm.accepted(
-    "With its nonceTPM of before, as it has the new one behind the command",
-    tpm.secret(session, b"", session, nonce_tpm=old),
-)
-tpm.refused("The same again: NONCE/p1", tpm.secret(session, b"", session, nonce_tpm=old))
-tpm.accepted("With the new one", tpm.secret(session, b"", session, nonce_tpm=session.nonce_tpm))
+said = tpm("With its nonceTPM of before, as it has the new one behind the command")
+said.secret(session, b"", session, nonce_tpm=old)
+tpm("The same again: NONCE/p1").secret(session, b"", session, nonce_tpm=old)
+tpm("With the new one").secret(session, b"", session, nonce_tpm=session.nonce_tpm)
 twice = after(session, after(session, zeros(session)))
 tpm.digest_is("Its digest", session, twice)
 right = tpm.secret(session, b"", session)
 tpm.refused(
     "Its hmac is wrong: BAD_AUTH/s2", right.but_entry(2, hmac=flipped(right.entries[1].hmac))
 )
-tpm.accepted("It ends with the command", tpm.secret(session, b"", Use(session, 0)))
-tpm.says("It is no more: REFERENCE_H0", tpm.get_digest(session))
+tpm("It ends with the command").secret(session, b"", Use(session, 0))
+tpm("It is no more: REFERENCE_H0").get_digest(session)
 unbound = tpm.policy("One that is bound to nothing", algorithm=SHA1)
-tpm.accepted("It has neither key nor hmac", tpm.secret(unbound, b"", unbound))
-tpm.accepted(
-    "With an hmac by the empty key", tpm.secret(unbound, b"", Use(unbound, shows_empty_key=True))
-)
+tpm("It has neither key nor hmac").secret(unbound, b"", unbound)
+tpm("With an hmac by the empty key").secret(unbound, b"", Use(unbound, shows_empty_key=True))
 tpm.digest_is("Its digest", unbound, after(unbound, after(unbound, zeros(unbound))))

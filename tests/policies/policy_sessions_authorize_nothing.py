@@ -52,8 +52,8 @@ for what, told in (
     ("TPM2_PolicyPassword", tpm.password_told),
 ):
     tpm.says(f"{what}: SUCCESS", told(policy), told(trial))
-    tpm.refused("TPM2_PCR_Reset by the policy session: AUTH_UNAVAILABLE", tpm.reset(policy))
-    tpm.refused("By the trial session: ATTRIBUTES/s1", tpm.reset(trial))
+    tpm("TPM2_PCR_Reset by the policy session: AUTH_UNAVAILABLE").reset(policy)
+    tpm("By the trial session: ATTRIBUTES/s1").reset(trial)
 for session in (policy, trial):
     tpm.says(
         "TPM2_PolicyCommandCode of another command, and of locality 4: SUCCESS",
@@ -61,12 +61,10 @@ for session in (policy, trial):
         tpm.locality(session, 16),
         tpm.pcrs(session, [(frames.SHA256, [16])]),
     )
-tpm.accepted(
-    "PCR 16 changes behind TPM2_PolicyPCR, by the session bound to TPM_RH_OWNER",
-    tpm.event(b"abc", hmac),
-)
-tpm.refused("TPM2_PCR_Reset by the policy session: AUTH_UNAVAILABLE", tpm.reset(policy))
-tpm.refused("By the trial session: ATTRIBUTES/s1", tpm.reset(trial))
+said = tpm("PCR 16 changes behind TPM2_PolicyPCR, by the session bound to TPM_RH_OWNER")
+said.event(b"abc", hmac)
+tpm("TPM2_PCR_Reset by the policy session: AUTH_UNAVAILABLE").reset(policy)
+tpm("By the trial session: ATTRIBUTES/s1").reset(trial)
 
 tpm.chapter("It comes before its own hmac, right or wrong, and before the entries behind.")
 reset = tpm.reset(bound, hmac)
@@ -104,10 +102,8 @@ for session in (bound, keyed):
     )
     tpm.refused("A reserved attribute: RESERVED_BITS/s1", right.but_entry(1, attributes=0x08))
 for session in (policy, trial):
-    tpm.refused(
-        "decrypt in a session without AES, TPM2_PCR_Event: SYMMETRIC/s1",
-        tpm.event(b"abc", Use(session, CONTINUE_SESSION | DECRYPT)),
-    )
+    said = tpm("decrypt in a session without AES, TPM2_PCR_Event: SYMMETRIC/s1")
+    said.event(b"abc", Use(session, CONTINUE_SESSION | DECRYPT))
 tpm.refused(
     "A parameter that cannot be decrypted comes behind: AUTH_UNAVAILABLE",
     tpm.event(b"abc", Use(bound, DECRYPT)).but(parameters=b"\0"),
@@ -125,6 +121,6 @@ tpm.refused(
 tpm.chapter("No session was changed, nor anything else.")
 tpm.digest_is("The session that was to be told something", target, zeros(target))
 for session in (policy, bound, lockout, trial, keyed):
-    tpm.accepted("TPM2_GetRandom beside it", tpm.random(1, session))
+    tpm("TPM2_GetRandom beside it").random(1, session)
 tpm.accepted("ownerAuth", tpm.change_auth(RH_OWNER, b"owner", b"owner"))
 tpm.accepted("The others are empty", tpm.secret(target, b"", of=RH_LOCKOUT))

@@ -57,19 +57,19 @@ tpm.raw(
 tpm.raw(
     "A transient object, while there is none: HANDLE/p1", flush(0x8000_0000), flush(0x80FF_FFFF)
 )
-tpm.accepted("The session is as it was", tpm.reset(session))
+tpm("The session is as it was").reset(session)
 
 tpm.chapter("What ends a session.")
 other = tpm.start("Another one, 02000001", algorithm=SHA1, aes=True)
 tpm.accepted("The first is flushed", tpm.flush(session))
 tpm.raw("Once more: HANDLE/p1", flush(session.handle))
-tpm.refused("TPM2_PCR_Reset by it: REFERENCE_S0", tpm.reset(session))
-tpm.accepted("By the other, which is as it was", tpm.reset(other))
+tpm("TPM2_PCR_Reset by it: REFERENCE_S0").reset(session)
+tpm("By the other, which is as it was").reset(other)
 again = tpm.start("The next session has its number, but not its key", RH_OWNER)
 assert again.handle == session.handle
 stale = tpm.reset(again)
 session.nonce_tpm = again.nonce_tpm
-tpm.refused("TPM2_PCR_Reset by the old key: BAD_AUTH/s1", tpm.reset(session))
+tpm("TPM2_PCR_Reset by the old key: BAD_AUTH/s1").reset(session)
 tpm.accepted("By its own", stale)
 tpm.accepted("Both are flushed", tpm.flush(other))
 tpm.accepted("", tpm.flush(again))

@@ -76,17 +76,17 @@ def entities():
     tpm.chapter('The entities of this script. The value of objects and indices is "pin".')
     for handle, (name, value) in HIERARCHIES.items():
         what = f'{name}, whose value is empty at first, and "{value.decode("ascii")}" from here on'
-        tpm.does(what, tpm.change_auth(handle, value, b""))
+        tpm(what).change_auth(handle, value, b"")
     loaded = tpm.sealed_object("An object with userWithAuth", attributes=HERE | USER, by=RH_OWNER)
     tpm.keep("A persistent copy of it", RH_OWNER, loaded, KEPT)
     to_write = tpm.index("An index with AUTHWRITE", Attribute.AUTHWRITE | Attribute.OWNERREAD)
-    tpm.does("It is written", tpm.writing(to_write, DATA))
+    tpm("It is written").writing(to_write, DATA)
     to_read = tpm.written_index(
         "One with AUTHREAD, which the owner writes", Attribute.AUTHREAD | Attribute.OWNERWRITE
     )
     of_owner = tpm.written_index("One with OWNERWRITE and OWNERREAD", BY_OWNER)
     of_platform = tpm.index("One with PPWRITE and PPREAD", BY_PLATFORM)
-    tpm.does("It is written", tpm.writing(of_platform, DATA, by=RH_PLATFORM))
+    tpm("It is written").writing(of_platform, DATA, by=RH_PLATFORM)
 
     def writes(words, asker, index):
         use = lambda by: tpm.writing(index, DATA, by, by=asker)
@@ -117,18 +117,6 @@ def at_null(*uses):
     return tpm.primary(RH_NULL, sealed(), *uses, data=SECRET)
 
 
-def by_passwords(found):
-    tpm.chapter("PASSWORDS. The password is the authorization value of the entity.")
-    for entity in found:
-        tpm.does(f"{entity.words}: {entity.command}", entity.prepare(entity.value))
-    tpm.does("A PCR, whose value is always empty: TPM2_PCR_Reset", tpm.reset(b""))
-    tpm.flushed_new("TPM_RH_NULL, whose is too: TPM2_CreatePrimary", at_null(b""))
-    for entity in found[:8]:
-        what = "With zeros behind the value, which do not count" if entity is found[0] else ""
-        tpm.does(what, entity.prepare(entity.value + bytes(2)))
-    tpm.does("And where it is empty", tpm.reset(bytes(32)))
-
-
 def by_hmac_sessions(found):
     tpm.chapter(
         "HMAC SESSIONS. The key of the hmac is the session key, which an unbound session has not, "
@@ -155,7 +143,7 @@ def by_hmac_sessions(found):
     openly = tpm.sealed_object(
         "An object with userWithAuth, whose value is empty", attributes=HERE | USER, value=b""
     )
-    tpm.does("A PCR: TPM2_PCR_Reset", tpm.reset(unbound))
+    tpm("A PCR: TPM2_PCR_Reset").reset(unbound)
     tpm.flushed_new("TPM_RH_NULL: TPM2_CreatePrimary", at_null(unbound))
     tpm.unseal("The object: TPM2_Unseal", openly, SECRET, unbound)
     shown = Use(unbound, shows_empty_key=True)
@@ -209,24 +197,6 @@ def in_turn(session, condition):
     if condition.locality:
         tpm.locality_is(0)
     tpm.flushed(handle)
-
-
-def demanding_nothing(session, bound):
-    tpm.chapter(
-        "Nothing is demanded: the key of the hmac is the session key alone. Here the policy has no "
-        "assertion either: authPolicy is the digest that a session starts with, 32 zeros."
-    )
-    handle, index = with_policy(ZEROS)
-    for name, prepare in uses_of(handle, index):
-        tpm.does(f"{name}: key and hmac are both empty", prepare(session))
-        shown = Use(session, shows_empty_key=True)
-        tpm.does("Or it is the hmac of the empty key", prepare(shown))
-        tpm.does("Or by the session that has a key", prepare(bound))
-    tpm.flushed(handle)
-    both = tpm.sealed_object("An object with userWithAuth and this policy", ZEROS, HERE | USER)
-    tpm.unseal("TPM2_Unseal by the policy", both, SECRET, session)
-    tpm.unseal("And by the password", both, SECRET, PIN)
-    tpm.flushed(both)
 
 
 def demanding_the_value(bound):
@@ -292,7 +262,7 @@ def admin_role(session):
     recorded = after_code(code)
     index = tpm.index("An index whose policy is that command", BY_OWNER, recorded)
     tpm.asserts_code(session, code, name)
-    tpm.does(name, tpm.changing_auth(index, b"new", session))
+    tpm(name).changing_auth(index, b"new", session)
     index = tpm.index(
         "One whose policy has TPM2_PolicyAuthValue or TPM2_PolicyPassword behind it",
         BY_OWNER,
@@ -300,13 +270,11 @@ def admin_role(session):
     )
     tpm.asserts_code(session, code, name)
     tpm.asserts_value(session)
-    tpm.does(
-        f"{name} by the value, and its answer is by the new one",
-        tpm.changing_auth(index, b"new", Use(session, demand=AUTH_VALUE)),
-    )
+    said = tpm(f"{name} by the value, and its answer is by the new one")
+    said.changing_auth(index, b"new", Use(session, demand=AUTH_VALUE))
     tpm.asserts_code(session, code, name)
     tpm.asserts_password(session)
-    tpm.does(f"{name} by it", tpm.changing_auth(index, PIN, Use(session, demand=PASSWORD)))
+    tpm(f"{name} by it").changing_auth(index, PIN, Use(session, demand=PASSWORD))
 
 
 def conditions():
@@ -431,25 +399,48 @@ def all_at_once(session):
     tpm.locality_is(0)
 
 
-def by_policy_sessions():
-    tpm.chapter(
-        "POLICY SESSIONS, on objects and NV indices: nothing else has a policy. The session is no "
-        "trial session, its hash is the nameAlg of the entity, and its policy digest the "
-        "authPolicy. What it was told holds as the command comes, and counts for one command."
-    )
-    session = tpm.policy("A policy session, which is bound to nothing and so has no key")
-    bound = tpm.policy("One bound to the owner, which has a key", bind=RH_OWNER)
-    demanding_nothing(session, bound)
-    for condition in conditions():
-        in_turn(session, condition)
-    demanding_the_value(bound)
-    command_codes(session)
-    admin_role(session)
-    all_at_once(session)
-    tpm.flushed(session, bound)
-
-
 found = entities()
-by_passwords(found)
+
+tpm.chapter("PASSWORDS. The password is the authorization value of the entity.")
+for entity in found:
+    tpm.does(f"{entity.words}: {entity.command}", entity.prepare(entity.value))
+tpm("A PCR, whose value is always empty: TPM2_PCR_Reset").reset(b"")
+tpm.flushed_new("TPM_RH_NULL, whose is too: TPM2_CreatePrimary", at_null(b""))
+for entity in found[:8]:
+    what = "With zeros behind the value, which do not count" if entity is found[0] else ""
+    tpm.does(what, entity.prepare(entity.value + bytes(2)))
+tpm("And where it is empty").reset(bytes(32))
+
 by_hmac_sessions(found)
-by_policy_sessions()
+
+tpm.chapter(
+    "POLICY SESSIONS, on objects and NV indices: nothing else has a policy. The session is no "
+    "trial session, its hash is the nameAlg of the entity, and its policy digest the "
+    "authPolicy. What it was told holds as the command comes, and counts for one command."
+)
+session = tpm.policy("A policy session, which is bound to nothing and so has no key")
+bound = tpm.policy("One bound to the owner, which has a key", bind=RH_OWNER)
+
+tpm.chapter(
+    "Nothing is demanded: the key of the hmac is the session key alone. Here the policy has no "
+    "assertion either: authPolicy is the digest that a session starts with, 32 zeros."
+)
+handle, index = with_policy(ZEROS)
+for name, prepare in uses_of(handle, index):
+    tpm.does(f"{name}: key and hmac are both empty", prepare(session))
+    shown = Use(session, shows_empty_key=True)
+    tpm.does("Or it is the hmac of the empty key", prepare(shown))
+    tpm.does("Or by the session that has a key", prepare(bound))
+tpm.flushed(handle)
+both = tpm.sealed_object("An object with userWithAuth and this policy", ZEROS, HERE | USER)
+tpm.unseal("TPM2_Unseal by the policy", both, SECRET, session)
+tpm.unseal("And by the password", both, SECRET, PIN)
+tpm.flushed(both)
+
+for condition in conditions():
+    in_turn(session, condition)
+demanding_the_value(bound)
+command_codes(session)
+admin_role(session)
+all_at_once(session)
+tpm.flushed(session, bound)

@@ -80,7 +80,7 @@ def accepted(what, prepared):
 
 
 def unlocked():
-    tpm.does("TPM2_DictionaryAttackLockReset", tpm.lock_reset())
+    tpm("TPM2_DictionaryAttackLockReset").lock_reset()
 
 
 def write(by, data=DATA, index=FIRST):
@@ -136,14 +136,14 @@ def not_counted(session, to_endorsement):
 
 def counted_otherwise(session):
     tpm.chapter("LOCKOUTAUTH. A wrong entry closes it for lockoutRecovery.")
-    tpm.does('It is "lockout"', tpm.change_auth(RH_LOCKOUT, LOCKOUT_AUTH, b""))
+    tpm('It is "lockout"').change_auth(RH_LOCKOUT, LOCKOUT_AUTH, b"")
     first = accepted("TPM2_DictionaryAttackLockReset by the session", tpm.lock_reset(session))
     again("The same again: AUTH_FAIL/s1", first)
     tpm.tries_are("It is no failed try", 0)
     again("But lockoutAuth is closed: the same again: LOCKOUT", first)
     again("And the password: LOCKOUT", tpm.lock_reset())
     tpm.wait(RECOVERY)
-    tpm.does("lockoutRecovery later, the password", tpm.lock_reset())
+    tpm("lockoutRecovery later, the password").lock_reset()
 
     tpm.chapter(
         "A SESSION THAT WAS BOUND TO THE PROTECTED INDEX. Its wrong entry is a try wherever no "
@@ -226,7 +226,7 @@ def compared_with_nothing(session):
     )
     tpm.read("What was written", FIRST, OTHER_DATA, VALUE)
     accepted_again("The same again", decrypting)
-    answer = tpm.does("Other bytes were written", tpm.reading(FIRST, 8, VALUE))
+    answer = tpm("Other bytes were written").reading(FIRST, 8, VALUE)
     assert len(answer) == 10 and answer[2:] not in (OTHER_DATA, DATA)
     tpm.flushed(aes)
 
@@ -283,59 +283,6 @@ def policy_sessions():
 # Sessions that begin again.
 
 
-def new_starts(start, first):
-    tpm.chapter(
-        "A NEW SESSION WITH THE SAME BYTES. The nonceTPM is of the random bytes: where they come "
-        "again so does it, and that is not refused."
-    )
-    session = start.session
-    tpm.flushed(session)
-    again("The first TPM2_NV_Write again: REFERENCE_S0, as there is no session", first, "G8")
-    start.again()
-    accepted_again("The first TPM2_NV_Write again", first)
-    again("And once more: AUTH_FAIL/s1", first)
-    tpm.tries_are("That is a failed try", 1)
-
-    tpm.flushed(session)
-
-    tpm.chapter("Other bytes.")
-    start.otherwise("With other random bytes", OTHER_SEED)
-    again("The first again: AUTH_FAIL/s1", first)
-    tpm.flushed(session)
-    start.otherwise(
-        "With another nonceCaller, which is in no key of an unbound session", nonce=tpm.nonce()
-    )
-    accepted_again("The first again", first)
-    unlocked()
-    tpm.flushed(session)
-    other = tpm.policy("A policy session is started in its place")
-    again("The first again: REFERENCE_S0, as this is no HMAC session", first, "G8")
-    elsewhere = start.sent("The same bytes, which start it in another place", SEED, start.nonce)
-    assert replace(elsewhere, handle=session.handle) == start.at_first
-    again("The first again: REFERENCE_S0, as its handle is of no session", first, "G8")
-    tpm.flushed(other, elsewhere)
-
-    tpm.chapter("A bound session, whose key is of its nonceCaller and of the value.")
-    bound = Start("TPM2_StartAuthSession, bound to TPM_RH_OWNER", RH_OWNER)
-    event = accepted("TPM2_PCR_Event", tpm.event(b"event", bound.session))
-    again("The same again: BAD_AUTH/s1", event)
-    tpm.flushed(bound.session)
-    bound.again()
-    accepted_again("The same again", event)
-    tpm.flushed(bound.session)
-    bound.otherwise("With another nonceCaller", nonce=tpm.nonce())
-    again("The same again: BAD_AUTH/s1", event)
-    tpm.flushed(bound.session)
-    tpm.does("ownerAuth is another", tpm.change_auth(RH_OWNER, b"other", OWNER))
-    bound.otherwise("With the same bytes")
-    again("The same again: BAD_AUTH/s1", event)
-    tpm.flushed(bound.session)
-    tpm.does("ownerAuth is as it was", tpm.change_auth(RH_OWNER, OWNER, b"other"))
-    bound.again()
-    accepted_again("The same again", event)
-    tpm.flushed(bound.session)
-
-
 def new_names(start):
     tpm.chapter("The hmac is of the Name, too, which the first write of an index changes.")
     index = tpm.index("An index", BY_VALUE, value=VALUE)
@@ -345,7 +292,7 @@ def new_names(start):
     tpm.flushed(start.session)
     start.again()
     again("The same again: AUTH_FAIL/s1", first)
-    tpm.does("It is undefined", tpm.undefining(index))
+    tpm("It is undefined").undefining(index)
     tpm.define("And defined as it was", public, auth=VALUE)
     accepted_again("The same again", first)
     unlocked()
@@ -371,64 +318,7 @@ def repeated_nonces(start):
     tpm.flushed(session)
 
 
-def power_cycles(start, first):
-    tpm.chapter("A POWER CYCLE ends all sessions.")
-    start.again()
-    told = tpm.policy("A policy session beside it")
-    for kind, words in ((CLEAR, "CLEAR"), (STATE, "STATE")):
-        accepted_again("The first TPM2_NV_Write of the protected index", first)
-        again("The same again: AUTH_FAIL/s1", first)
-        tpm.does(f"TPM2_Shutdown({words})", tpm.shutting_down(kind))
-        tpm.power()
-        again("The same again: INITIALIZE, as the device is not started", first, "G5")
-        tpm.start_up(f"TPM2_Startup({words})", kind)
-        again("The same again: REFERENCE_S0, as the session is gone", first, "G8")
-        tpm.refused_by(
-            "G6", "TPM2_PolicyGetDigest of the policy session: REFERENCE_H0", tpm.get_digest(told)
-        )
-        tpm.tries_are("The failed try is kept, and there is no other", 1)
-        unlocked()
-        start.again()
-    accepted_again("The first TPM2_NV_Write again", first)
-    again("And once more: AUTH_FAIL/s1", first)
-    unlocked()
-
-
-def ended_sessions(start, to_endorsement):
-    tpm.chapter("WITHOUT continueSession a session ends with the use of it.")
-    tpm.flushed(start.session)
-    start.again()
-    last = accepted("TPM2_NV_Write", write(Use(start.session, ENDS)))
-    again("The same again: REFERENCE_S0", last, "G8")
-    start.again()
-    accepted_again("The same again", last)
-    again("And once more: REFERENCE_S0", last, "G8")
-    for what, outcome, uses in (
-        ("In the second entry", "REFERENCE_S1", [VALUE]),
-        ("In the third entry", "REFERENCE_S2", [VALUE, to_endorsement]),
-    ):
-        start.again()
-        uses = [*uses, Use(start.session, ENDS)]
-        last = accepted(what, tpm.writing(FIRST, DATA, *uses))
-        again(f"The same again: {outcome}", last, "G8")
-    tpm.tries_are("None of these was a failed try", 0)
-
-
-def refused_before(to_endorsement):
-    tpm.chapter(
-        "WHAT WAS REFUSED can be sent again until it is accepted: a refusal makes no nonce new."
-    )
-    reset = tpm.reset(to_endorsement, pcr=20)
-    again("TPM2_PCR_Reset of PCR 20 from locality 0: LOCALITY", reset, "A1")
-    again("The same again: LOCALITY", reset, "A1")
-    tpm.locality_is(4)
-    accepted_again("The same from locality 4", reset)
-    again("And once more: BAD_AUTH/s1", reset)
-    tpm.locality_is(0)
-    again("From locality 0: BAD_AUTH/s1", reset)
-
-
-tpm.does('ownerAuth is "owner"', tpm.change_auth(RH_OWNER, OWNER, b""))
+tpm('ownerAuth is "owner"').change_auth(RH_OWNER, OWNER, b"")
 assert FIRST == tpm.index(
     'An index with AUTHWRITE and AUTHREAD, whose value is "a"', BY_VALUE, value=VALUE
 )
@@ -442,10 +332,111 @@ counted_otherwise(start.session)
 other_places(start.session, to_endorsement)
 compared_with_nothing(start.session)
 policy_sessions()
-new_starts(start, first)
+
+tpm.chapter(
+    "A NEW SESSION WITH THE SAME BYTES. The nonceTPM is of the random bytes: where they come "
+    "again so does it, and that is not refused."
+)
+session = start.session
+tpm.flushed(session)
+again("The first TPM2_NV_Write again: REFERENCE_S0, as there is no session", first, "G8")
+start.again()
+accepted_again("The first TPM2_NV_Write again", first)
+again("And once more: AUTH_FAIL/s1", first)
+tpm.tries_are("That is a failed try", 1)
+
+tpm.flushed(session)
+
+tpm.chapter("Other bytes.")
+start.otherwise("With other random bytes", OTHER_SEED)
+again("The first again: AUTH_FAIL/s1", first)
+tpm.flushed(session)
+start.otherwise(
+    "With another nonceCaller, which is in no key of an unbound session", nonce=tpm.nonce()
+)
+accepted_again("The first again", first)
+unlocked()
+tpm.flushed(session)
+other = tpm.policy("A policy session is started in its place")
+again("The first again: REFERENCE_S0, as this is no HMAC session", first, "G8")
+elsewhere = start.sent("The same bytes, which start it in another place", SEED, start.nonce)
+assert replace(elsewhere, handle=session.handle) == start.at_first
+again("The first again: REFERENCE_S0, as its handle is of no session", first, "G8")
+tpm.flushed(other, elsewhere)
+
+tpm.chapter("A bound session, whose key is of its nonceCaller and of the value.")
+bound = Start("TPM2_StartAuthSession, bound to TPM_RH_OWNER", RH_OWNER)
+event = accepted("TPM2_PCR_Event", tpm.event(b"event", bound.session))
+again("The same again: BAD_AUTH/s1", event)
+tpm.flushed(bound.session)
+bound.again()
+accepted_again("The same again", event)
+tpm.flushed(bound.session)
+bound.otherwise("With another nonceCaller", nonce=tpm.nonce())
+again("The same again: BAD_AUTH/s1", event)
+tpm.flushed(bound.session)
+tpm("ownerAuth is another").change_auth(RH_OWNER, b"other", OWNER)
+bound.otherwise("With the same bytes")
+again("The same again: BAD_AUTH/s1", event)
+tpm.flushed(bound.session)
+tpm("ownerAuth is as it was").change_auth(RH_OWNER, OWNER, b"other")
+bound.again()
+accepted_again("The same again", event)
+tpm.flushed(bound.session)
+
 new_names(start)
 repeated_nonces(start)
-power_cycles(start, first)
+
+tpm.chapter("A POWER CYCLE ends all sessions.")
+start.again()
+told = tpm.policy("A policy session beside it")
+for kind, words in ((CLEAR, "CLEAR"), (STATE, "STATE")):
+    accepted_again("The first TPM2_NV_Write of the protected index", first)
+    again("The same again: AUTH_FAIL/s1", first)
+    tpm(f"TPM2_Shutdown({words})").shutting_down(kind)
+    tpm.power()
+    again("The same again: INITIALIZE, as the device is not started", first, "G5")
+    tpm.start_up(f"TPM2_Startup({words})", kind)
+    again("The same again: REFERENCE_S0, as the session is gone", first, "G8")
+    tpm.refused_by(
+        "G6", "TPM2_PolicyGetDigest of the policy session: REFERENCE_H0", tpm.get_digest(told)
+    )
+    tpm.tries_are("The failed try is kept, and there is no other", 1)
+    unlocked()
+    start.again()
+accepted_again("The first TPM2_NV_Write again", first)
+again("And once more: AUTH_FAIL/s1", first)
+unlocked()
+
 to_endorsement = tpm.start("A session bound to TPM_RH_ENDORSEMENT", RH_ENDORSEMENT)
-ended_sessions(start, to_endorsement)
-refused_before(to_endorsement)
+
+tpm.chapter("WITHOUT continueSession a session ends with the use of it.")
+tpm.flushed(start.session)
+start.again()
+last = accepted("TPM2_NV_Write", write(Use(start.session, ENDS)))
+again("The same again: REFERENCE_S0", last, "G8")
+start.again()
+accepted_again("The same again", last)
+again("And once more: REFERENCE_S0", last, "G8")
+for what, outcome, uses in (
+    ("In the second entry", "REFERENCE_S1", [VALUE]),
+    ("In the third entry", "REFERENCE_S2", [VALUE, to_endorsement]),
+):
+    start.again()
+    uses = [*uses, Use(start.session, ENDS)]
+    last = accepted(what, tpm.writing(FIRST, DATA, *uses))
+    again(f"The same again: {outcome}", last, "G8")
+tpm.tries_are("None of these was a failed try", 0)
+
+
+tpm.chapter(
+    "WHAT WAS REFUSED can be sent again until it is accepted: a refusal makes no nonce new."
+)
+reset = tpm.reset(to_endorsement, pcr=20)
+again("TPM2_PCR_Reset of PCR 20 from locality 0: LOCALITY", reset, "A1")
+again("The same again: LOCALITY", reset, "A1")
+tpm.locality_is(4)
+accepted_again("The same from locality 4", reset)
+again("And once more: BAD_AUTH/s1", reset)
+tpm.locality_is(0)
+again("From locality 0: BAD_AUTH/s1", reset)

@@ -239,8 +239,6 @@ tpm.raw(
 )
 
 tpm.accepted("No session was changed by a refusal: the right entry alone", right)
-tpm.accepted("The other two", tpm.event(b"abc", plain, more))
-tpm.accepted(
-    "The three of them, decrypting and in another order",
-    tpm.event(b"abc", more, Use(aes, DECRYPT | STAYS), plain),
-)
+tpm("The other two").event(b"abc", plain, more)
+said = tpm("The three of them, decrypting and in another order")
+said.event(b"abc", more, Use(aes, DECRYPT | STAYS), plain)

@@ -199,7 +199,7 @@ tpm.chapter("None of these refusals started a session. What starts one, and it i
 def starts(what, **choices):
     session = tpm.start(what, **choices)
     assert session.handle == 0x0200_0000
-    tpm.accepted("", tpm.reset(session))
+    tpm("").reset(session)
     tpm.accepted("", tpm.flush(session))
 
 
@@ -236,7 +236,7 @@ for kind, name in ((frames.SE_POLICY, "policy"), (frames.SE_TRIAL, "trial")):
         what = f"{what}, TPM2_GetRandom and TPM2_FlushContext"
         session = tpm.start(what, kind=kind, **choices)
         assert session.handle == 0x0300_0000
-        tpm.accepted("", tpm.random(4, session))
+        tpm("").random(4, session)
         tpm.accepted("", tpm.flush(session))
     refused(
         "A nonce of 15 bytes, and of 21 for SHA-1: SIZE/p1",
@@ -258,7 +258,7 @@ third = tpm.start(
     uses=[second, first],
     size=32,
 )
-tpm.accepted("By that one", tpm.reset(third))
+tpm("By that one").reset(third)
 handles, parameters = frames.start_auth_session(NONCE, RH_OWNER)
 beside = tpm.prepare(CC.StartAuthSession, handles, parameters, first)
 tpm.refused(
@@ -280,15 +280,15 @@ ending = tpm.prepare(CC.StartAuthSession, *frames.start_auth_session(NONCE), Use
 tpm.refused(
     "A session beside it that would end gives its place up too late: SESSION_MEMORY", ending
 )
-tpm.accepted("It has not ended, and its nonce is the same", tpm.reset(sessions[4]))
+tpm("It has not ended, and its nonce is the same").reset(sessions[4])
 tpm.accepted("Two are flushed, the tenth", tpm.flush(sessions[9]))
 tpm.accepted("And the fourth", tpm.flush(sessions[3]))
 assert tpm.start("The next takes the lowest free number").handle == 0x0200_0003
 assert tpm.start("And the next the other").handle == 0x0200_0009
 refused("Then there is none again: SESSION_MEMORY", start())
-tpm.accepted("One ends as it is used", tpm.reset(Use(sessions[0], ENDS)))
+tpm("One ends as it is used").reset(Use(sessions[0], ENDS))
 assert tpm.start("And its number is free").handle == 0x0200_0000
-tpm.accepted("The others are as they were", tpm.reset(sessions[15]))
+tpm("The others are as they were").reset(sessions[15])
 
 tpm.chapter("TPM_ALG_XOR, behind which stands the hash that makes its masks.")
 refused(
@@ -331,5 +331,5 @@ starts("Bound to TPM_RH_OWNER", xor=True, bind=RH_OWNER, size=32)
 for kind, name in ((frames.SE_POLICY, "policy"), (frames.SE_TRIAL, "trial")):
     session = tpm.start(f"A {name} session", kind=kind, xor=True)
     assert session.handle == 0x0300_0000
-    tpm.accepted("TPM2_GetRandom by it", tpm.random(4, session))
+    tpm("TPM2_GetRandom by it").random(4, session)
     tpm.accepted("It is flushed", tpm.flush(session))

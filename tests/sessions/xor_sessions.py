@@ -258,7 +258,7 @@ tpm.chapter(
     "that of the new session's key in plain."
 )
 new = tpm.start("One session does both", RH_OWNER, size=20, xor=True, uses=[Use(session, BOTH)])
-tpm.accepted("By the new session", tpm.change_auth(RH_OWNER, OWNER_AUTH, Use(new, DECRYPT)))
+tpm("By the new session").change_auth(RH_OWNER, OWNER_AUTH, Use(new, DECRYPT))
 
 tpm.chapter(
     "The longest first buffer that a command can hold. It is unmasked whole, and is too long then; "
@@ -279,10 +279,8 @@ for size in (1025, LONGEST):
     tpm.raw(f"TPM2_PCR_Event of {size:,} bytes: SIZE/p1", of_size(size), fresh=True)
 tpm.raw("And of one byte more: COMMAND_SIZE", of_size(LONGEST + 1), fresh=True)
 room = COMMAND_BYTES - len(tpm.event(b"", Use(session, DECRYPTS)).buffer())
-tpm.refused(
-    f"With a nonce and an hmac, of {room:,} bytes: SIZE/p1",
-    tpm.event(bytes(room), Use(session, DECRYPTS)),
-)
+said = tpm(f"With a nonce and an hmac, of {room:,} bytes: SIZE/p1")
+said.event(bytes(room), Use(session, DECRYPTS))
 tpm.refused(
     "What is cut cannot be unmasked: no size, half of it, and a byte too few: INSUFFICIENT/p1",
     *(
@@ -307,10 +305,8 @@ tpm.refused("The same bytes in plain: BAD_AUTH/s1", right.but(parameters=sized(b
 tpm.refused(
     "The attribute decrypt taken away: BAD_AUTH/s1", right.but_entry(1, attributes=CONTINUE_SESSION)
 )
-tpm.refused(
-    "A second session that unmasks: ATTRIBUTES/s2",
-    tpm.event(b"event data", Use(session, DECRYPTS), Use(other, DECRYPTS)),
-)
+said = tpm("A second session that unmasks: ATTRIBUTES/s2")
+said.event(b"event data", Use(session, DECRYPTS), Use(other, DECRYPTS))
 tpm.refused(
     "decrypt and encrypt where there is no such buffer: ATTRIBUTES/s1",
     tpm.reset(Use(session, DECRYPTS)),
@@ -319,7 +315,7 @@ tpm.refused(
 )
 masking("No refusal has changed its nonce", right, b"event data")
 plain = tpm.start("A session without a cipher", RH_OWNER)
-tpm.refused("It masks nothing: SYMMETRIC/s1", tpm.event(b"event data", Use(plain, DECRYPTS)))
+tpm("It masks nothing: SYMMETRIC/s1").event(b"event data", Use(plain, DECRYPTS))
 
 tpm.chapter("The cipher of an object is AES, and no TPM_ALG_XOR.")
 template = storage_key().text
