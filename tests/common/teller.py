@@ -3,8 +3,15 @@
 A command follows the words of it, which name its outcome behind a colon where it is no success:
 
     tpm("By another password: AUTH_FAIL/s1").reading(FIRST, 8, b"other")
+
+Words that are long have a line of their own:
+
+    said = tpm("By the empty password, and by one with a zero behind it: AUTH_FAIL/s1")
+    said.fails(*(tpm.reading(FIRST, 8, it) for it in (b"", b"other\0")))
 """
 
+import functools
+import inspect
 from typing import Any, Callable
 
 from tpmsim.caller import Prepared
@@ -68,15 +75,19 @@ class Teller(ScriptCaller):
 
 
 class Said:
-    """Words, and every command that a caller prepares, which is sent at once."""
+    """Words, and behind them every method of their caller. One that takes words gets these; what
+    another prepares is sent at once.
+    """
 
     def __init__(self, tpm: Teller, words: str) -> None:
         self.tpm, self.words = tpm, words
 
-    def __getattr__(self, name: str) -> Callable[..., bytes]:
-        prepare = getattr(self.tpm, name)
+    def __getattr__(self, name: str) -> Callable[..., Any]:
+        method = getattr(self.tpm, name)
+        if next(iter(inspect.signature(method).parameters), "") in ("words", "what"):
+            return functools.partial(method, self.words)
 
         def sends(*those: Any, **choices: Any) -> bytes:
-            return self.tpm.comes_to(self.words, prepare(*those, **choices))
+            return self.tpm.comes_to(self.words, method(*those, **choices))
 
         return sends

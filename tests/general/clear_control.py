@@ -92,10 +92,8 @@ says(
     *(on_handle(CC.ClearControl, handle, it) for handle in BOTH for it in (b"\0\0", b"\1\0")),
 )
 policy = tpm.policy("A policy session")
-tpm.fails(
-    "No policy authorizes it: AUTH_UNAVAILABLE",
-    *(tpm.clear_control(it, YES, policy) for it in BOTH),
-)
+said = tpm("No policy authorizes it: AUTH_UNAVAILABLE")
+said.fails(*(tpm.clear_control(it, YES, policy) for it in BOTH))
 tpm("It is flushed").flush(policy)
 clears("None of these disabled TPM2_Clear: by lockoutAuth and by the platform")
 

@@ -167,11 +167,8 @@ def at_lockout_auth(session: Session) -> None:
     comes_whole(prepared)
 
 
-tpm.define(
-    "A protected NV index, with a policy that asks for its value",
-    area(FIRST, BY_VALUE | BY_POLICY, auth_policy=DEMANDING),
-    auth=PIN,
-)
+said = tpm("A protected NV index, with a policy that asks for its value")
+said.define(area(FIRST, BY_VALUE | BY_POLICY, auth_policy=DEMANDING), auth=PIN)
 tpm.define("Protected bits", bits(SECOND, BY_VALUE), auth=PIN)
 tpm.define("A protected index that is extended", extended(THIRD, BY_VALUE), auth=PIN)
 tpm.define("One with TPMA_NV_NO_DA", area(FOURTH, BY_VALUE | NvAttribute.NO_DA), auth=PIN)

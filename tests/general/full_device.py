@@ -103,9 +103,8 @@ def keep_all():
         public, data, user_auth = TEMPLATES[at % len(TEMPLATES)]
         hierarchy, asker = hierarchies[at % len(hierarchies)]
         first = 0x8180_0000 if asker == RH_PLATFORM else 0x8100_0000
-        handle = tpm.create_primary(
-            "A primary object", hierarchy, public, data=data, user_auth=user_auth
-        )
+        said = tpm("A primary object")
+        handle = said.create_primary(hierarchy, public, data=data, user_auth=user_auth)
         tpm.keep("It stays", asker, handle, first + 0x1000 * at)
         tpm.flush_objects("And is flushed", handle)
     parent = 0x8100_0000

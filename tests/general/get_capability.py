@@ -219,10 +219,8 @@ tpm.accepted("It authorizes nothing", asked)
 asked = tpm.capability(PROPERTIES, 0x100, 1, session)
 tpm.refused("A wrong hmac: BAD_AUTH/s1", wrong(asked))
 for attribute, words in ((DECRYPT, "decrypted"), (ENCRYPT, "encrypted")):
-    tpm.refused(
-        f"Nothing can be {words}: ATTRIBUTES/s1",
-        asked.but_entry(1, attributes=CONTINUE_SESSION | attribute),
-    )
+    said = tpm(f"Nothing can be {words}: ATTRIBUTES/s1")
+    said.refused(asked.but_entry(1, attributes=CONTINUE_SESSION | attribute))
 tpm("It is flushed").flush(session)
 
 

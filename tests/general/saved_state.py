@@ -133,10 +133,8 @@ tpm("It is written").writing(FIRST, b"data", by=RH_OWNER)
 tpm.define("A counter", counter(SECOND))
 tpm.define("Bits", bits(THIRD))
 tpm.define("An index that is extended", extended(FOURTH))
-tpm.define(
-    "One with locks, and a policy for TPM2_NV_ChangeAuth",
-    area(FIFTH, BY_OWNER | LOCKS, auth_policy=CHANGING),
-)
+said = tpm("One with locks, and a policy for TPM2_NV_ChangeAuth")
+said.define(area(FIFTH, BY_OWNER | LOCKS, auth_policy=CHANGING))
 
 tpm.chapter("A second TPM2_Shutdown takes the place of the first.")
 save()

@@ -28,8 +28,6 @@ session = tpm.start("An HMAC session with AES", aes=True)
 tpm("TPM2_SelfTest with it").self_test(1, session)
 tpm.refused("A wrong hmac: BAD_AUTH/s1", wrong(tpm.self_test(1, session)))
 for attribute, words in ((DECRYPT, "decrypted"), (ENCRYPT, "encrypted")):
-    tpm.refused(
-        f"Nothing can be {words}: ATTRIBUTES/s1",
-        tpm.self_test(1, session).but_entry(1, attributes=CONTINUE_SESSION | attribute),
-    )
+    said = tpm(f"Nothing can be {words}: ATTRIBUTES/s1")
+    said.refused(tpm.self_test(1, session).but_entry(1, attributes=CONTINUE_SESSION | attribute))
 tpm("Nothing has changed: TPM2_PCR_Read").read_pcr(16)

@@ -100,11 +100,8 @@ trial = tpm.trial("A trial session")
 handle = tpm.create_primary("A storage key", RH_OWNER, storage_key())
 restart(STATE, "a resume")
 tpm("The HMAC session: REFERENCE_S0").reset(session)
-tpm.fails(
-    "The policy session, and the trial session: REFERENCE_H0",
-    tpm.get_digest(policy),
-    tpm.get_digest(trial),
-)
+said = tpm("The policy session, and the trial session: REFERENCE_H0")
+said.fails(tpm.get_digest(policy), tpm.get_digest(trial))
 tpm("The storage key: REFERENCE_H0").public(handle)
 for kind, words in ((SE_HMAC, "HMAC"), (SE_POLICY, "policy"), (SE_TRIAL, "trial")):
     tpm.start(f"A new {words} session has the next place", kind=kind)
@@ -145,9 +142,8 @@ for index in (FIRST, SECOND, THIRD):
 tpm.read("The second one", SECOND, b"8 bytes.", by=RH_OWNER)
 tpm("The first one is locked: NV_LOCKED").reading(FIRST, 8, by=RH_OWNER)
 restart(CLEAR, "a restart")
-tpm.is_now(
-    "The locks of the first are open", FIRST, cleared=Attribute.WRITELOCKED | Attribute.READLOCKED
-)
+said = tpm("The locks of the first are open")
+said.is_now(FIRST, cleared=Attribute.WRITELOCKED | Attribute.READLOCKED)
 tpm.is_now("The second is not written", SECOND, cleared=Attribute.WRITTEN)
 tpm.is_now("The third is locked", THIRD)
 

@@ -51,9 +51,8 @@ def passwords():
     answered('"abd" is not, and no try', "BAD_AUTH/s1", other, code(0x9A2))
     tries_are("None", 0)
     template = sealed(attributes=Attribute.USER_WITH_AUTH)
-    handle = tpm.create_primary(
-        "A sealed object without noDA", RH_NULL, template, user_auth=b"pin", data=b"data"
-    )
+    said = tpm("A sealed object without noDA")
+    handle = said.create_primary(RH_NULL, template, user_auth=b"pin", data=b"data")
     assert handle == 0x8000_0000
     answered(
         "TPM2_Unseal by a wrong password",

@@ -82,11 +82,8 @@ for attribute, words in ((DECRYPT, "decrypted"), (ENCRYPT, "encrypted")):
         tpm.attack_parameters(3, 1000, 1, unbound).but_entry(1, attributes=attribute),
     )
 policy = tpm.policy("A policy session")
-tpm.refused(
-    "No policy authorizes TPM_RH_LOCKOUT: AUTH_UNAVAILABLE",
-    tpm.lock_reset(policy),
-    tpm.attack_parameters(3, 1000, 1, policy),
-)
+said = tpm("No policy authorizes TPM_RH_LOCKOUT: AUTH_UNAVAILABLE")
+said.refused(tpm.lock_reset(policy), tpm.attack_parameters(3, 1000, 1, policy))
 tpm("Behind the password it may stand").lock_reset(b"lockout", policy)
 tpm("A session that ends").lock_reset(Use(bound, attributes=0))
 tpm("It is gone: REFERENCE_S0").lock_reset(bound)

@@ -54,17 +54,11 @@ def lock():
 
 
 ONLY_PASSWORD = policy.after_auth_value(SHA256, bytes(32))
-tpm.define(
-    'An NV index with the value "2468"',
-    area(FIRST, BY_VALUE | NvAttribute.POLICYREAD, auth_policy=ONLY_PASSWORD),
-    auth=PIN,
-)
+said = tpm('An NV index with the value "2468"')
+said.define(area(FIRST, BY_VALUE | NvAttribute.POLICYREAD, auth_policy=ONLY_PASSWORD), auth=PIN)
 tpm("It is written").writing(FIRST, SECRET)
-tpm.define(
-    "Another one, which only the owner can write",
-    area(SECOND, NvAttribute.AUTHREAD | NvAttribute.OWNERWRITE),
-    auth=PIN,
-)
+said = tpm("Another one, which only the owner can write")
+said.define(area(SECOND, NvAttribute.AUTHREAD | NvAttribute.OWNERWRITE), auth=PIN)
 tpm("It is written").writing(SECOND, SECRET, by=RH_OWNER)
 tpm.define("One with TPMA_NV_NO_DA", area(THIRD, BY_VALUE | NvAttribute.NO_DA), auth=PIN)
 tpm("It is written").writing(THIRD, SECRET)
@@ -126,12 +120,8 @@ right("At the end")
 
 tpm.chapter("Several tries at once, and the rest of the time.")
 wrong("The third one")
-tpm.set_protection(
-    "TPM2_DictionaryAttackParameters with maxTries 1: all three have to be forgiven now",
-    1,
-    1000,
-    1000,
-)
+said = tpm("TPM2_DictionaryAttackParameters with maxTries 1: all three have to be forgiven now")
+said.set_protection(1, 1000, 1000)
 tpm.wait(1_500_000)
 locked("One and a half times recoveryTime later: two are left")
 tpm.wait(1_499_999)
@@ -275,18 +265,12 @@ right("The right one")
 
 
 tpm.chapter("noDA and TPMA_NV_NO_DA: no try is counted.")
-tpm.fails(
-    "Five wrong passwords of an index: BAD_AUTH/s1",
-    *(tpm.reading(THIRD, 8, it) for it in (b"0", b"1", b"2", b"3", b"4")),
-)
-tpm.fails(
-    "Five of an object: BAD_AUTH/s1",
-    *(tpm.unsealing(FREE, it) for it in (b"0", b"1", b"2", b"3", b"4")),
-)
-tpm.fails(
-    "Five of TPM_RH_OWNER: BAD_AUTH/s1",
-    *(tpm.change_auth(RH_OWNER, b"x", it) for it in (b"0", b"1", b"2", b"3", b"4")),
-)
+said = tpm("Five wrong passwords of an index: BAD_AUTH/s1")
+said.fails(*(tpm.reading(THIRD, 8, it) for it in (b"0", b"1", b"2", b"3", b"4")))
+said = tpm("Five of an object: BAD_AUTH/s1")
+said.fails(*(tpm.unsealing(FREE, it) for it in (b"0", b"1", b"2", b"3", b"4")))
+said = tpm("Five of TPM_RH_OWNER: BAD_AUTH/s1")
+said.fails(*(tpm.change_auth(RH_OWNER, b"x", it) for it in (b"0", b"1", b"2", b"3", b"4")))
 right("What is protected is open")
 lock()
 locked("It is locked")
@@ -301,10 +285,8 @@ tpm.chapter("The order of the checks: what comes before LOCKOUT, and what behind
 session = tpm.policy("A policy session")
 lock()
 read = tpm.reading(FIRST, 8)
-tpm.fails(
-    "Before it: an attribute that no entry has: RESERVED_BITS/s1",
-    read.but_entry(1, attributes=0x08),
-)
+said = tpm("Before it: an attribute that no entry has: RESERVED_BITS/s1")
+said.fails(read.but_entry(1, attributes=0x08))
 tpm("An index that its value may not write: AUTH_UNAVAILABLE").writing(SECOND, b"x")
 tpm("One that has no policy: AUTH_UNAVAILABLE").reading(SECOND, 8, session)
 tpm("A policy session whose digest is another: POLICY_FAIL/s1").reading(FIRST, 8, session)

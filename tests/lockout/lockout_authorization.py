@@ -39,10 +39,8 @@ tpm.refused(
     "of those bound to TPM_RH_LOCKOUT: AUTH_FAIL/s1",
     *(wrong(tpm.change_auth(RH_LOCKOUT, LOCKOUT, it)) for it in (unbound, to_owner, bound, early)),
 )
-tpm.refused(
-    "No hmac where the session has no key of its own: AUTH_FAIL/s1",
-    tpm.change_auth(RH_LOCKOUT, LOCKOUT, unbound).but_entry(1, hmac=b""),
-)
+said = tpm("No hmac where the session has no key of its own: AUTH_FAIL/s1")
+said.refused(tpm.change_auth(RH_LOCKOUT, LOCKOUT, unbound).but_entry(1, hmac=b""))
 for session, words in (
     (unbound, "Right hmacs: bound to nothing"),
     (to_owner, "Bound to TPM_RH_OWNER"),
@@ -59,10 +57,8 @@ tpm.refused(
     wrong(tpm.change_auth(RH_OWNER, b"owner", early)),
 )
 tpm.refused("On PCR 16: AUTH_FAIL/s1", wrong(tpm.reset(bound)), wrong(tpm.reset(early)))
-tpm.refused(
-    "On TPM_RH_NULL, by TPM2_PCR_Event: AUTH_FAIL/s1",
-    wrong(tpm.event(b"abc", bound, pcr=frames.RH_NULL)),
-)
+said = tpm("On TPM_RH_NULL, by TPM2_PCR_Event: AUTH_FAIL/s1")
+said.refused(wrong(tpm.event(b"abc", bound, pcr=frames.RH_NULL)))
 tpm.refused("No hmac: AUTH_FAIL/s1", tpm.reset(bound).but_entry(1, hmac=b""))
 tpm("Right hmacs: on TPM_RH_OWNER").change_auth(RH_OWNER, b"owner", bound)
 tpm("On PCR 16").reset(bound)
@@ -74,11 +70,8 @@ tpm.refused(
     wrong(tpm.reset(b"", to_owner, bound), 3),
     wrong(tpm.reset(to_owner, unbound, early), 3),
 )
-tpm.refused(
-    "Of TPM2_GetRandom: AUTH_FAIL/s1",
-    wrong(tpm.random(4, bound)),
-    wrong(tpm.random(4, bound, to_owner)),
-)
+said = tpm("Of TPM2_GetRandom: AUTH_FAIL/s1")
+said.refused(wrong(tpm.random(4, bound)), wrong(tpm.random(4, bound, to_owner)))
 tpm.refused(
     "Of TPM2_StartAuthSession, as the second: AUTH_FAIL/s2",
     wrong(
@@ -94,10 +87,8 @@ tpm.refused(
     wrong(tpm.change_auth(RH_OWNER, b"owner", unbound)),
 )
 tpm.raw("lockoutAuth as the password of TPM_RH_OWNER: BAD_AUTH/s1", by_password(RH_OWNER, LOCKOUT))
-tpm.refused(
-    "A wrong hmac beside a right one of a session bound to TPM_RH_LOCKOUT: BAD_AUTH/s1",
-    wrong(tpm.reset(to_owner, bound)),
-)
+said = tpm("A wrong hmac beside a right one of a session bound to TPM_RH_LOCKOUT: BAD_AUTH/s1")
+said.refused(wrong(tpm.reset(to_owner, bound)))
 tpm.refused("Behind it: BAD_AUTH/s2", wrong(tpm.reset(bound, to_owner), 2))
 tpm.refused(
     "The second entry of TPM_RH_LOCKOUT's own command, where the first is right: BAD_AUTH/s2",
@@ -117,10 +108,8 @@ tpm.refused(
 )
 tpm("On TPM_RH_LOCKOUT it has the new value in its key").change_auth(RH_LOCKOUT, b"", bound)
 tpm.raw("lockoutAuth is empty: a wrong password: AUTH_FAIL/s1", by_password(RH_LOCKOUT, b"x"))
-tpm.refused(
-    "A wrong hmac of the session that is bound to nothing: AUTH_FAIL/s1",
-    tpm.change_auth(RH_LOCKOUT, b"", unbound).but_entry(1, hmac=b"\0"),
-)
+said = tpm("A wrong hmac of the session that is bound to nothing: AUTH_FAIL/s1")
+said.refused(tpm.change_auth(RH_LOCKOUT, b"", unbound).but_entry(1, hmac=b"\0"))
 tpm("No hmac of it").change_auth(RH_LOCKOUT, b"", unbound)
 
 # From here on no time passes but where it is said.
@@ -153,10 +142,8 @@ def each_alone():
     tpm("It is written").writing(FIRST, b"data")
     to_lockout = tpm.start("A session that is bound to TPM_RH_LOCKOUT", RH_LOCKOUT)
     to_index = tpm.start("And one that is bound to the index", FIRST)
-    tpm.fails(
-        "Three wrong passwords of the index: AUTH_FAIL/s1",
-        *(tpm.writing(FIRST, b"x", it) for it in (b"0", b"1", b"2")),
-    )
+    said = tpm("Three wrong passwords of the index: AUTH_FAIL/s1")
+    said.fails(*(tpm.writing(FIRST, b"x", it) for it in (b"0", b"1", b"2")))
     tpm("The index is locked: LOCKOUT").writing(FIRST, b"x")
     wrong_password("A wrong password of TPM_RH_LOCKOUT")
     closed("lockoutAuth is closed, too")
@@ -188,9 +175,8 @@ def each_alone():
 
 
 tpm.chapter("One wrong try closes lockoutAuth for lockoutRecovery, to the millisecond.")
-tpm.set_protection(
-    "TPM2_DictionaryAttackParameters: lockoutRecovery is 1,000 seconds", 3, 1000, 1000
-)
+said = tpm("TPM2_DictionaryAttackParameters: lockoutRecovery is 1,000 seconds")
+said.set_protection(3, 1000, 1000)
 tpm.accepted('lockoutAuth is "lockout"', tpm.change_auth(RH_LOCKOUT, LOCKOUT, b""))
 wrong_password("A wrong password of TPM2_DictionaryAttackLockReset")
 closed("The right one, and others", LOCKOUT, b"wrong", b"")
@@ -200,12 +186,8 @@ tpm.fails(
     tpm.attack_parameters(3, 1000, 1000, LOCKOUT),
     tpm.change_auth(RH_LOCKOUT, b"x", LOCKOUT),
 )
-tpm.fails(
-    "A session that is bound to nothing, one that is bound to it, and a wrong hmac: LOCKOUT",
-    tpm.lock_reset(unbound),
-    tpm.lock_reset(bound),
-    wrong(tpm.lock_reset(unbound)),
-)
+said = tpm("A session that is bound to nothing, one that is bound to it, and a wrong hmac: LOCKOUT")
+said.fails(tpm.lock_reset(unbound), tpm.lock_reset(bound), wrong(tpm.lock_reset(unbound)))
 tpm.fails(
     "One that is bound to it and authorizes PCR 16, and one that authorizes nothing: LOCKOUT",
     tpm.reset(bound),

@@ -166,11 +166,8 @@ def policy_without_value():
 tpm.set_protection("TPM2_DictionaryAttackParameters: maxTries is 1", 1, 1000, 1000)
 tpm('lockoutAuth is "lockout"').change_auth(RH_LOCKOUT, LOCKOUT, b"")
 tpm('ownerAuth is "owner"').change_auth(RH_OWNER, OWNER, b"")
-tpm.define(
-    "An NV index, with a policy that asks for its value",
-    area(FIRST, BY_VALUE | BY_POLICY, auth_policy=DEMANDING),
-    auth=PIN,
-)
+said = tpm("An NV index, with a policy that asks for its value")
+said.define(area(FIRST, BY_VALUE | BY_POLICY, auth_policy=DEMANDING), auth=PIN)
 tpm("It is written").writing(FIRST, DATA)
 SEALED = tpm.create_primary(
     "A sealed object, with the same policy",
@@ -191,18 +188,12 @@ tpm("On PCR 16").reset(bound)
 tpm.refused("Wrong: that is a try: AUTH_FAIL/s1", wrong(tpm.reset(bound)))
 tpm("It is locked: LOCKOUT").reset(bound)
 unlock()
-tpm.define(
-    "The index again, with TPMA_NV_NO_DA",
-    area(SECOND, BY_VALUE | NvAttribute.NO_DA),
-    OWNER,
-    auth=PIN,
-)
+said = tpm("The index again, with TPMA_NV_NO_DA")
+said.define(area(SECOND, BY_VALUE | NvAttribute.NO_DA), OWNER, auth=PIN)
 free = tpm.start("A session that is bound to it now", SECOND)
 tpm.refused("Wrong: no try: BAD_AUTH/s1", wrong(tpm.reset(free)))
-tpm.refused(
-    "The first session on it: what that was bound to was protected: AUTH_FAIL/s1",
-    wrong(tpm.writing(SECOND, DATA, bound)),
-)
+said = tpm("The first session on it: what that was bound to was protected: AUTH_FAIL/s1")
+said.refused(wrong(tpm.writing(SECOND, DATA, bound)))
 tpm("Locked or not, the second session").writing(SECOND, DATA, free)
 unlock()
 for session in (bound, free):

@@ -31,27 +31,21 @@ set_bits("Of 4 again", FIRST, 4, 5)
 set_bits("Of none", FIRST, 0, 5)
 set_bits("Of the highest one", FIRST, 1 << 63, 1 << 63 | 5)
 set_bits("Of all", FIRST, 2**64 - 1, 2**64 - 1)
-tpm.define(
-    "Another, of SHA-1, that each start clears", bits(SECOND, BY_OWNER | CLEARED, algorithm=SHA1)
-)
+said = tpm("Another, of SHA-1, that each start clears")
+said.define(bits(SECOND, BY_OWNER | CLEARED, algorithm=SHA1))
 set_bits("No bit is set, and it is written", SECOND, 0, 0)
 set_bits("TPM2_NV_SetBits of 8", SECOND, 8, 8)
 wrong = tpm.setting(SECOND, 0, by=RH_OWNER)
-tpm.fails(
-    "Seven bytes, and none: INSUFFICIENT/p1",
-    wrong.but(parameters=bytes(7)),
-    wrong.but(parameters=b""),
-)
+said = tpm("Seven bytes, and none: INSUFFICIENT/p1")
+said.fails(wrong.but(parameters=bytes(7)), wrong.but(parameters=b""))
 tpm.fails("Nine bytes: SIZE", wrong.but(parameters=bytes(9)))
 
 for index, (algorithm, name) in zip((THIRD, THIRD + 1), HASHES):
     tpm.chapter(f"An index that is extended, of {name}.")
     zeros = bytes(digest_bytes(algorithm))
     size = len(zeros)
-    tpm.define(
-        f"TPM2_NV_DefineSpace (attributes 00020042), of {size} bytes",
-        extended(index, BY_OWNER, algorithm=algorithm),
-    )
+    said = tpm(f"TPM2_NV_DefineSpace (attributes 00020042), of {size} bytes")
+    said.define(extended(index, BY_OWNER, algorithm=algorithm))
     tpm("TPM2_NV_Read before the first: NV_UNINITIALIZED").reading(index, size, by=RH_OWNER)
     value = zeros
     for what, data in (
@@ -80,10 +74,8 @@ tpm.read("The last one goes on", THIRD + 1, value, by=RH_OWNER)
 tpm('TPM2_NV_Extend by "next"').extending(THIRD + 1, b"next", by=RH_OWNER)
 tpm.read("It is the digest of both", THIRD + 1, digest(algorithm, value + b"next"), by=RH_OWNER)
 tpm("It is undefined").undefining(THIRD + 1)
-tpm.define(
-    "And defined so that each start clears it",
-    extended(THIRD + 1, BY_OWNER | CLEARED, algorithm=algorithm),
-)
+said = tpm("And defined so that each start clears it")
+said.define(extended(THIRD + 1, BY_OWNER | CLEARED, algorithm=algorithm))
 once = digest(algorithm, zeros + b"next")
 for what in ('TPM2_NV_Extend by "next"', "After the next start, the same"):
     tpm(what).extending(THIRD + 1, b"next", by=RH_OWNER)

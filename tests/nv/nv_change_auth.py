@@ -40,11 +40,8 @@ tpm.script.allow_tries()
 AFTER_AUTH_VALUE = policy.after_auth_value(SHA256, bytes(32))
 
 tpm.chapter("Without the policy.")
-tpm.define(
-    "An index with this policy, that can be used by its value",
-    area(FIRST, BY_VALUE, auth_policy=changing_policy()),
-    auth=b"old",
-)
+said = tpm("An index with this policy, that can be used by its value")
+said.define(area(FIRST, BY_VALUE, auth_policy=changing_policy()), auth=b"old")
 tpm("By the password: AUTH_UNAVAILABLE").changing_auth(FIRST, b"new")
 tpm("By a wrong one: AUTH_UNAVAILABLE").changing_auth(FIRST, b"new", b"x")
 plain = tpm.start("An HMAC session that is bound to it", bind=FIRST)
@@ -79,11 +76,8 @@ tpm.read("It outlives a power cycle", FIRST, b"y", b"a")
 undefine(FIRST)
 
 tpm.chapter("A digest that is right, and no TPM2_PolicyCommandCode in it.")
-tpm.define(
-    "An index whose policy is TPM2_PolicyAuthValue",
-    area(FIRST, BY_POLICY, auth_policy=AFTER_AUTH_VALUE),
-    auth=b"old",
-)
+said = tpm("An index whose policy is TPM2_PolicyAuthValue")
+said.define(area(FIRST, BY_POLICY, auth_policy=AFTER_AUTH_VALUE), auth=b"old")
 session = tpm.policy("A policy session")
 says("TPM2_PolicyAuthValue", tpm.auth_value_told(session))
 by_value = Use(session, demand=AUTH_VALUE)
@@ -109,11 +103,8 @@ undefine(FIRST)
 
 tpm.chapter("No attribute has to allow it, and no lock forbids it.")
 locks = Attribute.WRITE_STCLEAR | Attribute.READ_STCLEAR
-tpm.define(
-    "An index that the owner alone uses",
-    area(FIRST, BY_OWNER | locks, auth_policy=changing_policy()),
-    auth=b"old",
-)
+said = tpm("An index that the owner alone uses")
+said.define(area(FIRST, BY_OWNER | locks, auth_policy=changing_policy()), auth=b"old")
 for what, prepared in (
     ("TPM2_NV_Write", tpm.writing(FIRST, b"x", by=RH_OWNER)),
     ("TPM2_NV_WriteLock", tpm.write_locking(FIRST, by=RH_OWNER)),
@@ -137,15 +128,10 @@ for algorithm, name in HASHES:
     session = tpm.policy("A policy session", algorithm=algorithm)
     told(session)
     wrong = tpm.changing_auth(FIRST, b"", session)
-    tpm.fails(
-        "No size, half of one, and a size that is cut: INSUFFICIENT/p1",
-        *(wrong.but(parameters=it) for it in (b"", b"\0", b"\0\1", b"\0\x20" + bytes(31))),
-    )
-    tpm.fails(
-        "33 bytes, whole or cut: SIZE/p1",
-        wrong.but(parameters=sized(bytes(33))),
-        wrong.but(parameters=number(33, 2)),
-    )
+    said = tpm("No size, half of one, and a size that is cut: INSUFFICIENT/p1")
+    said.fails(*(wrong.but(parameters=it) for it in (b"", b"\0", b"\0\1", b"\0\x20" + bytes(31))))
+    said = tpm("33 bytes, whole or cut: SIZE/p1")
+    said.fails(wrong.but(parameters=sized(bytes(33))), wrong.but(parameters=number(33, 2)))
     tpm.fails("A byte behind it: SIZE", wrong.but(parameters=sized(b"a") + b"\0"))
     if algorithm == SHA1:
         tpm.fails(
@@ -185,10 +171,8 @@ said = tpm("With the new value encrypted")
 said.changing_auth(FIRST, b"hidden", Use(aes, CONTINUE_SESSION | DECRYPT, demand=AUTH_VALUE))
 tpm("TPM2_NV_Write by it").writing(FIRST, b"x")
 both_told(PASSWORD)
-tpm.fails(
-    "By a wrong password: AUTH_FAIL/s1",
-    tpm.changing_auth(FIRST, b"new", Use(aes, demand=PASSWORD)).but_entry(1, hmac=b"x"),
-)
+said = tpm("By a wrong password: AUTH_FAIL/s1")
+said.fails(tpm.changing_auth(FIRST, b"new", Use(aes, demand=PASSWORD)).but_entry(1, hmac=b"x"))
 tpm("By the right one").changing_auth(FIRST, b"open", Use(aes, demand=PASSWORD))
 tpm("TPM2_NV_Write by it").writing(FIRST, b"x")
 
@@ -206,9 +190,7 @@ tpm("TPM2_NV_Write: it is bound again").writing(FIRST, b"x", bound)
 tpm.chapter("Handles.")
 told(session)
 right = tpm.changing_auth(FIRST, b"new", b"")
-tpm.fails(
-    "What is no index: the owner, PCR 0, an object and a session: VALUE/h1",
-    *(right.but(handles=[it]) for it in (RH_OWNER, 0, 0x8000_0000, 0x8100_0000, aes.handle)),
-)
+said = tpm("What is no index: the owner, PCR 0, an object and a session: VALUE/h1")
+said.fails(*(right.but(handles=[it]) for it in (RH_OWNER, 0, 0x8000_0000, 0x8100_0000, aes.handle)))
 tpm.fails("An index that is not defined: HANDLE/h1", right.but(handles=[THIRD]))
 tpm.fails("Without sessions: AUTH_MISSING", right.but(entries=[]))

@@ -197,31 +197,20 @@ def limit_of_bytes():
 
 tpm.chapter("The parameters: auth and publicInfo.")
 good = sized(area().text)
-tpm.fails(
-    "auth that is cut: before its size, within it, and within its bytes: INSUFFICIENT/p1",
-    *(raw(it) for it in (b"", b"\0", b"\0\1", b"\0\x20" + bytes(31))),
-)
-tpm.fails(
-    "auth of 33 bytes, whole or cut, also where they are zeros: SIZE/p1",
-    raw(sized(b"a" * 33) + good),
-    raw(sized(bytes(33)) + good),
-    raw(number(33, 2)),
-)
+said = tpm("auth that is cut: before its size, within it, and within its bytes: INSUFFICIENT/p1")
+said.fails(*(raw(it) for it in (b"", b"\0", b"\0\1", b"\0\x20" + bytes(31))))
+said = tpm("auth of 33 bytes, whole or cut, also where they are zeros: SIZE/p1")
+said.fails(raw(sized(b"a" * 33) + good), raw(sized(bytes(33)) + good), raw(number(33, 2)))
 empty = sized(b"")
 tpm.fails(
     "publicInfo that is cut: before its size, within it, and within its bytes: INSUFFICIENT/p2",
     *(raw(empty + it) for it in (b"", b"\0", good[:-1], b"\xff\xff")),
 )
 text = area().text
-tpm.fails(
-    "Its size does not reach to the end of its fields: SIZE/p2",
-    *(raw(empty + sized(text[:length])) for length in range(len(text))),
-)
-tpm.fails(
-    "Its size reaches beyond them, or dataSize is behind it: SIZE/p2",
-    raw(empty + sized(text + b"\0")),
-    raw(empty + sized(text[:-2]) + text[-2:]),
-)
+said = tpm("Its size does not reach to the end of its fields: SIZE/p2")
+said.fails(*(raw(empty + sized(text[:length])) for length in range(len(text))))
+said = tpm("Its size reaches beyond them, or dataSize is behind it: SIZE/p2")
+said.fails(raw(empty + sized(text + b"\0")), raw(empty + sized(text[:-2]) + text[-2:]))
 tpm.fails("A byte behind publicInfo: SIZE", raw(empty + good + b"\0"))
 unfitting(
     "nvIndex that is no handle of an index: VALUE/p2",
@@ -238,14 +227,10 @@ for what, code, at, bad in (
             text[:at] + number(BY_OWNER | 1 << it, 4) + text[at + size :] for it in range(20, 25)
         ]
     tpm.fails(f"{what}: {code}", *(raw(empty + sized(it)) for it in texts))
-tpm.fails(
-    "authPolicy of 33 bytes: SIZE/p2",
-    *(raw(empty + sized(area(auth_policy=it).text)) for it in (bytes(33), b"p" * 33)),
-)
-tpm.fails(
-    "A wrong nvIndex is found before a wrong nameAlg, as they are read in order: VALUE/p2",
-    raw(empty + sized(number(0, 6))),
-)
+said = tpm("authPolicy of 33 bytes: SIZE/p2")
+said.fails(*(raw(empty + sized(area(auth_policy=it).text)) for it in (bytes(33), b"p" * 33)))
+said = tpm("A wrong nvIndex is found before a wrong nameAlg, as they are read in order: VALUE/p2")
+said.fails(raw(empty + sized(number(0, 6))))
 
 handles()
 sizes()

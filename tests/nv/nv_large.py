@@ -93,10 +93,8 @@ tpm("TPM2_NV_Write of fewer bytes: NV_RANGE").writing(THIRD, b"x", by=RH_OWNER)
 write("TPM2_NV_Write of all again", THIRD, data[::-1])
 read("TPM2_NV_Read", THIRD, data[::-1])
 tpm("It is undefined").undefining(THIRD)
-tpm.define(
-    "One of 1,025 bytes, which cannot be written at all",
-    area(THIRD, BY_OWNER | Attribute.WRITEALL, size=1025),
-)
+said = tpm("One of 1,025 bytes, which cannot be written at all")
+said.define(area(THIRD, BY_OWNER | Attribute.WRITEALL, size=1025))
 tpm("TPM2_NV_Write of 1,024 bytes: NV_RANGE").writing(THIRD, bytes(1024), by=RH_OWNER)
 tpm("It is undefined").undefining(THIRD)
 tpm.define("One of no bytes", area(THIRD, BY_OWNER | Attribute.WRITEALL, size=0))

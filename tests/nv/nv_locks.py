@@ -202,10 +202,8 @@ tpm.power()
 tpm.script.startup()
 tpm.is_now("After two power cycles and a start", FIRST, cleared=WRITTEN | WRITE_LOCKED)
 write()
-tpm.raw(
-    "TPM2_Startup(CLEAR) on a device that is started: INITIALIZE",
-    frames.command(CC.Startup, frames.number(0, 2)),
-)
+said = tpm("TPM2_Startup(CLEAR) on a device that is started: INITIALIZE")
+said.raw(frames.command(CC.Startup, frames.number(0, 2)))
 tpm.is_now("Changes nothing", FIRST)
 undefine()
 

@@ -61,18 +61,13 @@ def availability():
         for name, is_reading, prepare in COMMANDS:
             if is_reading == writes:
                 says("TPM2_PolicyAuthValue", tpm.auth_value_told(session))
-                tpm.fails(
-                    f"{name} by the policy: AUTH_UNAVAILABLE",
-                    prepare(Use(session, demand=AUTH_VALUE)),
-                )
+                said = tpm(f"{name} by the policy: AUTH_UNAVAILABLE")
+                said.fails(prepare(Use(session, demand=AUTH_VALUE)))
                 says("TPM2_PolicyRestart", tpm.restart(session))
             else:
                 tpm.fails(f"{name} by the password: AUTH_UNAVAILABLE", prepare(b"a"))
-                tpm.fails(
-                    "By a wrong one, or an HMAC session: AUTH_UNAVAILABLE",
-                    prepare(b"x"),
-                    prepare(hmac),
-                )
+                said = tpm("By a wrong one, or an HMAC session: AUTH_UNAVAILABLE")
+                said.fails(prepare(b"x"), prepare(hmac))
         undefine(FIRST)
 
     tpm.chapter("With all attributes and without a policy.")
@@ -183,9 +178,8 @@ def who_authorizes():
     tpm.chapter("The policy is that of the index that authorizes, and of no other entity.")
     auth_policy = after_auth_value()
     tpm.define("An index", area(FIRST, BY_POLICY | BY_OWNER, auth_policy=auth_policy), auth=b"a")
-    tpm.define(
-        "Another one with the same", area(SECOND, BY_POLICY, auth_policy=auth_policy), auth=b"a"
-    )
+    said = tpm("Another one with the same")
+    said.define(area(SECOND, BY_POLICY, auth_policy=auth_policy), auth=b"a")
     tpm.define("A third one with another", area(THIRD, BY_POLICY, auth_policy=bytes(32)), auth=b"a")
     session = tpm.policy("A policy session")
     by_value = lambda: Use(session, demand=AUTH_VALUE)

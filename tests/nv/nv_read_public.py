@@ -69,10 +69,8 @@ tpm.fails(
     "AUTH_FAIL/s1",
     tpm.index_public(SECOND, encrypting).but_entry(1, hmac=bytes(32)),
 )
-tpm.fails(
-    "And of the session without a key: BAD_AUTH/s1",
-    tpm.index_public(SECOND, plain).but_entry(1, hmac=bytes(32)),
-)
+said = tpm("And of the session without a key: BAD_AUTH/s1")
+said.fails(tpm.index_public(SECOND, plain).but_entry(1, hmac=bytes(32)))
 tpm.is_now("And it ends with the command", SECOND, Use(plain, 0))
 
 tpm.chapter("Handles.")
@@ -81,8 +79,6 @@ tpm.fails(
     "What is no index: the owner, PCR 0, an object, a persistent one and a session: VALUE/h1",
     *(right.but(handles=[it]) for it in (RH_OWNER, 0, 0x8000_0000, 0x8100_0000, encrypting.handle)),
 )
-tpm.fails(
-    "Indices that are not defined: HANDLE/h1",
-    *(right.but(handles=[it]) for it in (0x0100_0000, 0x0100_0003, 0x01FF_FFFF)),
-)
+said = tpm("Indices that are not defined: HANDLE/h1")
+said.fails(*(right.but(handles=[it]) for it in (0x0100_0000, 0x0100_0003, 0x01FF_FFFF)))
 tpm.fails("A byte behind the handle: SIZE", right.but(parameters=b"\0"))

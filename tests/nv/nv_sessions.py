@@ -77,26 +77,17 @@ def bound():
     session = tpm.start("A session that is bound to the first", bind=FIRST)
     tpm("TPM2_NV_Write of the second").writing(SECOND, DATA, session)
     tpm("TPM2_NV_Write of the first").writing(FIRST, DATA, session)
-    tpm.fails(
-        "A wrong hmac on the second, which has NO_DA, is a try at the first: AUTH_FAIL/s1",
-        tpm.writing(SECOND, DATA, session).but_entry(1, hmac=bytes(32)),
-    )
+    said = tpm("A wrong hmac on the second, which has NO_DA, is a try at the first: AUTH_FAIL/s1")
+    said.fails(tpm.writing(SECOND, DATA, session).but_entry(1, hmac=bytes(32)))
     other = tpm.start("A session that is bound to the second", bind=SECOND)
-    tpm.fails(
-        "A wrong hmac by it on the second is none: BAD_AUTH/s1",
-        tpm.writing(SECOND, DATA, other).but_entry(1, hmac=bytes(32)),
-    )
-    tpm.fails(
-        "On the first it is: AUTH_FAIL/s1",
-        tpm.writing(FIRST, DATA, other).but_entry(1, hmac=bytes(32)),
-    )
-    tpm.fails(
-        "A wrong hmac by the first session on TPM_RH_OWNER: AUTH_FAIL/s1",
-        tpm.undefining(FIRST, session).but_entry(1, hmac=bytes(32)),
-    )
-    tpm.fails(
-        "And by the second: BAD_AUTH/s1", tpm.undefining(FIRST, other).but_entry(1, hmac=bytes(32))
-    )
+    said = tpm("A wrong hmac by it on the second is none: BAD_AUTH/s1")
+    said.fails(tpm.writing(SECOND, DATA, other).but_entry(1, hmac=bytes(32)))
+    said = tpm("On the first it is: AUTH_FAIL/s1")
+    said.fails(tpm.writing(FIRST, DATA, other).but_entry(1, hmac=bytes(32)))
+    said = tpm("A wrong hmac by the first session on TPM_RH_OWNER: AUTH_FAIL/s1")
+    said.fails(tpm.undefining(FIRST, session).but_entry(1, hmac=bytes(32)))
+    said = tpm("And by the second: BAD_AUTH/s1")
+    said.fails(tpm.undefining(FIRST, other).but_entry(1, hmac=bytes(32)))
     tpm("A wrong password of the second: BAD_AUTH/s1").reading(SECOND, 1, b"x")
     tpm("Of the first: AUTH_FAIL/s1").reading(FIRST, 1, b"x")
     flush(session, other)
@@ -124,17 +115,12 @@ def encryption():
     said = tpm("The password authorizes, and a session beside it encrypts")
     said.writing(FIRST, b"8 others", b"hidden", Use(session, DECRYPTS))
     tpm.read("So in TPM2_NV_Read", FIRST, b"8 others", b"hidden", Use(owner, ENCRYPTS))
-    tpm.read(
-        "One session authorizes, another encrypts", FIRST, b"8 others", plain, Use(owner, ENCRYPTS)
-    )
+    said = tpm("One session authorizes, another encrypts")
+    said.read(FIRST, b"8 others", plain, Use(owner, ENCRYPTS))
     tpm("No bytes to encrypt").writing(FIRST, b"", Use(session, DECRYPTS), offset=3)
     whole = bytes(range(256)) * 4
-    tpm.define(
-        "An index of 1,024 bytes",
-        area(0x0100_0005, BY_VALUE, size=1024),
-        Use(owner, DECRYPTS),
-        auth=b"long",
-    )
+    said = tpm("An index of 1,024 bytes")
+    said.define(area(0x0100_0005, BY_VALUE, size=1024), Use(owner, DECRYPTS), auth=b"long")
     said = tpm("TPM2_NV_Write of 1,024 bytes that are encrypted")
     said.writing(0x0100_0005, whole, Use(session, DECRYPTS))
     tpm.read("TPM2_NV_Read", 0x0100_0005, whole, Use(session, ENCRYPTS))
@@ -164,10 +150,8 @@ def encryption():
             ),
         ),
     ):
-        tpm.fails(
-            f"{what}: ATTRIBUTES/s1",
-            *(it.but_entry(1, attributes=CONTINUE_SESSION | attribute) for it in commands),
-        )
+        said = tpm(f"{what}: ATTRIBUTES/s1")
+        said.fails(*(it.but_entry(1, attributes=CONTINUE_SESSION | attribute) for it in commands))
     none = tpm.start("A session without AES", bind=FIRST)
     tpm.fails(
         "It cannot encrypt: SYMMETRIC/s1",
@@ -254,9 +238,8 @@ for algorithm, name in ((SHA256, "SHA-256"), (SHA1, "SHA-1")):
         tpm.does("The first change", change())
         tpm.does("The second", change())
         wrong = change()
-        tpm.fails(
-            "A wrong hmac: AUTH_FAIL/s1", wrong.but_entry(1, hmac=flipped(wrong.entries[0].hmac))
-        )
+        said = tpm("A wrong hmac: AUTH_FAIL/s1")
+        said.fails(wrong.but_entry(1, hmac=flipped(wrong.entries[0].hmac)))
         tpm.fails("None: AUTH_FAIL/s1", wrong.but_entry(1, hmac=b""))
         tpm("TPM2_NV_Read").reading(index, 8, session)
         tpm("TPM2_NV_WriteLock").write_locking(index, session)

@@ -28,12 +28,8 @@ tpm.fails(
     tpm.reading(FIRST, 1, by=RH_OWNER),
     tpm.writing(FIRST, b"x", by=RH_OWNER),
 )
-tpm.fails(
-    "By the index itself, and in TPM2_NV_ReadPublic and TPM2_NV_ChangeAuth: HANDLE/h1",
-    tpm.reading(FIRST, 1),
-    tpm.index_public(FIRST),
-    tpm.changing_auth(FIRST, b"x"),
-)
+said = tpm("By the index itself, and in TPM2_NV_ReadPublic and TPM2_NV_ChangeAuth: HANDLE/h1")
+said.fails(tpm.reading(FIRST, 1), tpm.index_public(FIRST), tpm.changing_auth(FIRST, b"x"))
 tpm("The platform's by the platform").undefining(SECOND, by=RH_PLATFORM)
 
 tpm.chapter("What is defined again is new.")
@@ -51,16 +47,13 @@ tpm.fails(
     "authHandle that is an index, TPM_RH_ENDORSEMENT, TPM_RH_NULL, a PCR or a session: VALUE/h1",
     *(right.but(handles=[it, FIRST]) for it in (FIRST, RH_ENDORSEMENT, RH_NULL, 0, 0x0300_0000)),
 )
-tpm.fails(
-    "nvIndex that is none: VALUE/h2",
-    *(right.but(handles=[RH_OWNER, it]) for it in (RH_OWNER, 0, 0x8000_0000, 0x8100_0000)),
-)
+said = tpm("nvIndex that is none: VALUE/h2")
+said.fails(*(right.but(handles=[RH_OWNER, it]) for it in (RH_OWNER, 0, 0x8000_0000, 0x8100_0000)))
 tpm.fails("An index that is not there: HANDLE/h2", right.but(handles=[RH_OWNER, THIRD]))
 tpm.fails("Without sessions: AUTH_MISSING", right.but(entries=[]))
 tpm('ownerAuth becomes "abc"').change_auth(RH_OWNER, b"abc", b"")
-tpm.fails(
-    "By the empty password, and by the index's: BAD_AUTH/s1", right, tpm.undefining(FIRST, b"a")
-)
+said = tpm("By the empty password, and by the index's: BAD_AUTH/s1")
+said.fails(right, tpm.undefining(FIRST, b"a"))
 tpm.fails("A byte behind the area: SIZE", tpm.undefining(FIRST).but(parameters=b"\0"))
 tpm("By the right one").undefining(FIRST)
 
@@ -74,8 +67,7 @@ tpm.fails("A wrong hmac: BAD_AUTH/s1", wrong.but_entry(1, hmac=bytes(32)))
 said = tpm("TPM2_NV_UndefineSpace by the first; the second, whose index it is, stands beside it")
 said.undefining(FIRST, bound, of_index)
 tpm("The second is there yet, and only encrypts").random(4, of_index)
-tpm.define(
-    "The index is defined again, with the same value", area(FIRST, BY_VALUE), bound, auth=b"a"
-)
+said = tpm("The index is defined again, with the same value")
+said.define(area(FIRST, BY_VALUE), bound, auth=b"a")
 said = tpm("Its session is bound to it again, as Name and value are those of then")
 said.writing(FIRST, b"x", of_index)

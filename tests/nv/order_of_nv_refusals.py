@@ -42,10 +42,8 @@ def handles_in_order(code, handles):
             is_of_kind = handle_kinds.IS_OF_KIND[code.handles[place - 1].kind]
             if len(text) == 4 and absent != RH_LOCKOUT and not is_of_kind(absent):
                 continue
-            tpm.raw(
-                f"Handle {place}. {what}, and no sessions: {outcome}",
-                command(code, before + text, frames.NO_SESSIONS),
-            )
+            said = tpm(f"Handle {place}. {what}, and no sessions: {outcome}")
+            said.raw(command(code, before + text, frames.NO_SESSIONS))
 
 
 def general_refusals(code, handles, cut, uses):
@@ -54,23 +52,17 @@ def general_refusals(code, handles, cut, uses):
     text = b"".join(number(it, 4) for it in handles)
     if code.authorized:
         tpm.raw("No sessions: AUTH_MISSING", command(code, text + cut))
-    tpm.raw(
-        "An area of eight bytes: AUTHSIZE",
-        command(code, text + entries_area(bytes(8)) + cut, frames.SESSIONS),
-    )
+    said = tpm("An area of eight bytes: AUTHSIZE")
+    said.raw(command(code, text + entries_area(bytes(8)) + cut, frames.SESSIONS))
     prepared = tpm.prepare(code, handles, cut, *uses)
     last = len(uses)
-    tpm.refused(
-        f"A wrong first entry, and the last one is not there: REFERENCE_S{last - 1}",
-        prepared.but(entries=[*wrong(prepared, 1).entries[:-1], ABSENT_SESSION]),
-    )
+    said = tpm(f"A wrong first entry, and the last one is not there: REFERENCE_S{last - 1}")
+    said.refused(prepared.but(entries=[*wrong(prepared, 1).entries[:-1], ABSENT_SESSION]))
     is_first = handle_kinds.IS_OF_KIND[code.handles[0].kind]
     if code.authorized and is_first(BY_OTHERS) and code != CC.NV_ChangeAuth:
         unavailable = tpm.prepare(code, [BY_OTHERS, *handles[1:]], cut, *uses)
-        tpm.refused(
-            "Both entries are wrong, on an index that no password can use: AUTH_UNAVAILABLE",
-            wrong(unavailable, 1, last),
-        )
+        said = tpm("Both entries are wrong, on an index that no password can use: AUTH_UNAVAILABLE")
+        said.refused(wrong(unavailable, 1, last))
     if last > 1:
         refused = "AUTH_FAIL/s1" if handle_kinds.is_index(handles[0]) else "BAD_AUTH/s1"
         tpm.refused(f"Both entries are wrong: {refused}", wrong(prepared, 1, last))
@@ -317,12 +309,8 @@ for index, public in enumerate(
     )
 ):
     tpm.define("They are defined" if index == 0 else "", public, auth=VALUE)
-tpm.define(
-    "One of the platform's",
-    area(PLATFORMS, BY_VALUE | Attribute.PLATFORMCREATE),
-    auth=VALUE,
-    by=RH_PLATFORM,
-)
+said = tpm("One of the platform's")
+said.define(area(PLATFORMS, BY_VALUE | Attribute.PLATFORMCREATE), auth=VALUE, by=RH_PLATFORM)
 tpm("The ordinary one is written").writing(ORDINARY, b"8 bytes.")
 for index, lock in (
     (LOCKED_ORDINARY, tpm.write_locking),

@@ -35,17 +35,14 @@ refused(
     "A persistent object, while there is none: HANDLE/h1",
     *map(under, (0x8100_0000, 0x8180_0000, 0x81FF_FFFF)),
 )
-parent = tpm.create_primary(
-    'A storage key, whose value is "parent"', RH_OWNER, storage_key(), user_auth=b"parent"
-)
+said = tpm('A storage key, whose value is "parent"')
+parent = said.create_primary(RH_OWNER, storage_key(), user_auth=b"parent")
 refused(
     "Another number is still not there: REFERENCE_H0",
     *(under(it, b"parent") for it in (0x8000_0001, 0x8000_0007, 0x8001_0000)),
 )
-tpm.raw(
-    "It has to be authorized: no sessions (tag 8001): AUTH_MISSING",
-    frames.command(CC.Create, number(parent, 4)),
-)
+said = tpm("It has to be authorized: no sessions (tag 8001): AUTH_MISSING")
+said.raw(frames.command(CC.Create, number(parent, 4)))
 refused("By another password: BAD_AUTH/s1", under(parent, b"Parent"))
 guarded = tpm.create_primary(
     "A storage key without noDA",
@@ -131,9 +128,8 @@ prepared = tpm.child(
     outside_info=b"o" * 34,
     pcrs=16 * [(SHA256, range(24))],
 )
-response = tpm.raw(
-    "TPM2_Create with three sessions, of which the last ends: SUCCESS", prepared.buffer()
-)
+said = tpm("TPM2_Create with three sessions, of which the last ends: SUCCESS")
+response = said.raw(prepared.buffer())
 tpm.received(prepared, response)
 assert [it.nonce_tpm for it in long] == [RANDOM[at : at + 32] for at in (80, 112, 144)]
 

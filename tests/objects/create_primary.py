@@ -37,10 +37,8 @@ tpm.chapter(
     "empty. No outsideInfo, and no PCRs."
 )
 jefe = "0008 0000 0004 4A656665 0010 0008 000B 00040440 0000 0005 000B 0000 0000 00000000"
-tpm.raw(
-    "TPM2_CreatePrimary in TPM_RH_OWNER: the object is 80000000: SUCCESS",
-    on_handle(CC.CreatePrimary, RH_OWNER, bytes.fromhex(jefe)),
-)
+said = tpm("TPM2_CreatePrimary in TPM_RH_OWNER: the object is 80000000: SUCCESS")
+said.raw(on_handle(CC.CreatePrimary, RH_OWNER, bytes.fromhex(jefe)))
 FIRST = 0x8000_0000
 answer = tpm.raw(
     'TPM2_HMAC of "what do ya want for nothing?" with SHA-256, which is test case 2 of RFC 4231: '
@@ -48,10 +46,8 @@ answer = tpm.raw(
     on_handle(CC.HMAC, FIRST, sized(QUESTION) + number(SHA256, 2)),
 )
 assert mac(SHA256, b"Jefe", QUESTION) in answer
-tpm.raw(
-    "With SHA-1, which is not its scheme's: VALUE/p2",
-    on_handle(CC.HMAC, FIRST, sized(QUESTION) + number(SHA1, 2)),
-)
+said = tpm("With SHA-1, which is not its scheme's: VALUE/p2")
+said.raw(on_handle(CC.HMAC, FIRST, sized(QUESTION) + number(SHA1, 2)))
 tpm.raw("TPM2_Unseal: it is a key: ATTRIBUTES/h1", on_handle(CC.Unseal, FIRST))
 tpm("It is flushed").flush(FIRST)
 
@@ -67,16 +63,13 @@ tpm.says(
         )
     ),
 )
-tpm.raw(
-    "It has to be authorized: no sessions (tag 8001): AUTH_MISSING",
-    frames.command(CC.CreatePrimary, number(RH_OWNER, 4)),
-)
+said = tpm("It has to be authorized: no sessions (tag 8001): AUTH_MISSING")
+said.raw(frames.command(CC.CreatePrimary, number(RH_OWNER, 4)))
 tpm.accepted('The value of TPM_RH_OWNER is "owner"', tpm.change_auth(RH_OWNER, b"owner", b""))
 refused("By the empty password: BAD_AUTH/s1", RH_OWNER, storage_key(), b"")
 session = tpm.start("An HMAC session")
-by_session = tpm.create_primary(
-    "By that session", RH_OWNER, storage_key(), session, user_auth=b"abc"
-)
+said = tpm("By that session")
+by_session = said.create_primary(RH_OWNER, storage_key(), session, user_auth=b"abc")
 tpm.flush_objects("The object is flushed", by_session)
 
 tpm.chapter("The same template and the same hierarchy give the same object, whatever is drawn.")

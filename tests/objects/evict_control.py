@@ -193,20 +193,14 @@ def use():
     below = tpm.read_public("Its qualified name is of the parent's", handle)
     tpm.keep("It stays as 81000001", RH_OWNER, handle, OTHER)
     assert tpm.read_public("It is the same there", OTHER) == below
-    mac_key = tpm.create_primary(
-        "An HMAC key of the endorsement hierarchy",
-        RH_ENDORSEMENT,
-        hmac_key(),
-        user_auth=b"mac",
-        data=b"a key",
-    )
+    said = tpm("An HMAC key of the endorsement hierarchy")
+    mac_key = said.create_primary(RH_ENDORSEMENT, hmac_key(), user_auth=b"mac", data=b"a key")
     session = tpm.start("A session that is bound to it", mac_key)
     tpm.keep("It stays as 81000002", RH_OWNER, mac_key, 0x8100_0002)
     first = tpm("TPM2_HMAC by it").hmac(mac_key, b"data", SHA256, session)
     tpm.flush_objects("The transient one is flushed", mac_key)
-    second = tpm("The session is bound to the persistent one too, as both have one Name").hmac(
-        0x8100_0002, b"data", SHA256, session
-    )
+    said = tpm("The session is bound to the persistent one too, as both have one Name")
+    second = said.hmac(0x8100_0002, b"data", SHA256, session)
     assert first == second
     restarts()
 

@@ -34,10 +34,8 @@ for place in range(1, PLACES):
 full = tpm.primary(RH_OWNER, storage_key())
 tpm.says("A ninth object: OBJECT_MEMORY", full)
 tpm.raw("Numbers past the eight: HANDLE/p1", *map(flush, ABSENT[2:]))
-tpm.raw(
-    "With sessions (tag 8002): AUTH_CONTEXT",
-    command(CC.FlushContext, frames.area(frames.entry()) + number(parent, 4), frames.SESSIONS),
-)
+said = tpm("With sessions (tag 8002): AUTH_CONTEXT")
+said.raw(command(CC.FlushContext, frames.area(frames.entry()) + number(parent, 4), frames.SESSIONS))
 tpm.raw("Three bytes of a handle: INSUFFICIENT/p1", command(CC.FlushContext, b"\x80\0\0"))
 tpm.raw("A byte behind it: SIZE", command(CC.FlushContext, number(parent, 4) + b"\0"))
 
@@ -51,9 +49,8 @@ for places in ((7,), (0,), (3, 1), (2, 5, 4), (6, 0, 7)):
         tpm.raw("Once more: HANDLE/p1", flush(FIRST + place))
         tpm("It is no more: REFERENCE_H0").public(FIRST + place)
     for place in sorted(places):
-        handle = tpm.create_primary(
-            f"TPM2_CreatePrimary: it is 8000000{place}", RH_NULL, hmac_key(), data=b"key"
-        )
+        said = tpm(f"TPM2_CreatePrimary: it is 8000000{place}")
+        handle = said.create_primary(RH_NULL, hmac_key(), data=b"key")
         assert place_of(handle) == place
     tpm("And no more: OBJECT_MEMORY").primary(RH_NULL, hmac_key(), data=b"key")
 

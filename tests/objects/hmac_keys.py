@@ -42,9 +42,8 @@ CASES = (
     (6, b"\xaa" * 80, b"Test Using Larger Than Block-Size Key - Hash Key First"),
 )
 for case, key, data in CASES:
-    handle = tpm.create_primary(
-        f"The key of case {case}, with scheme NULL", RH_NULL, hmac_key(scheme=ALG_NULL), data=key
-    )
+    said = tpm(f"The key of case {case}, with scheme NULL")
+    handle = said.create_primary(RH_NULL, hmac_key(scheme=ALG_NULL), data=key)
     is_hmac("TPM2_HMAC with SHA-1", handle, key, data, SHA1, SHA1)
     is_hmac("With SHA-256", handle, key, data, SHA256, SHA256)
     tpm.flush_objects("It is flushed", handle)
@@ -65,9 +64,8 @@ for scheme, name in ((SHA1, "SHA-1"), (SHA256, "SHA-256")):
         is_hmac("TPM_ALG_NULL, for its own", handle, b"key", b"text", ALG_NULL, scheme)
         refused("The other: VALUE/p2", tpm.hmac(handle, b"text", other))
         tpm.flush_objects("It is flushed", handle)
-key = tpm.create_primary(
-    "A key of scheme NULL", RH_OWNER, hmac_key(scheme=ALG_NULL), user_auth=b"a", data=b"key"
-)
+said = tpm("A key of scheme NULL")
+key = said.create_primary(RH_OWNER, hmac_key(scheme=ALG_NULL), user_auth=b"a", data=b"key")
 refused("TPM_ALG_NULL: VALUE/p2", tpm.hmac(key, b"text", ALG_NULL))
 
 tpm.chapter("Sizes, and what cannot be read.")
@@ -95,10 +93,8 @@ refused(
 )
 whole = tpm.hmac(key, b"text", SHA256)
 refused("A byte behind it: SIZE", whole.but(parameters=whole.parameters + b"\0"))
-tpm.raw(
-    "It has to be authorized: no sessions (tag 8001): AUTH_MISSING",
-    frames.command(CC.HMAC, number(key, 4) + whole.parameters),
-)
+said = tpm("It has to be authorized: no sessions (tag 8001): AUTH_MISSING")
+said.raw(frames.command(CC.HMAC, number(key, 4) + whole.parameters))
 refused("By another value: BAD_AUTH/s1", tpm.hmac(key, b"text", SHA256, b"b"))
 tpm.flush_objects("It is flushed", key)
 

@@ -14,16 +14,10 @@ tpm = Teller(
 )
 refused = tpm.says
 
-parent = tpm.create_primary(
-    'A storage key, whose value is "parent"', RH_OWNER, storage_key(), user_auth=b"parent"
-)
-made = tpm.create(
-    'TPM2_Create: sealed data, whose value is "child"',
-    parent,
-    sealed(),
-    user_auth=b"child",
-    data=b"secret",
-)
+said = tpm('A storage key, whose value is "parent"')
+parent = said.create_primary(RH_OWNER, storage_key(), user_auth=b"parent")
+said = tpm('TPM2_Create: sealed data, whose value is "child"')
+made = said.create(parent, sealed(), user_auth=b"child", data=b"secret")
 
 tpm.chapter("parentHandle.")
 refused(
@@ -38,10 +32,8 @@ refused(
     *(tpm.loading(it, made) for it in (0x8000_0001, 0x8000_0008, 0x80FF_FFFF)),
 )
 refused("A persistent object: HANDLE/h1", tpm.loading(0x8100_0000, made))
-tpm.raw(
-    "It has to be authorized: no sessions (tag 8001): AUTH_MISSING",
-    frames.command(CC.Load, number(parent, 4)),
-)
+said = tpm("It has to be authorized: no sessions (tag 8001): AUTH_MISSING")
+said.raw(frames.command(CC.Load, number(parent, 4)))
 refused("By the value of the child: BAD_AUTH/s1", tpm.loading(parent, made, b"child"))
 
 tpm.chapter("An object is loaded as often as there are places.")
@@ -61,20 +53,17 @@ refused("Sealed data are no parent: TYPE/h1", tpm.loading(by_session, made))
 tpm.flush_objects("It is flushed", by_session)
 
 tpm.chapter("inPrivate belongs to one parent and to one public area.")
-twin = tpm.create_primary(
-    "Another primary key", RH_OWNER, storage_key(unique=b"twin"), user_auth=b"parent"
-)
+said = tpm("Another primary key")
+twin = said.create_primary(RH_OWNER, storage_key(unique=b"twin"), user_auth=b"parent")
 refused("TPM2_Load under it: INTEGRITY/p1", tpm.loading(twin, made))
 tpm.flush_objects("It is flushed", twin)
-same = tpm.create_primary(
-    "The same primary key once more", RH_OWNER, storage_key(), user_auth=b"parent"
-)
+said = tpm("The same primary key once more")
+same = said.create_primary(RH_OWNER, storage_key(), user_auth=b"parent")
 loaded = tpm.load("TPM2_Load under it", same, made)
 tpm.unseal("TPM2_Unseal", loaded, b"secret")
 tpm.flush_objects("Both are flushed", loaded, same)
-alien = tpm.create_primary(
-    "The same template in TPM_RH_ENDORSEMENT", RH_ENDORSEMENT, storage_key(), user_auth=b"parent"
-)
+said = tpm("The same template in TPM_RH_ENDORSEMENT")
+alien = said.create_primary(RH_ENDORSEMENT, storage_key(), user_auth=b"parent")
 refused("TPM2_Load under it: INTEGRITY/p1", tpm.loading(alien, made))
 tpm.flush_objects("It is flushed", alien)
 
@@ -126,13 +115,8 @@ refused(
     "inPublic does: INSUFFICIENT/p2",
     whole.but(parameters=sized(made.private) + number(200, 2) + made.public.text),
 )
-longest = tpm.create(
-    "The longest private area of all: TPM2_Create",
-    parent,
-    sealed(auth_policy=bytes(32)),
-    user_auth=b"a" * 32,
-    data=b"d" * 128,
-)
+said = tpm("The longest private area of all: TPM2_Create")
+longest = said.create(parent, sealed(auth_policy=bytes(32)), user_auth=b"a" * 32, data=b"d" * 128)
 assert len(longest.private) == 254
 handle = tpm.load("TPM2_Load", parent, longest)
 tpm.unseal("TPM2_Unseal", handle, b"d" * 128)

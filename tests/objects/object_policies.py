@@ -62,13 +62,10 @@ for algorithm, hash_name in ((SHA256, "SHA-256"), (SHA1, "SHA-1")):
     says("TPM2_PolicyPassword", tpm.password_told(session))
     by_password = Use(session, demand=PASSWORD)
     right = tpm.unsealing(handle, by_password)
-    tpm.refused(
-        "An empty hmac, as the value is not empty: BAD_AUTH/s1", right.but_entry(1, hmac=b"")
-    )
-    tpm.refused(
-        "Another value: BAD_AUTH/s1",
-        *(right.but_entry(1, hmac=it) for it in (b"pi", b"pin1", b"\0pin", bytes(32))),
-    )
+    said = tpm("An empty hmac, as the value is not empty: BAD_AUTH/s1")
+    said.refused(right.but_entry(1, hmac=b""))
+    said = tpm("Another value: BAD_AUTH/s1")
+    said.refused(*(right.but_entry(1, hmac=it) for it in (b"pi", b"pin1", b"\0pin", bytes(32))))
     said = tpm("An hmac with the value in its key: BAD_AUTH/s1")
     said.unsealing(handle, Use(session, demand=AUTH_VALUE))
     tpm.unseal("The value, in plain, with continueSession", handle, SECRET, by_password)
@@ -165,12 +162,8 @@ bound = tpm.policy(
 )
 says("TPM2_PolicyCommandCode", tpm.command_code(bound, CC.Unseal))
 tpm.refused("An empty hmac: BAD_AUTH/s1", tpm.unsealing(handle, bound).but_entry(1, hmac=b""))
-tpm.unseal(
-    "The hmac by the session's key; outData is encrypted, with the value in that key",
-    handle,
-    SECRET,
-    Use(bound, CONTINUE_SESSION | ENCRYPT),
-)
+said = tpm("The hmac by the session's key; outData is encrypted, with the value in that key")
+said.unseal(handle, SECRET, Use(bound, CONTINUE_SESSION | ENCRYPT))
 says("TPM2_PolicyCommandCode", tpm.command_code(bound, CC.Unseal))
 tpm.unseal("Beside another session", handle, SECRET, bound, session)
 says("TPM2_PolicyCommandCode", tpm.command_code(bound, CC.Unseal))
@@ -201,9 +194,8 @@ def told_all(algorithm, values_digest, code=CC.Unseal, localities=1):
 PCR_16_DIGEST = digest(SHA256, bytes(32))
 right = told_all(SHA256, PCR_16_DIGEST)
 handle = sealed_by("An object with a policy of all of it", right)
-without = tpm.create_primary(
-    "An object that has no policy", RH_OWNER, sealed(), user_auth=PIN, data=SECRET
-)
+said = tpm("An object that has no policy")
+without = said.create_primary(RH_OWNER, sealed(), user_auth=PIN, data=SECRET)
 wrong_hash = bytes([7]) * 32
 
 
@@ -219,9 +211,8 @@ def wrong(handle, session):
 trial = tpm.trial("A trial session")
 tell_all(trial, wrong_hash, CC.Load, 2)
 tpm("PCR 16 is reset").reset(b"")
-tpm.refused(
-    "A trial session, for either object: ATTRIBUTES/s1", wrong(handle, trial), wrong(without, trial)
-)
+said = tpm("A trial session, for either object: ATTRIBUTES/s1")
+said.refused(wrong(handle, trial), wrong(without, trial))
 says("It is flushed", tpm.flush(trial))
 session = tpm.policy("A policy session, with SHA-256")
 tell_all(session, wrong_hash, CC.Load, 2)
@@ -345,9 +336,8 @@ made = tpm.create("TPM2_Create by the policy", guarded, sealed(), by_value, data
 aes = tpm.policy("A policy session with AES", aes=True)
 says("TPM2_PolicyAuthValue", tpm.auth_value_told(aes))
 hidden = Use(aes, DECRYPT | ENCRYPT, demand=AUTH_VALUE)
-child = tpm.load(
-    "TPM2_Load by the policy, with inPrivate and name encrypted", guarded, made, hidden
-)
+said = tpm("TPM2_Load by the policy, with inPrivate and name encrypted")
+child = said.load(guarded, made, hidden)
 tpm.unseal("TPM2_Unseal", child, SECRET)
 tpm.flush_objects("Both are flushed", child, guarded)
 
@@ -359,14 +349,11 @@ for what, attributes, outcome in (
     handle = sealed_by(what, AFTER_AUTH_VALUE[SHA256], attributes=HERE | USER | attributes)
     tpm(f"A wrong password: {outcome}").unsealing(handle, b"nip")
     plain = tpm.start("An HMAC session")
-    tpm.refused(
-        f"A wrong hmac: {outcome}", tpm.unsealing(handle, plain).but_entry(1, hmac=bytes(32))
-    )
+    said = tpm(f"A wrong hmac: {outcome}")
+    said.refused(tpm.unsealing(handle, plain).but_entry(1, hmac=bytes(32)))
     says("TPM2_PolicyPassword", tpm.password_told(session))
-    tpm.refused(
-        f"A wrong password, by the policy: {outcome}",
-        tpm.unsealing(handle, Use(session, demand=PASSWORD)).but_entry(1, hmac=b"nip"),
-    )
+    said = tpm(f"A wrong password, by the policy: {outcome}")
+    said.refused(tpm.unsealing(handle, Use(session, demand=PASSWORD)).but_entry(1, hmac=b"nip"))
     says("TPM2_PolicyRestart", tpm.restart(session))
     says("TPM2_PolicyAuthValue", tpm.auth_value_told(session))
     tpm.refused(
@@ -376,10 +363,8 @@ for what, attributes, outcome in (
     tpm.unseal("The right one", handle, SECRET, Use(session, demand=AUTH_VALUE))
     says("TPM2_PolicyPassword", tpm.password_told(session))
     says("TPM2_PolicyCommandCode", tpm.command_code(session, CC.Unseal))
-    tpm.refused(
-        "What is refused before it is compared is no try: POLICY_FAIL/s1",
-        tpm.unsealing(handle, Use(session, demand=PASSWORD)).but_entry(1, hmac=b"nip"),
-    )
+    said = tpm("What is refused before it is compared is no try: POLICY_FAIL/s1")
+    said.refused(tpm.unsealing(handle, Use(session, demand=PASSWORD)).but_entry(1, hmac=b"nip"))
     says("TPM2_PolicyRestart", tpm.restart(session))
     says("The HMAC session is flushed", tpm.flush(plain))
     tpm.flush_objects("The object is flushed", handle)

@@ -33,9 +33,8 @@ def primaries():
     for hierarchy, name in NAMES:
         handle = tpm.create_primary(f"A storage key in {name}", hierarchy, storage_key())
         names[hierarchy] = tpm.names[handle]
-        children[hierarchy] = tpm.create(
-            "TPM2_Create of sealed data", handle, sealed(), data=b"secret"
-        )
+        said = tpm("TPM2_Create of sealed data")
+        children[hierarchy] = said.create(handle, sealed(), data=b"secret")
         tpm.flush_objects("It is flushed", handle)
     return names, children
 
@@ -61,10 +60,8 @@ tpm.power()
 tpm("Before TPM2_Startup: INITIALIZE").public(handles[0])
 tpm.chapter("A refused TPM2_Startup draws nothing, and starts nothing.")
 tpm.script.entropy(bytes(range(128, 192)))
-tpm.raw(
-    "TPM2_Startup(STATE), while no state is saved: VALUE/p1",
-    frames.command(CC.Startup, number(1, 2)),
-)
+said = tpm("TPM2_Startup(STATE), while no state is saved: VALUE/p1")
+said.raw(frames.command(CC.Startup, number(1, 2)))
 start("The second start, with other random bytes.", bytes(range(64, 128)))
 tpm.forget(*handles)
 tpm.says("The objects are gone: REFERENCE_H0", *map(tpm.public, handles))

@@ -29,28 +29,20 @@ def general_refusals(code, handle, other_handle, cut, uses):
     def raw(handle_text, rest=b"", tag=frames.SESSIONS):
         return command(code, handle_text + rest, tag)
 
-    tpm.raw(
-        "Half a handle, and no sessions (tag 8001): INSUFFICIENT/h1",
-        raw(b"\x80\0", tag=frames.NO_SESSIONS),
-    )
-    tpm.raw(
-        "A handle of another kind, and no sessions: VALUE/h1",
-        raw(number(other_handle, 4), tag=frames.NO_SESSIONS),
-    )
+    said = tpm("Half a handle, and no sessions (tag 8001): INSUFFICIENT/h1")
+    said.raw(raw(b"\x80\0", tag=frames.NO_SESSIONS))
+    said = tpm("A handle of another kind, and no sessions: VALUE/h1")
+    said.raw(raw(number(other_handle, 4), tag=frames.NO_SESSIONS))
     if code != CC.CreatePrimary:
-        tpm.raw(
-            "An object that is not there, and no sessions: REFERENCE_H0",
-            raw(number(ABSENT, 4), tag=frames.NO_SESSIONS),
-        )
+        said = tpm("An object that is not there, and no sessions: REFERENCE_H0")
+        said.raw(raw(number(ABSENT, 4), tag=frames.NO_SESSIONS))
     if code != CC.ReadPublic:
         tpm.raw("No sessions: AUTH_MISSING", raw(number(handle, 4), cut, tag=frames.NO_SESSIONS))
     tpm.raw("An area of eight bytes: AUTHSIZE", raw(number(handle, 4), area(bytes(8)) + cut))
     prepared = tpm.prepare(code, [handle], cut, *uses)
     last = len(uses)
-    tpm.refused(
-        f"A wrong first entry, and the last one is not there: REFERENCE_S{last - 1}",
-        wrong(prepared, 1).but(entries=[*wrong(prepared, 1).entries[:-1], ABSENT_SESSION]),
-    )
+    said = tpm(f"A wrong first entry, and the last one is not there: REFERENCE_S{last - 1}")
+    said.refused(wrong(prepared, 1).but(entries=[*wrong(prepared, 1).entries[:-1], ABSENT_SESSION]))
     if last > 1:
         tpm.refused("Both entries are wrong: BAD_AUTH/s1", wrong(prepared, 1, 2))
     tpm.refused(f"The last one is: BAD_AUTH/s{last}", wrong(prepared, last))

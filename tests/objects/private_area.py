@@ -25,9 +25,8 @@ for algorithm, hash_name, step, words in (
     (SHA1, "SHA-1", 1, "each shorter length"),
     (SHA256, "SHA-256", 6, "shorter lengths"),
 ):
-    parent = tpm.create_primary(
-        f"A storage key with nameAlg {hash_name}", RH_OWNER, storage_key(algorithm)
-    )
+    said = tpm(f"A storage key with nameAlg {hash_name}")
+    parent = said.create_primary(RH_OWNER, storage_key(algorithm))
     made = tpm.create("TPM2_Create of a byte", parent, sealed(SHA1), data=b"x")
     private = made.private
     refused(
@@ -71,9 +70,8 @@ def sensitive(data=b"forged", auth=b"", seed=b"s" * 32, kind=KEYEDHASH):
 
 
 for algorithm, hash_name in ((SHA1, "SHA-1"), (SHA256, "SHA-256")):
-    parent = tpm.create_primary(
-        f"A storage key with nameAlg {hash_name}", RH_OWNER, storage_key(algorithm)
-    )
+    said = tpm(f"A storage key with nameAlg {hash_name}")
+    parent = said.create_primary(RH_OWNER, storage_key(algorithm))
     public = sealed(unique=b"u" * 32)
     private = forge(parent, public, sensitive())
     known = tpm.script.device.objects[parent]
@@ -196,9 +194,8 @@ for algorithm, hash_name in ((SHA1, "SHA-1"), (SHA256, "SHA-256")):
     session = tpm.start("A session that is bound to it", bind=handle)
     twin = tpm.load('That of the second is "b"', parent, second)
     assert tpm.names[handle] == tpm.names[twin]
-    tpm.unseal(
-        "To this the session is not bound: its value is in the key", twin, b"forged", session
-    )
+    said = tpm("To this the session is not bound: its value is in the key")
+    said.unseal(twin, b"forged", session)
     with tpm.breaking(key=lambda use, handle: use.session.key):
         tpm("Without it: BAD_AUTH/s1").unsealing(twin, session)
     tpm.unseal("To the first it is", handle, b"forged", session)
@@ -206,9 +203,8 @@ for algorithm, hash_name in ((SHA1, "SHA-1"), (SHA256, "SHA-256")):
     tpm.flush_objects("The objects are flushed", handle, twin)
     short = sealed(SHA1, unique=b"")
     private = forge(parent, short, sensitive(auth=b"a" * 32))
-    handle = tpm.load(
-        "A value that is longer than a digest of nameAlg", parent, Made(private, short, b"a" * 32)
-    )
+    said = tpm("A value that is longer than a digest of nameAlg")
+    handle = said.load(parent, Made(private, short, b"a" * 32))
     tpm.unseal("TPM2_Unseal", handle, b"forged")
     tpm.flush_objects("It is flushed", handle)
     private = forge(parent, public, sensitive(data=b"", seed=b""))
@@ -227,11 +223,8 @@ for algorithm, hash_name in ((SHA1, "SHA-1"), (SHA256, "SHA-256")):
     tpm.flush_objects("It is flushed", handle)
     chosen = Public(SYMCIPHER, SHA256, HERE | OPEN | STORES)
     private = forge(parent, chosen, sensitive(kind=SYMCIPHER, data=b"k", seed=b"chosen"))
-    handle = tpm.load(
-        "A storage key whose seed he chose, and whose key is of one byte",
-        parent,
-        Made(private, chosen, b""),
-    )
+    said = tpm("A storage key whose seed he chose, and whose key is of one byte")
+    handle = said.load(parent, Made(private, chosen, b""))
     made = tpm.create("TPM2_Create under it", handle, sealed(), data=b"secret")
     key = kdfa(SHA256, b"chosen", b"STORAGE", made.public.name, b"", 16)
     plain = aes.cfb_decrypt(key, made.private[36:52], made.private[52:])

@@ -21,9 +21,8 @@ def qualified(above, name, algorithm):
 
 for parent_algorithm, parent_hash in ALGORITHMS:
     tpm.chapter(f"A parent with nameAlg {parent_hash}.")
-    parent = tpm.create_primary(
-        "TPM2_CreatePrimary", RH_OWNER, storage_key(parent_algorithm), user_auth=b"parent"
-    )
+    said = tpm("TPM2_CreatePrimary")
+    parent = said.create_primary(RH_OWNER, storage_key(parent_algorithm), user_auth=b"parent")
     _, above = tpm.read_public("TPM2_ReadPublic", parent)
     assert above == qualified(number(RH_OWNER, 4), tpm.names[parent], parent_algorithm)
     for algorithm, hash_name in ALGORITHMS:
@@ -65,12 +64,8 @@ above.append(answered)
 links = []
 for place, algorithm in enumerate((SHA256, SHA1, SHA1, SHA256), 1):
     name = "SHA-1" if algorithm == SHA1 else "SHA-256"
-    made = tpm.create(
-        f"TPM2_Create of a storage key with {name}",
-        chain[-1],
-        storage_key(algorithm),
-        user_auth=b"%d" % place,
-    )
+    said = tpm(f"TPM2_Create of a storage key with {name}")
+    made = said.create(chain[-1], storage_key(algorithm), user_auth=b"%d" % place)
     links.append(made)
     chain.append(tpm.load("TPM2_Load", chain[-1], made))
     public, answered = tpm.read_public("TPM2_ReadPublic", chain[-1])
@@ -81,10 +76,8 @@ handle = tpm.load("TPM2_Load", chain[-1], leaf)
 tpm.unseal("TPM2_Unseal", handle, b"deep")
 _, answered = tpm.read_public("TPM2_ReadPublic", handle)
 assert answered == qualified(above[-1], leaf.public.name, SHA1)
-tpm.says(
-    "It is loaded under its own parent alone: INTEGRITY/p1",
-    *(tpm.loading(it, leaf) for it in chain[:-1]),
-)
+said = tpm("It is loaded under its own parent alone: INTEGRITY/p1")
+said.says(*(tpm.loading(it, leaf) for it in chain[:-1]))
 tpm.flush_objects("The parents are flushed", *chain)
 tpm.unseal("What was under them stays", handle, b"deep")
 _, again = tpm.read_public("And keeps its qualified name", handle)

@@ -69,10 +69,8 @@ for code, handle, name in TARGETS[:2]:
         number(300, 2) + whole,
         b"\xff\xff" + sized(bytes(33)),
     )
-    tpm.says(
-        "It is read before inPublic is, of which here the type is wrong: SIZE/p1",
-        raw(code, handle, sized(whole + b"\0"), sized(number(1, 2))),
-    )
+    said = tpm("It is read before inPublic is, of which here the type is wrong: SIZE/p1")
+    said.says(raw(code, handle, sized(whole + b"\0"), sized(number(1, 2))))
 
 # inPublic. With TPM2_Load the private area in front of it is empty, which would be refused later.
 
@@ -166,10 +164,8 @@ for code, handle, name in TARGETS:
         raw(code, handle, first, b"\xff\xff" + number(1, 2)),
     )
     behind = raw(code, handle, first, sized(number(1, 2)))
-    tpm.says(
-        "It is read before what is behind it, here too many bytes: TYPE/p2",
-        behind.but(parameters=behind.parameters + bytes(80)),
-    )
+    said = tpm("It is read before what is behind it, here too many bytes: TYPE/p2")
+    said.says(behind.but(parameters=behind.parameters + bytes(80)))
     behind = raw(code, handle, first, sized(hmac_key(auth_policy=b"p").text))
     tpm.says(
         "All is read before authPolicy is compared with nameAlg: "
@@ -255,9 +251,8 @@ for code, handle, name in TARGETS:
     )
 
 tpm.chapter("Under a parent without fixedTPM nothing has it; fixedParent may be or not.")
-movable = tpm.create_primary(
-    "A storage key without fixedTPM", RH_OWNER, storage_key(attributes=OPEN | STORES)
-)
+said = tpm("A storage key without fixedTPM")
+movable = said.create_primary(RH_OWNER, storage_key(attributes=OPEN | STORES))
 for code, name in ((CC.Create, "TPM2_Create"), (CC.Load, "TPM2_Load")):
     first = sized(b"") if code == CC.Load else SECRET
     tpm.says(
@@ -364,17 +359,13 @@ child = tpm.create("TPM2_Create of sealed data", parent, sealed(), data=b"secret
 key = tpm.load("TPM2_Load", parent, child)
 for code, name in ((CC.Create, "TPM2_Create"), (CC.Load, "TPM2_Load")):
     first = sized(b"") if code == CC.Load else SECRET
-    tpm.says(
-        f"{name} under what is no parent, of a wrong authPolicy: TYPE/h1",
-        raw(code, key, first, sized(sealed(auth_policy=b"p").text)),
-    )
+    said = tpm(f"{name} under what is no parent, of a wrong authPolicy: TYPE/h1")
+    said.says(raw(code, key, first, sized(sealed(auth_policy=b"p").text)))
     tpm.says(f"{name}, of what cannot be read: TYPE/p2", raw(code, key, first, sized(number(1, 2))))
 for place in range(6):
     tpm.load("" if place else "Eight objects are there", parent, child)
-tpm.says(
-    "TPM2_CreatePrimary of a ninth, with scheme HMAC and without sign: SCHEME/p2",
-    raw(CC.CreatePrimary, RH_OWNER, SECRET, sized(sealed(scheme=SHA256).text)),
-)
+said = tpm("TPM2_CreatePrimary of a ninth, with scheme HMAC and without sign: SCHEME/p2")
+said.says(raw(CC.CreatePrimary, RH_OWNER, SECRET, sized(sealed(scheme=SHA256).text)))
 tpm.says(
     "With a key of 15 bytes for a SYMCIPHER: SIZE/p1",
     raw(
@@ -385,13 +376,9 @@ tpm.says(
     ),
 )
 tpm.says("With nothing wrong: OBJECT_MEMORY", raw(CC.CreatePrimary, RH_OWNER, SECRET, GOOD))
-tpm.says(
-    "TPM2_Load of a ninth, with an empty private area: INTEGRITY/p1",
-    raw(CC.Load, parent, sized(b""), GOOD),
-)
-tpm.says(
-    "And fixedTPM without fixedParent: ATTRIBUTES/p2",
-    raw(CC.Load, parent, sized(b""), sized(sealed(attributes=FIXED_TPM | OPEN).text)),
-)
+said = tpm("TPM2_Load of a ninth, with an empty private area: INTEGRITY/p1")
+said.says(raw(CC.Load, parent, sized(b""), GOOD))
+said = tpm("And fixedTPM without fixedParent: ATTRIBUTES/p2")
+said.says(raw(CC.Load, parent, sized(b""), sized(sealed(attributes=FIXED_TPM | OPEN).text)))
 tpm("With nothing wrong: OBJECT_MEMORY").loading(parent, child)
 tpm.create("TPM2_Create needs no place", parent, sealed(), data=b"secret")

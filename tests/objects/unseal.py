@@ -41,10 +41,8 @@ for what, value, passwords, wrong in (
 ):
     made = tpm.create(f"{what}: TPM2_Create", parent, sealed(), user_auth=value, data=b"secret")
     handle = tpm.load("TPM2_Load", parent, made)
-    tpm.says(
-        "TPM2_Unseal by it, also with zeros behind it: SUCCESS",
-        *(tpm.unsealing(handle, it) for it in passwords),
-    )
+    said = tpm("TPM2_Unseal by it, also with zeros behind it: SUCCESS")
+    said.says(*(tpm.unsealing(handle, it) for it in passwords))
     refused("By others: BAD_AUTH/s1", *(tpm.unsealing(handle, it) for it in wrong))
     tpm.flush_objects("It is flushed", handle)
 guarded = sealed(attributes=HERE | Attribute.USER_WITH_AUTH)
@@ -70,10 +68,8 @@ refused(
 )
 tpm("Nor a session: AUTH_UNAVAILABLE").unsealing(handle, session)
 tpm("Of either type: AUTH_UNAVAILABLE").unsealing(handle, policy)
-tpm.raw(
-    "It has to be authorized: no sessions (tag 8001): AUTH_MISSING",
-    frames.command(CC.Unseal, number(handle, 4)),
-)
+said = tpm("It has to be authorized: no sessions (tag 8001): AUTH_MISSING")
+said.raw(frames.command(CC.Unseal, number(handle, 4)))
 tpm.flush_objects("It is flushed", handle)
 
 tpm.chapter("What is not sealed is not given out.")

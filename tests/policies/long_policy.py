@@ -50,10 +50,8 @@ for algorithm, name in HASHES:
     wanted = policy.after_or(algorithm, branches)
 
     for it in (trial, session):
-        tpm.accepted(
-            "TPM2_PolicySecret of TPM_RH_OWNER, with a policyRef",
-            tpm.secret(it, b"owner", of=RH_OWNER, policy_ref=REFERENCE),
-        )
+        said = tpm("TPM2_PolicySecret of TPM_RH_OWNER, with a policyRef")
+        said.accepted(tpm.secret(it, b"owner", of=RH_OWNER, policy_ref=REFERENCE))
     wanted = policy.after_secret(algorithm, wanted, name_of(RH_OWNER), REFERENCE)
 
     both("For Unseal", trial, session, lambda it: tpm.command_code(it, CC.Unseal))

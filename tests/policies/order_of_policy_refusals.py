@@ -36,34 +36,21 @@ def up_to_hmacs(code, text):
     def prepared(*uses, handle=policy.handle):
         return tpm.prepare(code, [handle], text, *uses)
 
-    tpm.refused(
-        "A handle of another kind, and an entry that is not there: VALUE/h1",
-        wrong(prepared(hmac, handle=hmac.handle), 1).but(entries=[ABSENT]),
-    )
-    tpm.refused(
-        "A session that is not there: REFERENCE_H0",
-        prepared(hmac, handle=ABSENT_POLICY).but(entries=[ABSENT]),
-    )
-    tpm.refused(
-        "A fourth entry, and one that is not there: AUTHSIZE",
-        prepared(hmac).but(entries=4 * [ABSENT]),
-    )
-    tpm.refused(
-        "A nonce of 33 bytes in the first entry, and the second is not there: SIZE/s1",
-        prepared(hmac).but(entries=[Entry(hmac.handle, bytes(33), 0xFF, b""), ABSENT]),
-    )
+    said = tpm("A handle of another kind, and an entry that is not there: VALUE/h1")
+    said.refused(wrong(prepared(hmac, handle=hmac.handle), 1).but(entries=[ABSENT]))
+    said = tpm("A session that is not there: REFERENCE_H0")
+    said.refused(prepared(hmac, handle=ABSENT_POLICY).but(entries=[ABSENT]))
+    said = tpm("A fourth entry, and one that is not there: AUTHSIZE")
+    said.refused(prepared(hmac).but(entries=4 * [ABSENT]))
+    said = tpm("A nonce of 33 bytes in the first entry, and the second is not there: SIZE/s1")
+    said.refused(prepared(hmac).but(entries=[Entry(hmac.handle, bytes(33), 0xFF, b""), ABSENT]))
     tpm.refused("An entry that is not there: REFERENCE_S0", prepared().but(entries=[ABSENT]))
-    tpm.refused(
-        "A password behind a session whose hmac is wrong: HANDLE/s2", wrong(prepared(hmac, b""), 1)
-    )
-    tpm.refused(
-        "Reserved attributes behind it: RESERVED_BITS/s2",
-        wrong(prepared(hmac, plain), 1).but_entry(2, attributes=0x98),
-    )
-    tpm.refused(
-        "audit behind it: ATTRIBUTES/s2",
-        wrong(prepared(hmac, plain), 1).but_entry(2, attributes=0x81),
-    )
+    said = tpm("A password behind a session whose hmac is wrong: HANDLE/s2")
+    said.refused(wrong(prepared(hmac, b""), 1))
+    said = tpm("Reserved attributes behind it: RESERVED_BITS/s2")
+    said.refused(wrong(prepared(hmac, plain), 1).but_entry(2, attributes=0x98))
+    said = tpm("audit behind it: ATTRIBUTES/s2")
+    said.refused(wrong(prepared(hmac, plain), 1).but_entry(2, attributes=0x81))
     tpm.refused("Both hmacs: BAD_AUTH/s1", wrong(prepared(hmac, policy), 1, 2))
     tpm.refused("The second one's: BAD_AUTH/s2", wrong(prepared(hmac, policy), 2))
 
@@ -88,10 +75,8 @@ for name, code in (
 
 tpm.chapter("TPM2_PolicyGetDigest with a byte too many.")
 up_to_hmacs(CC.PolicyGetDigest, b"\0")
-tpm.refused(
-    "encrypt in a session that cannot, and a wrong hmac before: SYMMETRIC/s2",
-    wrong(tpm.told(CC.PolicyGetDigest, policy, b"\0", hmac, Use(plain, ENCRYPTS)), 1),
-)
+said = tpm("encrypt in a session that cannot, and a wrong hmac before: SYMMETRIC/s2")
+said.refused(wrong(tpm.told(CC.PolicyGetDigest, policy, b"\0", hmac, Use(plain, ENCRYPTS)), 1))
 says("The byte: SIZE", CC.PolicyGetDigest, b"\0")
 ends_well(CC.PolicyGetDigest, b"")
 
@@ -137,10 +122,8 @@ tpm("TPM2_PolicyPCR").pcrs(policy, [(SHA256, [0])])
 tpm.accepted("TPM2_PCR_Reset of PCR 16", tpm.reset(b""))
 PCR = CC.PolicyPCR
 up_to_hmacs(PCR, sized(bytes(32))[:-1])
-tpm.refused(
-    "decrypt in a session that cannot, and a wrong hmac before: SYMMETRIC/s2",
-    wrong(tpm.told(PCR, policy, b"\0", hmac, Use(plain, DECRYPTS)), 1),
-)
+said = tpm("decrypt in a session that cannot, and a wrong hmac before: SYMMETRIC/s2")
+said.refused(wrong(tpm.told(PCR, policy, b"\0", hmac, Use(plain, DECRYPTS)), 1))
 
 
 def pcr(words, text, session=policy):
@@ -174,48 +157,30 @@ def secret(text, *uses, of=RH_LOCKOUT, session=policy.handle):
 
 
 CUT = b"\0\x20"
-tpm.refused(
-    "TPM_RH_NULL, and a policy session that is none: VALUE/h1",
-    secret(CUT, of=RH_NULL, session=RH_NULL),
-)
-tpm.refused(
-    "An object that is not there, and that: REFERENCE_H0",
-    secret(CUT, of=0x8000_0000, session=RH_NULL),
-)
-tpm.refused(
-    "An NV index that is not there, and that: HANDLE/h1",
-    secret(CUT, of=0x0100_0000, session=ABSENT_POLICY),
-)
+said = tpm("TPM_RH_NULL, and a policy session that is none: VALUE/h1")
+said.refused(secret(CUT, of=RH_NULL, session=RH_NULL))
+said = tpm("An object that is not there, and that: REFERENCE_H0")
+said.refused(secret(CUT, of=0x8000_0000, session=RH_NULL))
+said = tpm("An NV index that is not there, and that: HANDLE/h1")
+said.refused(secret(CUT, of=0x0100_0000, session=ABSENT_POLICY))
 tpm.refused("No policy session, no sessions: VALUE/h2", secret(CUT, session=hmac.handle))
-tpm.refused(
-    "One that is not there, and no sessions: REFERENCE_H1", secret(CUT, session=ABSENT_POLICY)
-)
+said = tpm("One that is not there, and no sessions: REFERENCE_H1")
+said.refused(secret(CUT, session=ABSENT_POLICY))
 tpm.refused("No sessions (tag 8001): AUTH_MISSING", secret(CUT))
 tpm.refused("An entry that is not there: REFERENCE_S0", secret(CUT).but(entries=[ABSENT]))
-tpm.refused(
-    "Behind a policy session: REFERENCE_S1",
-    secret(CUT, policy).but(entries=[*secret(CUT, policy).entries, ABSENT]),
-)
+said = tpm("Behind a policy session: REFERENCE_S1")
+said.refused(secret(CUT, policy).but(entries=[*secret(CUT, policy).entries, ABSENT]))
 tpm.refused("A second password behind a wrong one: HANDLE/s2", secret(CUT, b"wrong", b"lockout"))
-tpm.refused(
-    "decrypt in a session that cannot, behind a wrong password: SYMMETRIC/s2",
-    secret(CUT, b"wrong", Use(plain, DECRYPTS)),
-)
-tpm.refused(
-    "A trial session that is to authorize it, and a wrong hmac behind it: ATTRIBUTES/s1",
-    wrong(secret(CUT, trial, hmac), 1, 2),
-)
-tpm.refused(
-    "A policy session that is to authorize it, and a wrong hmac behind it: AUTH_UNAVAILABLE",
-    wrong(secret(CUT, policy, hmac), 1, 2),
-)
-tpm.refused(
-    "A wrong password, and a wrong hmac behind it: AUTH_FAIL/s1",
-    wrong(secret(CUT, b"wrong", Use(hmac, DECRYPTS)), 2),
-)
-tpm.refused(
-    "A wrong hmac, and another behind it: AUTH_FAIL/s1", wrong(secret(CUT, hmac, policy), 1, 2)
-)
+said = tpm("decrypt in a session that cannot, behind a wrong password: SYMMETRIC/s2")
+said.refused(secret(CUT, b"wrong", Use(plain, DECRYPTS)))
+said = tpm("A trial session that is to authorize it, and a wrong hmac behind it: ATTRIBUTES/s1")
+said.refused(wrong(secret(CUT, trial, hmac), 1, 2))
+said = tpm("A policy session that is to authorize it, and a wrong hmac behind it: AUTH_UNAVAILABLE")
+said.refused(wrong(secret(CUT, policy, hmac), 1, 2))
+said = tpm("A wrong password, and a wrong hmac behind it: AUTH_FAIL/s1")
+said.refused(wrong(secret(CUT, b"wrong", Use(hmac, DECRYPTS)), 2))
+said = tpm("A wrong hmac, and another behind it: AUTH_FAIL/s1")
+said.refused(wrong(secret(CUT, hmac, policy), 1, 2))
 tpm.refused("The one behind: BAD_AUTH/s2", wrong(secret(CUT, b"lockout", Use(policy, DECRYPTS)), 2))
 
 
@@ -243,9 +208,8 @@ by_right("Another nonceTPM, and another cpHashA: NONCE/p1", frames.policy_secret
 faulty["nonce_tpm"] = policy.nonce_tpm
 by_right("Another cpHashA: CPHASH", frames.policy_secret(**faulty))
 faulty["cp_hash"] = CP_HASH
-tpm.accepted(
-    "No fault is left", secret(frames.policy_secret(**faulty), b"lockout", Use(policy, DECRYPTS))
-)
+said = tpm("No fault is left")
+said.accepted(secret(frames.policy_secret(**faulty), b"lockout", Use(policy, DECRYPTS)))
 
 tpm.chapter("In a trial session fewer of them are faults.")
 
@@ -259,17 +223,13 @@ in_trial("expiration is 1: VALUE/p4", nonce_tpm=NONCE, cp_hash=b"x", expiration=
 in_trial("cpHashA of one byte: SIZE/p2", nonce_tpm=NONCE, cp_hash=b"x")
 in_trial("Another nonceTPM, and a cpHashA: SUCCESS", nonce_tpm=NONCE, cp_hash=CP_HASH)
 in_trial("And another cpHashA: SUCCESS", nonce_tpm=NONCE, cp_hash=bytes(32))
-tpm.refused(
-    "A byte behind TPM2_PolicyOR of others: SIZE",
-    tpm.told(OR, trial, frames.sized_list(b"x", b"y") + b"\0"),
-)
+said = tpm("A byte behind TPM2_PolicyOR of others: SIZE")
+said.refused(tpm.told(OR, trial, frames.sized_list(b"x", b"y") + b"\0"))
 tpm("TPM2_PolicyOR of others").branches(trial, b"x", b"y")
 tpm("TPM2_PolicyPCR").pcrs(trial, [])
 tpm.accepted("TPM2_PCR_Reset of PCR 16", tpm.reset(b""))
-tpm.refused(
-    "A byte behind TPM2_PolicyPCR with another pcrDigest: SIZE",
-    tpm.told(PCR, trial, GIVEN + selection() + b"\0"),
-)
+said = tpm("A byte behind TPM2_PolicyPCR with another pcrDigest: SIZE")
+said.refused(tpm.told(PCR, trial, GIVEN + selection() + b"\0"))
 tpm("TPM2_PolicyPCR with it").pcrs(trial, [], bytes(32))
 
 tpm.chapter("TPM2_PolicyCpHash behind TPM2_PolicyCpHash; hmac decrypts.")
@@ -278,10 +238,8 @@ CP = CC.PolicyCpHash
 tpm("A cpHash").cp_hash_told(policy, CP_HASH)
 tpm("In the trial session too").cp_hash_told(trial, CP_HASH)
 up_to_hmacs(CP, sized(bytes(32))[:-1])
-tpm.refused(
-    "decrypt in a session that cannot, and a wrong hmac before: SYMMETRIC/s2",
-    wrong(tpm.told(CP, policy, b"\0", hmac, Use(plain, DECRYPTS)), 1),
-)
+said = tpm("decrypt in a session that cannot, and a wrong hmac before: SYMMETRIC/s2")
+said.refused(wrong(tpm.told(CP, policy, b"\0", hmac, Use(plain, DECRYPTS)), 1))
 
 
 def cp_hash(what, outcome, text):

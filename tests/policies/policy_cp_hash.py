@@ -39,19 +39,12 @@ for session in tpm.each_session():
         says("A byte too many, and one of SHA-256: SIZE/p1", session, bytes(21), bytes(32))
     else:
         says("One of SHA-1: SIZE/p1", session, bytes(20))
-    tpm.says(
-        "Over 32 bytes, whole or cut: SIZE/p1",
-        *(raw(session, it) for it in (sized(bytes(33)), b"\0\x21", b"\xff\xff")),
-    )
-    tpm.says(
-        "Cut: no size, half of it, no bytes and one too few: INSUFFICIENT/p1",
-        *(raw(session, it) for it in (b"", b"\0", number(size, 2), sized(one)[:-1])),
-    )
-    tpm.says(
-        "A byte behind it, also behind one of another size: SIZE",
-        raw(session, sized(one) + b"\0"),
-        raw(session, sized(b"") + b"\0"),
-    )
+    said = tpm("Over 32 bytes, whole or cut: SIZE/p1")
+    said.says(*(raw(session, it) for it in (sized(bytes(33)), b"\0\x21", b"\xff\xff")))
+    said = tpm("Cut: no size, half of it, no bytes and one too few: INSUFFICIENT/p1")
+    said.says(*(raw(session, it) for it in (b"", b"\0", number(size, 2), sized(one)[:-1])))
+    said = tpm("A byte behind it, also behind one of another size: SIZE")
+    said.says(raw(session, sized(one) + b"\0"), raw(session, sized(b"") + b"\0"))
     tpm.digest_is("The digest is zeros", session, zeros(session))
 
     says("A cpHash: SUCCESS", session, one)
@@ -126,17 +119,12 @@ tpm("TPM2_PolicyLocality of locality 1").locality(session, 2)
 tpm.fails("TPM2_NV_Write from locality 0: LOCALITY", writes())
 says('The cpHash of TPM2_NV_Write of "data" at 0: SUCCESS', session, RIGHT)
 tpm.fails("TPM2_NV_Write of it: the cpHash holds, the locality does not: LOCALITY", writes())
-tpm.fails(
-    "Of other data, or at another offset, from this locality too: POLICY_FAIL/s1",
-    *(writes(b"date"), writes(offset=1), writes(b""), writes(b"data\0")),
-)
+said = tpm("Of other data, or at another offset, from this locality too: POLICY_FAIL/s1")
+said.fails(*(writes(b"date"), writes(offset=1), writes(b""), writes(b"data\0")))
 tpm("TPM2_NV_Read: POLICY_FAIL/s1").reading(FIRST, 4, session)
 for words, other in WRONG:
-    tpm.says(
-        "TPM2_PolicyRestart, and TPM2_PolicyLocality: SUCCESS",
-        tpm.restart(session),
-        tpm.locality(session, 2),
-    )
+    said = tpm("TPM2_PolicyRestart, and TPM2_PolicyLocality: SUCCESS")
+    said.says(tpm.restart(session), tpm.locality(session, 2))
     says(f"The cpHash {words}: SUCCESS", session, other)
     tpm.fails('TPM2_NV_Write of "data" at 0: POLICY_FAIL/s1', writes())
 tpm.locality_is(1)
@@ -145,11 +133,8 @@ tpm("TPM2_PolicyRestart").restart(session)
 tpm("TPM2_PolicyLocality").locality(session, 2)
 says("The right cpHash, which is not in the authPolicy: SUCCESS", session, RIGHT)
 tpm.fails("TPM2_NV_Write from locality 1: POLICY_FAIL/s1", writes())
-tpm.says(
-    "TPM2_PolicyRestart, and TPM2_PolicyLocality alone: SUCCESS",
-    tpm.restart(session),
-    tpm.locality(session, 2),
-)
+said = tpm("TPM2_PolicyRestart, and TPM2_PolicyLocality alone: SUCCESS")
+said.says(tpm.restart(session), tpm.locality(session, 2))
 tpm.does("TPM2_NV_Write", writes())
 tpm.locality_is(0)
 
@@ -166,9 +151,8 @@ tpm.chapter("An object: sealed data whose policy is TPM2_PolicySecret of TPM_RH_
 parent = tpm.create_primary("A storage key", RH_OWNER, storage_key())
 by_secret = policy.after_secret(SHA256, bytes(32), name_of(RH_ENDORSEMENT), b"")
 attributes = HERE | Attribute.NO_DA
-made = tpm.create(
-    "TPM2_Create", parent, sealed(attributes=attributes, auth_policy=by_secret), data=b"secret"
-)
+said = tpm("TPM2_Create")
+made = said.create(parent, sealed(attributes=attributes, auth_policy=by_secret), data=b"secret")
 handle = tpm.load("TPM2_Load", parent, made)
 OPENS = hash_of(tpm.unsealing(handle, session))
 said = tpm("TPM2_PolicySecret with the cpHash of TPM2_Unseal, which is not in the digest")

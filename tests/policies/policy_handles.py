@@ -93,10 +93,8 @@ def handles_of(name, code, text):
         frames.command(code, number(policy.handle, 4) + area(entry()) + text, frames.SESSIONS),
     )
     in_policy = tpm.told(code, policy, text, hmac, policy, trial)
-    tpm.refused(
-        "Three sessions, of which the second has a wrong hmac: BAD_AUTH/s2",
-        in_policy.but_entry(2, hmac=flipped(in_policy.entries[1].hmac)),
-    )
+    said = tpm("Three sessions, of which the second has a wrong hmac: BAD_AUTH/s2")
+    said.refused(in_policy.but_entry(2, hmac=flipped(in_policy.entries[1].hmac)))
     tpm.accepted("And the right one", in_policy)
     tpm("The trial session alone").told(code, trial, text, trial)
     tpm.says("They are restarted: SUCCESS", tpm.restart(policy), tpm.restart(trial))

@@ -51,12 +51,8 @@ for session in tpm.each_session():
     tpm.chapter("Each locality alone, from the start.")
     for locality in range(5):
         mask = 1 << locality
-        tpm.says(
-            f"Locality {locality}: SUCCESS",
-            tpm.restart(session),
-            tpm.locality(session, mask),
-            tpm.locality(session, mask),
-        )
+        said = tpm(f"Locality {locality}: SUCCESS")
+        said.says(tpm.restart(session), tpm.locality(session, mask), tpm.locality(session, mask))
         says("The others: RANGE/p1", session, 0x1F & ~mask)
         once = policy.after_locality(algorithm, zeros(session), mask)
         twice = policy.after_locality(algorithm, once, mask)

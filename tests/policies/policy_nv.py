@@ -331,10 +331,8 @@ def sessions(session, trial):
     old = after(session, zeros(session), FIRST, b"8", 0, EQ)
     old = after(session, old, FIRST, b"8 bytes.", 0, EQ)
     tpm.digest_is("What is hashed is plain", session, old)
-    tpm.fails(
-        "encrypt, where nothing is answered: ATTRIBUTES/s1",
-        tpm.comparing(session, FIRST, b"8", hmac).but_entry(1, attributes=0x41),
-    )
+    said = tpm("encrypt, where nothing is answered: ATTRIBUTES/s1")
+    said.fails(tpm.comparing(session, FIRST, b"8", hmac).but_entry(1, attributes=0x41))
     tpm.chapter("By a policy: the index authorizes itself to the very session that is told.")
     auth_policy = policy.after_auth_value(SHA256, bytes(32))
     tpm.define("An index", area(0x0100_0005, BY_POLICY, auth_policy=auth_policy), auth=b"a")

@@ -32,10 +32,8 @@ def raw(session, text):
 for session in tpm.each_session():
     algorithm = session.algorithm
     tpm.says("No parameter: INSUFFICIENT/p1", raw(session, b""))
-    tpm.says(
-        "What is neither 0 nor 1, also with a byte behind it: VALUE/p1",
-        *(raw(session, it) for it in (b"\2", b"\x80", b"\xff", b"\2\0")),
-    )
+    said = tpm("What is neither 0 nor 1, also with a byte behind it: VALUE/p1")
+    said.says(*(raw(session, it) for it in (b"\2", b"\x80", b"\xff", b"\2\0")))
     tpm.says("A byte behind it: SIZE", raw(session, b"\0\0"), raw(session, b"\1\0"))
     tpm.digest_is("The digest is zeros", session, zeros(session))
     for value, other in ((NO, YES), (YES, NO)):
@@ -69,10 +67,8 @@ for algorithm, hash_name, index in ((SHA256, "SHA-256", FIRST), (SHA1, "SHA-1", 
     tpm("TPM2_NV_Write, the first one").writing(index, b"first", session)
     tpm.digest_is("It counted once: the digest is zeros", session, zeros(session))
     says("0 once more, which the session does not know better: SUCCESS", session, NO)
-    tpm.fails(
-        "TPM2_NV_Write, the second one, of anything: POLICY_FAIL/s1",
-        *(tpm.writing(index, it, session) for it in (b"other", b"first", b"")),
-    )
+    said = tpm("TPM2_NV_Write, the second one, of anything: POLICY_FAIL/s1")
+    said.fails(*(tpm.writing(index, it, session) for it in (b"other", b"first", b"")))
     tpm("TPM2_NV_Read by it: POLICY_FAIL/s1").reading(index, 5, session)
     tpm("TPM2_PolicyRestart").restart(session)
     says("1 is what holds now, and is not its policy: SUCCESS", session, YES)
@@ -206,10 +202,8 @@ tpm.define("An index", area(EIGHTH, BY_OWNER | BY_POLICY, auth_policy=unwritten)
 bound = tpm.policy("A policy session, bound to TPM_RH_OWNER", bind=RH_OWNER, xor=True)
 says("0: SUCCESS", bound, NO)
 prepared = tpm.writing(EIGHTH, b"data", Use(bound, frames.DECRYPT))
-tpm.fails(
-    "With a wrong hmac, which is compared last: BAD_AUTH/s1",
-    prepared.but_entry(1, hmac=flipped(prepared.entries[0].hmac)),
-)
+said = tpm("With a wrong hmac, which is compared last: BAD_AUTH/s1")
+said.fails(prepared.but_entry(1, hmac=flipped(prepared.entries[0].hmac)))
 tpm.does("TPM2_NV_Write of a buffer that it masks", prepared)
 tpm.read("The data in plain", EIGHTH, b"data", by=RH_OWNER)
 tpm("It is no more: REFERENCE_H0").get_digest(bound)

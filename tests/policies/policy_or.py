@@ -87,11 +87,8 @@ for session in tpm.each_session():
         tpm.branches(session, *9 * [current]),
         tpm.branches(session, current, current, count=0xFFFF_FFFF),
     )
-    tpm.says(
-        "The number of one and of nine, and nothing behind it: SIZE/p1",
-        raw(session, number(1, 4)),
-        raw(session, number(9, 4)),
-    )
+    said = tpm("The number of one and of nine, and nothing behind it: SIZE/p1")
+    said.says(raw(session, number(1, 4)), raw(session, number(9, 4)))
     tpm.says(
         "An element of 33 bytes, the first or the second, whole or cut: SIZE/p1",
         tpm.branches(session, bytes(33), current),

@@ -43,10 +43,8 @@ def raw(session, text):
 def edges(session):
     """What is refused of the parameters, and the digest is zeros behind it."""
     one = selection((SHA256, [0]))
-    tpm.says(
-        "pcrDigest that is cut: INSUFFICIENT/p1",
-        *(raw(session, it) for it in (b"", b"\0", b"\0\x01", number(32, 2) + bytes(31))),
-    )
+    said = tpm("pcrDigest that is cut: INSUFFICIENT/p1")
+    said.says(*(raw(session, it) for it in (b"", b"\0", b"\0\x01", number(32, 2) + bytes(31))))
     tpm.says(
         "One of 33 bytes, whole or cut: SIZE/p1",
         raw(session, sized(bytes(33)) + one),
@@ -77,11 +75,8 @@ def edges(session):
         raw(session, sized(b"") + number(1, 4) + number(SHA256, 2) + b"\2\0\0"),
         raw(session, sized(b"") + number(1, 4) + number(SHA256, 2) + b"\4\0\0\0\0"),
     )
-    tpm.says(
-        "A byte behind them, also where pcrDigest is another: SIZE",
-        raw(session, sized(b"") + one + b"\0"),
-        raw(session, sized(bytes(32)) + one + b"\0"),
-    )
+    said = tpm("A byte behind them, also where pcrDigest is another: SIZE")
+    said.says(raw(session, sized(b"") + one + b"\0"), raw(session, sized(bytes(32)) + one + b"\0"))
     tpm.digest_is("The digest is zeros", session, zeros(session))
 
 
@@ -156,10 +151,8 @@ for session in tpm.each_session():
     restarted(session)
     tpm("A policy from the start has the new value").pcrs(session, zero)
     tpm.digest_is("Its digest", session, after(session, zero))
-    tpm.accepted(
-        "PCR 16, which is not selected, is extended in one bank",
-        tpm.prepare(CC.PCR_Extend, [16], frames.digests((SHA1, bytes(20))), b""),
-    )
+    said = tpm("PCR 16, which is not selected, is extended in one bank")
+    said.accepted(tpm.prepare(CC.PCR_Extend, [16], frames.digests((SHA1, bytes(20))), b""))
     changed("TPM2_PolicyPCR again", session, zero)
     restarted(session)
     tpm("From the start").pcrs(session, zero)
@@ -174,10 +167,8 @@ for session in tpm.each_session():
     restarted(session)
     tpm("From the start").pcrs(session, zero)
     tpm.accepted("TPM2_PCR_Event on TPM_RH_NULL", tpm.event(b"abc", b"", pcr=RH_NULL))
-    tpm.accepted(
-        "TPM2_PCR_Extend of PCR 0 by no digest",
-        tpm.prepare(CC.PCR_Extend, [0], frames.digests(), b""),
-    )
+    said = tpm("TPM2_PCR_Extend of PCR 0 by no digest")
+    said.accepted(tpm.prepare(CC.PCR_Extend, [0], frames.digests(), b""))
     tpm.refused("TPM2_PCR_Reset of PCR 0: LOCALITY", tpm.reset(b"", pcr=0))
     tpm.refused("TPM2_PCR_Event by a wrong password: BAD_AUTH/s1", tpm.event(b"a", b"x"))
     tpm.accepted("TPM2_PCR_Read", tpm.read_pcr(0))

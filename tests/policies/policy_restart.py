@@ -64,9 +64,8 @@ for algorithm in (SHA1, SHA256):
         "A session bound to TPM_RH_OWNER", bind=RH_OWNER, algorithm=algorithm, aes=True
     )
     tpm("TPM2_PolicyRestart").restart(session)
-    tpm.accepted(
-        "TPM2_PolicySecret with its nonceTPM", tpm.secret(session, nonce_tpm=session.nonce_tpm)
-    )
+    said = tpm("TPM2_PolicySecret with its nonceTPM")
+    said.accepted(tpm.secret(session, nonce_tpm=session.nonce_tpm))
     tpm("TPM2_PolicyRestart by its own hmac").restart(session, session)
     tpm.digest_is("The digest is zeros", session, zeros(session))
     tpm("TPM2_GetRandom, which it encrypts").random(8, Use(session, frames.ENCRYPT | 1))

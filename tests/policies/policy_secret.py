@@ -111,9 +111,8 @@ def cp_hashes(session):
     tpm.accepted("The first", tpm.secret(session, cp_hash=one))
     tpm.digest_is("Its digest", session, after(session, digest))
     restarted(session)
-    tpm.refused(
-        "One in a command that is refused: VALUE/p4", tpm.secret(session, cp_hash=one, expiration=1)
-    )
+    said = tpm("One in a command that is refused: VALUE/p4")
+    said.refused(tpm.secret(session, cp_hash=one, expiration=1))
     if not is_trial(session):
         refused = tpm.secret(session, cp_hash=one, nonce_tpm=b"x")
         tpm.refused("And by its nonceTPM: NONCE/p1", refused)
@@ -147,10 +146,8 @@ def edges(session):
             raw(session, before + number(33, 2)),
             raw(session, before + b"\xff\xff"),
         )
-    tpm.refused(
-        "expiration that is cut: INSUFFICIENT/p4",
-        *(raw(session, 3 * empty + bytes(it)) for it in (0, 1, 3)),
-    )
+    said = tpm("expiration that is cut: INSUFFICIENT/p4")
+    said.refused(*(raw(session, 3 * empty + bytes(it)) for it in (0, 1, 3)))
     tpm.refused(
         "A byte behind them, also where expiration is 1: SIZE",
         raw(session, frames.policy_secret() + b"\0"),
@@ -195,9 +192,8 @@ tpm("With the new one").secret(session, b"", session, nonce_tpm=session.nonce_tp
 twice = after(session, after(session, zeros(session)))
 tpm.digest_is("Its digest", session, twice)
 right = tpm.secret(session, b"", session)
-tpm.refused(
-    "Its hmac is wrong: BAD_AUTH/s2", right.but_entry(2, hmac=flipped(right.entries[1].hmac))
-)
+said = tpm("Its hmac is wrong: BAD_AUTH/s2")
+said.refused(right.but_entry(2, hmac=flipped(right.entries[1].hmac)))
 tpm("It ends with the command").secret(session, b"", Use(session, 0))
 tpm("It is no more: REFERENCE_H0").get_digest(session)
 unbound = tpm.policy("One that is bound to nothing", algorithm=SHA1)

@@ -65,14 +65,10 @@ for handle, name, value in VALUES:
             tpm.secret(session, unbound, of=handle).but_entry(1, hmac=b""),
         )
     right = tpm.secret(target, bound, of=handle)
-    tpm.refused(
-        f"The right hmac, and another policy session than it is of: {code}",
-        right.but(handles=[handle, trial.handle]),
-    )
-    tpm.refused(
-        f"Another policyRef than it is of: {code}",
-        right.but(parameters=tpm.secret(target, policy_ref=b"r").parameters),
-    )
+    said = tpm(f"The right hmac, and another policy session than it is of: {code}")
+    said.refused(right.but(handles=[handle, trial.handle]))
+    said = tpm(f"Another policyRef than it is of: {code}")
+    said.refused(right.but(parameters=tpm.secret(target, policy_ref=b"r").parameters))
     accepted(
         "As the first entry it decrypts nonceTPM",
         target,
@@ -113,21 +109,15 @@ tpm.refused(
     "A wrong hmac behind a password, of a session that is bound to TPM_RH_LOCKOUT: AUTH_FAIL/s2",
     wrong(tpm.secret(target, b"owner", bound, of=RH_OWNER), 2),
 )
-tpm.refused(
-    "A wrong one behind it: BAD_AUTH/s3",
-    wrong(tpm.secret(target, b"owner", bound, target, of=RH_OWNER), 3),
-)
+said = tpm("A wrong one behind it: BAD_AUTH/s3")
+said.refused(wrong(tpm.secret(target, b"owner", bound, target, of=RH_OWNER), 3))
 locked = tpm.policy("A policy session that is bound to TPM_RH_LOCKOUT", bind=RH_LOCKOUT)
-tpm.refused(
-    "A wrong hmac of it, as a further entry: AUTH_FAIL/s2",
-    wrong(tpm.secret(target, b"owner", locked, of=RH_OWNER), 2),
-)
+said = tpm("A wrong hmac of it, as a further entry: AUTH_FAIL/s2")
+said.refused(wrong(tpm.secret(target, b"owner", locked, of=RH_OWNER), 2))
 accepted("A right one", target, b"owner", locked, of=RH_OWNER)
 owned = tpm.policy("One that is bound to TPM_RH_OWNER", bind=RH_OWNER, algorithm=SHA256)
-tpm.refused(
-    "A wrong hmac of it, where the first entry is of TPM_RH_LOCKOUT: BAD_AUTH/s2",
-    wrong(tpm.secret(target, b"lockout", owned, of=RH_LOCKOUT), 2),
-)
+said = tpm("A wrong hmac of it, where the first entry is of TPM_RH_LOCKOUT: BAD_AUTH/s2")
+said.refused(wrong(tpm.secret(target, b"lockout", owned, of=RH_LOCKOUT), 2))
 accepted(
     "A right one, on TPM_RH_OWNER: it has the session's key alone, and no authorization value",
     target,

@@ -56,9 +56,8 @@ tpm("Three of them beside TPM2_GetRandom").random(4, *sessions[2:5])
 ending = tpm.prepare(
     CC.StartAuthSession, *frames.start_auth_session(bytes(16), kind=SE_POLICY), Use(sessions[4], 0)
 )
-tpm.refused(
-    "A session beside it that would end gives its place up too late: SESSION_MEMORY", ending
-)
+said = tpm("A session beside it that would end gives its place up too late: SESSION_MEMORY")
+said.refused(ending)
 flushed = sessions[5], sessions[3]
 tpm.says("The sixth and the fourth are flushed: SUCCESS", *map(tpm.flush, flushed))
 tpm.says("They are no more: REFERENCE_H0", *map(tpm.get_digest, flushed))
@@ -67,21 +66,15 @@ policy = start(SE_POLICY, 5, "And a policy session the other", bind=RH_OWNER)
 tpm.digest_is("It begins with zeros", policy, zeros(policy))
 
 tpm.chapter("A handle is that of a place and a kind.")
-tpm.raw(
-    "The place of the HMAC session, as a policy session's: REFERENCE_H0", get_digest(0x0300_0003)
-)
+said = tpm("The place of the HMAC session, as a policy session's: REFERENCE_H0")
+said.raw(get_digest(0x0300_0003))
 tpm.raw("In TPM2_FlushContext: HANDLE/p1", flush(0x0300_0003))
 tpm.refused("As an entry: REFERENCE_S0", random_by(0x0300_0003))
-tpm.raw(
-    "The place of a policy session, as an HMAC session's: HANDLE/p1",
-    flush(0x0200_0005),
-    flush(0x0200_0000),
-)
+said = tpm("The place of a policy session, as an HMAC session's: HANDLE/p1")
+said.raw(flush(0x0200_0005), flush(0x0200_0000))
 tpm.refused("As an entry: REFERENCE_S0", random_by(0x0200_0005), random_by(0x0200_0000))
-tpm.raw(
-    "Handles of places that there are not: HANDLE/p1",
-    *map(flush, (0x0300_0010, 0x0300_0100, 0x0301_0000, 0x03FF_FFFF)),
-)
+said = tpm("Handles of places that there are not: HANDLE/p1")
+said.raw(*map(flush, (0x0300_0010, 0x0300_0100, 0x0301_0000, 0x03FF_FFFF)))
 tpm("The two of those places, by their right handles").reset(hmac, policy)
 tpm("The HMAC session is flushed").flush(hmac)
 trial = start(SE_TRIAL, 3, "A trial session has its place", bind=RH_OWNER)
@@ -158,9 +151,8 @@ tpm.accepted("The right one", right)
 tpm.chapter("A power cycle ends them all.")
 tpm.power()
 tpm.startup()
-tpm.raw(
-    "No session has a digest: REFERENCE_H0", *(get_digest(0x0300_0000 + it) for it in range(16))
-)
+said = tpm("No session has a digest: REFERENCE_H0")
+said.raw(*(get_digest(0x0300_0000 + it) for it in range(16)))
 tpm.raw("Nor can it be flushed: HANDLE/p1", flush(0x0300_0000), flush(0x0300_000F))
 again = start(SE_POLICY, 0, "The first place is free", algorithm=SHA1)
 tpm.digest_is("A new policy is there", again, zeros(again))

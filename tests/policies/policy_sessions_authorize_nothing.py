@@ -91,32 +91,21 @@ tpm.chapter("But what is refused of entries whatever their hmacs are comes befor
 absent = Entry(0x0300_0009, b"", CONTINUE_SESSION, b"")
 for session in (bound, keyed):
     right = tpm.reset(session)
-    tpm.refused(
-        "A session that is not there as the second entry: REFERENCE_S1",
-        right.but(entries=[*right.entries, absent]),
-    )
+    said = tpm("A session that is not there as the second entry: REFERENCE_S1")
+    said.refused(right.but(entries=[*right.entries, absent]))
     tpm.refused("The same session twice: HANDLE/s2", right.but(entries=2 * right.entries))
-    tpm.refused(
-        "decrypt, where the first parameter is no sized buffer: ATTRIBUTES/s1",
-        right.but_entry(1, attributes=CONTINUE_SESSION | DECRYPT),
-    )
+    said = tpm("decrypt, where the first parameter is no sized buffer: ATTRIBUTES/s1")
+    said.refused(right.but_entry(1, attributes=CONTINUE_SESSION | DECRYPT))
     tpm.refused("A reserved attribute: RESERVED_BITS/s1", right.but_entry(1, attributes=0x08))
 for session in (policy, trial):
     said = tpm("decrypt in a session without AES, TPM2_PCR_Event: SYMMETRIC/s1")
     said.event(b"abc", Use(session, CONTINUE_SESSION | DECRYPT))
-tpm.refused(
-    "A parameter that cannot be decrypted comes behind: AUTH_UNAVAILABLE",
-    tpm.event(b"abc", Use(bound, DECRYPT)).but(parameters=b"\0"),
-)
-tpm.refused(
-    "And in a trial session: ATTRIBUTES/s1",
-    tpm.event(b"abc", Use(keyed, DECRYPT)).but(parameters=b"\0"),
-)
-tpm.refused(
-    "And so do parameters, and LOCALITY of PCR 0: AUTH_UNAVAILABLE",
-    tpm.reset(policy).but(parameters=b"\0"),
-    tpm.reset(policy, pcr=0),
-)
+said = tpm("A parameter that cannot be decrypted comes behind: AUTH_UNAVAILABLE")
+said.refused(tpm.event(b"abc", Use(bound, DECRYPT)).but(parameters=b"\0"))
+said = tpm("And in a trial session: ATTRIBUTES/s1")
+said.refused(tpm.event(b"abc", Use(keyed, DECRYPT)).but(parameters=b"\0"))
+said = tpm("And so do parameters, and LOCALITY of PCR 0: AUTH_UNAVAILABLE")
+said.refused(tpm.reset(policy).but(parameters=b"\0"), tpm.reset(policy, pcr=0))
 
 tpm.chapter("No session was changed, nor anything else.")
 tpm.digest_is("The session that was to be told something", target, zeros(target))

@@ -28,9 +28,8 @@ hmac = tpm.start("An HMAC session, bound to TPM_RH_OWNER, with AES", RH_OWNER, a
 for algorithm, hash_name in HASHES:
     for kind, name in KINDS:
         tpm.chapter(f"A {name} session of {hash_name}, bound to TPM_RH_OWNER.")
-        session = tpm.start(
-            "It is started", RH_OWNER, algorithm=algorithm, aes=True, kind=kind, size=20
-        )
+        said = tpm("It is started")
+        session = said.start(RH_OWNER, algorithm=algorithm, aes=True, kind=kind, size=20)
         tpm("TPM2_PolicyAuthValue").auth_value_told(session)
         told = policy.after_auth_value(algorithm, zeros(session))
         said = tpm("TPM2_PCR_Event by a password, and the data is encrypted by it")
@@ -146,11 +145,8 @@ for algorithm, hash_name in HASHES:
         said = tpm("With an hmac by the empty key")
         said.event(b"event data", b"", Use(session, DECRYPTS, shows_empty_key=True))
         shown = tpm.event(b"event data", b"", Use(session, DECRYPTS, shows_empty_key=True))
-        tpm.refused(
-            "With a wrong one, and with a byte: BAD_AUTH/s2",
-            wrong(shown, 2),
-            shown.but_entry(2, hmac=b"\0"),
-        )
+        said = tpm("With a wrong one, and with a byte: BAD_AUTH/s2")
+        said.refused(wrong(shown, 2), shown.but_entry(2, hmac=b"\0"))
         tpm.accepted("The right one", shown)
         tpm("TPM2_GetRandom, which it encrypts without a key").random(8, Use(session, ENCRYPTS))
         tpm("TPM2_PolicyGetDigest, which it encrypts").get_digest(session, Use(session, ENCRYPTS))
@@ -168,19 +164,10 @@ tpm("Behind a password: SYMMETRIC/s2").event(b"a", b"", Use(plain, DECRYPTS))
 
 tpm.chapter("Started beside others, and with others beside it.")
 first = tpm.policy("A policy session, with AES", bind=RH_OWNER, aes=True)
-second = tpm.start(
-    "TPM2_StartAuthSession of another, by which it is encrypted in both directions",
-    RH_ENDORSEMENT,
-    kind=SE_TRIAL,
-    aes=True,
-    uses=[Use(first, DECRYPTS | ENCRYPT)],
-)
-third = tpm.start(
-    "Of an HMAC session: the trial session decrypts and the policy session encrypts",
-    RH_OWNER,
-    aes=True,
-    uses=[Use(second, DECRYPTS), Use(first, ENCRYPTS)],
-)
+said = tpm("TPM2_StartAuthSession of another, by which it is encrypted in both directions")
+second = said.start(RH_ENDORSEMENT, kind=SE_TRIAL, aes=True, uses=[Use(first, DECRYPTS | ENCRYPT)])
+said = tpm("Of an HMAC session: the trial session decrypts and the policy session encrypts")
+third = said.start(RH_OWNER, aes=True, uses=[Use(second, DECRYPTS), Use(first, ENCRYPTS)])
 tpm("Three beside a password would be four; two").event(b"a", b"", first, second)
 tpm(
     "TPM2_HierarchyChangeAuth by the HMAC session, with both: the first hmac has the nonce of the "
@@ -218,7 +205,5 @@ for it in (locked, trial):
     tpm.refused("Behind a password: AUTH_FAIL/s2", wrong(tpm.event(b"a", b"", it), 2))
     tpm.refused("As the first entry: AUTH_FAIL/s1", wrong(tpm.random(1, it), 1))
     tpm("A right one").random(1, it)
-tpm.refused(
-    "One that is bound to TPM_RH_OWNER, beside them: BAD_AUTH/s3",
-    wrong(tpm.random(1, locked, trial, first), 3),
-)
+said = tpm("One that is bound to TPM_RH_OWNER, beside them: BAD_AUTH/s3")
+said.refused(wrong(tpm.random(1, locked, trial, first), 3))

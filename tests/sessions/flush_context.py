@@ -34,16 +34,10 @@ tpm.raw(
     with_sessions(area()),
     command(CC.FlushContext, b"", frames.SESSIONS),
 )
-tpm.raw(
-    "No handle, and three bytes of one: INSUFFICIENT/p1",
-    command(CC.FlushContext, b""),
-    command(CC.FlushContext, bytes([2, 0, 0])),
-)
-tpm.raw(
-    "A byte behind it, also where the handle is no session's: SIZE",
-    flush(session.handle, b"\0"),
-    flush(RH_OWNER, b"\0"),
-)
+said = tpm("No handle, and three bytes of one: INSUFFICIENT/p1")
+said.raw(command(CC.FlushContext, b""), command(CC.FlushContext, bytes([2, 0, 0])))
+said = tpm("A byte behind it, also where the handle is no session's: SIZE")
+said.raw(flush(session.handle, b"\0"), flush(RH_OWNER, b"\0"))
 tpm.raw(
     "A handle that is neither a session's nor a transient object's: PCR 2, an NV index, "
     "TPM_RH_OWNER, TPM_RH_NULL, TPM_RS_PW, a persistent object, and numbers of no kind: VALUE/p1",
@@ -54,9 +48,8 @@ tpm.raw(
     "number of the HMAC session: HANDLE/p1",
     *map(flush, (0x0200_0001, 0x0200_0010, 0x0200_0100, 0x02FF_FFFF, 0x0300_0000)),
 )
-tpm.raw(
-    "A transient object, while there is none: HANDLE/p1", flush(0x8000_0000), flush(0x80FF_FFFF)
-)
+said = tpm("A transient object, while there is none: HANDLE/p1")
+said.raw(flush(0x8000_0000), flush(0x80FF_FFFF))
 tpm("The session is as it was").reset(session)
 
 tpm.chapter("What ends a session.")

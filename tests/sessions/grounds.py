@@ -81,9 +81,8 @@ def entities():
     tpm.keep("A persistent copy of it", RH_OWNER, loaded, KEPT)
     to_write = tpm.index("An index with AUTHWRITE", Attribute.AUTHWRITE | Attribute.OWNERREAD)
     tpm("It is written").writing(to_write, DATA)
-    to_read = tpm.written_index(
-        "One with AUTHREAD, which the owner writes", Attribute.AUTHREAD | Attribute.OWNERWRITE
-    )
+    said = tpm("One with AUTHREAD, which the owner writes")
+    to_read = said.written_index(Attribute.AUTHREAD | Attribute.OWNERWRITE)
     of_owner = tpm.written_index("One with OWNERWRITE and OWNERREAD", BY_OWNER)
     of_platform = tpm.index("One with PPWRITE and PPREAD", BY_PLATFORM)
     tpm("It is written").writing(of_platform, DATA, by=RH_PLATFORM)
@@ -210,16 +209,11 @@ def demanding_the_value(bound):
     tpm.unseal("TPM2_Unseal by the value, and by no key", handle, SECRET, demanded)
     to_it = tpm.policy("A policy session bound to the object", bind=handle)
     tpm.asserts_value(to_it)
-    tpm.unseal(
-        "TPM2_Unseal: here the value is in the key all the same",
-        handle,
-        SECRET,
-        Use(to_it, demand=AUTH_VALUE),
-    )
+    said = tpm("TPM2_Unseal: here the value is in the key all the same")
+    said.unseal(handle, SECRET, Use(to_it, demand=AUTH_VALUE))
     tpm.flushed(to_it, handle)
-    openly = tpm.sealed_object(
-        "An object with this policy, whose value is empty", AFTER_AUTH_VALUE, value=b""
-    )
+    said = tpm("An object with this policy, whose value is empty")
+    openly = said.sealed_object(AFTER_AUTH_VALUE, value=b"")
     unbound = tpm.policy("A policy session bound to nothing")
     for told, demand in ((tpm.asserts_value, AUTH_VALUE), (tpm.asserts_password, PASSWORD)):
         told(unbound)
@@ -233,16 +227,10 @@ def command_codes(session):
         "indices have each a policy of their own. All three are in the USER role."
     )
     handle = tpm.sealed_object("An object for TPM2_Unseal", after_code(CC.Unseal))
-    written = tpm.index(
-        "An index for TPM2_NV_Write",
-        Attribute.POLICYWRITE | Attribute.OWNERREAD,
-        after_code(CC.NV_Write),
-    )
-    read = tpm.written_index(
-        "One for TPM2_NV_Read, which the owner writes",
-        Attribute.POLICYREAD | Attribute.OWNERWRITE,
-        after_code(CC.NV_Read),
-    )
+    said = tpm("An index for TPM2_NV_Write")
+    written = said.index(Attribute.POLICYWRITE | Attribute.OWNERREAD, after_code(CC.NV_Write))
+    said = tpm("One for TPM2_NV_Read, which the owner writes")
+    read = said.written_index(Attribute.POLICYREAD | Attribute.OWNERWRITE, after_code(CC.NV_Read))
     for name, code, prepared in (
         ("TPM2_Unseal", CC.Unseal, lambda: tpm.unsealing(handle, session)),
         ("TPM2_NV_Write", CC.NV_Write, lambda: tpm.writing(written, DATA, session)),
@@ -263,11 +251,8 @@ def admin_role(session):
     index = tpm.index("An index whose policy is that command", BY_OWNER, recorded)
     tpm.asserts_code(session, code, name)
     tpm(name).changing_auth(index, b"new", session)
-    index = tpm.index(
-        "One whose policy has TPM2_PolicyAuthValue or TPM2_PolicyPassword behind it",
-        BY_OWNER,
-        policy.after_auth_value(SHA256, recorded),
-    )
+    said = tpm("One whose policy has TPM2_PolicyAuthValue or TPM2_PolicyPassword behind it")
+    index = said.index(BY_OWNER, policy.after_auth_value(SHA256, recorded))
     tpm.asserts_code(session, code, name)
     tpm.asserts_value(session)
     said = tpm(f"{name} by the value, and its answer is by the new one")

@@ -17,9 +17,8 @@ tpm = Teller(
 
 
 tpm.accepted('ownerAuth is "owner" from here on', tpm.change_auth(RH_OWNER, AUTH, b""))
-tpm.accepted(
-    'endorsementAuth is "endorsement"', tpm.change_auth(RH_ENDORSEMENT, b"endorsement", b"")
-)
+said = tpm('endorsementAuth is "endorsement"')
+said.accepted(tpm.change_auth(RH_ENDORSEMENT, b"endorsement", b""))
 
 
 def wrong_bytes(session, right):
@@ -33,31 +32,21 @@ def wrong_bytes(session, right):
         right.but_entry(1, hmac=entry.hmac[: len(entry.hmac) // 2]),
         right.but_entry(1, hmac=b""),
     )
-    tpm.refused(
-        f"And a byte too long: {'BAD_AUTH' if session.algorithm == SHA1 else 'SIZE'}/s1",
-        right.but_entry(1, hmac=entry.hmac + b"\0"),
-    )
-    tpm.refused(
-        "Another nonce than the one that the hmac is of, and none: BAD_AUTH/s1",
-        right.but_entry(1, nonce=flipped(entry.nonce)),
-        right.but_entry(1, nonce=b""),
-    )
-    tpm.refused(
-        "Other attributes, without continueSession: BAD_AUTH/s1",
-        right.but_entry(1, attributes=ENDS),
-    )
+    said = tpm(f"And a byte too long: {'BAD_AUTH' if session.algorithm == SHA1 else 'SIZE'}/s1")
+    said.refused(right.but_entry(1, hmac=entry.hmac + b"\0"))
+    said = tpm("Another nonce than the one that the hmac is of, and none: BAD_AUTH/s1")
+    said.refused(right.but_entry(1, nonce=flipped(entry.nonce)), right.but_entry(1, nonce=b""))
+    said = tpm("Other attributes, without continueSession: BAD_AUTH/s1")
+    said.refused(right.but_entry(1, attributes=ENDS))
     tpm.refused(
         "Other parameters, one bit of them or one byte less: BAD_AUTH/s1",
         right.but(parameters=flipped(right.parameters)),
         right.but(parameters=sized(AUTH[:-1])),
     )
-    tpm.refused(
-        "Another command, TPM2_PCR_Event, with the handle PCR 16: BAD_AUTH/s1",
-        right.but(code=CC.PCR_Event, handles=[16]),
-    )
-    tpm.refused(
-        "Another handle, TPM_RH_ENDORSEMENT: BAD_AUTH/s1", right.but(handles=[RH_ENDORSEMENT])
-    )
+    said = tpm("Another command, TPM2_PCR_Event, with the handle PCR 16: BAD_AUTH/s1")
+    said.refused(right.but(code=CC.PCR_Event, handles=[16]))
+    said = tpm("Another handle, TPM_RH_ENDORSEMENT: BAD_AUTH/s1")
+    said.refused(right.but(handles=[RH_ENDORSEMENT]))
 
 
 for bind, words in (
@@ -91,10 +80,8 @@ def with_key(key, build, *arguments):
         return build(*arguments)
 
 
-tpm.refused(
-    "Bound to the entity, and its authorization value in the key all the same: BAD_AUTH/s1",
-    with_key(bound.key + AUTH, tpm.change_auth, RH_OWNER, AUTH, bound),
-)
+said = tpm("Bound to the entity, and its authorization value in the key all the same: BAD_AUTH/s1")
+said.refused(with_key(bound.key + AUTH, tpm.change_auth, RH_OWNER, AUTH, bound))
 tpm.refused(
     "Bound to another, without the entity's value, and with the value of that other one: "
     "BAD_AUTH/s1",
@@ -132,10 +119,8 @@ tpm.refused(
     shown.but_entry(1, hmac=flipped(shown.entries[0].hmac)),
 )
 tpm.accepted("The right one", shown)
-tpm.refused(
-    "With no hmac where the key is that of a session bound to TPM_RH_OWNER: BAD_AUTH/s1",
-    tpm.reset(bound).but_entry(1, hmac=b""),
-)
+said = tpm("With no hmac where the key is that of a session bound to TPM_RH_OWNER: BAD_AUTH/s1")
+said.refused(tpm.reset(bound).but_entry(1, hmac=b""))
 to_pcr = tpm.start("A session bound to PCR 16, which has a key, of an empty value", 16)
 tpm.refused("With no hmac: BAD_AUTH/s1", tpm.reset(to_pcr).but_entry(1, hmac=b""))
 tpm("With its hmac").reset(to_pcr)
@@ -149,10 +134,8 @@ tpm.chapter("Sessions that authorize nothing, as entries of TPM2_GetRandom.")
 tpm("One, bound to TPM_RH_OWNER").random(4, bound)
 tpm("Three, of which the unbound one has an empty hmac").random(4, other, unbound, bound)
 wrong = tpm.random(4, other, unbound, bound)
-tpm.refused(
-    "The third with a wrong hmac: BAD_AUTH/s3",
-    wrong.but_entry(3, hmac=flipped(wrong.entries[2].hmac)),
-)
+said = tpm("The third with a wrong hmac: BAD_AUTH/s3")
+said.refused(wrong.but_entry(3, hmac=flipped(wrong.entries[2].hmac)))
 tpm.refused("The unbound one with a wrong hmac: BAD_AUTH/s2", wrong.but_entry(2, hmac=bytes(32)))
 tpm.accepted("The right ones", wrong)
 tpm("TPM2_PCR_Reset by a password, and two sessions beside it").reset(b"", other, bound)

@@ -176,11 +176,8 @@ def changed_pcrs(session):
     value = SHA256, b"\1" * 32
 
     def told(words):
-        tpm.asserts(
-            f"TPM2_PolicyRestart, TPM2_PolicyPCR, and {words}",
-            tpm.restart(session),
-            tpm.pcrs(session, PCR_16),
-        )
+        said = tpm(f"TPM2_PolicyRestart, TPM2_PolicyPCR, and {words}")
+        said.asserts(tpm.restart(session), tpm.pcrs(session, PCR_16))
 
     def is_lost(words, write):
         told(words)
@@ -214,9 +211,8 @@ def changed_pcrs(session):
 
 def other_commands(session):
     tpm.chapter("The command is another than the one recorded (condition 4).")
-    index = tpm.written_index(
-        "An index whose policy is TPM2_NV_Read", BY_POLICY | BY_OWNER, after_code(CC.NV_Read)
-    )
+    said = tpm("An index whose policy is TPM2_NV_Read")
+    index = said.written_index(BY_POLICY | BY_OWNER, after_code(CC.NV_Read))
     tpm.asserts_code(session, CC.NV_Read, "TPM2_NV_Read")
     lost("TPM2_NV_Write: POLICY_CC/s1", tpm.writing(index, DATA, session))
     tpm.read("TPM2_NV_Read", index, DATA, session)
@@ -227,9 +223,8 @@ def admin_role(session):
     index = tpm.index("An index whose authPolicy is 32 zeros", BY_POLICY, ZEROS)
     lost("TPM2_NV_ChangeAuth: POLICY_FAIL/s1", tpm.changing_auth(index, PIN, session))
     tpm("TPM2_NV_Write, in the USER role").writing(index, DATA, session)
-    admin = tpm.index(
-        "One whose policy is TPM2_NV_ChangeAuth", BY_POLICY, after_code(CC.NV_ChangeAuth)
-    )
+    said = tpm("One whose policy is TPM2_NV_ChangeAuth")
+    admin = said.index(BY_POLICY, after_code(CC.NV_ChangeAuth))
     tpm.asserts_code(session, CC.NV_Read, "TPM2_NV_Read")
     lost("TPM2_NV_ChangeAuth: POLICY_CC/s1", tpm.changing_auth(admin, PIN, session))
     tpm.restarts(session)
@@ -297,9 +292,8 @@ def other_hashes(handle, session):
     by_sha1 = tpm.policy("A policy session of SHA-1", algorithm=SHA1)
     tpm.asserts_code(by_sha1)
     lost("The nameAlg is SHA-256: POLICY_FAIL/s1", tpm.unsealing(handle, by_sha1))
-    of_sha1 = tpm.sealed_object(
-        "An object with nameAlg SHA-1", after_code(CC.Unseal, SHA1), algorithm=SHA1
-    )
+    said = tpm("An object with nameAlg SHA-1")
+    of_sha1 = said.sealed_object(after_code(CC.Unseal, SHA1), algorithm=SHA1)
     tpm.unseal("It is authorized", of_sha1, SECRET, by_sha1)
     tpm.asserts_code(session)
     lost("And not by a session of SHA-256: POLICY_FAIL/s1", tpm.unsealing(of_sha1, session))
@@ -374,9 +368,8 @@ def session_keys(session):
 
 def demands(session):
     tpm.chapter("TPM2_PolicyPassword: the hmac is not the value in plain.")
-    handle = tpm.sealed_object(
-        "An object with its policy, which is that of TPM2_PolicyAuthValue, too", AFTER_AUTH_VALUE
-    )
+    said = tpm("An object with its policy, which is that of TPM2_PolicyAuthValue, too")
+    handle = said.sealed_object(AFTER_AUTH_VALUE)
     by_password = lambda: tpm.unsealing(handle, Use(session, demand=PASSWORD))
     by_value = lambda: tpm.unsealing(handle, Use(session, demand=AUTH_VALUE))
     by_nothing = lambda: tpm.unsealing(handle, Use(session, shows_empty_key=True))
@@ -423,17 +416,15 @@ def asked_once(session, compared):
         "WHAT IS ASKED ONCE. TPM2_PolicyNV and TPM2_PolicySecret look at data and at a value as "
         "they are told, and not as the command comes."
     )
-    handle = tpm.sealed_object(
-        "An object whose policy is what an index holds", after_equal_data(tpm.name(compared))
-    )
+    said = tpm("An object whose policy is what an index holds")
+    handle = said.sealed_object(after_equal_data(tpm.name(compared)))
     told = tpm.comparing(session, compared, DATA, by=RH_OWNER)
     tpm.does("TPM2_PolicyNV", told)
     tpm("Other data are written").writing(compared, DATA[::-1], by=RH_OWNER)
     tpm.unseal("TPM2_Unseal", handle, SECRET, session)
     tpm.refused_by("A5", "TPM2_PolicyNV once more: POLICY", told)
-    handle = tpm.sealed_object(
-        "An object whose policy is the owner's value", after_secret(name_of(RH_OWNER))
-    )
+    said = tpm("An object whose policy is the owner's value")
+    handle = said.sealed_object(after_secret(name_of(RH_OWNER)))
     told = tpm.secret(session, OWNER, of=RH_OWNER)
     tpm.does("TPM2_PolicySecret", told)
     tpm("ownerAuth is another").change_auth(RH_OWNER, b"other", OWNER)
@@ -473,25 +464,22 @@ usable = tpm.sealed_object("The same with userWithAuth", AFTER_UNSEAL, HERE | US
 tpm.unseal("TPM2_Unseal by the password", usable, SECRET, PIN)
 tpm.unseal("And by the HMAC session", usable, SECRET, hmac)
 tpm.flushed(closed, usable)
-to_write = tpm.written_index(
-    "An index with AUTHWRITE and without AUTHREAD", Attribute.AUTHWRITE | BY_OWNER
-)
+said = tpm("An index with AUTHWRITE and without AUTHREAD")
+to_write = said.written_index(Attribute.AUTHWRITE | BY_OWNER)
 lost(
     "TPM2_NV_Read: AUTH_UNAVAILABLE", tpm.reading(to_write, 8, PIN), tpm.reading(to_write, 8, hmac)
 )
 tpm("TPM2_NV_Write").writing(to_write, DATA, PIN)
-to_read = tpm.written_index(
-    "One with AUTHREAD and without AUTHWRITE", Attribute.AUTHREAD | BY_OWNER
-)
+said = tpm("One with AUTHREAD and without AUTHWRITE")
+to_read = said.written_index(Attribute.AUTHREAD | BY_OWNER)
 lost(
     "TPM2_NV_Write: AUTH_UNAVAILABLE",
     tpm.writing(to_read, DATA, PIN),
     tpm.writing(to_read, DATA, hmac),
 )
 tpm.read("TPM2_NV_Read", to_read, DATA, PIN)
-admin = tpm.index(
-    "One whose policy is the command TPM2_NV_ChangeAuth", BY_VALUE, after_code(CC.NV_ChangeAuth)
-)
+said = tpm("One whose policy is the command TPM2_NV_ChangeAuth")
+admin = said.index(BY_VALUE, after_code(CC.NV_ChangeAuth))
 lost(
     "TPM2_NV_ChangeAuth, which is in the ADMIN role: AUTH_UNAVAILABLE",
     tpm.changing_auth(admin, PIN, PIN),

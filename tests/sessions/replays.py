@@ -252,9 +252,8 @@ def policy_sessions():
     tpm.does("It takes none away either: what was not sent yet", unsent)
 
     tpm.chapter("The same with what TPM2_PolicyAuthValue and TPM2_PolicyPassword demand.")
-    value = tpm.written_index(
-        "An index of their policy", BY_POLICY | Attribute.OWNERWRITE, AFTER_AUTH_VALUE
-    )
+    said = tpm("An index of their policy")
+    value = said.written_index(BY_POLICY | Attribute.OWNERWRITE, AFTER_AUTH_VALUE)
     tpm.asserts_value(bound)
     first = accepted("TPM2_NV_Write", write(Use(bound, demand=AUTH_VALUE), index=value))
     again("The same again: POLICY_FAIL/s1, as nothing was told", first)
@@ -324,9 +323,8 @@ assert FIRST == tpm.index(
 )
 tpm.does("It is written, so that its Name stays from here on", write(VALUE))
 start, first = protected()
-to_endorsement = tpm.start(
-    "A session bound to TPM_RH_ENDORSEMENT, which is not protected", RH_ENDORSEMENT
-)
+said = tpm("A session bound to TPM_RH_ENDORSEMENT, which is not protected")
+to_endorsement = said.start(RH_ENDORSEMENT)
 not_counted(start.session, to_endorsement)
 counted_otherwise(start.session)
 other_places(start.session, to_endorsement)

@@ -23,9 +23,8 @@ def others_are(*sessions):
 
 
 tpm.accepted('ownerAuth is "owner"', tpm.change_auth(RH_OWNER, b"owner", b""))
-tpm.accepted(
-    'endorsementAuth is "endorsement"', tpm.change_auth(RH_ENDORSEMENT, b"endorsement", b"")
-)
+said = tpm('endorsementAuth is "endorsement"')
+said.accepted(tpm.change_auth(RH_ENDORSEMENT, b"endorsement", b""))
 
 for algorithm, size in ((SHA1, 16), (SHA1, 20), (SHA256, 16), (SHA256, 32)):
     tpm.chapter(f"Sessions of {NAMES[algorithm]}, with nonces of {size} bytes.")
@@ -38,10 +37,8 @@ for algorithm, size in ((SHA1, 16), (SHA1, 20), (SHA256, 16), (SHA256, 32)):
     ).change_auth(RH_OWNER, b"a new value", Use(bound, DECRYPTS))
     said = tpm("The unbound one does, to 32 bytes")
     said.change_auth(RH_OWNER, b"0123456789abcdef" * 2, Use(unbound, DECRYPTS))
-    tpm.accepted(
-        "What was set is a password now, and sets the first value",
-        tpm.change_auth(RH_OWNER, b"owner", b"0123456789abcdef" * 2),
-    )
+    said = tpm("What was set is a password now, and sets the first value")
+    said.accepted(tpm.change_auth(RH_OWNER, b"owner", b"0123456789abcdef" * 2))
     said = tpm("A value of which only zeros are sent")
     said.change_auth(RH_OWNER, bytes(20), Use(bound, DECRYPTS))
     said = tpm("It is empty now: the unbound one has no key and no hmac, and encrypts all the same")
@@ -110,10 +107,8 @@ tpm("The first of three").random(32, Use(other, ENCRYPTS), session, third)
 tpm("The third of three, which ends").random(32, session, third, Use(other, ENCRYPT))
 with others_are(third):
     foreign = tpm.random(32, session, Use(third, ENCRYPTS))
-tpm.refused(
-    "No other nonce stands in the first entry's hmac, as it authorizes nothing: BAD_AUTH/s1",
-    foreign,
-)
+said = tpm("No other nonce stands in the first entry's hmac, as it authorizes nothing: BAD_AUTH/s1")
+said.refused(foreign)
 tpm("Without").random(32, session, Use(third, ENCRYPTS))
 
 tpm.chapter(
@@ -146,11 +141,8 @@ tpm.refused(
         for it in (b"", b"\0", b"\0\x01", b"\0\x20" + bytes(31), b"\0\x21" + bytes(32), b"\xff\xff")
     ),
 )
-tpm.refused(
-    "Without decrypt a size that says too many is a fault of its own: SIZE/p1",
-    changing(b"\0\x21" + bytes(32), session),
-    changing(b"\xff\xff", session),
-)
+said = tpm("Without decrypt a size that says too many is a fault of its own: SIZE/p1")
+said.refused(changing(b"\0\x21" + bytes(32), session), changing(b"\xff\xff", session))
 tpm.refused(
     "decrypt, and the first parameter is whole and too long: SIZE/p1",
     changing(sized(bytes(33)), Use(session, DECRYPTS)),
@@ -159,18 +151,13 @@ tpm.refused(
 )
 said = tpm("TPM2_StartAuthSession with 33 bytes: SIZE/p1")
 said.prepare(CC.StartAuthSession, *frames.start_auth_session(bytes(33)), Use(session, DECRYPTS))
-tpm.refused(
-    "A byte behind the first parameter, which is not encrypted: SIZE",
-    changing(sized(b"owner") + b"\0", Use(session, DECRYPTS)),
-)
+said = tpm("A byte behind the first parameter, which is not encrypted: SIZE")
+said.refused(changing(sized(b"owner") + b"\0", Use(session, DECRYPTS)))
 wrong = tpm.change_auth(RH_OWNER, b"owner", Use(session, DECRYPTS))
-tpm.refused(
-    "One bit of the encrypted bytes, which the hmac is of: BAD_AUTH/s1",
-    wrong.but(parameters=flipped(wrong.parameters)),
-)
+said = tpm("One bit of the encrypted bytes, which the hmac is of: BAD_AUTH/s1")
+said.refused(wrong.but(parameters=flipped(wrong.parameters)))
 tpm.refused("The same bytes in plain: BAD_AUTH/s1", wrong.but(parameters=sized(b"owner")))
-tpm.refused(
-    "The attribute decrypt taken away: BAD_AUTH/s1", wrong.but_entry(1, attributes=CONTINUE_SESSION)
-)
+said = tpm("The attribute decrypt taken away: BAD_AUTH/s1")
+said.refused(wrong.but_entry(1, attributes=CONTINUE_SESSION))
 tpm.accepted("The right one, with the nonce that no refusal changed", wrong)
 tpm.accepted('ownerAuth is still "owner"', tpm.change_auth(RH_OWNER, b"owner", b"owner"))

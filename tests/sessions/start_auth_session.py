@@ -261,9 +261,8 @@ third = tpm.start(
 tpm("By that one").reset(third)
 handles, parameters = frames.start_auth_session(NONCE, RH_OWNER)
 beside = tpm.prepare(CC.StartAuthSession, handles, parameters, first)
-tpm.refused(
-    "With another bind than the hmac is of: BAD_AUTH/s1", beside.but(handles=[RH_NULL, RH_LOCKOUT])
-)
+said = tpm("With another bind than the hmac is of: BAD_AUTH/s1")
+said.refused(beside.but(handles=[RH_NULL, RH_LOCKOUT]))
 for session in (third, second, first):
     tpm.accepted("It ends", tpm.flush(session))
 
@@ -277,9 +276,8 @@ refused("The seventeenth: SESSION_MEMORY", start(), start(aes=True))
 refused("A salt, which is looked at before: VALUE/p2", start(salt=b"\0"))
 refused("A nonce of 15 bytes, which is too: SIZE/p1", start(nonce=bytes(15)))
 ending = tpm.prepare(CC.StartAuthSession, *frames.start_auth_session(NONCE), Use(sessions[4], ENDS))
-tpm.refused(
-    "A session beside it that would end gives its place up too late: SESSION_MEMORY", ending
-)
+said = tpm("A session beside it that would end gives its place up too late: SESSION_MEMORY")
+said.refused(ending)
 tpm("It has not ended, and its nonce is the same").reset(sessions[4])
 tpm.accepted("Two are flushed, the tenth", tpm.flush(sessions[9]))
 tpm.accepted("And the fourth", tpm.flush(sessions[3]))

@@ -147,9 +147,8 @@ tpm.chapter("Both directions of one command, with one session and with two.")
 session = tpm.start("A session, bound to TPM_RH_OWNER", RH_OWNER, xor=True)
 other = tpm.start("Another one, bound to TPM_RH_ENDORSEMENT", RH_ENDORSEMENT, xor=True)
 parent = tpm.create_primary("A storage key", RH_OWNER, storage_key(), OWNER_AUTH)
-key = tpm.create(
-    'An HMAC key, whose value is "key"', parent, hmac_key(), user_auth=b"key", data=b"Jefe"
-)
+said = tpm('An HMAC key, whose value is "key"')
+key = said.create(parent, hmac_key(), user_auth=b"key", data=b"Jefe")
 key = tpm.load("TPM2_Load", parent, key)
 TEXT = b"what do ya want for nothing?"
 KNOWN = bytes.fromhex("5bdcc146bf60754e6a042426089575c75a003f089d2739839dec58b964ec3843")
@@ -207,9 +206,8 @@ tpm.accepted("The key is flushed", tpm.flush(key))
 tpm.forget(key)
 
 tpm.chapter("What an object answers.")
-made = tpm.create(
-    'Sealed data, whose value is "value"', parent, sealed(), user_auth=b"value", data=b"s" * 128
-)
+said = tpm('Sealed data, whose value is "value"')
+made = said.create(parent, sealed(), user_auth=b"value", data=b"s" * 128)
 handle = tpm.load("TPM2_Load", parent, made)
 masked(
     "TPM2_Unseal through the session: the data, with the mask on them",
@@ -291,20 +289,15 @@ tpm.refused(
 masking("Of 1,024 bytes", tpm.event(bytes(1024), Use(session, DECRYPTS)), bytes(1024))
 
 tpm.chapter("What is refused, with right hmacs.")
-tpm.refused(
-    "TPM_ALG_XOR of SHA-1 for a session of SHA-256: HASH/p4",
-    tpm.prepare(CC.StartAuthSession, *frames.start_auth_session(bytes(16), xor=SHA1)),
-)
+said = tpm("TPM_ALG_XOR of SHA-1 for a session of SHA-256: HASH/p4")
+said.refused(tpm.prepare(CC.StartAuthSession, *frames.start_auth_session(bytes(16), xor=SHA1)))
 assert tpm.last.response == bytes.fromhex("80010000000a000004c3")
 right = tpm.event(b"event data", Use(session, DECRYPTS))
-tpm.refused(
-    "One bit of the masked bytes, which the hmac is of: BAD_AUTH/s1",
-    right.but(parameters=flipped(right.parameters)),
-)
+said = tpm("One bit of the masked bytes, which the hmac is of: BAD_AUTH/s1")
+said.refused(right.but(parameters=flipped(right.parameters)))
 tpm.refused("The same bytes in plain: BAD_AUTH/s1", right.but(parameters=sized(b"event data")))
-tpm.refused(
-    "The attribute decrypt taken away: BAD_AUTH/s1", right.but_entry(1, attributes=CONTINUE_SESSION)
-)
+said = tpm("The attribute decrypt taken away: BAD_AUTH/s1")
+said.refused(right.but_entry(1, attributes=CONTINUE_SESSION))
 said = tpm("A second session that unmasks: ATTRIBUTES/s2")
 said.event(b"event data", Use(session, DECRYPTS), Use(other, DECRYPTS))
 tpm.refused(
@@ -328,7 +321,5 @@ for words, cipher in (
 ):
     text = template.replace(frames.symmetric(aes=True), cipher)
     parameters = frames.creation(frames.sensitive_create(), sized(text))
-    tpm.refused(
-        f"A storage key with TPM_ALG_XOR and {words}: SYMMETRIC/p2",
-        tpm.prepare(CC.CreatePrimary, [RH_OWNER], parameters, OWNER_AUTH),
-    )
+    said = tpm(f"A storage key with TPM_ALG_XOR and {words}: SYMMETRIC/p2")
+    said.refused(tpm.prepare(CC.CreatePrimary, [RH_OWNER], parameters, OWNER_AUTH))
