@@ -22,12 +22,14 @@ from tpmsim.standard import frames
 
 
 class Teller(ScriptCaller):
-    """The script begins with TPM2_Startup(CLEAR), if it `starts` so; where `tries` are allowed no
-    wrong one locks anything. tests/anew.py writes it.
+    """The script of a program, by the name of its module and by its first words, which tell the name
+    of the script and, behind a full stop, what the script says of itself. It begins with TPM2_Startup(CLEAR), if it
+    `starts` so; where `tries` are allowed no wrong one locks anything. tests/anew.py writes it.
     """
 
-    def __init__(self, path: str, head: str, tries: bool = False, starts: bool = True) -> None:
-        super().__init__(Script(path, head))
+    def __init__(self, name: str, told: str, tries: bool = False, starts: bool = True) -> None:
+        head = " ".join(told.split("\n\n")[0].partition(".tpm. ")[2].split())
+        super().__init__(Script(name.replace(".", "/") + ".tpm", head))
         if starts:
             self.startup()
         if tries:

@@ -1,12 +1,12 @@
-"""Writes clear.tpm: TPM2_Clear, what it takes away and what it leaves."""
+"""Writes clear.tpm. TPM2_Clear, for a new owner: the objects and the NV indices of the old one are
+gone, with the seed of its primary objects, and so are its authorization values and its lockout.
+What is the platform's stays.
+"""
 
-from tpmsim.caller import BY_OWNER, BY_PLATFORM, BY_VALUE, STATE, area, counter, sealed
-from tpmsim.caller import storage_key, wrong
-from tpmsim.standard import CC, RH_ENDORSEMENT, RH_LOCKOUT, RH_NULL, RH_OWNER, RH_PLATFORM, SHA256
-from tpmsim.standard import command, number, on_handle
-from tpmsim.standard.nv import Attribute
-from tpmsim.caller.script_caller import FIRST, SECOND, THIRD
-from tests.common.teller import Teller
+from tests.common.vocabulary import area, BY_OWNER, BY_PLATFORM, BY_VALUE, CC, command, counter
+from tests.common.vocabulary import FIRST, number, NvAttribute, on_handle, RH_ENDORSEMENT
+from tests.common.vocabulary import RH_LOCKOUT, RH_NULL, RH_OWNER, RH_PLATFORM, sealed, SECOND
+from tests.common.vocabulary import SHA256, STATE, storage_key, Teller, THIRD, wrong
 
 HANDLES, PROPERTIES = 1, 6
 HIERARCHIES = (
@@ -21,13 +21,7 @@ WITH_OBJECTS = (
     (RH_PLATFORM, "the platform", 0x8180_0000, RH_PLATFORM),
 )
 
-tpm = Teller(
-    "tests/general/clear.tpm",
-    "TPM2_Clear, for a new owner: the objects and the NV indices of the old one are gone, with the "
-    "seed of its primary objects, and so are its authorization values and its lockout. What is the "
-    "platform's stays.",
-    starts=False,
-)
+tpm = Teller(__name__, __doc__, starts=False)
 says = tpm.raw
 
 
@@ -73,7 +67,7 @@ def set_up():
     tpm.wait(5000)
     for index, attributes, by in (
         (FIRST, BY_OWNER | BY_VALUE, RH_OWNER),
-        (SECOND, BY_PLATFORM | BY_VALUE | Attribute.PLATFORMCREATE, RH_PLATFORM),
+        (SECOND, BY_PLATFORM | BY_VALUE | NvAttribute.PLATFORMCREATE, RH_PLATFORM),
     ):
         words = "An NV index of the owner, and one of the platform" if index == FIRST else ""
         tpm.define(words, area(index, attributes), by=by)
@@ -152,25 +146,19 @@ def effects():
 says("Before TPM2_Startup: INITIALIZE", on_handle(CC.Clear, RH_PLATFORM))
 tpm.startup()
 says("No handle: INSUFFICIENT/h1", command(CC.Clear, b""))
-says(
-    "Who cannot clear: VALUE/h1",
-    *(on_handle(CC.Clear, it) for it in (RH_OWNER, RH_ENDORSEMENT, RH_NULL, 0, 0x8000_0000)),
-)
+case = "Who cannot clear: VALUE/h1"
+says(case, *(on_handle(CC.Clear, it) for it in (RH_OWNER, RH_ENDORSEMENT, RH_NULL, 0, 0x8000_0000)))
 for handle in (RH_LOCKOUT, RH_PLATFORM):
     words = "Without sessions" if handle == RH_LOCKOUT else ""
     says(f"{words}: AUTH_MISSING", command(CC.Clear, number(handle, 4)))
-says(
-    "A byte behind the handle: SIZE",
-    *(on_handle(CC.Clear, it, b"\0") for it in (RH_LOCKOUT, RH_PLATFORM)),
-)
+case = "A byte behind the handle: SIZE"
+says(case, *(on_handle(CC.Clear, it, b"\0") for it in (RH_LOCKOUT, RH_PLATFORM)))
 tpm("A wrong password: BAD_AUTH/s1").clearing(RH_PLATFORM, b"x")
 policy = tpm.policy("A policy session")
 tpm("No policy clears: AUTH_UNAVAILABLE").clearing(RH_PLATFORM, policy)
 tpm("It is flushed").flush(policy)
-says(
-    "TPM2_Clear by the platform, and by lockoutAuth: SUCCESS",
-    *(on_handle(CC.Clear, it) for it in (RH_PLATFORM, RH_LOCKOUT)),
-)
+case = "TPM2_Clear by the platform, and by lockoutAuth: SUCCESS"
+says(case, *(on_handle(CC.Clear, it) for it in (RH_PLATFORM, RH_LOCKOUT)))
 
 set_up()
 effects()

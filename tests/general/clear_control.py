@@ -1,20 +1,16 @@
-"""Writes clear_control.tpm: TPM2_ClearControl, and TPM2_Clear where it is disabled."""
+"""Writes clear_control.tpm. TPM2_ClearControl disables TPM2_Clear (YES, 01), by lockoutAuth or by
+the platform, and enables it again (NO, 00), which only the platform may.
+"""
 
-from tpmsim.caller import STATE, wrong
-from tpmsim.standard import CC, CONTINUE_SESSION, DECRYPT, ENCRYPT, RH_ENDORSEMENT, RH_LOCKOUT
-from tpmsim.standard import RH_NULL, RH_OWNER, RH_PLATFORM, command, frames, number, on_handle
-from tests.common.teller import Teller
+from tests.common.vocabulary import CC, command, CONTINUE_SESSION, DECRYPT, ENCRYPT, frames, number
+from tests.common.vocabulary import on_handle, RH_ENDORSEMENT, RH_LOCKOUT, RH_NULL, RH_OWNER
+from tests.common.vocabulary import RH_PLATFORM, STATE, Teller, wrong
 
 NO, YES = 0, 1
 BOTH = RH_LOCKOUT, RH_PLATFORM
 PROPERTIES, LOCKOUT_COUNTER = 6, 0x20E
 
-tpm = Teller(
-    "tests/general/clear_control.tpm",
-    "TPM2_ClearControl disables TPM2_Clear (YES, 01), by lockoutAuth or by the platform, and "
-    "enables it again (NO, 00), which only the platform may.",
-    starts=False,
-)
+tpm = Teller(__name__, __doc__, starts=False)
 says = tpm.raw
 
 
@@ -45,14 +41,10 @@ def order():
     tpm.chapter("DISABLED is the check of the command itself, behind all others.")
     says("A byte behind the handle: SIZE", *(on_handle(CC.Clear, it, b"\0") for it in BOTH))
     wrong_password = [frames.entry(hmac=b"x")]
-    says(
-        "A wrong password of the platform: BAD_AUTH/s1",
-        on_handle(CC.Clear, RH_PLATFORM, b"", wrong_password),
-    )
-    says(
-        "One of TPM_RH_LOCKOUT: a try, which is counted: AUTH_FAIL/s1",
-        on_handle(CC.Clear, RH_LOCKOUT, b"", wrong_password),
-    )
+    case = "A wrong password of the platform: BAD_AUTH/s1"
+    says(case, on_handle(CC.Clear, RH_PLATFORM, b"", wrong_password))
+    case = "One of TPM_RH_LOCKOUT: a try, which is counted: AUTH_FAIL/s1"
+    says(case, on_handle(CC.Clear, RH_LOCKOUT, b"", wrong_password))
     says("The right one: LOCKOUT", on_handle(CC.Clear, RH_LOCKOUT))
     says("Of TPM2_ClearControl, too: LOCKOUT", control(RH_LOCKOUT, NO), control(RH_LOCKOUT, YES))
     tpm.wait(1_000_000)
@@ -78,15 +70,11 @@ tpm.startup()
 says("No handle: INSUFFICIENT/h1", command(CC.ClearControl, b""))
 others = RH_OWNER, RH_ENDORSEMENT, RH_NULL, 0
 says("Who cannot clear: VALUE/h1", *(control(it, YES) for it in others))
-says(
-    "Without sessions: AUTH_MISSING",
-    *(command(CC.ClearControl, number(it, 4) + b"\1") for it in BOTH),
-)
+case = "Without sessions: AUTH_MISSING"
+says(case, *(command(CC.ClearControl, number(it, 4) + b"\1") for it in BOTH))
 says("No parameter: INSUFFICIENT/p1", *(on_handle(CC.ClearControl, it) for it in BOTH))
-says(
-    "Neither YES nor NO: VALUE/p1",
-    *(control(handle, value) for handle in BOTH for value in (2, 0x80, 0xFF)),
-)
+case = "Neither YES nor NO: VALUE/p1"
+says(case, *(control(handle, value) for handle in BOTH for value in (2, 0x80, 0xFF)))
 says(
     "A byte behind it, also of NO by lockoutAuth: SIZE",
     *(on_handle(CC.ClearControl, handle, it) for handle in BOTH for it in (b"\0\0", b"\1\0")),

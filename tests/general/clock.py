@@ -1,18 +1,13 @@
-"""Writes clock.tpm: TPM2_ReadClock, the times and the counts of starts."""
+"""Writes clock.tpm. TPM2_ReadClock: time, the milliseconds since the power cycle; clock, those of
+the device's life; resetCount and restartCount; and that the clock is safe (01), as it never goes
+back. The numbers of eight bytes end far beyond what a script can wait for.
+"""
 
-from tpmsim.caller import CLEAR, STATE
-from tpmsim.standard import CC, command, frames, number
-from tests.common.teller import Teller
+from tests.common.vocabulary import CC, CLEAR, command, frames, number, STATE, Teller
 
 MOST = 2**32 - 1
 
-tpm = Teller(
-    "tests/general/clock.tpm",
-    "TPM2_ReadClock: time, the milliseconds since the power cycle; clock, those of the device's "
-    "life; resetCount and restartCount; and that the clock is safe (01), as it never goes back. "
-    "The numbers of eight bytes end far beyond what a script can wait for.",
-    starts=False,
-)
+tpm = Teller(__name__, __doc__, starts=False)
 says = tpm.raw
 
 

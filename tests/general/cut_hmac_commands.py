@@ -1,14 +1,18 @@
-"""Writes cut_hmac_commands.tpm: commands by an hmac, cut behind the authorization area."""
+"""Writes cut_hmac_commands.tpm. Commands that an hmac authorizes, cut behind their authorization
+area to each shorter length, with commandSize corrected. The hmac is that of the whole parameters,
+so it is wrong; it is compared before the parameters are read. At a protected NV index or object
+that is a try: TPM_PT_LOCKOUT_COUNTER (20E) tells that it counts. TPM2_DictionaryAttackLockReset
+takes it back each time. A refusal leaves the session as it was: so the command comes whole at last,
+with the same hmac.
+"""
 
 from collections.abc import Iterator
 
-from tpmsim.caller import BY_POLICY, BY_VALUE, HERE, Prepared, Session, Use, area, bits, extended
-from tpmsim.caller import hmac_key
-from tpmsim.standard import CC, CONTINUE_SESSION, DECRYPT, RH_LOCKOUT, RH_OWNER, SHA1, SHA256
-from tpmsim.standard import frames, policy, sized
-from tpmsim.standard.nv import Attribute as NvAttribute
-from tpmsim.standard.objects import Attribute
-from tpmsim.caller.script_caller import FIRST, FOURTH, SECOND, THIRD
+from tpmsim.caller import Prepared, Session
+from tests.common.vocabulary import area, bits, BY_POLICY, BY_VALUE, CC, CONTINUE_SESSION, DECRYPT
+from tests.common.vocabulary import extended, FIRST, FOURTH, frames, HERE, hmac_key, NvAttribute
+from tests.common.vocabulary import ObjectAttribute, policy, RH_LOCKOUT, RH_OWNER, SECOND, SHA1
+from tests.common.vocabulary import SHA256, sized, THIRD, Use
 from tests.general.cuts import HEADER_BYTES, with_size
 from tests.sessions.grounds_caller import GroundsCaller
 
@@ -18,15 +22,7 @@ DECRYPTS = CONTINUE_SESSION | DECRYPT
 HANDLES_BYTES = 8
 NO_TRY, TRY = 0, 1
 
-tpm = GroundsCaller(
-    "tests/general/cut_hmac_commands.tpm",
-    "Commands that an hmac authorizes, cut behind their authorization area to each shorter length, "
-    "with commandSize corrected. The hmac is that of the whole parameters, so it is wrong; it is "
-    "compared before the parameters are read. At a protected NV index or object that is a try: "
-    "TPM_PT_LOCKOUT_COUNTER (20E) tells that it counts. TPM2_DictionaryAttackLockReset takes it "
-    "back each time. A refusal leaves the session as it was: so the command comes whole at last, "
-    "with the same hmac.",
-)
+tpm = GroundsCaller(__name__, __doc__)
 
 
 def unlock() -> None:
@@ -82,11 +78,8 @@ def by_each_command(session: Session, told: Session, key: int) -> None:
 def beside(session: Session, bound: Session) -> None:
     """A session that is bound to the index, where it does not authorize it."""
     cut("TPM2_PCR_Event of PCR 16, which the bound session authorizes", tpm.event(DATA, bound))
-    cut(
-        "TPM2_PCR_Event that a password authorizes, with the bound session behind it",
-        tpm.event(DATA, b"", bound),
-        "AUTH_FAIL/s2",
-    )
+    case = "TPM2_PCR_Event that a password authorizes, with the bound session behind it"
+    cut(case, tpm.event(DATA, b"", bound), "AUTH_FAIL/s2")
     cut("TPM2_GetRandom with the bound session alone", tpm.random(2, bound))
     cut(
         "TPM2_PCR_Event, with the bound session behind one that is bound to nothing. The hmac of "
@@ -176,7 +169,7 @@ tpm("The first is written").writing(FIRST, DATA, offset=2)
 KEY = tpm.create_primary(
     "A protected HMAC key",
     RH_OWNER,
-    hmac_key(attributes=HERE | Attribute.USER_WITH_AUTH),
+    hmac_key(attributes=HERE | ObjectAttribute.USER_WITH_AUTH),
     user_auth=PIN,
     data=b"a key",
 )
@@ -189,10 +182,8 @@ cut("TPM2_NV_Write by it", tpm.writing(FIRST, DATA, sha1, offset=2))
 bound = tpm.start("One that is bound to the index", FIRST)
 cut("TPM2_NV_Write by it", tpm.writing(FIRST, DATA, bound, offset=2))
 to_owner = tpm.start("One that is bound to TPM_RH_OWNER, with AES", RH_OWNER, aes=True)
-cut(
-    "TPM2_NV_Write by it, with encrypted data",
-    tpm.writing(FIRST, DATA, Use(to_owner, DECRYPTS), offset=2),
-)
+case = "TPM2_NV_Write by it, with encrypted data"
+cut(case, tpm.writing(FIRST, DATA, Use(to_owner, DECRYPTS), offset=2))
 told = tpm.policy("A policy session")
 tpm("TPM2_PolicyAuthValue").auth_value_told(told)
 by_policy = Use(told, demand=policy.AUTH_VALUE)
@@ -210,18 +201,10 @@ beside(UNBOUND, BOUND)
 
 # The same where nothing protected is tried.
 session = UNBOUND
-cut(
-    "TPM2_NV_Write of the index with TPMA_NV_NO_DA",
-    tpm.writing(FOURTH, DATA, session),
-    "BAD_AUTH/s1",
-    NO_TRY,
-)
+case = "TPM2_NV_Write of the index with TPMA_NV_NO_DA"
+cut(case, tpm.writing(FOURTH, DATA, session), "BAD_AUTH/s1", NO_TRY)
 tpm('ownerAuth is "pin"').change_auth(RH_OWNER, PIN, b"")
-cut(
-    "TPM2_HierarchyChangeAuth of TPM_RH_OWNER",
-    tpm.change_auth(RH_OWNER, b"", session),
-    "BAD_AUTH/s1",
-    NO_TRY,
-)
+case = "TPM2_HierarchyChangeAuth of TPM_RH_OWNER"
+cut(case, tpm.change_auth(RH_OWNER, b"", session), "BAD_AUTH/s1", NO_TRY)
 
 at_lockout_auth(UNBOUND)

@@ -1,13 +1,14 @@
-"""Writes full_device.tpm: a device that is filled up to each of its limits."""
+"""Writes full_device.tpm. A device that is filled up to each of its limits: sixteen persistent
+objects, eight transient ones, 64 NV indices of 16,384 bytes in all, and sixteen sessions.
+tests/images/images.py prints the image of what it keeps.
+"""
 
-from tpmsim.caller import BY_OWNER, BY_PLATFORM, BY_POLICY, BY_VALUE, HERE, OPEN, STATE, area, bits
-from tpmsim.caller import counter, extended, hmac_key, sealed, storage_key
+from tests.common.vocabulary import ALG_NULL, area, bits, BY_OWNER, BY_PLATFORM, BY_POLICY, BY_VALUE
+from tests.common.vocabulary import CC, counter, extended, frames, HERE, hmac_key, NvAttribute
+from tests.common.vocabulary import ObjectAttribute, OPEN, policy, RH_ENDORSEMENT, RH_LOCKOUT
+from tests.common.vocabulary import RH_NULL, RH_OWNER, RH_PLATFORM, SE_HMAC, SE_POLICY, SE_TRIAL
+from tests.common.vocabulary import sealed, SHA1, SHA256, STATE, storage_key, Teller
 from tpmsim.model import nv_commands
-from tpmsim.standard import ALG_NULL, CC, RH_ENDORSEMENT, RH_LOCKOUT, RH_NULL, RH_OWNER
-from tpmsim.standard import RH_PLATFORM, SE_HMAC, SE_POLICY, SE_TRIAL, SHA1, SHA256, frames, policy
-from tpmsim.standard.nv import Attribute as NvAttribute
-from tpmsim.standard.objects import Attribute
-from tests.common.teller import Teller
 
 PERSISTENT, OBJECTS, SESSIONS = 16, 8, 16
 AUTH_VALUES = (
@@ -27,22 +28,16 @@ TEMPLATES = (
     (storage_key(), b"", b""),
     (storage_key(SHA1), b"", b"a"),
     (sealed(), b"a secret", b"pin"),
-    (sealed(attributes=HERE | Attribute.USER_WITH_AUTH), b"x", b""),
+    (sealed(attributes=HERE | ObjectAttribute.USER_WITH_AUTH), b"x", b""),
     (sealed(SHA1, attributes=HERE, auth_policy=POLICIES[SHA1]), bytes(range(128)), b"b" * 20),
     (sealed(auth_policy=POLICIES[SHA256]), bytes(128), b"c" * 32),
     (hmac_key(), b"a key", b""),
     (hmac_key(SHA1, scheme=SHA1), b"another key", b"mac"),
     (hmac_key(scheme=ALG_NULL), b"k", b""),
-    (hmac_key(attributes=STAYS | Attribute.SENSITIVE_DATA_ORIGIN), b"", b""),
+    (hmac_key(attributes=STAYS | ObjectAttribute.SENSITIVE_DATA_ORIGIN), b"", b""),
 )
 
-tpm = Teller(
-    "tests/general/full_device.tpm",
-    "A device that is filled up to each of its limits: sixteen persistent objects, eight transient "
-    "ones, 64 NV indices of 16,384 bytes in all, and sixteen sessions. tests/images/"
-    "images.py prints the image of what it keeps.",
-    starts=False,
-)
+tpm = Teller(__name__, __doc__, starts=False)
 
 
 def indices():

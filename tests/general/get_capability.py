@@ -1,10 +1,12 @@
-"""Writes get_capability.tpm: TPM2_GetCapability, each capability at its borders."""
+"""Writes get_capability.tpm. TPM2_GetCapability: handles (1), commands (2), PCRs (5) and properties
+(6). It answers the elements from the one that is asked for on, as many as were asked for, and
+whether there are more behind them.
+"""
 
-from tpmsim.caller import BY_VALUE, area, storage_key, wrong
+from tests.common.vocabulary import area, BY_VALUE, CC, command, CONTINUE_SESSION, DECRYPT, ENCRYPT
+from tests.common.vocabulary import frames, number, RH_OWNER, SE_HMAC, SE_POLICY, SE_TRIAL
+from tests.common.vocabulary import storage_key, Teller, wrong
 from tpmsim.model.capability import command_attributes
-from tpmsim.standard import CC, CONTINUE_SESSION, DECRYPT, ENCRYPT, RH_OWNER, SE_HMAC, SE_POLICY
-from tpmsim.standard import SE_TRIAL, command, frames, number
-from tests.common.teller import Teller
 
 HANDLES, COMMANDS, PCRS, PROPERTIES = 1, 2, 5, 6
 MOST = 2**32 - 1
@@ -13,13 +15,7 @@ MOST = 2**32 - 1
 # answers a handle.
 ATTRIBUTES = [command_attributes(it) for it in sorted(CC)]
 
-tpm = Teller(
-    "tests/general/get_capability.tpm",
-    "TPM2_GetCapability: handles (1), commands (2), PCRs (5) and properties (6). It answers the "
-    "elements from the one that is asked for on, as many as were asked for, and whether there are "
-    "more behind them.",
-    starts=False,
-)
+tpm = Teller(__name__, __doc__, starts=False)
 says = tpm.raw
 
 
@@ -57,10 +53,8 @@ def refusals():
     tpm.startup()
     says("As it is asked for: SUCCESS", command(CC.GetCapability, asked))
     for place in (1, 2, 3):
-        says(
-            f"Cut within parameter {place}: INSUFFICIENT/p{place}",
-            *(command(CC.GetCapability, asked[: 4 * place - it]) for it in (4, 1)),
-        )
+        case = f"Cut within parameter {place}: INSUFFICIENT/p{place}"
+        says(case, *(command(CC.GetCapability, asked[: 4 * place - it]) for it in (4, 1)))
     says("A byte behind them: SIZE", command(CC.GetCapability, asked + b"\0"))
     says(
         "Algorithms (0), and others that are not served: VALUE/p1",
@@ -69,10 +63,8 @@ def refusals():
             for it in (0, 3, 4, 7, 8, 9, 0x100, 0x0100_0001, MOST)
         ),
     )
-    says(
-        "Such a one and a byte behind it: the bytes are looked at first: SIZE",
-        command(CC.GetCapability, bytes(13)),
-    )
+    case = "Such a one and a byte behind it: the bytes are looked at first: SIZE"
+    says(case, command(CC.GetCapability, bytes(13)))
     says(
         "Handles that begin with another byte than 00, 01, 02, 03, 40, 80 and 81: HANDLE/p2",
         *(
@@ -81,10 +73,8 @@ def refusals():
             for count in (0, 1)
         ),
     )
-    says(
-        "A password, as there is nothing to authorize: HANDLE/s1",
-        command(CC.GetCapability, frames.area(frames.entry()) + asked, frames.SESSIONS),
-    )
+    case = "A password, as there is nothing to authorize: HANDLE/s1"
+    says(case, command(CC.GetCapability, frames.area(frames.entry()) + asked, frames.SESSIONS))
 
 
 def sessions():

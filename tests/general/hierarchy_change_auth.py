@@ -1,9 +1,10 @@
-"""Writes hierarchy_change_auth.tpm: TPM2_HierarchyChangeAuth, by passwords and sessions."""
+"""Writes hierarchy_change_auth.tpm. TPM2_HierarchyChangeAuth gives a hierarchy, or the reset of the
+lockout, another authorization value, and is authorized by the old one.
+"""
 
-from tpmsim.caller import Use
-from tpmsim.standard import CC, RH_ENDORSEMENT, RH_LOCKOUT, RH_NULL, RH_OWNER, RH_PLATFORM, SHA1
-from tpmsim.standard import command, frames, number, on_handle, sized
-from tests.common.teller import Teller
+from tests.common.vocabulary import CC, command, frames, number, on_handle, RH_ENDORSEMENT
+from tests.common.vocabulary import RH_LOCKOUT, RH_NULL, RH_OWNER, RH_PLATFORM, SHA1, sized, Teller
+from tests.common.vocabulary import Use
 
 HIERARCHIES = [
     (RH_OWNER, "TPM_RH_OWNER", b"owner"),
@@ -12,12 +13,7 @@ HIERARCHIES = [
     (RH_LOCKOUT, "TPM_RH_LOCKOUT", b"lockout"),
 ]
 
-tpm = Teller(
-    "tests/general/hierarchy_change_auth.tpm",
-    "TPM2_HierarchyChangeAuth gives a hierarchy, or the reset of the lockout, another "
-    "authorization value, and is authorized by the old one.",
-    starts=False,
-)
+tpm = Teller(__name__, __doc__, starts=False)
 
 
 def change(handle, new=b"", password=b""):

@@ -1,25 +1,21 @@
-"""Writes saved_state.tpm: which commands cancel what TPM2_Shutdown(STATE) saved."""
+"""Writes saved_state.tpm. A state that TPM2_Shutdown(STATE) saved is good for the next TPM2_Startup
+as long as nothing has happened since. Each command that succeeds cancels it, but those that change
+nothing. Here each command follows a TPM2_Shutdown(STATE); behind a power cycle TPM2_Startup(STATE)
+then says whether the state was there still.
+"""
 
-from tpmsim.caller import BY_OWNER, BY_VALUE, CLEAR, STATE, Use, area, bits, counter, extended
-from tpmsim.caller import hmac_key, sealed, storage_key, wrong
-from tpmsim.standard import CC, Fact, RH_ENDORSEMENT, RH_OWNER, RH_PLATFORM, SHA256, frames, policy
-from tpmsim.standard.nv import Attribute
-from tpmsim.caller.script_caller import FIRST, FOURTH, SECOND, THIRD
-from tests.common.teller import Teller
+from tpmsim.standard import Fact
+from tests.common.vocabulary import area, bits, BY_OWNER, BY_VALUE, CC, CLEAR, counter, extended
+from tests.common.vocabulary import FIRST, FOURTH, frames, hmac_key, NvAttribute, policy
+from tests.common.vocabulary import RH_ENDORSEMENT, RH_OWNER, RH_PLATFORM, sealed, SECOND, SHA256
+from tests.common.vocabulary import STATE, storage_key, Teller, THIRD, Use, wrong
 
 FIFTH = 0x0100_0005
 KEPT = 0x8100_0001
-LOCKS = Attribute.WRITE_STCLEAR | Attribute.READ_STCLEAR
+LOCKS = NvAttribute.WRITE_STCLEAR | NvAttribute.READ_STCLEAR
 CHANGING = policy.after_command_code(SHA256, bytes(32), CC.NV_ChangeAuth)
 
-tpm = Teller(
-    "tests/general/saved_state.tpm",
-    "A state that TPM2_Shutdown(STATE) saved is good for the next TPM2_Startup as long as nothing "
-    "has happened since. Each command that succeeds cancels it, but those that change nothing. "
-    "Here each command follows a TPM2_Shutdown(STATE); behind a power cycle TPM2_Startup(STATE) "
-    "then says whether the state was there still.",
-    starts=False,
-)
+tpm = Teller(__name__, __doc__, starts=False)
 
 
 def session():

@@ -1,16 +1,11 @@
-"""Writes shutdown.tpm: TPM2_Shutdown, what refuses it, and what it is to the next start."""
+"""Writes shutdown.tpm. TPM2_Shutdown says which state is kept for the next TPM2_Startup: none but
+what is kept anyway, CLEAR (0000), or PCR 0 to 15, STATE (0001).
+"""
 
-from tpmsim.caller import CLEAR, STATE, Use, wrong
-from tpmsim.standard import CC, CONTINUE_SESSION, DECRYPT, ENCRYPT, RH_OWNER, command, frames
-from tpmsim.standard import number
-from tests.common.teller import Teller
+from tests.common.vocabulary import CC, CLEAR, command, CONTINUE_SESSION, DECRYPT, ENCRYPT, frames
+from tests.common.vocabulary import number, RH_OWNER, STATE, Teller, Use, wrong
 
-tpm = Teller(
-    "tests/general/shutdown.tpm",
-    "TPM2_Shutdown says which state is kept for the next TPM2_Startup: none but what is kept "
-    "anyway, CLEAR (0000), or PCR 0 to 15, STATE (0001).",
-    starts=False,
-)
+tpm = Teller(__name__, __doc__, starts=False)
 says = tpm.raw
 
 
@@ -20,22 +15,16 @@ def shutdown(kind):
 
 says("Before TPM2_Startup, of both kinds: INITIALIZE", shutdown(CLEAR), shutdown(STATE))
 tpm.startup()
-says(
-    "Without a type, and with one byte of it: INSUFFICIENT/p1",
-    *(command(CC.Shutdown, bytes(it)) for it in (0, 1)),
-)
+case = "Without a type, and with one byte of it: INSUFFICIENT/p1"
+says(case, *(command(CC.Shutdown, bytes(it)) for it in (0, 1)))
 says("Of no type that there is: VALUE/p1", *(shutdown(it) for it in (2, 0x100, 0xFFFF)))
 says("A byte behind it: SIZE", command(CC.Shutdown, bytes(3)))
-says(
-    "A password, as there is nothing to authorize: HANDLE/s1",
-    command(CC.Shutdown, frames.area(frames.entry()) + number(STATE, 2), frames.SESSIONS),
-)
+case = "A password, as there is nothing to authorize: HANDLE/s1"
+says(case, command(CC.Shutdown, frames.area(frames.entry()) + number(STATE, 2), frames.SESSIONS))
 says("No authorization area: AUTHSIZE", command(CC.Shutdown, number(0, 2), frames.SESSIONS))
 tpm.power()
-says(
-    "None of these has saved a state: TPM2_Startup(STATE): VALUE/p1",
-    command(CC.Startup, number(STATE, 2)),
-)
+case = "None of these has saved a state: TPM2_Startup(STATE): VALUE/p1"
+says(case, command(CC.Startup, number(STATE, 2)))
 
 
 tpm.startup()
@@ -43,10 +32,8 @@ says("TPM2_Shutdown(CLEAR): SUCCESS", shutdown(CLEAR))
 says("TPM2_Shutdown(STATE), and once more: SUCCESS", shutdown(STATE), shutdown(STATE))
 says("It does not stop the device: TPM2_GetRandom: SUCCESS", tpm.random(2).buffer())
 tpm("TPM2_PCR_Reset").reset(b"")
-says(
-    "Nor can it be started again without a power cycle: INITIALIZE",
-    command(CC.Startup, number(CLEAR, 2)),
-)
+case = "Nor can it be started again without a power cycle: INITIALIZE"
+says(case, command(CC.Startup, number(CLEAR, 2)))
 tpm.chapter("The last one counts.")
 says("TPM2_Shutdown(STATE): SUCCESS", shutdown(STATE))
 says("TPM2_Shutdown(CLEAR): SUCCESS", shutdown(CLEAR))

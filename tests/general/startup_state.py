@@ -1,21 +1,17 @@
-"""Writes startup_state.tpm: what TPM2_Startup(STATE) restores, and what a restart does."""
+"""Writes startup_state.tpm. TPM2_Startup(STATE) restores PCR 0 to 15 as TPM2_Shutdown(STATE) saved
+them, and keeps what TPM2_Startup(CLEAR) starts over: platformAuth, and the locks of NV indices. The
+objects and the sessions are gone all the same.
+"""
 
-from tpmsim.caller import BY_OWNER, BY_VALUE, CLEAR, STATE, area, storage_key
-from tpmsim.standard import RH_NULL, RH_OWNER, RH_PLATFORM, SE_HMAC, SE_POLICY, SE_TRIAL, SHA256
-from tpmsim.standard.nv import Attribute
-from tpmsim.caller.script_caller import FIRST, FOURTH, SECOND, THIRD
-from tests.common.teller import Teller
+from tests.common.vocabulary import area, BY_OWNER, BY_VALUE, CLEAR, FIRST, FOURTH, NvAttribute
+from tests.common.vocabulary import RH_NULL, RH_OWNER, RH_PLATFORM, SE_HMAC, SE_POLICY, SE_TRIAL
+from tests.common.vocabulary import SECOND, SHA256, STATE, storage_key, Teller, THIRD
 
 # PCR 16 and 23 start as zeros, and so do those up to 15; 17 to 22 start as ones.
 PCRS = 0, 3, 15, 16, 17, 22, 23
 LOCALITY_OF = {17: 2, 22: 2}
 
-tpm = Teller(
-    "tests/general/startup_state.tpm",
-    "TPM2_Startup(STATE) restores PCR 0 to 15 as TPM2_Shutdown(STATE) saved them, and keeps what "
-    "TPM2_Startup(CLEAR) starts over: platformAuth, and the locks of NV indices. The objects and "
-    "the sessions are gone all the same.",
-)
+tpm = Teller(__name__, __doc__)
 
 
 def extend(what):
@@ -127,10 +123,10 @@ tpm("platformAuth is empty").change_auth(RH_PLATFORM, b"", b"")
 
 
 tpm.chapter("NV indices. Their locks and what is cleared at a start stay at a resume.")
-locks = Attribute.WRITE_STCLEAR | Attribute.READ_STCLEAR
+locks = NvAttribute.WRITE_STCLEAR | NvAttribute.READ_STCLEAR
 tpm.define("An index that can be locked until a start", area(FIRST, BY_OWNER | locks))
-tpm.define("One that is cleared at a start", area(SECOND, BY_OWNER | Attribute.CLEAR_STCLEAR))
-tpm.define("One that is locked for good", area(THIRD, BY_OWNER | Attribute.WRITEDEFINE))
+tpm.define("One that is cleared at a start", area(SECOND, BY_OWNER | NvAttribute.CLEAR_STCLEAR))
+tpm.define("One that is locked for good", area(THIRD, BY_OWNER | NvAttribute.WRITEDEFINE))
 for index in (FIRST, SECOND, THIRD):
     tpm("They are written" if index == FIRST else "").writing(index, b"8 bytes.", by=RH_OWNER)
 tpm("TPM2_NV_WriteLock").write_locking(FIRST, by=RH_OWNER)
@@ -143,8 +139,8 @@ tpm.read("The second one", SECOND, b"8 bytes.", by=RH_OWNER)
 tpm("The first one is locked: NV_LOCKED").reading(FIRST, 8, by=RH_OWNER)
 restart(CLEAR, "a restart")
 said = tpm("The locks of the first are open")
-said.is_now(FIRST, cleared=Attribute.WRITELOCKED | Attribute.READLOCKED)
-tpm.is_now("The second is not written", SECOND, cleared=Attribute.WRITTEN)
+said.is_now(FIRST, cleared=NvAttribute.WRITELOCKED | NvAttribute.READLOCKED)
+tpm.is_now("The second is not written", SECOND, cleared=NvAttribute.WRITTEN)
 tpm.is_now("The third is locked", THIRD)
 
 

@@ -1,10 +1,9 @@
-"""Writes state_vectors.tpm: commands and answers whose bytes were written down by hand."""
+"""Writes state_vectors.tpm. Commands whose answers were written down by hand, byte by byte, before
+there was a device to ask. Their program stops where an answer is another.
+"""
 
-from tpmsim.caller import BY_VALUE, area, sealed, storage_key
-from tpmsim.standard import RH_NULL, frames
-from tpmsim.standard.objects import Attribute
-from tpmsim.caller.script_caller import FIRST
-from tests.common.teller import Teller
+from tests.common.vocabulary import area, BY_VALUE, FIRST, frames, ObjectAttribute, RH_NULL, sealed
+from tests.common.vocabulary import storage_key, Teller
 
 # The empty password, and the answer to it where nothing else is answered.
 PW = "00000009 40000009 0000 01 0000"
@@ -15,12 +14,7 @@ SHUTDOWN_STATE = "8001 0000000C 00000145 0001"
 READ_TRIES = "8001 00000016 0000017A 00000006 0000020E 00000001"
 SUCCESS = "8001 0000000A 00000000"
 
-tpm = Teller(
-    "tests/general/state_vectors.tpm",
-    "Commands whose answers were written down by hand, byte by byte, before there was a device to "
-    "ask. Their program stops where an answer is another.",
-    starts=False,
-)
+tpm = Teller(__name__, __doc__, starts=False)
 
 
 def bytes_of(text):
@@ -50,7 +44,7 @@ def passwords():
     other = change.format(0x23, 12, "0003 616264")
     answered('"abd" is not, and no try', "BAD_AUTH/s1", other, code(0x9A2))
     tries_are("None", 0)
-    template = sealed(attributes=Attribute.USER_WITH_AUTH)
+    template = sealed(attributes=ObjectAttribute.USER_WITH_AUTH)
     said = tpm("A sealed object without noDA")
     handle = said.create_primary(RH_NULL, template, user_auth=b"pin", data=b"data")
     assert handle == 0x8000_0000
@@ -141,16 +135,11 @@ answered("Saved ones are 03", "SUCCESS", sessions.format("03000000"), nothing)
 tpm.chapter("TPM2_ClearControl and TPM2_Clear.")
 control = "8002 0000001C 00000127 {} " + PW + " {}"
 clear = "8002 0000001B 00000126 {} " + PW
-answered(
-    "TPM2_ClearControl of YES by TPM_RH_LOCKOUT", "SUCCESS", control.format("4000000A", "01"), OK
-)
+case = "TPM2_ClearControl of YES by TPM_RH_LOCKOUT"
+answered(case, "SUCCESS", control.format("4000000A", "01"), OK)
 answered("TPM2_Clear", "DISABLED", clear.format("4000000A"), code(0x120))
-answered(
-    "TPM2_ClearControl of NO by TPM_RH_LOCKOUT",
-    "AUTH_FAIL",
-    control.format("4000000A", "00"),
-    code(0x08E),
-)
+case = "TPM2_ClearControl of NO by TPM_RH_LOCKOUT"
+answered(case, "AUTH_FAIL", control.format("4000000A", "00"), code(0x08E))
 tries_are("That is no try", 0)
 answered("Of NO by the platform", "SUCCESS", control.format("4000000C", "00"), OK)
 before = tpm("The update counter").read_pcr(0)
@@ -164,18 +153,13 @@ root = tpm.create_primary("A storage key", frames.RH_OWNER, storage_key())
 made = tpm.create("A sealed object", root, sealed(), data=bytes(range(128)))
 handle = tpm.load("It is loaded as 80000001", root, made)
 assert handle == 0x8000_0001
-answered(
-    "It stays as 81000001", "SUCCESS", f"8002 00000023 00000120 40000001 80000001 {PW} 81000001", OK
-)
+case = "It stays as 81000001"
+answered(case, "SUCCESS", f"8002 00000023 00000120 40000001 80000001 {PW} 81000001", OK)
 tpm.note(0x8100_0001, tpm.names[handle], b"")
 transient = tpm.read_public("TPM2_ReadPublic of 80000001", handle)
 assert tpm.read_public("And of 81000001", 0x8100_0001) == transient
-answered(
-    "The platform takes it away",
-    "SUCCESS",
-    f"8002 00000023 00000120 4000000C 81000001 {PW} 81000001",
-    OK,
-)
+case = "The platform takes it away"
+answered(case, "SUCCESS", f"8002 00000023 00000120 4000000C 81000001 {PW} 81000001", OK)
 answered("It is gone", "HANDLE/h1", "8001 0000000E 00000173 81000001", code(0x18B))
 tpm.flush_objects("What was loaded is flushed", handle, root)
 

@@ -1,17 +1,12 @@
-"""Writes what_stays.tpm: what a device still knows of sessions and counters that are gone."""
+"""Writes what_stays.tpm. What a device still knows of sessions and counters that are gone: nothing
+of a session, and of counters the largest value that any had.
+"""
 
-from tpmsim.caller import counter
+from tests.common.vocabulary import CC, counter, FIRST, number, RH_LOCKOUT, SECOND, SHA256, Teller
+from tests.common.vocabulary import zeros
 from tpmsim.model.history import History
-from tpmsim.standard import CC, RH_LOCKOUT, SHA256, number
-from tpmsim.caller.script_caller import FIRST, SECOND, zeros
-from tests.common.teller import Teller
 
-tpm = Teller(
-    "tests/general/what_stays.tpm",
-    "What a device still knows of sessions and counters that are gone: nothing of a session, and "
-    "of counters the largest value that any had.",
-    starts=False,
-)
+tpm = Teller(__name__, __doc__, starts=False)
 history = History()
 tpm.script.device.tell = history.add
 

@@ -1,24 +1,19 @@
-"""Writes lockout.tpm: wrong tries are counted, lock, and are forgiven."""
+"""Writes lockout.tpm. Dictionary attack protection: a wrong authorization value of an object
+without noDA or of an NV index without TPMA_NV_NO_DA is counted in failedTries. At maxTries all of
+them are locked, and the right value is refused too. For each recoveryTime that passes one try is
+forgiven. A new device has maxTries 3, recoveryTime 1,000 seconds, and lockoutRecovery 1,000
+seconds.
+"""
 
-from tpmsim.caller import BY_VALUE, HERE, area, sealed
-from tpmsim.standard import CC, RH_OWNER, SHA256, policy
-from tpmsim.standard.nv import Attribute as NvAttribute
-from tpmsim.standard.objects import Attribute
-from tpmsim.caller.script_caller import FIRST, SECOND, THIRD
-from tests.common.teller import Teller
+from tests.common.vocabulary import area, BY_VALUE, CC, FIRST, HERE, NvAttribute, ObjectAttribute
+from tests.common.vocabulary import policy, RH_OWNER, sealed, SECOND, SHA256, Teller, THIRD
 
 PIN, SECRET = b"2468", b"a secret"
 
 # The objects, one of which is protected.
 PROTECTED, FREE = 0x8000_0000, 0x8000_0001
 
-tpm = Teller(
-    "tests/lockout/lockout.tpm",
-    "Dictionary attack protection: a wrong authorization value of an object without noDA or of an "
-    "NV index without TPMA_NV_NO_DA is counted in failedTries. At maxTries all of them are locked, "
-    "and the right value is refused too. For each recoveryTime that passes one try is forgiven. A "
-    "new device has maxTries 3, recoveryTime 1,000 seconds, and lockoutRecovery 1,000 seconds.",
-)
+tpm = Teller(__name__, __doc__)
 
 
 def right(what, index=FIRST):
@@ -70,11 +65,11 @@ def sealed_objects():
         tpm.create_primary(
             f"A sealed object {words} noDA",
             RH_OWNER,
-            sealed(attributes=HERE | Attribute.USER_WITH_AUTH | more),
+            sealed(attributes=HERE | ObjectAttribute.USER_WITH_AUTH | more),
             user_auth=PIN,
             data=SECRET,
         )
-        for words, more in (("without", 0), ("with", Attribute.NO_DA))
+        for words, more in (("without", 0), ("with", ObjectAttribute.NO_DA))
     ]
     assert handles == [PROTECTED, FREE]
 

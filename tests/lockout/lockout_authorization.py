@@ -1,20 +1,15 @@
-"""Writes lockout_authorization.tpm: wrong entries that are a try at lockoutAuth."""
+"""Writes lockout_authorization.tpm. A wrong entry is AUTH_FAIL where it was a try at the value of
+TPM_RH_LOCKOUT: as a password or in the key of an hmac, or else because its session was bound to
+TPM_RH_LOCKOUT at the start. Every other wrong entry is BAD_AUTH. Each such try closes lockoutAuth
+for lockoutRecovery.
+"""
 
-from tpmsim.caller import BY_VALUE, area, wrong
-from tpmsim.standard import CC, RH_LOCKOUT, RH_OWNER, frames, on_handle, sized
-from tpmsim.caller.script_caller import FIRST
-from tests.common.teller import Teller
+from tests.common.vocabulary import area, BY_VALUE, CC, FIRST, frames, on_handle, RH_LOCKOUT
+from tests.common.vocabulary import RH_OWNER, sized, Teller, wrong
 
 LOCKOUT = b"lockout"
 
-tpm = Teller(
-    "tests/lockout/lockout_authorization.tpm",
-    "A wrong entry is AUTH_FAIL where it was a try at the value of TPM_RH_LOCKOUT: as a password "
-    "or in the key of an hmac, or else because its session was bound to TPM_RH_LOCKOUT at the "
-    "start. "
-    "Every other wrong entry is BAD_AUTH. Each such try closes lockoutAuth for lockoutRecovery.",
-    tries=True,
-)
+tpm = Teller(__name__, __doc__, tries=True)
 
 
 def by_password(handle, password):

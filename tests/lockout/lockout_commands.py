@@ -1,17 +1,16 @@
-"""Writes lockout_commands.tpm: a try by each command that a protected entity authorizes."""
+"""Writes lockout_commands.tpm. Each command that is authorized by a protected entity: with maxTries
+1 one wrong entry locks, and the right one is refused then, whichever command the try was made by.
+"""
 
-from tpmsim.caller import BY_POLICY, BY_VALUE, HERE, STORES, Use, area, bits, counter, extended
-from tpmsim.caller import hmac_key, sealed, storage_key, wrong
-from tpmsim.standard import CC, RH_OWNER, SHA256, policy
-from tpmsim.standard.nv import Attribute as NvAttribute
-from tpmsim.standard.objects import Attribute
-from tpmsim.caller.script_caller import FIRST, FOURTH, SECOND, THIRD
-from tests.common.teller import Teller
+from tests.common.vocabulary import area, bits, BY_POLICY, BY_VALUE, CC, counter, extended, FIRST
+from tests.common.vocabulary import FOURTH, HERE, hmac_key, NvAttribute, ObjectAttribute, policy
+from tests.common.vocabulary import RH_OWNER, sealed, SECOND, SHA256, storage_key, STORES, Teller
+from tests.common.vocabulary import THIRD, Use, wrong
 
 PIN, DATA = b"pin", b"data"
 FIFTH = 0x0100_0005
 LOCKS = NvAttribute.WRITE_STCLEAR | NvAttribute.READ_STCLEAR
-PROTECTED = HERE | Attribute.USER_WITH_AUTH
+PROTECTED = HERE | ObjectAttribute.USER_WITH_AUTH
 PARENT, SEALED, KEY = range(0x8000_0000, 0x8000_0003)
 
 # The policy of an index whose value may be changed by who knows it.
@@ -19,11 +18,7 @@ CHANGING = policy.after_auth_value(
     SHA256, policy.after_command_code(SHA256, bytes(32), CC.NV_ChangeAuth)
 )
 
-tpm = Teller(
-    "tests/lockout/lockout_commands.tpm",
-    "Each command that is authorized by a protected entity: with maxTries 1 one wrong entry locks, "
-    "and the right one is refused then, whichever command the try was made by.",
-)
+tpm = Teller(__name__, __doc__)
 
 
 def unlock(what="TPM2_DictionaryAttackLockReset"):

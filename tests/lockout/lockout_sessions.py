@@ -1,24 +1,20 @@
-"""Writes lockout_sessions.tpm: which entries are a try at a protected value."""
+"""Writes lockout_sessions.tpm. Each way in which an entry can be a try at a protected authorization
+value: as the password, in the key of an hmac, or else because its session was bound to a protected
+entity at the start. maxTries is 1 here. So one wrong entry of such a way locks it, and all the
+others.
+"""
 
 from dataclasses import dataclass
 from typing import Callable
 
-from tpmsim.caller import BY_POLICY, BY_VALUE, HERE, Use, area, sealed, wrong
-from tpmsim.standard import RH_LOCKOUT, RH_OWNER, SHA256, policy
-from tpmsim.standard.nv import Attribute as NvAttribute
-from tpmsim.standard.objects import Attribute
-from tpmsim.caller.script_caller import FIRST, SECOND
-from tests.common.teller import Teller
+from tests.common.vocabulary import area, BY_POLICY, BY_VALUE, FIRST, HERE, NvAttribute
+from tests.common.vocabulary import ObjectAttribute, policy, RH_LOCKOUT, RH_OWNER, sealed, SECOND
+from tests.common.vocabulary import SHA256, Teller, Use, wrong
 
 PIN, DATA, OWNER, LOCKOUT = b"pin", b"a secret", b"owner", b"lockout"
 DEMANDING = policy.after_auth_value(SHA256, bytes(32))
 
-tpm = Teller(
-    "tests/lockout/lockout_sessions.tpm",
-    "Each way in which an entry can be a try at a protected authorization value: as the password, "
-    "in the key of an hmac, or else because its session was bound to a protected entity at the "
-    "start. maxTries is 1 here. So one wrong entry of such a way locks it, and all the others.",
-)
+tpm = Teller(__name__, __doc__)
 
 
 @dataclass
@@ -172,7 +168,7 @@ tpm("It is written").writing(FIRST, DATA)
 SEALED = tpm.create_primary(
     "A sealed object, with the same policy",
     RH_OWNER,
-    sealed(attributes=HERE | Attribute.USER_WITH_AUTH, auth_policy=DEMANDING),
+    sealed(attributes=HERE | ObjectAttribute.USER_WITH_AUTH, auth_policy=DEMANDING),
     user_auth=PIN,
     data=DATA,
 )

@@ -1,26 +1,21 @@
-"""Writes nv_access.tpm: who may write an index and read it, by each attribute alone."""
+"""Writes nv_access.tpm. Each attribute for writing and reading alone, with each kind of authHandle:
+the owner, the platform, the index itself and another one. By passwords, which a policy is not.
+"""
 
-from tpmsim.caller import BY_POLICY, BY_VALUE, area, bits, counter, extended
-from tpmsim.standard import RH_OWNER, RH_PLATFORM, frames, nv
-from tpmsim.standard.nv import Attribute
-from tpmsim.caller.script_caller import FIRST, SECOND, THIRD
-from tests.common.teller import Teller
+from tests.common.vocabulary import area, bits, BY_POLICY, BY_VALUE, counter, extended, FIRST
+from tests.common.vocabulary import frames, nv, NvAttribute, RH_OWNER, RH_PLATFORM, SECOND, Teller
+from tests.common.vocabulary import THIRD
 
 # What an index allows by one attribute for writing and one for reading, and who then may.
 ALLOWED = (
-    (Attribute.OWNERWRITE, Attribute.OWNERREAD, "owner"),
-    (Attribute.PPWRITE, Attribute.PPREAD, "platform"),
-    (Attribute.AUTHWRITE, Attribute.AUTHREAD, "index"),
-    (Attribute.POLICYWRITE, Attribute.POLICYREAD, "policy"),
+    (NvAttribute.OWNERWRITE, NvAttribute.OWNERREAD, "owner"),
+    (NvAttribute.PPWRITE, NvAttribute.PPREAD, "platform"),
+    (NvAttribute.AUTHWRITE, NvAttribute.AUTHREAD, "index"),
+    (NvAttribute.POLICYWRITE, NvAttribute.POLICYREAD, "policy"),
 )
-LOCKS = Attribute.WRITE_STCLEAR | Attribute.READ_STCLEAR
+LOCKS = NvAttribute.WRITE_STCLEAR | NvAttribute.READ_STCLEAR
 
-tpm = Teller(
-    "tests/nv/nv_access.tpm",
-    "Each attribute for writing and reading alone, with each kind of authHandle: the owner, the "
-    "platform, the index itself and another one. By passwords, which a policy is not.",
-    starts=False,
-)
+tpm = Teller(__name__, __doc__, starts=False)
 ASKERS = (("The owner", RH_OWNER, "owner"), ("The platform", RH_PLATFORM, "platform"))
 
 
@@ -51,7 +46,7 @@ def changes(what, public, change, allowed):
     tpm.power()
     tpm.startup()
     each_asker("its change", allowed, lambda by: change(FIRST, by=by))
-    tpm.is_now("TPM2_NV_ReadPublic", FIRST, cleared=Attribute.WRITELOCKED)
+    tpm.is_now("TPM2_NV_ReadPublic", FIRST, cleared=NvAttribute.WRITELOCKED)
     tpm("It is undefined").undefining(FIRST)
 
 
@@ -76,11 +71,8 @@ def may_read(attribute, allowed):
     each_asker("TPM2_PolicyNV", allowed, lambda by: tpm.comparing(session, FIRST, b"w", by=by))
     tpm("It is flushed").flush(session)
     session = tpm.policy("Another, to be told TPM2_PolicySecret")
-    comes_to(
-        "TPM2_PolicySecret of the index",
-        refusal("index", allowed),
-        tpm.secret(session, tpm.auth_value(FIRST), of=FIRST),
-    )
+    case = "TPM2_PolicySecret of the index"
+    comes_to(case, refusal("index", allowed), tpm.secret(session, tpm.auth_value(FIRST), of=FIRST))
     tpm("It is flushed").flush(session)
     each_asker("TPM2_NV_ReadLock", allowed, lambda by: tpm.read_locking(FIRST, by=by))
     tpm("It is undefined").undefining(FIRST)

@@ -1,19 +1,14 @@
-"""Writes nv_bits_and_extend.tpm: indices of bits, and indices that are extended."""
+"""Writes nv_bits_and_extend.tpm. Indices of bits, in which TPM2_NV_SetBits sets more and more, and
+indices that are extended as PCRs are, each by its own hash algorithm.
+"""
 
-from tpmsim.caller import BY_OWNER, bits, extended
-from tpmsim.standard import RH_OWNER, SHA1, digest, digest_bytes, frames, number
-from tpmsim.standard.nv import Attribute
-from tpmsim.caller.script_caller import FIRST, HASHES, SECOND, THIRD
-from tests.common.teller import Teller
+from tests.common.vocabulary import bits, BY_OWNER, digest, digest_bytes, extended, FIRST, frames
+from tests.common.vocabulary import HASHES, number, NvAttribute, RH_OWNER, SECOND, SHA1, Teller
+from tests.common.vocabulary import THIRD
 
-CLEARED = Attribute.CLEAR_STCLEAR
+CLEARED = NvAttribute.CLEAR_STCLEAR
 
-tpm = Teller(
-    "tests/nv/nv_bits_and_extend.tpm",
-    "Indices of bits, in which TPM2_NV_SetBits sets more and more, and indices that are extended "
-    "as PCRs are, each by its own hash algorithm.",
-    starts=False,
-)
+tpm = Teller(__name__, __doc__, starts=False)
 
 
 def set_bits(what, index, more, value):

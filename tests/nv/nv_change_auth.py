@@ -1,19 +1,13 @@
-"""Writes nv_change_auth.tpm: the authorization value of an index, changed by a policy."""
+"""Writes nv_change_auth.tpm. TPM2_NV_ChangeAuth: an index is authorized in the ADMIN role, which
+takes a policy with TPM2_PolicyCommandCode of this very command.
+"""
 
-from tpmsim.caller import BY_OWNER, BY_POLICY, BY_VALUE, Use, area
-from tpmsim.standard import CC, CONTINUE_SESSION, DECRYPT, RH_OWNER, RH_PLATFORM, SHA1, SHA256
-from tpmsim.standard import digest_bytes, number, policy, sized
-from tpmsim.standard.nv import Attribute
-from tpmsim.standard.policy import AUTH_VALUE, PASSWORD
-from tpmsim.caller.script_caller import FIRST, HASHES, SECOND, THIRD, zeros
-from tests.common.teller import Teller
+from tests.common.vocabulary import area, AUTH_VALUE, BY_OWNER, BY_POLICY, BY_VALUE, CC
+from tests.common.vocabulary import CONTINUE_SESSION, DECRYPT, digest_bytes, FIRST, HASHES, number
+from tests.common.vocabulary import NvAttribute, PASSWORD, policy, RH_OWNER, RH_PLATFORM, SECOND
+from tests.common.vocabulary import SHA1, SHA256, sized, Teller, THIRD, Use, zeros
 
-tpm = Teller(
-    "tests/nv/nv_change_auth.tpm",
-    "TPM2_NV_ChangeAuth: an index is authorized in the ADMIN role, which takes a policy with "
-    "TPM2_PolicyCommandCode of this very command.",
-    starts=False,
-)
+tpm = Teller(__name__, __doc__, starts=False)
 
 
 def changing_policy(algorithm=SHA256, before=None):
@@ -102,7 +96,7 @@ says("TPM2_PolicyRestart", tpm.restart(session))
 undefine(FIRST)
 
 tpm.chapter("No attribute has to allow it, and no lock forbids it.")
-locks = Attribute.WRITE_STCLEAR | Attribute.READ_STCLEAR
+locks = NvAttribute.WRITE_STCLEAR | NvAttribute.READ_STCLEAR
 said = tpm("An index that the owner alone uses")
 said.define(area(FIRST, BY_OWNER | locks, auth_policy=changing_policy()), auth=b"old")
 for what, prepared in (
@@ -114,7 +108,7 @@ for what, prepared in (
 told(session)
 tpm("TPM2_NV_ChangeAuth").changing_auth(FIRST, b"new", session)
 undefine(FIRST)
-created = area(SECOND, BY_OWNER | Attribute.PLATFORMCREATE, auth_policy=changing_policy())
+created = area(SECOND, BY_OWNER | NvAttribute.PLATFORMCREATE, auth_policy=changing_policy())
 tpm.define("One of the platform's", created, by=RH_PLATFORM)
 told(session)
 tpm("TPM2_NV_ChangeAuth").changing_auth(SECOND, b"new", session)

@@ -1,17 +1,11 @@
-"""Writes nv_counters.tpm: counters, which never go back."""
+"""Writes nv_counters.tpm. Counters. A new one begins behind the largest value that any counter ever
+had, so that none has a value twice. Index 01000002 has the attributes 00020012.
+"""
 
-from tpmsim.caller import BY_OWNER, area, counter
-from tpmsim.standard import RH_OWNER, SHA1, number
-from tpmsim.standard.nv import Attribute
-from tpmsim.caller.script_caller import FIRST, FOURTH, SECOND, THIRD
-from tests.common.teller import Teller
+from tests.common.vocabulary import area, BY_OWNER, counter, FIRST, FOURTH, number, NvAttribute
+from tests.common.vocabulary import RH_OWNER, SECOND, SHA1, Teller, THIRD
 
-tpm = Teller(
-    "tests/nv/nv_counters.tpm",
-    "Counters. A new one begins behind the largest value that any counter ever had, so that none "
-    "has a value twice. Index 01000002 has the attributes 00020012.",
-    starts=False,
-)
+tpm = Teller(__name__, __doc__, starts=False)
 
 
 def count(what, index, value, times=1):
@@ -87,7 +81,7 @@ define_again("01000001 again", FIRST)
 count("TPM2_NV_Increment: the ordinary index does not matter", FIRST, 12)
 
 tpm.chapter("Locked until the next start.")
-lockable = counter(FOURTH, BY_OWNER | Attribute.WRITE_STCLEAR)
+lockable = counter(FOURTH, BY_OWNER | NvAttribute.WRITE_STCLEAR)
 tpm("TPM2_NV_UndefineSpace").undefining(FOURTH)
 tpm.define("A counter with WRITE_STCLEAR", lockable)
 count("TPM2_NV_Increment", FOURTH, 13)

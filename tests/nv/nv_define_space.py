@@ -1,19 +1,16 @@
-"""Writes nv_define_space.tpm: what an index can be defined with, and how many can be."""
+"""Writes nv_define_space.tpm. TPM2_NV_DefineSpace: which public areas an index can have, and how
+many indices there can be.
+"""
 
-from tpmsim.caller import BY_OWNER, area, bits, counter, extended
+from tpmsim.standard.nv import Type
+from tests.common.vocabulary import area, bits, BY_OWNER, counter, digest_bytes, extended, FIRST
+from tests.common.vocabulary import frames, HASHES, number, nv, NvAttribute, RH_ENDORSEMENT
+from tests.common.vocabulary import RH_LOCKOUT, RH_NULL, RH_OWNER, RH_PLATFORM, SHA1, sized, Teller
 from tpmsim.model import nv_commands
-from tpmsim.standard import RH_ENDORSEMENT, RH_LOCKOUT, RH_NULL, RH_OWNER, RH_PLATFORM, SHA1
-from tpmsim.standard import digest_bytes, frames, number, nv, sized
-from tpmsim.standard.nv import Attribute, Type
-from tpmsim.caller.script_caller import FIRST, HASHES
-from tests.common.teller import Teller
 
-CREATED = Attribute.PLATFORMCREATE
+CREATED = NvAttribute.PLATFORMCREATE
 
-tpm = Teller(
-    "tests/nv/nv_define_space.tpm",
-    "TPM2_NV_DefineSpace: which public areas an index can have, and how many indices there can be.",
-)
+tpm = Teller(__name__, __doc__)
 
 
 def fitting(what, public, **more):
@@ -48,9 +45,8 @@ def handles():
         tpm.fails(f"{what}: VALUE/h1", *(tpm.defining(area(), b"", by=it) for it in handles))
     tpm.fails("Without sessions: AUTH_MISSING", tpm.defining(area()).but(entries=[]))
     fitting("By the owner", area())
-    fitting(
-        "By the platform, with PLATFORMCREATE", area(attributes=BY_OWNER | CREATED), by=RH_PLATFORM
-    )
+    case = "By the platform, with PLATFORMCREATE"
+    fitting(case, area(attributes=BY_OWNER | CREATED), by=RH_PLATFORM)
     unfitting("By the owner, with it: ATTRIBUTES/p2", area(attributes=BY_OWNER | CREATED))
     unfitting("By the platform, without it: ATTRIBUTES/p2", area(), by=RH_PLATFORM)
     tpm('ownerAuth becomes "abc"').change_auth(RH_OWNER, b"abc", b"")
@@ -73,26 +69,20 @@ def sizes():
         fitting(f"auth of {size} bytes", of(), auth=b"a" * size)
         fitting("auth of a byte, and zeros behind it up to 32", of(), auth=b"a" + bytes(31))
         fitting("auth of 32 zeros", of(), auth=bytes(32))
-        unfitting(
-            "authPolicy of any size but a digest's: SIZE/p2",
-            *(of(auth_policy=b"p" * it) for it in range(1, 33) if it != size),
-        )
+        case = "authPolicy of any size but a digest's: SIZE/p2"
+        unfitting(case, *(of(auth_policy=b"p" * it) for it in range(1, 33) if it != size))
         fitting("One of a digest's", of(auth_policy=b"p" * size))
         for make, name in ((counter, "A counter"), (bits, "Bits")):
-            unfitting(
-                f"{name} of another size than eight bytes: SIZE/p2",
-                *(of(make, size=it) for it in (0, 7, 9, 16, 2048, 0xFFFF)),
-            )
+            case = f"{name} of another size than eight bytes: SIZE/p2"
+            unfitting(case, *(of(make, size=it) for it in (0, 7, 9, 16, 2048, 0xFFFF)))
             fitting(f"{name} of eight bytes", of(make))
         unfitting(
             f"An index that is extended, of another size than {size} bytes: SIZE/p2",
             *(of(extended, size=it) for it in (0, 8, size - 1, size + 1, 52 - size, 2048)),
         )
         fitting(f"One of {size} bytes", of(extended))
-        unfitting(
-            "An ordinary index of more than 2,048 bytes: SIZE/p2",
-            *(of(size=it) for it in (2049, 4096, 0xFFFF)),
-        )
+        case = "An ordinary index of more than 2,048 bytes: SIZE/p2"
+        unfitting(case, *(of(size=it) for it in (2049, 4096, 0xFFFF)))
         for each in (0, 1, 2048):
             fitting(f"Of {each} bytes", of(size=each))
 
@@ -107,28 +97,28 @@ def attributes():
     tpm.chapter("Attributes.")
     unfitting(
         "POLICY_DELETE, WRITELOCKED, GLOBALLOCK, ORDERLY, READLOCKED and WRITTEN: ATTRIBUTES/p2",
-        *(area(attributes=BY_OWNER | it) for it in Attribute if it & nv_commands.NOT_DEFINED),
+        *(area(attributes=BY_OWNER | it) for it in NvAttribute if it & nv_commands.NOT_DEFINED),
     )
     unfitting(
         "No attribute that allows to write: ATTRIBUTES/p2",
         area(attributes=0),
-        *(area(attributes=it) for it in Attribute if it & nv.READS),
+        *(area(attributes=it) for it in NvAttribute if it & nv.READS),
         area(attributes=nv.READS),
     )
     unfitting(
         "None that allows to read: ATTRIBUTES/p2",
-        *(area(attributes=it) for it in Attribute if it & nv.WRITES),
+        *(area(attributes=it) for it in NvAttribute if it & nv.WRITES),
         area(attributes=nv.WRITES),
     )
-    clears = Attribute.CLEAR_STCLEAR
+    clears = NvAttribute.CLEAR_STCLEAR
     unfitting("A counter with CLEAR_STCLEAR: ATTRIBUTES/p2", counter(attributes=BY_OWNER | clears))
     for make, name in ((bits, "Bits"), (extended, "An index that is extended,")):
         fitting(f"{name} with it", make(attributes=BY_OWNER | clears))
-    for each in Attribute:
+    for each in NvAttribute:
         if each & nv.WRITES:
-            fitting(f"{each.name} and OWNERREAD", area(attributes=each | Attribute.OWNERREAD))
+            fitting(f"{each.name} and OWNERREAD", area(attributes=each | NvAttribute.OWNERREAD))
         elif each & nv.READS:
-            fitting(f"OWNERWRITE and {each.name}", area(attributes=each | Attribute.OWNERWRITE))
+            fitting(f"OWNERWRITE and {each.name}", area(attributes=each | NvAttribute.OWNERWRITE))
         elif not each & nv_commands.NOT_DEFINED and each != CREATED:
             fitting(f"OWNERWRITE, OWNERREAD and {each.name}", area(attributes=each | BY_OWNER))
     every = nv.NAMED & ~nv_commands.NOT_DEFINED & ~CREATED & ~nv.of_type(nv.TYPE_MASK)
@@ -143,9 +133,8 @@ def limit_of_numbers():
         public = area(index, BY_OWNER | (CREATED if index % 2 else 0))
         words = {FIRST: "64 of them, of eight bytes", FIRST + 32: "The 33rd of them"}
         tpm.define(words.get(index, ""), public, by=by)
-    unfitting(
-        "A 65th, of eight bytes or of none: NV_SPACE", area(0x0100_0100), area(0x0100_0100, size=0)
-    )
+    case = "A 65th, of eight bytes or of none: NV_SPACE"
+    unfitting(case, area(0x0100_0100), area(0x0100_0100, size=0))
     unfitting("One that is there: NV_DEFINED", area(FIRST + 1))
     tpm.power()
     tpm.script.startup()

@@ -1,16 +1,10 @@
-"""Writes nv_first_index.tpm: an index is defined, written and read, byte by byte."""
+"""Writes nv_first_index.tpm. A first NV index: 01000001, of SHA-256, with AUTHWRITE and AUTHREAD
+(attributes 00040004), eight bytes and the authorization value "a".
+"""
 
-from tpmsim.caller import BY_VALUE, area
-from tpmsim.standard import RH_OWNER
-from tpmsim.caller.script_caller import FIRST
-from tests.common.teller import Teller
+from tests.common.vocabulary import area, BY_VALUE, FIRST, RH_OWNER, Teller
 
-tpm = Teller(
-    "tests/nv/nv_first_index.tpm",
-    "A first NV index: 01000001, of SHA-256, with AUTHWRITE and AUTHREAD (attributes 00040004), "
-    'eight bytes and the authorization value "a".',
-    starts=False,
-)
+tpm = Teller(__name__, __doc__, starts=False)
 PUBLIC = area(FIRST, BY_VALUE)
 
 

@@ -1,23 +1,18 @@
-"""Writes nv_locks.tpm: TPM2_NV_WriteLock, TPM2_NV_ReadLock, and what starts make of them."""
+"""Writes nv_locks.tpm. Locks: WRITEDEFINE locks an index against writing for good, once it is
+written; WRITE_STCLEAR and READ_STCLEAR lock it until the next start. CLEAR_STCLEAR has it not
+written at each start.
+"""
 
-from tpmsim.caller import BY_OWNER, area, bits, extended
-from tpmsim.standard import CC, RH_OWNER, frames
-from tpmsim.standard.nv import Attribute
-from tpmsim.caller.script_caller import FIRST, SECOND
-from tests.common.teller import Teller
+from tests.common.vocabulary import area, bits, BY_OWNER, CC, extended, FIRST, frames, NvAttribute
+from tests.common.vocabulary import RH_OWNER, SECOND, Teller
 
-DEFINE, WRITE_CLEAR = Attribute.WRITEDEFINE, Attribute.WRITE_STCLEAR
-READ_CLEAR, CLEARED = Attribute.READ_STCLEAR, Attribute.CLEAR_STCLEAR
-WRITTEN, WRITE_LOCKED = Attribute.WRITTEN, Attribute.WRITELOCKED
-READ_LOCKED = Attribute.READLOCKED
+DEFINE, WRITE_CLEAR = NvAttribute.WRITEDEFINE, NvAttribute.WRITE_STCLEAR
+READ_CLEAR, CLEARED = NvAttribute.READ_STCLEAR, NvAttribute.CLEAR_STCLEAR
+WRITTEN, WRITE_LOCKED = NvAttribute.WRITTEN, NvAttribute.WRITELOCKED
+READ_LOCKED = NvAttribute.READLOCKED
 DATA = b"8 bytes."
 
-tpm = Teller(
-    "tests/nv/nv_locks.tpm",
-    "Locks: WRITEDEFINE locks an index against writing for good, once it is written; WRITE_STCLEAR "
-    "and READ_STCLEAR lock it until the next start. CLEAR_STCLEAR has it not written at each "
-    "start.",
-)
+tpm = Teller(__name__, __doc__)
 
 
 def start():
@@ -50,7 +45,7 @@ def not_read(what="TPM2_NV_Read", outcome="NV_LOCKED"):
 
 
 def define(attributes, make=area):
-    names = " and ".join(it.name for it in Attribute if it & attributes)
+    names = " and ".join(it.name for it in NvAttribute if it & attributes)
     tpm.define(f"With {names or 'none of these'}", make(FIRST, BY_OWNER | attributes))
 
 

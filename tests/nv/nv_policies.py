@@ -1,23 +1,17 @@
-"""Writes nv_policies.tpm: indices that are written and read by policy sessions."""
+"""Writes nv_policies.tpm. Indices and policy sessions: POLICYWRITE and POLICYREAD let the policy of
+an index authorize what is asked of it.
+"""
 
-from tpmsim.caller import BY_OWNER, BY_POLICY, Use, area
-from tpmsim.standard import CC, CONTINUE_SESSION, DECRYPT, ENCRYPT, RH_OWNER, SHA1, SHA256, digest
-from tpmsim.standard import digest_bytes, nv, policy, selection
-from tpmsim.standard.nv import Attribute
-from tpmsim.standard.policy import AUTH_VALUE, PASSWORD
-from tpmsim.caller.script_caller import FIRST, HASHES, SECOND, THIRD, zeros
-from tests.common.teller import Teller
+from tests.common.vocabulary import area, AUTH_VALUE, BY_OWNER, BY_POLICY, CC, CONTINUE_SESSION
+from tests.common.vocabulary import DECRYPT, digest, digest_bytes, ENCRYPT, FIRST, HASHES, nv
+from tests.common.vocabulary import NvAttribute, PASSWORD, policy, RH_OWNER, SECOND, selection, SHA1
+from tests.common.vocabulary import SHA256, Teller, THIRD, Use, zeros
 
 DATA = b"8 bytes."
-POLICYWRITE, POLICYREAD = Attribute.POLICYWRITE, Attribute.POLICYREAD
-LOCKS = Attribute.WRITE_STCLEAR | Attribute.READ_STCLEAR
+POLICYWRITE, POLICYREAD = NvAttribute.POLICYWRITE, NvAttribute.POLICYREAD
+LOCKS = NvAttribute.WRITE_STCLEAR | NvAttribute.READ_STCLEAR
 
-tpm = Teller(
-    "tests/nv/nv_policies.tpm",
-    "Indices and policy sessions: POLICYWRITE and POLICYREAD let the policy of an index authorize "
-    "what is asked of it.",
-    tries=True,
-)
+tpm = Teller(__name__, __doc__, tries=True)
 
 
 def says(what, prepared):
@@ -142,7 +136,7 @@ def by_code_and_pcrs():
 def by_locality():
     tpm.chapter("TPM2_PolicyLocality: written from locality 1 alone.")
     auth_policy = policy.after_locality(SHA256, bytes(32), 0b10)
-    public = area(FIRST, POLICYWRITE | Attribute.OWNERREAD, auth_policy=auth_policy)
+    public = area(FIRST, POLICYWRITE | NvAttribute.OWNERREAD, auth_policy=auth_policy)
     tpm.define("The index", public)
     session = tpm.policy("A policy session")
     says("TPM2_PolicyLocality", tpm.locality(session, 0b10))

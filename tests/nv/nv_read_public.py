@@ -1,19 +1,13 @@
-"""Writes nv_read_public.tpm: public areas of indices, and the Names that change with them."""
+"""Writes nv_read_public.tpm. TPM2_NV_ReadPublic needs no authorization. It answers the public area
+with the attributes of now, and the Name, which is nameAlg and the digest of the public area.
+"""
 
-from tpmsim.caller import BY_OWNER, BY_VALUE, Use, area, counter, extended
-from tpmsim.standard import CONTINUE_SESSION, ENCRYPT, RH_NULL, RH_OWNER, digest, digest_bytes
-from tpmsim.standard import frames, number, sized
-from tpmsim.standard.nv import Attribute
-from tpmsim.caller.script_caller import FIRST, HASHES, SECOND
-from tests.common.teller import Teller
+from tests.common.vocabulary import area, BY_OWNER, BY_VALUE, CONTINUE_SESSION, counter, digest
+from tests.common.vocabulary import digest_bytes, ENCRYPT, extended, FIRST, frames, HASHES, number
+from tests.common.vocabulary import NvAttribute, RH_NULL, RH_OWNER, SECOND, sized, Teller, Use
 
-tpm = Teller(
-    "tests/nv/nv_read_public.tpm",
-    "TPM2_NV_ReadPublic needs no authorization. It answers the public area with the attributes of "
-    "now, and the Name, which is nameAlg and the digest of the public area.",
-    starts=False,
-)
-LOCKS = Attribute.WRITE_STCLEAR | Attribute.READ_STCLEAR
+tpm = Teller(__name__, __doc__, starts=False)
+LOCKS = NvAttribute.WRITE_STCLEAR | NvAttribute.READ_STCLEAR
 
 tpm.startup()
 tpm.chapter("Each fact of a public area, in both hash algorithms.")
@@ -50,7 +44,7 @@ for what, prepared in (
 assert len(names) == 3
 tpm.power()
 tpm.startup()
-tpm.is_now("After the next start", FIRST, cleared=Attribute.WRITELOCKED | Attribute.READLOCKED)
+tpm.is_now("After the next start", FIRST, cleared=NvAttribute.WRITELOCKED | NvAttribute.READLOCKED)
 assert tpm.names[FIRST] in names
 
 tpm.chapter("With sessions, which authorize nothing.")

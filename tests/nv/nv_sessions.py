@@ -1,22 +1,17 @@
-"""Writes nv_sessions.tpm: commands on indices by HMAC sessions."""
+"""Writes nv_sessions.tpm. NV indices and HMAC sessions: the Name of an index, which its first write
+changes, is in the hmacs and in what a session is bound to.
+"""
 
-from tpmsim.caller import BY_OWNER, BY_VALUE, Use, area, bits, counter, extended, flipped
-from tpmsim.standard import CC, CONTINUE_SESSION, DECRYPT, ENCRYPT, RH_NULL, RH_OWNER, SHA1, SHA256
-from tpmsim.standard import frames
-from tpmsim.standard.nv import Attribute
-from tpmsim.caller.script_caller import FIRST, FOURTH, SECOND, THIRD
-from tests.common.teller import Teller
+from tests.common.vocabulary import area, bits, BY_OWNER, BY_VALUE, CC, CONTINUE_SESSION, counter
+from tests.common.vocabulary import DECRYPT, ENCRYPT, extended, FIRST, flipped, FOURTH, frames
+from tests.common.vocabulary import NvAttribute, RH_NULL, RH_OWNER, SECOND, SHA1, SHA256, Teller
+from tests.common.vocabulary import THIRD, Use
 
 DECRYPTS, ENCRYPTS = CONTINUE_SESSION | DECRYPT, CONTINUE_SESSION | ENCRYPT
-LOCKS = Attribute.WRITE_STCLEAR | Attribute.READ_STCLEAR
+LOCKS = NvAttribute.WRITE_STCLEAR | NvAttribute.READ_STCLEAR
 DATA = b"8 bytes."
 
-tpm = Teller(
-    "tests/nv/nv_sessions.tpm",
-    "NV indices and HMAC sessions: the Name of an index, which its first write changes, is in the "
-    "hmacs and in what a session is bound to.",
-    tries=True,
-)
+tpm = Teller(__name__, __doc__, tries=True)
 
 
 def flush(*held):
@@ -70,10 +65,12 @@ def bound():
     tpm("TPM2_NV_WriteLock").write_locking(FIRST, session)
     tpm.power()
     tpm.script.startup()
-    tpm.is_now("After the next start", FIRST, cleared=Attribute.WRITELOCKED | Attribute.READLOCKED)
+    tpm.is_now(
+        "After the next start", FIRST, cleared=NvAttribute.WRITELOCKED | NvAttribute.READLOCKED
+    )
 
     tpm.chapter("A session that is bound to one index, and authorizes another.")
-    tpm.define("Another index", area(SECOND, BY_VALUE | Attribute.NO_DA), auth=b"b")
+    tpm.define("Another index", area(SECOND, BY_VALUE | NvAttribute.NO_DA), auth=b"b")
     session = tpm.start("A session that is bound to the first", bind=FIRST)
     tpm("TPM2_NV_Write of the second").writing(SECOND, DATA, session)
     tpm("TPM2_NV_Write of the first").writing(FIRST, DATA, session)
@@ -178,7 +175,7 @@ def others():
     tpm("TPM2_PolicySecret: it has another Name").secret(secret, session, of=FIRST)
     tpm("A wrong password: AUTH_FAIL/s1").secret(secret, b"x", of=FIRST)
     flush(session, secret)
-    only = area(SECOND, BY_OWNER | Attribute.AUTHWRITE)
+    only = area(SECOND, BY_OWNER | NvAttribute.AUTHWRITE)
     tpm.define("An index that its value can only write", only, auth=b"a")
     secret = tpm.policy("A policy session")
     said = tpm("TPM2_PolicySecret asks for what TPM2_NV_Read does: AUTH_UNAVAILABLE")

@@ -1,17 +1,13 @@
-"""Writes nv_types.tpm: indices of each type, and the commands that do not fit it."""
+"""Writes nv_types.tpm. An ordinary index is written, a counter incremented, bits are set, and what
+is extended is extended. Every other change is refused, before the first one and after it.
+"""
 
-from tpmsim.caller import BY_OWNER, area, bits, counter, extended
-from tpmsim.standard import RH_OWNER, digest, number
-from tpmsim.caller.script_caller import FIRST
-from tests.common.teller import Teller
+from tests.common.vocabulary import area, bits, BY_OWNER, counter, digest, extended, FIRST, number
+from tests.common.vocabulary import RH_OWNER, Teller
 
 SECRET = b"8 bytes."
 
-tpm = Teller(
-    "tests/nv/nv_types.tpm",
-    "An ordinary index is written, a counter incremented, bits are set, and what is extended is "
-    "extended. Every other change is refused, before the first one and after it.",
-)
+tpm = Teller(__name__, __doc__)
 
 
 def writing(index):

@@ -1,17 +1,11 @@
-"""Writes nv_undefine_space.tpm: who takes an index away, and what goes with it."""
+"""Writes nv_undefine_space.tpm. TPM2_NV_UndefineSpace: the owner takes its own indices away, the platform all."""
 
-from tpmsim.caller import BY_OWNER, BY_VALUE, area
-from tpmsim.standard import CC, RH_ENDORSEMENT, RH_NULL, RH_OWNER, RH_PLATFORM
-from tpmsim.standard.nv import Attribute
-from tpmsim.caller.script_caller import FIRST, SECOND, THIRD
-from tests.common.teller import Teller
+from tests.common.vocabulary import area, BY_OWNER, BY_VALUE, CC, FIRST, NvAttribute, RH_ENDORSEMENT
+from tests.common.vocabulary import RH_NULL, RH_OWNER, RH_PLATFORM, SECOND, Teller, THIRD
 
-CREATED = Attribute.PLATFORMCREATE
+CREATED = NvAttribute.PLATFORMCREATE
 
-tpm = Teller(
-    "tests/nv/nv_undefine_space.tpm",
-    "TPM2_NV_UndefineSpace: the owner takes its own indices away, the platform all.",
-)
+tpm = Teller(__name__, __doc__)
 
 tpm.define("An index of the owner's", area(FIRST, BY_VALUE), auth=b"a")
 tpm.define("One of the platform's", area(SECOND, BY_VALUE | CREATED), auth=b"b", by=RH_PLATFORM)
@@ -41,7 +35,7 @@ tpm.read("TPM2_NV_Read: nothing of before is in it", FIRST, b"x" + b"\xff" * 7)
 tpm("The platform takes away what is the owner's, too").undefining(FIRST, by=RH_PLATFORM)
 
 tpm.chapter("Handles, and authorization values.")
-tpm.define("An index of the owner's", area(FIRST, BY_OWNER | Attribute.AUTHREAD), auth=b"a")
+tpm.define("An index of the owner's", area(FIRST, BY_OWNER | NvAttribute.AUTHREAD), auth=b"a")
 right = tpm.undefining(FIRST)
 tpm.fails(
     "authHandle that is an index, TPM_RH_ENDORSEMENT, TPM_RH_NULL, a PCR or a session: VALUE/h1",

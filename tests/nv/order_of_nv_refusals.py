@@ -1,25 +1,21 @@
-"""Writes order_of_nv_refusals.tpm: many faults at once, repaired one by one."""
+"""Writes order_of_nv_refusals.tpm. The order of refusals in the commands on NV indices: a buffer
+with many faults, of which one after the other is repaired. What is answered is the first that is
+left.
+"""
 
-from tpmsim.caller import BY_OWNER, BY_POLICY, BY_VALUE, Use, area, bits, counter, extended
-from tpmsim.standard import CC, DECRYPT, Entry, RH_LOCKOUT, RH_OWNER, RH_PLATFORM, SHA1
-from tpmsim.standard import area as entries_area, command, frames, handle_kinds, number, policy
-from tpmsim.standard import sized
-from tpmsim.standard.nv import Attribute
-from tests.common.teller import Teller
+from tpmsim.standard import area as entries_area, handle_kinds
+from tests.common.vocabulary import area, bits, BY_OWNER, BY_POLICY, BY_VALUE, CC, command, counter
+from tests.common.vocabulary import DECRYPT, Entry, extended, frames, number, NvAttribute, policy
+from tests.common.vocabulary import RH_LOCKOUT, RH_OWNER, RH_PLATFORM, SHA1, sized, Teller, Use
 
 ORDINARY, COUNTER, BITS, EXTENDED = range(0x0100_0001, 0x0100_0005)
 LOCKED_ORDINARY, LOCKED_COUNTER, READ_LOCKED, UNWRITTEN = range(0x0100_0011, 0x0100_0015)
 BY_OTHERS, PLATFORMS, CHANGED, NEW = range(0x0100_0021, 0x0100_0025)
 ABSENT, ABSENT_SESSION = 0x0100_0099, Entry(0x0200_000F, b"", 1, b"")
 VALUE = b"a"
-LOCKS = Attribute.WRITE_STCLEAR | Attribute.READ_STCLEAR
+LOCKS = NvAttribute.WRITE_STCLEAR | NvAttribute.READ_STCLEAR
 
-tpm = Teller(
-    "tests/nv/order_of_nv_refusals.tpm",
-    "The order of refusals in the commands on NV indices: a buffer with many faults, of which one "
-    "after the other is repaired. What is answered is the first that is left.",
-    tries=True,
-)
+tpm = Teller(__name__, __doc__, tries=True)
 
 
 def wrong(prepared, *places):
@@ -301,7 +297,7 @@ for index, public in enumerate(
         area(BY_OTHERS, BY_OWNER | BY_POLICY),
         area(
             CHANGED,
-            BY_VALUE | Attribute.NO_DA,
+            BY_VALUE | NvAttribute.NO_DA,
             algorithm=SHA1,
             auth_policy=policy.after_command_code(SHA1, bytes(20), CC.NV_ChangeAuth),
         ),
@@ -310,7 +306,7 @@ for index, public in enumerate(
 ):
     tpm.define("They are defined" if index == 0 else "", public, auth=VALUE)
 said = tpm("One of the platform's")
-said.define(area(PLATFORMS, BY_VALUE | Attribute.PLATFORMCREATE), auth=VALUE, by=RH_PLATFORM)
+said.define(area(PLATFORMS, BY_VALUE | NvAttribute.PLATFORMCREATE), auth=VALUE, by=RH_PLATFORM)
 tpm("The ordinary one is written").writing(ORDINARY, b"8 bytes.")
 for index, lock in (
     (LOCKED_ORDINARY, tpm.write_locking),

@@ -1,11 +1,13 @@
-"""Writes evict_control.tpm: persistent objects, how they come, stay and go."""
+"""Writes evict_control.tpm. TPM2_EvictControl makes a persistent object of a transient one, or
+takes a persistent one away. A persistent object outlives power cycles, has a handle from 81000000
+on, and is used as the transient one was.
+"""
 
-from tpmsim.caller import HERE, OPEN, STATE, STORES, Use, area, hmac_key, sealed, storage_key
-from tpmsim.caller import wrong
-from tpmsim.standard import CC, RH_ENDORSEMENT, RH_LOCKOUT, RH_NULL, RH_OWNER, RH_PLATFORM, SHA256
-from tpmsim.standard import command, frames, number, on_handles
-from tpmsim.standard.objects import Attribute
-from tests.common.teller import Teller
+from tpmsim.standard import on_handles
+from tests.common.vocabulary import area, CC, command, frames, HERE, hmac_key, number
+from tests.common.vocabulary import ObjectAttribute, OPEN, RH_ENDORSEMENT, RH_LOCKOUT, RH_NULL
+from tests.common.vocabulary import RH_OWNER, RH_PLATFORM, sealed, SHA256, STATE, storage_key
+from tests.common.vocabulary import STORES, Teller, Use, wrong
 
 # The handles of persistent objects: the owner's are below 81800000, the platform's from there on.
 FIRST, OWNERS_LAST, PLATFORMS_FIRST, LAST = 0x8100_0000, 0x817F_FFFF, 0x8180_0000, 0x81FF_FFFF
@@ -16,15 +18,9 @@ ENCRYPTING = frames.CONTINUE_SESSION | frames.ENCRYPT
 # The capability of TPM2_GetCapability, and how many persistent objects there may be.
 HANDLES, MOST = 1, 16
 
-ST_CLEAR = HERE | OPEN | STORES | Attribute.ST_CLEAR
+ST_CLEAR = HERE | OPEN | STORES | ObjectAttribute.ST_CLEAR
 
-tpm = Teller(
-    "tests/objects/evict_control.tpm",
-    "TPM2_EvictControl makes a persistent object of a transient one, or takes a persistent one "
-    "away. A persistent object outlives power cycles, has a handle from 81000000 on, and is used "
-    "as the transient one was.",
-    starts=False,
-)
+tpm = Teller(__name__, __doc__, starts=False)
 says = tpm.raw
 
 
@@ -52,10 +48,8 @@ def handles_and_parameter(owners):
     tpm.chapter("The handles and the parameter.")
     handles = number(RH_OWNER, 4) + number(owners, 4)
     says("No handle: INSUFFICIENT/h1", command(CC.EvictControl, b""))
-    fails(
-        "Who has no persistent objects: VALUE/h1",
-        *((it, owners, FIRST) for it in (RH_ENDORSEMENT, RH_LOCKOUT, RH_NULL, 0, owners)),
-    )
+    case = "Who has no persistent objects: VALUE/h1"
+    fails(case, *((it, owners, FIRST) for it in (RH_ENDORSEMENT, RH_LOCKOUT, RH_NULL, 0, owners)))
     says("No object: INSUFFICIENT/h2", command(CC.EvictControl, handles[:4]))
     fails(
         "What is no object: PCR 0, an NV index, a session, and a hierarchy: VALUE/h2",
@@ -65,10 +59,8 @@ def handles_and_parameter(owners):
     fails("A persistent object that is not there: HANDLE/h2", (RH_OWNER, FIRST, FIRST))
     says("Without sessions: AUTH_MISSING", command(CC.EvictControl, handles + number(FIRST, 4)))
     wrong_password = [frames.entry(hmac=b"x")]
-    says(
-        "A wrong password, and no parameter: BAD_AUTH/s1",
-        on_handles(CC.EvictControl, [RH_OWNER, owners], b"", wrong_password),
-    )
+    case = "A wrong password, and no parameter: BAD_AUTH/s1"
+    says(case, on_handles(CC.EvictControl, [RH_OWNER, owners], b"", wrong_password))
     says(
         "The parameter cut: INSUFFICIENT/p1",
         *(on_handles(CC.EvictControl, [RH_OWNER, owners], bytes([0x81] * it)) for it in (0, 3)),
@@ -77,14 +69,10 @@ def handles_and_parameter(owners):
         "It is no handle of a persistent object: VALUE/p1",
         *((RH_OWNER, owners, it) for it in (0, owners, 0x8200_0000, 0x0100_0000, 0xFFFF_FFFF)),
     )
-    says(
-        "That, and a byte behind it: VALUE/p1",
-        on_handles(CC.EvictControl, [RH_OWNER, owners], number(owners, 4) + b"\0"),
-    )
-    says(
-        "A byte behind a right one: SIZE",
-        on_handles(CC.EvictControl, [RH_OWNER, owners], number(FIRST, 4) + b"\0"),
-    )
+    case = "That, and a byte behind it: VALUE/p1"
+    says(case, on_handles(CC.EvictControl, [RH_OWNER, owners], number(owners, 4) + b"\0"))
+    case = "A byte behind a right one: SIZE"
+    says(case, on_handles(CC.EvictControl, [RH_OWNER, owners], number(FIRST, 4) + b"\0"))
 
 
 def in_order():
@@ -94,9 +82,8 @@ def in_order():
     clears = primary("One with stClear", RH_OWNER, storage_key(attributes=ST_CLEAR))
     endorsements = primary("One of the endorsement hierarchy", RH_ENDORSEMENT)
     platforms = primary("One of the platform", RH_PLATFORM)
-    platforms_clears = primary(
-        "One of the platform with stClear", RH_PLATFORM, storage_key(attributes=ST_CLEAR)
-    )
+    case = "One of the platform with stClear"
+    platforms_clears = primary(case, RH_PLATFORM, storage_key(attributes=ST_CLEAR))
     nulls = primary("One of TPM_RH_NULL with stClear", RH_NULL, storage_key(attributes=ST_CLEAR))
     handles_and_parameter(owners)
 
@@ -125,10 +112,8 @@ def in_order():
         *((RH_OWNER, owners, it) for it in (PLATFORMS_FIRST, LAST)),
         *((RH_OWNER, endorsements, it) for it in (PLATFORMS_FIRST, LAST)),
     )
-    fails(
-        "The platform's begins behind it: RANGE/p1",
-        *((RH_PLATFORM, platforms, it) for it in (FIRST, OWNERS_LAST)),
-    )
+    case = "The platform's begins behind it: RANGE/p1"
+    fails(case, *((RH_PLATFORM, platforms, it) for it in (FIRST, OWNERS_LAST)))
     return owners, endorsements, platforms
 
 
@@ -144,11 +129,8 @@ def borders(owners, endorsements, platforms):
         tpm.keep(words, asker, handle, wanted)
     kept_handles("The four", FIRST, OWNERS_LAST, PLATFORMS_FIRST, LAST)
     tpm.chapter("A persistent object is taken away by its own handle.")
-    fails(
-        "The owner takes the platform's not away, by whatever handle: HIERARCHY/h2",
-        *((RH_OWNER, it, it) for it in (PLATFORMS_FIRST, LAST)),
-        (RH_OWNER, LAST, FIRST),
-    )
+    case = "The owner takes the platform's not away, by whatever handle: HIERARCHY/h2"
+    fails(case, *((RH_OWNER, it, it) for it in (PLATFORMS_FIRST, LAST)), (RH_OWNER, LAST, FIRST))
     fails("The owner's by a handle of the platform: RANGE/p1", (RH_OWNER, FIRST, LAST))
     fails(
         "By another handle, whether there is something or not: HANDLE/h2",
@@ -185,7 +167,7 @@ def use():
     secret = tpm.create(
         "TPM2_Create under the persistent one",
         FIRST,
-        sealed(attributes=HERE | Attribute.USER_WITH_AUTH),
+        sealed(attributes=HERE | ObjectAttribute.USER_WITH_AUTH),
         user_auth=b"pin",
         data=b"a secret",
     )
@@ -276,11 +258,8 @@ for handle in handles[:-1]:
     tpm.keep(words, RH_OWNER, transient, handle)
 tpm.keep("One of the platform", RH_PLATFORM, platforms, LAST)
 kept_handles("They are there, and the transient ones beside them", *handles)
-fails(
-    "One more, of either: NV_SPACE",
-    (RH_OWNER, transient, OTHER),
-    (RH_PLATFORM, platforms, PLATFORMS_FIRST),
-)
+case = "One more, of either: NV_SPACE"
+fails(case, (RH_OWNER, transient, OTHER), (RH_PLATFORM, platforms, PLATFORMS_FIRST))
 fails("At a handle that is taken: NV_DEFINED", (RH_OWNER, transient, FIRST))
 fails("In the wrong range: RANGE/p1", (RH_OWNER, transient, LAST))
 tpm.chapter("They take no place of a transient object, and no NV index takes one of theirs.")

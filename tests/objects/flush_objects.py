@@ -1,18 +1,15 @@
-"""Writes flush_objects.tpm: TPM2_FlushContext of transient objects."""
+"""Writes flush_objects.tpm. TPM2_FlushContext takes a transient object out of the device. There are
+eight places, 80000000 to 80000007, and an object gets the lowest that is free.
+"""
 
 from dataclasses import replace
 
-from tpmsim.caller import hmac_key, sealed, storage_key
-from tpmsim.standard import CC, RH_NULL, RH_OWNER, command, frames, number
-from tests.common.teller import Teller
+from tests.common.vocabulary import CC, command, frames, hmac_key, number, RH_NULL, RH_OWNER, sealed
+from tests.common.vocabulary import storage_key, Teller
 
 FIRST, PLACES = 0x8000_0000, 8
 
-tpm = Teller(
-    "tests/objects/flush_objects.tpm",
-    "TPM2_FlushContext takes a transient object out of the device. There are eight places, "
-    "80000000 to 80000007, and an object gets the lowest that is free.",
-)
+tpm = Teller(__name__, __doc__)
 
 
 def flush(handle):

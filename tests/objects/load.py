@@ -1,17 +1,14 @@
-"""Writes load.tpm: TPM2_Load, which takes what TPM2_Create gave."""
+"""Writes load.tpm. TPM2_Load takes a private and a public area that TPM2_Create gave for this
+parent.
+"""
 
 from dataclasses import replace
 
-from tpmsim.caller import HERE, OPEN, STORES, hmac_key, sealed, storage_key
-from tpmsim.standard import CC, RH_ENDORSEMENT, RH_NULL, RH_OWNER, SHA1, SHA256, frames, mac
-from tpmsim.standard import number, sized
-from tpmsim.standard.objects import Attribute
-from tests.common.teller import Teller
+from tests.common.vocabulary import CC, frames, HERE, hmac_key, mac, number, ObjectAttribute, OPEN
+from tests.common.vocabulary import RH_ENDORSEMENT, RH_NULL, RH_OWNER, sealed, SHA1, SHA256, sized
+from tests.common.vocabulary import storage_key, STORES, Teller
 
-tpm = Teller(
-    "tests/objects/load.tpm",
-    "TPM2_Load takes a private and a public area that TPM2_Create gave for this parent.",
-)
+tpm = Teller(__name__, __doc__)
 refused = tpm.says
 
 said = tpm('A storage key, whose value is "parent"')
@@ -27,10 +24,8 @@ refused(
         for it in (RH_OWNER, RH_NULL, 0, 0x0100_0000, 0x0200_0000, 0x0300_0000)
     ),
 )
-refused(
-    "A transient object that is not there: REFERENCE_H0",
-    *(tpm.loading(it, made) for it in (0x8000_0001, 0x8000_0008, 0x80FF_FFFF)),
-)
+case = "A transient object that is not there: REFERENCE_H0"
+refused(case, *(tpm.loading(it, made) for it in (0x8000_0001, 0x8000_0008, 0x80FF_FFFF)))
 refused("A persistent object: HANDLE/h1", tpm.loading(0x8100_0000, made))
 said = tpm("It has to be authorized: no sessions (tag 8001): AUTH_MISSING")
 said.raw(frames.command(CC.Load, number(parent, 4)))
@@ -75,14 +70,14 @@ def with_public(**changes):
 tpm.chapter("With another public area.")
 for what, changes in (
     ("Another nameAlg", {"name_algorithm": SHA1}),
-    ("stClear in the attributes", {"attributes": HERE | OPEN | Attribute.ST_CLEAR}),
+    ("stClear in the attributes", {"attributes": HERE | OPEN | ObjectAttribute.ST_CLEAR}),
     ("Neither fixedTPM nor fixedParent", {"attributes": OPEN}),
-    ("Without noDA", {"attributes": HERE | Attribute.USER_WITH_AUTH}),
-    ("sign", {"attributes": HERE | OPEN | Attribute.SIGN}),
+    ("Without noDA", {"attributes": HERE | ObjectAttribute.USER_WITH_AUTH}),
+    ("sign", {"attributes": HERE | OPEN | ObjectAttribute.SIGN}),
     ("An authPolicy", {"auth_policy": bytes(32)}),
     ("Another unique", {"unique": bytes(32)}),
     ("Without unique", {"unique": b""}),
-    ("An HMAC key", {"attributes": HERE | OPEN | Attribute.SIGN, "scheme": SHA256}),
+    ("An HMAC key", {"attributes": HERE | OPEN | ObjectAttribute.SIGN, "scheme": SHA256}),
     ("A storage key", {"kind": frames.SYMCIPHER, "attributes": HERE | OPEN | STORES}),
 ):
     refused(f"{what}: INTEGRITY/p1", with_public(**changes))
@@ -107,14 +102,10 @@ refused(
 )
 whole = tpm.loading(parent, made)
 refused("A byte behind inPublic: SIZE", whole.but(parameters=whole.parameters + b"\0"))
-refused(
-    "inPrivate reaches beyond the command: INSUFFICIENT/p1",
-    whole.but(parameters=number(256, 2) + whole.parameters[2:]),
-)
-refused(
-    "inPublic does: INSUFFICIENT/p2",
-    whole.but(parameters=sized(made.private) + number(200, 2) + made.public.text),
-)
+case = "inPrivate reaches beyond the command: INSUFFICIENT/p1"
+refused(case, whole.but(parameters=number(256, 2) + whole.parameters[2:]))
+case = "inPublic does: INSUFFICIENT/p2"
+refused(case, whole.but(parameters=sized(made.private) + number(200, 2) + made.public.text))
 said = tpm("The longest private area of all: TPM2_Create")
 longest = said.create(parent, sealed(auth_policy=bytes(32)), user_auth=b"a" * 32, data=b"d" * 128)
 assert len(longest.private) == 254
@@ -127,7 +118,7 @@ for what, public, data in (
     ("An HMAC key that is given", hmac_key(), b"key"),
     (
         "One that is generated, of SHA-1",
-        hmac_key(attributes=HERE | OPEN | Attribute.SENSITIVE_DATA_ORIGIN, scheme=SHA1),
+        hmac_key(attributes=HERE | OPEN | ObjectAttribute.SENSITIVE_DATA_ORIGIN, scheme=SHA1),
         b"",
     ),
     ("A storage key", storage_key(), b""),
@@ -136,7 +127,7 @@ for what, public, data in (
 ):
     made = tpm.create(f"{what}: TPM2_Create", parent, public, data=data)
     handle = tpm.load("TPM2_Load", parent, made)
-    if public.has(Attribute.SIGN):
+    if public.has(ObjectAttribute.SIGN):
         _, answer = tpm.accepted("TPM2_HMAC", tpm.hmac(handle, b"text", frames.ALG_NULL))
         assert not data or answer == sized(mac(SHA256, data, b"text"))
     elif not public.is_parent:

@@ -1,24 +1,17 @@
-"""Writes object_policies.tpm: policies that authorize objects, and what each of them asks."""
+"""Writes object_policies.tpm. A policy session authorizes an object whose authPolicy is its digest.
+What it was told is held against the command and the device, and it counts for one command.
+"""
 
-from tpmsim.caller import HERE, Use, hmac_key, sealed, storage_key
-from tpmsim.standard import ALG_NULL, CC, CONTINUE_SESSION, DECRYPT, ENCRYPT, RH_ENDORSEMENT
-from tpmsim.standard import RH_OWNER, SHA1, SHA256, command_hash, digest, name_of, policy
-from tpmsim.standard import selection
-from tpmsim.standard.objects import Attribute
-from tpmsim.standard.policy import AUTH_VALUE, PASSWORD
-from tpmsim.caller.script_caller import zeros
-from tests.common.teller import Teller
+from tests.common.vocabulary import ALG_NULL, AUTH_VALUE, CC, command_hash, CONTINUE_SESSION
+from tests.common.vocabulary import DECRYPT, digest, ENCRYPT, HERE, hmac_key, name_of
+from tests.common.vocabulary import ObjectAttribute, PASSWORD, policy, RH_ENDORSEMENT, RH_OWNER
+from tests.common.vocabulary import sealed, selection, SHA1, SHA256, storage_key, Teller, Use, zeros
 
-NO_DA, USER = Attribute.NO_DA, Attribute.USER_WITH_AUTH
+NO_DA, USER = ObjectAttribute.NO_DA, ObjectAttribute.USER_WITH_AUTH
 PCR_16 = [(SHA256, [16])]
 SECRET, PIN = b"secret", b"pin"
 
-tpm = Teller(
-    "tests/objects/object_policies.tpm",
-    "A policy session authorizes an object whose authPolicy is its digest. What it was told is "
-    "held against the command and the device, and it counts for one command.",
-    tries=True,
-)
+tpm = Teller(__name__, __doc__, tries=True)
 parent = tpm.create_primary("A storage key", RH_OWNER, storage_key())
 
 
@@ -372,9 +365,8 @@ for what, attributes, outcome in (
     ("With noDA", NO_DA, "BAD_AUTH/s1"),
     ("Without noDA", 0, "AUTH_FAIL/s1"),
 ):
-    handle = sealed_by(
-        f"{what}, and a policy without a demand", AFTER_CODE, attributes=HERE | attributes
-    )
+    case = f"{what}, and a policy without a demand"
+    handle = sealed_by(case, AFTER_CODE, attributes=HERE | attributes)
     bound = tpm.policy("A policy session that is bound to it", bind=handle)
     unbound = tpm.policy("One that is bound to TPM_RH_OWNER", bind=RH_OWNER)
     for words, each, code in (

@@ -1,21 +1,17 @@
-"""Writes object_sessions.tpm: HMAC sessions that authorize objects, or are bound to them."""
+"""Writes object_sessions.tpm. HMAC sessions that authorize objects. The Name of an object stands
+where that of a hierarchy is its handle: in the hash of a command, in a binding, and in
+TPM2_PolicySecret.
+"""
 
-from tpmsim.caller import HERE, Use, hmac_key, sealed, storage_key
-from tpmsim.standard import ALG_NULL, CC, RH_ENDORSEMENT, RH_OWNER, SHA1, SHA256, command, number
-from tpmsim.standard import policy, policy_secret, start_auth_session
-from tpmsim.standard.objects import Attribute
-from tpmsim.caller.script_caller import zeros
-from tests.common.teller import Teller
+from tpmsim.standard import policy_secret, start_auth_session
+from tests.common.vocabulary import ALG_NULL, CC, command, HERE, hmac_key, number, ObjectAttribute
+from tests.common.vocabulary import policy, RH_ENDORSEMENT, RH_OWNER, sealed, SHA1, SHA256
+from tests.common.vocabulary import storage_key, Teller, Use, zeros
 
-PROTECTED = HERE | Attribute.USER_WITH_AUTH
+PROTECTED = HERE | ObjectAttribute.USER_WITH_AUTH
 SECRET, PIN = b"secret", b"pin"
 
-tpm = Teller(
-    "tests/objects/object_sessions.tpm",
-    "HMAC sessions that authorize objects. The Name of an object stands where that of a hierarchy "
-    "is its handle: in the hash of a command, in a binding, and in TPM2_PolicySecret.",
-    tries=True,
-)
+tpm = Teller(__name__, __doc__, tries=True)
 parent = tpm.create_primary("A storage key", RH_OWNER, storage_key())
 said = tpm('TPM2_Create of sealed data, whose value is "pin"')
 made = said.create(parent, sealed(), user_auth=PIN, data=SECRET)

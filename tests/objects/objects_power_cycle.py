@@ -1,9 +1,10 @@
-"""Writes objects_power_cycle.tpm: what a power cycle leaves of objects."""
+"""Writes objects_power_cycle.tpm. Transient objects are gone after a power cycle. The seeds of the
+owner's, the endorsement and the platform hierarchy stay, and so the same primary objects can be
+made again. The null hierarchy has a new seed and a new proof after each TPM2_Startup(CLEAR).
+"""
 
-from tpmsim.caller import hmac_key, sealed, storage_key
-from tpmsim.standard import CC, RH_ENDORSEMENT, RH_NULL, RH_OWNER, RH_PLATFORM, SHA1, frames
-from tpmsim.standard import number
-from tests.common.teller import Teller
+from tests.common.vocabulary import CC, frames, hmac_key, number, RH_ENDORSEMENT, RH_NULL, RH_OWNER
+from tests.common.vocabulary import RH_PLATFORM, sealed, SHA1, storage_key, Teller
 
 NAMES = (
     (RH_OWNER, "TPM_RH_OWNER"),
@@ -12,13 +13,7 @@ NAMES = (
     (RH_NULL, "TPM_RH_NULL"),
 )
 
-tpm = Teller(
-    "tests/objects/objects_power_cycle.tpm",
-    "Transient objects are gone after a power cycle. The seeds of the owner's, the endorsement and "
-    "the platform hierarchy stay, and so the same primary objects can be made again. The null "
-    "hierarchy has a new seed and a new proof after each TPM2_Startup(CLEAR).",
-    starts=False,
-)
+tpm = Teller(__name__, __doc__, starts=False)
 
 
 def start(what, seed):

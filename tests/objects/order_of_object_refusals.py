@@ -1,16 +1,14 @@
-"""Writes order_of_object_refusals.tpm: many faults at once, repaired one by one."""
+"""Writes order_of_object_refusals.tpm. The order of refusals in the commands of objects: a buffer
+with many faults, of which one after the other is repaired. What is answered is the first that is
+left.
+"""
 
-from tpmsim.caller import HERE, OPEN, Use, hmac_key, sealed, storage_key
-from tpmsim.standard import ALG_NULL, CC, DECRYPT, Entry, RH_LOCKOUT, RH_OWNER, SHA1, SHA256, area
-from tpmsim.standard import command, frames, number, sized
-from tpmsim.standard.objects import Attribute
-from tests.common.teller import Teller
+from tpmsim.standard import area
+from tests.common.vocabulary import ALG_NULL, CC, command, DECRYPT, Entry, frames, HERE, hmac_key
+from tests.common.vocabulary import number, ObjectAttribute, OPEN, RH_LOCKOUT, RH_OWNER, sealed
+from tests.common.vocabulary import SHA1, SHA256, sized, storage_key, Teller, Use
 
-tpm = Teller(
-    "tests/objects/order_of_object_refusals.tpm",
-    "The order of refusals in the commands of objects: a buffer with many faults, of which one "
-    "after the other is repaired. What is answered is the first that is left.",
-)
+tpm = Teller(__name__, __doc__)
 ABSENT, SECRET = 0x8000_0007, b"secret"
 ABSENT_SESSION = Entry(0x0200_000F, b"", 1, b"")
 
@@ -60,7 +58,7 @@ key = tpm.create_primary("An HMAC key", RH_OWNER, hmac_key(), user_auth=b"k", da
 restricted = tpm.create_primary(
     "A restricted one",
     RH_OWNER,
-    hmac_key(attributes=HERE | OPEN | Attribute.RESTRICTED),
+    hmac_key(attributes=HERE | OPEN | ObjectAttribute.RESTRICTED),
     user_auth=b"r",
     data=b"key",
 )
@@ -68,7 +66,7 @@ session = tpm.start("A session with AES, that is bound to TPM_RH_OWNER", bind=RH
 DECRYPTS = Use(session, 1 | DECRYPT)
 
 # A template whose authPolicy, attributes and scheme are wrong, and a userAuth that is too long.
-WRONG = hmac_key(SHA1, HERE | OPEN | Attribute.RESTRICTED, ALG_NULL, auth_policy=b"p")
+WRONG = hmac_key(SHA1, HERE | OPEN | ObjectAttribute.RESTRICTED, ALG_NULL, auth_policy=b"p")
 GOOD_SENSITIVE = frames.sensitive_create(data=SECRET)
 LONG_SENSITIVE = frames.sensitive_create(b"a" * 21, SECRET)
 BANK = number(1, 4) + number(0x000C, 2) + b"\x03\0\0\0"
@@ -116,7 +114,7 @@ for code, name, on, uses in (
     def with_public(public, first=LONG_SENSITIVE):
         return first + sized(public.text) + none + rest
 
-    both = HERE | OPEN | Attribute.SENSITIVE_DATA_ORIGIN
+    both = HERE | OPEN | ObjectAttribute.SENSITIVE_DATA_ORIGIN
     parameters_in_order(
         code,
         on,
@@ -126,7 +124,7 @@ for code, name, on, uses in (
             (
                 "fixedTPM without fixedParent",
                 "ATTRIBUTES/p2",
-                with_public(sealed(SHA1, Attribute.FIXED_TPM | OPEN, scheme=SHA1)),
+                with_public(sealed(SHA1, ObjectAttribute.FIXED_TPM | OPEN, scheme=SHA1)),
             ),
             ("Scheme HMAC without sign", "SCHEME/p2", with_public(sealed(SHA1, scheme=SHA1))),
             ("userAuth of 21 bytes", "SIZE/p1", with_public(sealed(SHA1, both))),
@@ -167,7 +165,7 @@ parameters_in_order(
         (
             "fixedTPM without fixedParent",
             "ATTRIBUTES/p2",
-            sized(b"") + sized(sealed(SHA1, Attribute.FIXED_TPM | OPEN, scheme=SHA1).text),
+            sized(b"") + sized(sealed(SHA1, ObjectAttribute.FIXED_TPM | OPEN, scheme=SHA1).text),
         ),
         (
             "Scheme HMAC without sign",

@@ -1,18 +1,16 @@
-"""Writes private_area.tpm: private areas that were changed, or that were made outside."""
+"""Writes private_area.tpm. A private area is an integrity value, the first block of the cipher, and
+the encrypted sensitive area. TPM2_Load takes it where its parent made it for this public area.
+"""
 
-from tpmsim.caller import HERE, Made, OPEN, STORES, flipped, hmac_key, sealed, storage_key
+from tpmsim.caller import Made
+from tpmsim.standard import aes, kdfa, KEYEDHASH
+from tests.common.vocabulary import digest, digest_bytes, flipped, HERE, hmac_key, mac, number, OPEN
+from tests.common.vocabulary import Public, RH_OWNER, sealed, SHA1, SHA256, sized, storage_key
+from tests.common.vocabulary import STORES, SYMCIPHER, Teller
 from tpmsim.model import object_rules
 from tpmsim.model.object_rules import Sensitive
-from tpmsim.standard import KEYEDHASH, RH_OWNER, SHA1, SHA256, SYMCIPHER, aes, digest, digest_bytes
-from tpmsim.standard import kdfa, mac, number, sized
-from tpmsim.standard.objects import Public
-from tests.common.teller import Teller
 
-tpm = Teller(
-    "tests/objects/private_area.tpm",
-    "A private area is an integrity value, the first block of the cipher, and the encrypted "
-    "sensitive area. TPM2_Load takes it where its parent made it for this public area.",
-)
+tpm = Teller(__name__, __doc__)
 
 
 def refused(what, parent, public, *privates):
@@ -29,12 +27,8 @@ for algorithm, hash_name, step, words in (
     parent = said.create_primary(RH_OWNER, storage_key(algorithm))
     made = tpm.create("TPM2_Create of a byte", parent, sealed(SHA1), data=b"x")
     private = made.private
-    refused(
-        "TPM2_Load, with one bit changed in each byte in turn",
-        parent,
-        made.public,
-        *(flipped(private, at) for at in range(len(private))),
-    )
+    case = "TPM2_Load, with one bit changed in each byte in turn"
+    refused(case, parent, made.public, *(flipped(private, at) for at in range(len(private))))
     refused(
         f"Cut to {words}",
         parent,
@@ -87,12 +81,8 @@ for algorithm, hash_name in ((SHA1, "SHA-1"), (SHA256, "SHA-256")):
     other = storage_key().name
     refused("With another Name", parent, public, forge(parent, public, sensitive(), name=other))
     other = SHA256 if algorithm == SHA1 else SHA1
-    refused(
-        "By the other hash algorithm",
-        parent,
-        public,
-        forge(parent, public, sensitive(), algorithm=other),
-    )
+    case = "By the other hash algorithm"
+    refused(case, parent, public, forge(parent, public, sensitive(), algorithm=other))
     size = digest_bytes(algorithm)
     value, rest = private[2 : 2 + size], private[2 + size :]
     refused(

@@ -1,16 +1,12 @@
-"""Writes read_public.tpm: TPM2_ReadPublic, and the Names that it answers."""
+"""Writes read_public.tpm. TPM2_ReadPublic answers an object's public area, its Name, which is
+nameAlg and the hash of that area, and its qualified name, which has the Names of all that are above
+it in it. It needs no authorization.
+"""
 
-from tpmsim.caller import Use, hmac_key, sealed, storage_key
-from tpmsim.standard import CC, ENCRYPT, RH_NULL, RH_OWNER, SHA1, SHA256, command, digest, number
-from tests.common.teller import Teller
+from tests.common.vocabulary import CC, command, digest, ENCRYPT, hmac_key, number, RH_NULL
+from tests.common.vocabulary import RH_OWNER, sealed, SHA1, SHA256, storage_key, Teller, Use
 
-tpm = Teller(
-    "tests/objects/read_public.tpm",
-    "TPM2_ReadPublic answers an object's public area, its Name, which is nameAlg and the hash of "
-    "that area, and its qualified name, which has the Names of all that are above it in it. It "
-    "needs no authorization.",
-    starts=False,
-)
+tpm = Teller(__name__, __doc__, starts=False)
 
 
 def read(handle):

@@ -1,19 +1,16 @@
-"""Writes sealed_sizes.tpm: what is sealed, loaded and unsealed in encrypted parameters."""
+"""Writes sealed_sizes.tpm. Sealed data of up to 128 bytes, which a session hides on the wire:
+inSensitive of TPM2_Create, inPrivate of TPM2_Load, outData of TPM2_Unseal, and what TPM2_HMAC takes
+and answers.
+"""
 
-from tpmsim.caller import Use, hmac_key, sealed, storage_key
-from tpmsim.standard import ALG_NULL, CC, CONTINUE_SESSION, DECRYPT, ENCRYPT, RH_OWNER, SHA1
-from tpmsim.standard import SHA256, mac, number, sized
-from tests.common.teller import Teller
+from tests.common.vocabulary import ALG_NULL, CC, CONTINUE_SESSION, DECRYPT, ENCRYPT, hmac_key, mac
+from tests.common.vocabulary import number, RH_OWNER, sealed, SHA1, SHA256, sized, storage_key
+from tests.common.vocabulary import Teller, Use
 
 IN, OUT = CONTINUE_SESSION | DECRYPT, CONTINUE_SESSION | ENCRYPT
 BOTH = CONTINUE_SESSION | DECRYPT | ENCRYPT
 
-tpm = Teller(
-    "tests/objects/sealed_sizes.tpm",
-    "Sealed data of up to 128 bytes, which a session hides on the wire: inSensitive of "
-    "TPM2_Create, inPrivate of TPM2_Load, outData of TPM2_Unseal, and what TPM2_HMAC takes and "
-    "answers.",
-)
+tpm = Teller(__name__, __doc__)
 said = tpm('A storage key, whose value is "parent"')
 parent = said.create_primary(RH_OWNER, storage_key(), user_auth=b"parent")
 

@@ -1,20 +1,16 @@
-"""Writes sealed_to_pcrs.tpm: data that are given out while a PCR has the value of then."""
+"""Writes sealed_to_pcrs.tpm. Sealed data whose authPolicy is that of TPM2_PolicyPCR over PCR 10: a
+trial session tells its digest, and a policy session authorizes TPM2_Unseal while PCR 10 has the
+same value.
+"""
 
-from tpmsim.caller import HERE, sealed, storage_key
-from tpmsim.standard import CC, RH_NULL, RH_OWNER, SHA256, digest, digests, policy, selection
-from tpmsim.standard.objects import Attribute
-from tpmsim.caller.script_caller import zeros
-from tests.common.teller import Teller
+from tpmsim.standard import digests
+from tests.common.vocabulary import CC, digest, HERE, ObjectAttribute, policy, RH_NULL, RH_OWNER
+from tests.common.vocabulary import sealed, selection, SHA256, storage_key, Teller, zeros
 
 CHOSEN = [(SHA256, [10])]
 SECRET = b"the secret"
 
-tpm = Teller(
-    "tests/objects/sealed_to_pcrs.tpm",
-    "Sealed data whose authPolicy is that of TPM2_PolicyPCR over PCR 10: a trial session tells its "
-    "digest, and a policy session authorizes TPM2_Unseal while PCR 10 has the same value.",
-    starts=False,
-)
+tpm = Teller(__name__, __doc__, starts=False)
 
 
 def measured():
@@ -49,7 +45,7 @@ parent = tpm.create_primary("A storage key", RH_OWNER, storage_key())
 made = tpm.create(
     "TPM2_Create of sealed data with this authPolicy, and without userWithAuth",
     parent,
-    sealed(attributes=HERE | Attribute.NO_DA, auth_policy=AUTH_POLICY),
+    sealed(attributes=HERE | ObjectAttribute.NO_DA, auth_policy=AUTH_POLICY),
     data=SECRET,
     pcrs=CHOSEN,
 )

@@ -1,17 +1,14 @@
-"""Writes sha1_parent.tpm: parents with nameAlg SHA-1, and what parents hand on."""
+"""Writes sha1_parent.tpm. A private area is protected by the nameAlg of the parent; the Name, the
+qualified name, the hashes in the creation data and unique are by the nameAlg of the object itself.
+The hierarchy comes from the parent.
+"""
 
-from tpmsim.caller import OPEN, STORES, hmac_key, sealed, storage_key
-from tpmsim.standard import CC, Fields, RH_ENDORSEMENT, RH_NULL, RH_OWNER, RH_PLATFORM, SHA1
-from tpmsim.standard import SHA256, digest, digest_bytes, number, policy
-from tpmsim.standard.objects import Attribute
-from tests.common.teller import Teller
+from tpmsim.standard import Fields
+from tests.common.vocabulary import CC, digest, digest_bytes, hmac_key, number, ObjectAttribute
+from tests.common.vocabulary import OPEN, policy, RH_ENDORSEMENT, RH_NULL, RH_OWNER, RH_PLATFORM
+from tests.common.vocabulary import sealed, SHA1, SHA256, storage_key, STORES, Teller
 
-tpm = Teller(
-    "tests/objects/sha1_parent.tpm",
-    "A private area is protected by the nameAlg of the parent; the Name, the qualified name, the "
-    "hashes in the creation data and unique are by the nameAlg of the object itself. The hierarchy "
-    "comes from the parent.",
-)
+tpm = Teller(__name__, __doc__)
 ALGORITHMS = ((SHA1, "SHA-1"), (SHA256, "SHA-256"))
 
 
@@ -116,7 +113,7 @@ for hierarchy, name in (
 tpm.chapter("fixedTPM: what is under a parent without it is without it, down to the last.")
 movable = storage_key(attributes=OPEN | STORES)
 primary = tpm.create_primary("A parent without fixedTPM", RH_OWNER, movable)
-inner = storage_key(SHA1, attributes=OPEN | STORES | Attribute.FIXED_PARENT)
+inner = storage_key(SHA1, attributes=OPEN | STORES | ObjectAttribute.FIXED_PARENT)
 made = tpm.create("TPM2_Create of a storage key with fixedParent", primary, inner)
 child = tpm.load("TPM2_Load", primary, made)
 said = tpm("TPM2_Create under that, with fixedTPM and fixedParent: ATTRIBUTES/p2")
@@ -133,7 +130,7 @@ made = tpm.create(
     parent,
     sealed(
         SHA1,
-        attributes=sealed().attributes & ~Attribute.USER_WITH_AUTH,
+        attributes=sealed().attributes & ~ObjectAttribute.USER_WITH_AUTH,
         auth_policy=policy.after_command_code(SHA1, bytes(20), CC.Unseal),
     ),
     data=b"secret",

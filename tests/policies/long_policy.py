@@ -1,17 +1,14 @@
-"""Writes long_policy.tpm: a policy of all assertions, in a trial and a policy session."""
+"""Writes long_policy.tpm. A policy of many assertions. A trial session comes to the digest that a
+policy session comes to, without anything being so yet.
+"""
 
-from tpmsim.standard import CC, RH_OWNER, SHA1, SHA256, digest, frames, name_of, policy
-from tpmsim.caller.script_caller import HASHES, zeros
-from tests.common.teller import Teller
+from tests.common.vocabulary import CC, digest, frames, HASHES, name_of, policy, RH_OWNER, SHA1
+from tests.common.vocabulary import SHA256, Teller, zeros
 
 BANKS = [(SHA1, [0, 7]), (SHA256, [0, 1, 2, 3, 4, 5, 6, 7, 8])]
 REFERENCE = b"first of January"
 
-tpm = Teller(
-    "tests/policies/long_policy.tpm",
-    "A policy of many assertions. A trial session comes to the digest that a policy session comes "
-    "to, without anything being so yet.",
-)
+tpm = Teller(__name__, __doc__)
 
 
 def values_digest(algorithm):

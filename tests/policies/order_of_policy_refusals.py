@@ -1,20 +1,17 @@
-"""Writes order_of_policy_refusals.tpm: policy commands with many faults."""
+"""Writes order_of_policy_refusals.tpm. The order of refusals of the policy commands: of many faults
+one after the other is repaired. What is answered is the first that is left, in the order of
+docs/table/order_of_refusals.md.
+"""
 
-from tpmsim.caller import Use, flipped
-from tpmsim.standard import CC, CONTINUE_SESSION, DECRYPT, ENCRYPT, Entry, RH_LOCKOUT, RH_NULL
-from tpmsim.standard import RH_OWNER, SHA256, frames, number, selection, sized
-from tests.common.teller import Teller
+from tests.common.vocabulary import CC, CONTINUE_SESSION, DECRYPT, ENCRYPT, Entry, flipped, frames
+from tests.common.vocabulary import number, RH_LOCKOUT, RH_NULL, RH_OWNER, selection, SHA256, sized
+from tests.common.vocabulary import Teller, Use
 
 DECRYPTS, ENCRYPTS = CONTINUE_SESSION | DECRYPT, CONTINUE_SESSION | ENCRYPT
 ABSENT_POLICY = 0x0300_000F
 ABSENT = Entry(0x0200_0009, b"", 0xFF, b"")
 
-tpm = Teller(
-    "tests/policies/order_of_policy_refusals.tpm",
-    "The order of refusals of the policy commands: of many faults one after the other is repaired. "
-    "What is answered is the first that is left, in the order of docs/table/order_of_refusals.md.",
-    tries=True,
-)
+tpm = Teller(__name__, __doc__, tries=True)
 
 
 def wrong(prepared, *places):
@@ -106,11 +103,8 @@ says("One digest, of 33 bytes: SIZE/p1", OR, frames.sized_list(bytes(33)))
 says("Nine, the first cut: SIZE/p1", OR, number(9, 4) + b"\0")
 says("Two, the first cut: INSUFFICIENT/p1", OR, number(2, 4) + b"\0\x20" + bytes(31))
 says("Its size over 32: SIZE/p1", OR, number(2, 4) + b"\0\x21" + bytes(31))
-says(
-    "The second over 32 and cut, though the digest is not among them: SIZE/p1",
-    OR,
-    number(2, 4) + sized(b"x") + b"\0\x21",
-)
+case = "The second over 32 and cut, though the digest is not among them: SIZE/p1"
+says(case, OR, number(2, 4) + sized(b"x") + b"\0\x21")
 says("A byte behind two of others: SIZE", OR, frames.sized_list(b"x", b"y") + b"\0")
 says("Two of others: VALUE/p1", OR, frames.sized_list(b"x", b"y"))
 tpm("TPM2_PolicyRestart").restart(policy)

@@ -1,14 +1,11 @@
-"""Writes policy_auth_value.tpm: TPM2_PolicyAuthValue and TPM2_PolicyPassword."""
+"""Writes policy_auth_value.tpm. TPM2_PolicyAuthValue and TPM2_PolicyPassword: who uses the policy
+has to show the entity's authorization value, in an hmac or as a password. They make the same
+digest.
+"""
 
-from tpmsim.standard import CC, policy
-from tpmsim.caller.script_caller import zeros
-from tests.common.teller import Teller
+from tests.common.vocabulary import CC, policy, Teller, zeros
 
-tpm = Teller(
-    "tests/policies/policy_auth_value.tpm",
-    "TPM2_PolicyAuthValue and TPM2_PolicyPassword: who uses the policy has to show the entity's "
-    "authorization value, in an hmac or as a password. They make the same digest.",
-)
+tpm = Teller(__name__, __doc__)
 
 for session in tpm.each_session():
     after = policy.after_auth_value(session.algorithm, zeros(session))

@@ -1,16 +1,13 @@
-"""Writes policy_command_code.tpm: TPM2_PolicyCommandCode, of each code that there is."""
+"""Writes policy_command_code.tpm. TPM2_PolicyCommandCode: the policy is for one command alone. Its
+parameter is the code of a command, served or not.
+"""
 
-from tpmsim.standard import CC, SE_POLICY, SE_TRIAL, SHA1, SHA256, number, policy
-from tpmsim.caller.script_caller import zeros
-from tests.common.teller import Teller
+from tests.common.vocabulary import CC, number, policy, SE_POLICY, SE_TRIAL, SHA1, SHA256, Teller
+from tests.common.vocabulary import zeros
 
 UNKNOWN = 0x194
 
-tpm = Teller(
-    "tests/policies/policy_command_code.tpm",
-    "TPM2_PolicyCommandCode: the policy is for one command alone. Its parameter is the code of a "
-    "command, served or not.",
-)
+tpm = Teller(__name__, __doc__)
 
 
 def raw(session, text):

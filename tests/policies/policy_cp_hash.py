@@ -1,22 +1,17 @@
-"""Writes policy_cp_hash.tpm: TPM2_PolicyCpHash, and policies for one command."""
+"""Writes policy_cp_hash.tpm. TPM2_PolicyCpHash: the policy is for one command alone, with its
+handles and its parameters. Its parameter is the cpHash of that command, by the session's hash.
+"""
 
 import hashlib
 
-from tpmsim.caller import BY_OWNER, BY_POLICY, HERE, Use, area, flipped, sealed, storage_key
-from tpmsim.standard import CC, CONTINUE_SESSION, DECRYPT, RH_ENDORSEMENT, RH_OWNER, SHA1, SHA256
-from tpmsim.standard import command_hash, digest_bytes, name_of, number, policy, sized
-from tpmsim.standard.objects import Attribute
-from tpmsim.caller.script_caller import FIRST, is_trial, zeros
-from tests.common.teller import Teller
+from tests.common.vocabulary import area, BY_OWNER, BY_POLICY, CC, command_hash, CONTINUE_SESSION
+from tests.common.vocabulary import DECRYPT, digest_bytes, FIRST, flipped, HERE, is_trial, name_of
+from tests.common.vocabulary import number, ObjectAttribute, policy, RH_ENDORSEMENT, RH_OWNER
+from tests.common.vocabulary import sealed, SHA1, SHA256, sized, storage_key, Teller, Use, zeros
 
 DECRYPTS = CONTINUE_SESSION | DECRYPT
 
-tpm = Teller(
-    "tests/policies/policy_cp_hash.tpm",
-    "TPM2_PolicyCpHash: the policy is for one command alone, with its handles and its parameters. "
-    "Its parameter is the cpHash of that command, by the session's hash.",
-    tries=True,
-)
+tpm = Teller(__name__, __doc__, tries=True)
 
 
 def says(words, session, *hashes):
@@ -31,10 +26,8 @@ for session in tpm.each_session():
     algorithm = session.algorithm
     size = digest_bytes(algorithm)
     one, other = bytes([1]) * size, bytes([2]) * size
-    says(
-        "One of another size than a digest: none, a byte, a byte too few: SIZE/p1",
-        *(session, b"", b"\1", bytes(size - 1)),
-    )
+    case = "One of another size than a digest: none, a byte, a byte too few: SIZE/p1"
+    says(case, *(session, b"", b"\1", bytes(size - 1)))
     if algorithm == SHA1:
         says("A byte too many, and one of SHA-256: SIZE/p1", session, bytes(21), bytes(32))
     else:
@@ -150,7 +143,7 @@ tpm("TPM2_PolicyRestart").restart(session)
 tpm.chapter("An object: sealed data whose policy is TPM2_PolicySecret of TPM_RH_ENDORSEMENT.")
 parent = tpm.create_primary("A storage key", RH_OWNER, storage_key())
 by_secret = policy.after_secret(SHA256, bytes(32), name_of(RH_ENDORSEMENT), b"")
-attributes = HERE | Attribute.NO_DA
+attributes = HERE | ObjectAttribute.NO_DA
 said = tpm("TPM2_Create")
 made = said.create(parent, sealed(attributes=attributes, auth_policy=by_secret), data=b"secret")
 handle = tpm.load("TPM2_Load", parent, made)

@@ -1,14 +1,10 @@
-"""Writes policy_get_digest.tpm: what a policy session's digest is."""
+"""Writes policy_get_digest.tpm. TPM2_PolicyGetDigest answers the digest that a policy session or a
+trial session has come to. It has no parameters, and changes nothing.
+"""
 
-from tpmsim.standard import CC, policy
-from tpmsim.caller.script_caller import zeros
-from tests.common.teller import Teller
+from tests.common.vocabulary import CC, policy, Teller, zeros
 
-tpm = Teller(
-    "tests/policies/policy_get_digest.tpm",
-    "TPM2_PolicyGetDigest answers the digest that a policy session or a trial session has come to. "
-    "It has no parameters, and changes nothing.",
-)
+tpm = Teller(__name__, __doc__)
 
 for session in tpm.each_session(size=20):
     tpm.digest_is("It begins with zeros", session, zeros(session))

@@ -1,14 +1,11 @@
-"""Writes policy_locality.tpm: TPM2_PolicyLocality, and how its localities become fewer."""
+"""Writes policy_locality.tpm. TPM2_PolicyLocality: the policy is for some localities alone. Its
+parameter has a bit for each of the localities 0 to 4, and what is left is what all such parameters
+have in common.
+"""
 
-from tpmsim.standard import CC, policy
-from tpmsim.caller.script_caller import zeros
-from tests.common.teller import Teller
+from tests.common.vocabulary import CC, policy, Teller, zeros
 
-tpm = Teller(
-    "tests/policies/policy_locality.tpm",
-    "TPM2_PolicyLocality: the policy is for some localities alone. Its parameter has a bit for "
-    "each of the localities 0 to 4, and what is left is what all such parameters have in common.",
-)
+tpm = Teller(__name__, __doc__)
 
 
 def says(words, session, *masks):
@@ -18,10 +15,8 @@ def says(words, session, *masks):
 for session in tpm.each_session():
     algorithm, digest = session.algorithm, zeros(session)
     says("No locality: RANGE/p1", session, 0)
-    says(
-        "Localities that there are not: bit 5, 6 and 7, alone and beside others: RANGE/p1",
-        *(session, 0x20, 0x21, 0x3F, 0x40, 0x5F, 0x80, 0x81, 0xE0, 0xFF),
-    )
+    case = "Localities that there are not: bit 5, 6 and 7, alone and beside others: RANGE/p1"
+    says(case, *(session, 0x20, 0x21, 0x3F, 0x40, 0x5F, 0x80, 0x81, 0xE0, 0xFF))
     tpm("No parameter: INSUFFICIENT/p1").told(CC.PolicyLocality, session, b"")
     tpm.says(
         "A byte behind it, also where it is 0: SIZE",

@@ -1,13 +1,14 @@
-"""Writes policy_nv.tpm: TPM2_PolicyNV, its comparisons, and what it is hashed of."""
+"""Writes policy_nv.tpm. TPM2_PolicyNV: the policy is for when an index holds what is compared with
+it. Its parameters are operandB, offset and operation; the index stands at the left of the
+comparison.
+"""
 
 import hashlib
 
-from tpmsim.caller import BY_OWNER, BY_PLATFORM, BY_POLICY, BY_VALUE, Use, area, bits, counter
-from tpmsim.caller import extended
-from tpmsim.standard import CC, RH_OWNER, RH_PLATFORM, SHA1, SHA256, frames, number, policy, sized
-from tpmsim.standard.nv import Attribute
-from tpmsim.caller.script_caller import FIRST, FOURTH, SECOND, THIRD, is_trial, zeros
-from tests.common.teller import Teller
+from tests.common.vocabulary import area, bits, BY_OWNER, BY_PLATFORM, BY_POLICY, BY_VALUE, CC
+from tests.common.vocabulary import counter, extended, FIRST, FOURTH, frames, is_trial, number
+from tests.common.vocabulary import NvAttribute, policy, RH_OWNER, RH_PLATFORM, SECOND, SHA1, SHA256
+from tests.common.vocabulary import sized, Teller, THIRD, Use, zeros
 
 NAMES = (
     *("equal", "not equal", "greater, signed", "greater", "less, signed", "less"),
@@ -15,13 +16,9 @@ NAMES = (
     *("all bits of the operand are set", "all bits of the operand are clear"),
 )
 EQ, NEQ, SIGNED_GT, GT, SIGNED_LT, LT, SIGNED_GE, GE, SIGNED_LE, LE, BITSET, BITCLEAR = range(12)
-READ_CLEAR = Attribute.READ_STCLEAR
+READ_CLEAR = NvAttribute.READ_STCLEAR
 
-tpm = Teller(
-    "tests/policies/policy_nv.tpm",
-    "TPM2_PolicyNV: the policy is for when an index holds what is compared with it. Its parameters "
-    "are operandB, offset and operation; the index stands at the left of the comparison.",
-)
+tpm = Teller(__name__, __doc__)
 
 
 def of(algorithm):
@@ -63,9 +60,8 @@ def the_name_of_now():
     before = after(trial, zeros(trial), SECOND, bytes(8), 0, EQ)
     tpm.digest_is("The digest is of its Name of now", trial, before)
     session = tpm.policy("A policy session")
-    fails(
-        "A policy session does not", session, EQ, bytes(8), index=SECOND, outcome="NV_UNINITIALIZED"
-    )
+    case = "A policy session does not"
+    fails(case, session, EQ, bytes(8), index=SECOND, outcome="NV_UNINITIALIZED")
     tpm("It is written").writing(SECOND, bytes(8), by=RH_OWNER)
     holds("Now it does", session, EQ, bytes(8), index=SECOND)
     written = after(session, zeros(session), SECOND, bytes(8), 0, EQ)
@@ -136,14 +132,8 @@ def numbers():
         for operation, compare in COMPARISONS.items():
             true = [number(it, 4) for it, how in operands.items() if compare(*how)]
             false = [number(it, 4) for it, how in operands.items() if not compare(*how)]
-            both(
-                f"Operation {operation:X}, {NAMES[operation]}",
-                session,
-                operation,
-                true,
-                false,
-                index=SECOND,
-            )
+            case = f"Operation {operation:X}, {NAMES[operation]}"
+            both(case, session, operation, true, false, index=SECOND)
     tpm.chapter("Bits of A5A5A5A5.")
     tpm("It is written").writing(SECOND, b"\xa5" * 4, by=RH_OWNER)
     zero, one, all_bits = bytes(4), number(1, 4), b"\xff" * 4
@@ -191,29 +181,13 @@ def sizes_and_offsets():
     holds("80 is less than 7F, signed", session, SIGNED_LT, b"\x7f", 0, index=THIRD)
     fails("And not unsigned", session, LT, b"\x7f", index=THIRD)
     holds("8000 is less than 0000, signed", session, SIGNED_LT, b"\0\0", 0, index=THIRD)
-    holds(
-        "007FFF is less than 008000, signed or not", session, SIGNED_LT, b"\0\x80\0", 1, index=THIRD
-    )
+    case = "007FFF is less than 008000, signed or not"
+    holds(case, session, SIGNED_LT, b"\0\x80\0", 1, index=THIRD)
     holds("", session, LT, b"\0\x80\0", 1, index=THIRD)
-    fails(
-        "Past the end",
-        session,
-        EQ,
-        b"\x3b\0",
-        bytes(32),
-        offset=63,
-        index=THIRD,
-        outcome="NV_RANGE",
-    )
-    fails(
-        "One byte, and none, behind it",
-        session,
-        EQ,
-        b"x",
-        offset=64,
-        index=THIRD,
-        outcome="NV_RANGE",
-    )
+    case = "Past the end"
+    fails(case, session, EQ, b"\x3b\0", bytes(32), offset=63, index=THIRD, outcome="NV_RANGE")
+    case = "One byte, and none, behind it"
+    fails(case, session, EQ, b"x", offset=64, index=THIRD, outcome="NV_RANGE")
     fails("", session, EQ, b"", offset=65, index=THIRD, outcome="NV_RANGE")
     fails("At FFFF", session, EQ, bytes(32), b"", offset=0xFFFF, index=THIRD, outcome="NV_RANGE")
     tpm("The index is undefined").undefining(THIRD)
@@ -265,7 +239,7 @@ def refusals():
     tpm.script.startup()
     session = tpm.policy("A policy session")
     trial = tpm.trial("A trial session")
-    tpm.is_now("It is open", THIRD, cleared=Attribute.READLOCKED)
+    tpm.is_now("It is open", THIRD, cleared=NvAttribute.READLOCKED)
     refused("By the platform: NV_UNINITIALIZED", RH_PLATFORM)
     tpm("It is written").writing(THIRD, b"x")
     refused("Past the end: NV_RANGE", THIRD)
@@ -366,13 +340,8 @@ for session in tpm.each_session():
         holds(what, session, operation, operand, offset)
         old = after(session, old, FIRST, operand, offset, operation)
         tpm.digest_is("Its digest", session, old)
-    fails(
-        "What does not hold",
-        session,
-        EQ,
-        b"9",
-        outcome="SUCCESS" if is_trial(session) else "POLICY",
-    )
+    case = "What does not hold"
+    fails(case, session, EQ, b"9", outcome="SUCCESS" if is_trial(session) else "POLICY")
     if is_trial(session):
         old = after(session, old, FIRST, b"9", 0, EQ)
     tpm.digest_is("Its digest", session, old)

@@ -1,24 +1,18 @@
-"""Writes policy_nv_written.tpm: TPM2_PolicyNvWritten, and indices that are written once."""
+"""Writes policy_nv_written.tpm. TPM2_PolicyNvWritten: the policy is for an NV index that is written
+(1), or for one that is not (0). Whether it is, is looked at when the session authorizes.
+"""
 
 import hashlib
 
-from tpmsim.caller import BY_OWNER, BY_POLICY, HERE, Use, area, counter, flipped, sealed
-from tpmsim.caller import storage_key
-from tpmsim.standard import CC, RH_OWNER, SHA1, SHA256, command_hash, frames, policy
-from tpmsim.standard.nv import Attribute
-from tpmsim.standard.objects import Attribute as ObjectAttribute
-from tpmsim.caller.script_caller import FIRST, FOURTH, SECOND, THIRD, zeros
-from tests.common.teller import Teller
+from tests.common.vocabulary import area, BY_OWNER, BY_POLICY, CC, command_hash, counter, FIRST
+from tests.common.vocabulary import flipped, FOURTH, frames, HERE, NvAttribute, ObjectAttribute
+from tests.common.vocabulary import policy, RH_OWNER, sealed, SECOND, SHA1, SHA256, storage_key
+from tests.common.vocabulary import Teller, THIRD, Use, zeros
 
 NO, YES = False, True
 FIFTH = 0x0100_0005
 
-tpm = Teller(
-    "tests/policies/policy_nv_written.tpm",
-    "TPM2_PolicyNvWritten: the policy is for an NV index that is written (1), or for one that is "
-    "not (0). Whether it is, is looked at when the session authorizes.",
-    tries=True,
-)
+tpm = Teller(__name__, __doc__, tries=True)
 
 
 def says(words, session, *values):
@@ -90,7 +84,7 @@ says("1: SUCCESS", session, YES)
 tpm("TPM2_NV_Write too").writing(THIRD, b"more", session)
 
 tpm.chapter("What a startup clears is not written any more, and may be written once again.")
-by_clear = Attribute.CLEAR_STCLEAR | BY_OWNER | BY_POLICY
+by_clear = NvAttribute.CLEAR_STCLEAR | BY_OWNER | BY_POLICY
 unwritten = policy.after_nv_written(SHA256, bytes(32), NO)
 tpm.define("An index with CLEAR_STCLEAR", area(FOURTH, by_clear, auth_policy=unwritten))
 for words in ("TPM2_NV_Write", "After a startup it is a first one again"):

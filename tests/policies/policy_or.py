@@ -1,13 +1,11 @@
-"""Writes policy_or.tpm: TPM2_PolicyOR, and of which lists it is."""
+"""Writes policy_or.tpm. TPM2_PolicyOR: the digest is one of two to eight in a list, and becomes
+that of the list.
+"""
 
-from tpmsim.standard import CC, digest, frames, number, policy, sized
-from tpmsim.caller.script_caller import is_trial, zeros
-from tests.common.teller import Teller
+from tests.common.vocabulary import CC, digest, frames, is_trial, number, policy, sized, Teller
+from tests.common.vocabulary import zeros
 
-tpm = Teller(
-    "tests/policies/policy_or.tpm",
-    "TPM2_PolicyOR: the digest is one of two to eight in a list, and becomes that of the list.",
-)
+tpm = Teller(__name__, __doc__)
 
 
 def other(session, count):
@@ -55,12 +53,8 @@ for session in tpm.each_session():
     joins("The digest of that, the second of them", session, *other(session, 1), current)
 
     current = again(session)
-    joins(
-        "Elements of other lengths beside it, of 0, 1, 19, 20, 21, 31 and 32 bytes",
-        session,
-        *(bytes([it]) * it for it in (0, 1, 19, 20, 21, 31, 32)),
-        current,
-    )
+    case = "Elements of other lengths beside it, of 0, 1, 19, 20, 21, 31 and 32 bytes"
+    joins(case, session, *(bytes([it]) * it for it in (0, 1, 19, 20, 21, 31, 32)), current)
     current = again(session)
     absent = [
         ("The digest is not among two", other(session, 2)),

@@ -1,17 +1,13 @@
-"""Writes policy_pcr.tpm: TPM2_PolicyPCR, its selections, and PCRs that change behind it."""
+"""Writes policy_pcr.tpm. TPM2_PolicyPCR: the policy is for PCRs that have the values of now. Its
+parameters are the digest that they should have, if any, and the selection of PCRs.
+"""
 
-from tpmsim.standard import CC, RH_NULL, SHA1, SHA256, digest, frames, number, policy, selection
-from tpmsim.standard import sized
-from tpmsim.caller.script_caller import is_trial, zeros
-from tests.common.teller import Teller
+from tests.common.vocabulary import CC, digest, frames, is_trial, number, policy, RH_NULL, selection
+from tests.common.vocabulary import SHA1, SHA256, sized, Teller, zeros
 
 ALL = range(24)
 
-tpm = Teller(
-    "tests/policies/policy_pcr.tpm",
-    "TPM2_PolicyPCR: the policy is for PCRs that have the values of now. Its parameters are the "
-    "digest that they should have, if any, and the selection of PCRs.",
-)
+tpm = Teller(__name__, __doc__)
 
 
 def values_digest(session, banks):

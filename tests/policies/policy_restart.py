@@ -1,14 +1,11 @@
-"""Writes policy_restart.tpm: TPM2_PolicyRestart, by which a session forgets its policy."""
+"""Writes policy_restart.tpm. TPM2_PolicyRestart: the session has forgotten what it was told, and
+keeps all else.
+"""
 
-from tpmsim.caller import Use
-from tpmsim.standard import CC, RH_OWNER, SHA1, SHA256, digest_bytes, frames, policy
-from tpmsim.caller.script_caller import is_trial, zeros
-from tests.common.teller import Teller
+from tests.common.vocabulary import CC, digest_bytes, frames, is_trial, policy, RH_OWNER, SHA1
+from tests.common.vocabulary import SHA256, Teller, Use, zeros
 
-tpm = Teller(
-    "tests/policies/policy_restart.tpm",
-    "TPM2_PolicyRestart: the session has forgotten what it was told, and keeps all else.",
-)
+tpm = Teller(__name__, __doc__)
 PCR_0 = [(SHA256, [0])]
 
 

@@ -1,10 +1,11 @@
-"""Writes policy_secret.tpm: TPM2_PolicySecret, its parameters and what it is hashed of."""
+"""Writes policy_secret.tpm. TPM2_PolicySecret: the policy is for who knows the authorization value
+of an entity, and shows it now. Its parameters are nonceTPM, cpHashA, policyRef and expiration. Here
+by the empty password alone.
+"""
 
-from tpmsim.caller import Use, flipped
-from tpmsim.standard import RH_ENDORSEMENT, RH_LOCKOUT, RH_OWNER, RH_PLATFORM, SHA1, SHA256
-from tpmsim.standard import digest_bytes, frames, name_of, number, policy, sized
-from tpmsim.caller.script_caller import is_trial, zeros
-from tests.common.teller import Teller
+from tests.common.vocabulary import digest_bytes, flipped, frames, is_trial, name_of, number, policy
+from tests.common.vocabulary import RH_ENDORSEMENT, RH_LOCKOUT, RH_OWNER, RH_PLATFORM, SHA1, SHA256
+from tests.common.vocabulary import sized, Teller, Use, zeros
 
 ENTITIES = (
     (RH_OWNER, "TPM_RH_OWNER"),
@@ -15,12 +16,7 @@ ENTITIES = (
     (23, "PCR 23"),
 )
 
-tpm = Teller(
-    "tests/policies/policy_secret.tpm",
-    "TPM2_PolicySecret: the policy is for who knows the authorization value of an entity, and "
-    "shows it now. Its parameters are nonceTPM, cpHashA, policyRef and expiration. Here by the "
-    "empty password alone.",
-)
+tpm = Teller(__name__, __doc__)
 
 
 def after(session, old, of=RH_ENDORSEMENT, policy_ref=b""):

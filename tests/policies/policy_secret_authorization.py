@@ -1,10 +1,10 @@
-"""Writes policy_secret_authorization.tpm: by what entries TPM2_PolicySecret is authorized."""
+"""Writes policy_secret_authorization.tpm. TPM2_PolicySecret is authorized by the value of its first
+handle, in a password or an HMAC session, as any other command. Of the policy session nothing is
+asked.
+"""
 
-from tpmsim.caller import Use, flipped
-from tpmsim.standard import RH_ENDORSEMENT, RH_LOCKOUT, RH_OWNER, RH_PLATFORM, SHA1, SHA256
-from tpmsim.standard import name_of, policy
-from tpmsim.caller.script_caller import HASHES, zeros
-from tests.common.teller import Teller
+from tests.common.vocabulary import flipped, HASHES, name_of, policy, RH_ENDORSEMENT, RH_LOCKOUT
+from tests.common.vocabulary import RH_OWNER, RH_PLATFORM, SHA1, SHA256, Teller, Use, zeros
 
 VALUES = (
     (RH_OWNER, "TPM_RH_OWNER", b"owner"),
@@ -13,12 +13,7 @@ VALUES = (
     (RH_LOCKOUT, "TPM_RH_LOCKOUT", b"lockout"),
 )
 
-tpm = Teller(
-    "tests/policies/policy_secret_authorization.tpm",
-    "TPM2_PolicySecret is authorized by the value of its first handle, in a password or an HMAC "
-    "session, as any other command. Of the policy session nothing is asked.",
-    tries=True,
-)
+tpm = Teller(__name__, __doc__, tries=True)
 
 
 def wrong(prepared, place=1):
@@ -69,13 +64,8 @@ for handle, name, value in VALUES:
     said.refused(right.but(handles=[handle, trial.handle]))
     said = tpm(f"Another policyRef than it is of: {code}")
     said.refused(right.but(parameters=tpm.secret(target, policy_ref=b"r").parameters))
-    accepted(
-        "As the first entry it decrypts nonceTPM",
-        target,
-        Use(bound, 0x21),
-        of=handle,
-        nonce_tpm=target.nonce_tpm,
-    )
+    case = "As the first entry it decrypts nonceTPM"
+    accepted(case, target, Use(bound, 0x21), of=handle, nonce_tpm=target.nonce_tpm)
     accepted(
         "It ends, and decrypts and encrypts, though there is nothing to encrypt",
         target,
@@ -102,9 +92,8 @@ for session in (target, trial):
 tpm.chapter("With further entries.")
 bound = tpm.start("An HMAC session that is bound to TPM_RH_LOCKOUT", RH_LOCKOUT, algorithm=SHA1)
 accepted("Behind a password", target, b"owner", bound, of=RH_OWNER)
-accepted(
-    "Behind a session, and before the policy session", target, unbound, bound, target, of=RH_OWNER
-)
+case = "Behind a session, and before the policy session"
+accepted(case, target, unbound, bound, target, of=RH_OWNER)
 tpm.refused(
     "A wrong hmac behind a password, of a session that is bound to TPM_RH_LOCKOUT: AUTH_FAIL/s2",
     wrong(tpm.secret(target, b"owner", bound, of=RH_OWNER), 2),
@@ -118,12 +107,7 @@ accepted("A right one", target, b"owner", locked, of=RH_OWNER)
 owned = tpm.policy("One that is bound to TPM_RH_OWNER", bind=RH_OWNER, algorithm=SHA256)
 said = tpm("A wrong hmac of it, where the first entry is of TPM_RH_LOCKOUT: BAD_AUTH/s2")
 said.refused(wrong(tpm.secret(target, b"lockout", owned, of=RH_LOCKOUT), 2))
-accepted(
-    "A right one, on TPM_RH_OWNER: it has the session's key alone, and no authorization value",
-    target,
-    b"owner",
-    owned,
-    of=RH_OWNER,
-)
+case = "A right one, on TPM_RH_OWNER: it has the session's key alone, and no authorization value"
+accepted(case, target, b"owner", owned, of=RH_OWNER)
 for session in (target, trial):
     tpm.digest_is("The digest", session, after[session.handle])

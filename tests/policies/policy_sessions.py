@@ -1,20 +1,14 @@
-"""Writes policy_sessions.tpm: where policy sessions have their place, and how they end."""
+"""Writes policy_sessions.tpm. Policy sessions and trial sessions have the sixteen places that HMAC
+sessions have. Their handles begin with 03, and those of HMAC sessions with 02.
+"""
 
-from tpmsim.caller import Use, flipped
-from tpmsim.standard import CC, Entry, RH_LOCKOUT, RH_OWNER, SE_HMAC, SE_POLICY, SE_TRIAL, SHA1
-from tpmsim.standard import SHA256, frames, number
-from tpmsim.caller.script_caller import HASHES, zeros
-from tests.common.teller import Teller
+from tests.common.vocabulary import CC, Entry, flipped, frames, HASHES, number, RH_LOCKOUT, RH_OWNER
+from tests.common.vocabulary import SE_HMAC, SE_POLICY, SE_TRIAL, SHA1, SHA256, Teller, Use, zeros
 
 PLACES = 16
 NAMES = {SE_HMAC: "HMAC", SE_POLICY: "policy", SE_TRIAL: "trial"}
 
-tpm = Teller(
-    "tests/policies/policy_sessions.tpm",
-    "Policy sessions and trial sessions have the sixteen places that HMAC sessions have. Their "
-    "handles begin with 03, and those of HMAC sessions with 02.",
-    starts=False,
-)
+tpm = Teller(__name__, __doc__, starts=False)
 
 
 def start(kind, place, what=None, **choices):

@@ -1,16 +1,13 @@
-"""Writes policy_sessions_authorize_nothing.tpm: policy sessions as the first entry."""
+"""Writes policy_sessions_authorize_nothing.tpm. A policy session authorizes what has a policy.
+Hierarchies and PCRs have none: they are authorized by their authorization value alone. A trial
+session never authorizes.
+"""
 
-from tpmsim.caller import Use, flipped
-from tpmsim.standard import CC, CONTINUE_SESSION, DECRYPT, Entry, RH_ENDORSEMENT, RH_LOCKOUT
-from tpmsim.standard import RH_NULL, RH_OWNER, RH_PLATFORM, frames
-from tpmsim.caller.script_caller import zeros
-from tests.common.teller import Teller
+from tests.common.vocabulary import CC, CONTINUE_SESSION, DECRYPT, Entry, flipped, frames
+from tests.common.vocabulary import RH_ENDORSEMENT, RH_LOCKOUT, RH_NULL, RH_OWNER, RH_PLATFORM
+from tests.common.vocabulary import Teller, Use, zeros
 
-tpm = Teller(
-    "tests/policies/policy_sessions_authorize_nothing.tpm",
-    "A policy session authorizes what has a policy. Hierarchies and PCRs have none: they are "
-    "authorized by their authorization value alone. A trial session never authorizes.",
-)
+tpm = Teller(__name__, __doc__)
 
 tpm.accepted('ownerAuth is "owner"', tpm.change_auth(RH_OWNER, b"owner", b""))
 hmac = tpm.start("An HMAC session, bound to TPM_RH_OWNER, with AES", RH_OWNER, aes=True)

@@ -1,20 +1,16 @@
-"""Writes policy_sessions_that_encrypt.tpm: policy sessions that authorize nothing."""
+"""Writes policy_sessions_that_encrypt.tpm. Policy sessions and trial sessions as further entries:
+they authorize nothing there, and are held against their hmac as HMAC sessions are. They can decrypt
+and encrypt, and keep what they were told.
+"""
 
-from tpmsim.caller import Use, flipped
-from tpmsim.standard import CC, CONTINUE_SESSION, DECRYPT, ENCRYPT, RH_ENDORSEMENT, RH_LOCKOUT
-from tpmsim.standard import RH_OWNER, SE_POLICY, SE_TRIAL, SHA1, digest, frames, name_of, policy
-from tpmsim.caller.script_caller import HASHES, KINDS, zeros
-from tests.common.teller import Teller
+from tpmsim.caller.script_caller import KINDS
+from tests.common.vocabulary import CC, CONTINUE_SESSION, DECRYPT, digest, ENCRYPT, flipped, frames
+from tests.common.vocabulary import HASHES, name_of, policy, RH_ENDORSEMENT, RH_LOCKOUT, RH_OWNER
+from tests.common.vocabulary import SE_POLICY, SE_TRIAL, SHA1, Teller, Use, zeros
 
 DECRYPTS, ENCRYPTS = CONTINUE_SESSION | DECRYPT, CONTINUE_SESSION | ENCRYPT
 
-tpm = Teller(
-    "tests/policies/policy_sessions_that_encrypt.tpm",
-    "Policy sessions and trial sessions as further entries: they authorize nothing there, and are "
-    "held against their hmac as HMAC sessions are. They can decrypt and encrypt, and keep what "
-    "they were told.",
-    tries=True,
-)
+tpm = Teller(__name__, __doc__, tries=True)
 
 
 def wrong(prepared, place):

@@ -1,13 +1,10 @@
-"""Writes written_policies.tpm: uses of entities by policies that have branches, and by other
-ones, and what is refused of them. tests/python/policy_audit.sh has these policies in words.
+"""Writes written_policies.tpm. Policies with branches, each of them taken, and each refused; and
+other policies. tests/python/policy_audit.sh tells tools/audit.py these policies in words.
 """
 
-from tpmsim.caller import BY_OWNER, HERE, Use
-from tpmsim.standard import CC, RH_ENDORSEMENT, RH_OWNER, SHA1, SHA256, digest, name_of, number
-from tpmsim.standard import policy, selection
-from tpmsim.standard.nv import Attribute
-from tpmsim.standard.objects import Attribute as ObjectAttribute
-from tpmsim.standard.policy import AUTH_VALUE, PASSWORD
+from tests.common.vocabulary import AUTH_VALUE, BY_OWNER, CC, digest, HERE, name_of, number
+from tests.common.vocabulary import NvAttribute, ObjectAttribute, PASSWORD, policy, RH_ENDORSEMENT
+from tests.common.vocabulary import RH_OWNER, selection, SHA1, SHA256, Use
 from tests.sessions.grounds_caller import (
     AFTER_AUTH_VALUE,
     PIN,
@@ -25,12 +22,7 @@ LEAST, VERSION, AT_LEAST, EQUAL = number(5, 8), number(6, 8), 7, 0
 LOCALITY_0, LOCALITIES_3_AND_4 = 0b00001, 0b11000
 OF_NO_COMMAND = b"\x11" * 32
 
-tpm = GroundsCaller(
-    "tests/policies/written_policies.tpm",
-    "Policies with branches, each of them taken, and each refused; and other policies. "
-    "tests/python/policy_audit.sh tells tools/audit.py these policies in words.",
-    tries=True,
-)
+tpm = GroundsCaller(__name__, __doc__, tries=True)
 lost, asserts = tpm.lost, tpm.asserts
 
 
@@ -185,7 +177,7 @@ def other_policies(session):
     asserts("TPM2_PolicyRestart", tpm.restart(session))
     tpm.chapter("An index is written once.")
     auth_policy = policy.after_nv_written(SHA256, ZEROS, False)
-    index = tpm.index("It has this policy", Attribute.POLICYWRITE | BY_OWNER, auth_policy)
+    index = tpm.index("It has this policy", NvAttribute.POLICYWRITE | BY_OWNER, auth_policy)
     for is_lost in (False, True):
         asserts("TPM2_PolicyNvWritten of 0", tpm.written_told(session, False))
         writing = tpm.writing(index, VERSION, session)
@@ -209,7 +201,7 @@ tpm("A recovery secret").change_auth(RH_ENDORSEMENT, RECOVERY, b"")
 tpm("That secure boot is on, into PCR 7").event(SECURE_BOOT, b"", pcr=7)
 tpm("The kernel, into PCR 11").event(KERNEL, b"", pcr=11)
 index, other = (
-    tpm.index(words, Attribute.AUTHREAD | BY_OWNER) for words in ("A version", "Another index")
+    tpm.index(words, NvAttribute.AUTHREAD | BY_OWNER) for words in ("A version", "Another index")
 )
 for it in (index, other):
     tpm("It is written" if it == index else "").writing(it, VERSION, by=RH_OWNER)

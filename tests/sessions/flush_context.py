@@ -1,15 +1,12 @@
-"""Writes flush_context.tpm: TPM2_FlushContext, which ends sessions."""
+"""Writes flush_context.tpm. TPM2_FlushContext ends a session. The handle is its parameter, and
+needs no authorization. Objects are flushed in tests/objects/flush_objects.tpm.
+"""
 
-from tpmsim.standard import CC, RH_NULL, RH_OWNER, RS_PW, SHA1, area, command, entry, frames
-from tpmsim.standard import number
-from tests.common.teller import Teller
+from tpmsim.standard import area
+from tests.common.vocabulary import CC, command, entry, frames, number, RH_NULL, RH_OWNER, RS_PW
+from tests.common.vocabulary import SHA1, Teller
 
-tpm = Teller(
-    "tests/sessions/flush_context.tpm",
-    "TPM2_FlushContext ends a session. The handle is its parameter, and needs no authorization. "
-    "Objects are flushed in tests/objects/flush_objects.tpm.",
-    starts=False,
-)
+tpm = Teller(__name__, __doc__, starts=False)
 
 
 def flush(handle, behind=b""):

@@ -1,14 +1,15 @@
-"""Writes grounds.tpm: each ground on which an entity is authorized, and one use of it."""
+"""Writes grounds.tpm. By what an entity may be authorized: each ground once, and accepted. The same
+grounds are lost in tests/sessions/lost_grounds.tpm. A ground is a password, the hmac of an HMAC
+session, or a policy session whose policy holds.
+"""
 
 from dataclasses import dataclass
 from typing import Callable
 
-from tpmsim.caller import BY_OWNER, BY_PLATFORM, BY_POLICY, HERE, Use, sealed
-from tpmsim.standard import CC, RH_ENDORSEMENT, RH_LOCKOUT, RH_NULL, RH_OWNER, RH_PLATFORM, SHA1
-from tpmsim.standard import SHA256, name_of, policy
-from tpmsim.standard.nv import Attribute
-from tpmsim.standard.objects import Attribute as ObjectAttribute
-from tpmsim.standard.policy import AUTH_VALUE, PASSWORD
+from tests.common.vocabulary import AUTH_VALUE, BY_OWNER, BY_PLATFORM, BY_POLICY, CC, HERE, name_of
+from tests.common.vocabulary import NvAttribute, ObjectAttribute, PASSWORD, policy, RH_ENDORSEMENT
+from tests.common.vocabulary import RH_LOCKOUT, RH_NULL, RH_OWNER, RH_PLATFORM, sealed, SHA1, SHA256
+from tests.common.vocabulary import Use
 from tests.sessions.grounds_caller import (
     AFTER_AUTH_VALUE,
     AFTER_LOCALITY_1,
@@ -38,13 +39,7 @@ HIERARCHIES = {
     RH_LOCKOUT: ("TPM_RH_LOCKOUT", b"lockout"),
 }
 
-tpm = GroundsCaller(
-    "tests/sessions/grounds.tpm",
-    "By what an entity may be authorized: each ground once, and accepted. The same grounds are "
-    "lost in tests/sessions/lost_grounds.tpm. A ground is a password, the hmac of an HMAC session, "
-    "or a "
-    "policy session whose policy holds.",
-)
+tpm = GroundsCaller(__name__, __doc__)
 
 
 # Authorization values: by a password, and in the key of an HMAC session.
@@ -79,10 +74,10 @@ def entities():
         tpm(what).change_auth(handle, value, b"")
     loaded = tpm.sealed_object("An object with userWithAuth", attributes=HERE | USER, by=RH_OWNER)
     tpm.keep("A persistent copy of it", RH_OWNER, loaded, KEPT)
-    to_write = tpm.index("An index with AUTHWRITE", Attribute.AUTHWRITE | Attribute.OWNERREAD)
+    to_write = tpm.index("An index with AUTHWRITE", NvAttribute.AUTHWRITE | NvAttribute.OWNERREAD)
     tpm("It is written").writing(to_write, DATA)
     said = tpm("One with AUTHREAD, which the owner writes")
-    to_read = said.written_index(Attribute.AUTHREAD | Attribute.OWNERWRITE)
+    to_read = said.written_index(NvAttribute.AUTHREAD | NvAttribute.OWNERWRITE)
     of_owner = tpm.written_index("One with OWNERWRITE and OWNERREAD", BY_OWNER)
     of_platform = tpm.index("One with PPWRITE and PPREAD", BY_PLATFORM)
     tpm("It is written").writing(of_platform, DATA, by=RH_PLATFORM)
@@ -228,9 +223,11 @@ def command_codes(session):
     )
     handle = tpm.sealed_object("An object for TPM2_Unseal", after_code(CC.Unseal))
     said = tpm("An index for TPM2_NV_Write")
-    written = said.index(Attribute.POLICYWRITE | Attribute.OWNERREAD, after_code(CC.NV_Write))
+    written = said.index(NvAttribute.POLICYWRITE | NvAttribute.OWNERREAD, after_code(CC.NV_Write))
     said = tpm("One for TPM2_NV_Read, which the owner writes")
-    read = said.written_index(Attribute.POLICYREAD | Attribute.OWNERWRITE, after_code(CC.NV_Read))
+    read = said.written_index(
+        NvAttribute.POLICYREAD | NvAttribute.OWNERWRITE, after_code(CC.NV_Read)
+    )
     for name, code, prepared in (
         ("TPM2_Unseal", CC.Unseal, lambda: tpm.unsealing(handle, session)),
         ("TPM2_NV_Write", CC.NV_Write, lambda: tpm.writing(written, DATA, session)),

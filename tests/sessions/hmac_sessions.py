@@ -1,19 +1,16 @@
-"""Writes hmac_sessions.tpm: commands that HMAC sessions authorize."""
+"""Writes hmac_sessions.tpm. HMAC sessions authorize commands: unbound, bound to the entity that
+they authorize, and bound to another. Each of their hmacs was computed outside, and each line
+`entropy` gives new random bytes, so that each command has its own nonces.
+"""
 
-from tpmsim.caller import Use, flipped
-from tpmsim.standard import CC, RH_ENDORSEMENT, RH_OWNER, SHA1, SHA256, frames, sized
-from tests.common.teller import Teller
+from tests.common.vocabulary import CC, flipped, frames, RH_ENDORSEMENT, RH_OWNER, SHA1, SHA256
+from tests.common.vocabulary import sized, Teller, Use
 
 NAMES = {SHA1: "SHA-1", SHA256: "SHA-256"}
 AUTH = b"owner"
 ENDS = 0x00
 
-tpm = Teller(
-    "tests/sessions/hmac_sessions.tpm",
-    "HMAC sessions authorize commands: unbound, bound to the entity that they authorize, and bound "
-    "to another. Each of their hmacs was computed outside, and each line `entropy` gives new "
-    "random bytes, so that each command has its own nonces.",
-)
+tpm = Teller(__name__, __doc__)
 
 
 tpm.accepted('ownerAuth is "owner" from here on', tpm.change_auth(RH_OWNER, AUTH, b""))

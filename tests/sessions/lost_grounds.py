@@ -1,11 +1,14 @@
-"""Writes lost_grounds.tpm: each way in which a ground of tests/sessions/grounds.tpm is lost."""
+"""Writes lost_grounds.tpm. How the grounds of tests/sessions/grounds.tpm are lost: each way is
+refused, by G9 where nothing else is said, and beside it stands the same with the condition met. How
+a session itself is lost shows tests/sessions/replays.tpm.
+"""
 
-from tpmsim.caller import BY_OWNER, BY_POLICY, BY_VALUE, HERE, Use, flipped, sealed
-from tpmsim.standard import CC, RH_ENDORSEMENT, RH_LOCKOUT, RH_NULL, RH_OWNER, RH_PLATFORM, SHA1
-from tpmsim.standard import SHA256, digests, frames, name_of, policy
-from tpmsim.standard.nv import Attribute
-from tpmsim.standard.objects import Attribute as ObjectAttribute
-from tpmsim.standard.policy import ALL_LOCALITIES, AUTH_VALUE, PASSWORD
+from tpmsim.standard import digests
+from tpmsim.standard.policy import ALL_LOCALITIES
+from tests.common.vocabulary import AUTH_VALUE, BY_OWNER, BY_POLICY, BY_VALUE, CC, flipped, frames
+from tests.common.vocabulary import HERE, name_of, NvAttribute, ObjectAttribute, PASSWORD, policy
+from tests.common.vocabulary import RH_ENDORSEMENT, RH_LOCKOUT, RH_NULL, RH_OWNER, RH_PLATFORM
+from tests.common.vocabulary import sealed, SHA1, SHA256, Use
 from tests.sessions.grounds_caller import (
     AFTER_AUTH_VALUE,
     AFTER_LOCALITY_1,
@@ -30,14 +33,7 @@ AFTER_UNSEAL = after_code(CC.Unseal)
 EQUAL, AT_LEAST = 0, 7  # operations of TPM2_PolicyNV
 AT_LOCALITY_0_OR_1 = 0b11
 
-tpm = GroundsCaller(
-    "tests/sessions/lost_grounds.tpm",
-    "How the grounds of tests/sessions/grounds.tpm are lost: each way is refused, by G9 where "
-    "nothing else "
-    "is said, and beside it stands the same with the condition met. How a session itself is lost "
-    "shows tests/sessions/replays.tpm.",
-    tries=True,
-)
+tpm = GroundsCaller(__name__, __doc__, tries=True)
 lost = tpm.lost
 
 
@@ -87,11 +83,8 @@ def other_keys(handle, unbound):
     tpm.chapter("One under another key: here TPM2_Unseal of a protected object.")
     bound = tpm.start("A session bound to the object", handle)
     other = tpm.start("One bound to TPM_RH_ENDORSEMENT", RH_ENDORSEMENT)
-    lost(
-        "Unbound, with another value in the key, and with none: AUTH_FAIL/s1",
-        by_key(b"other", handle, unbound),
-        by_key(b"", handle, unbound),
-    )
+    case = "Unbound, with another value in the key, and with none: AUTH_FAIL/s1"
+    lost(case, by_key(b"other", handle, unbound), by_key(b"", handle, unbound))
     tpm.unseal("With the value", handle, SECRET, unbound)
     lost(
         "Bound to the object, with the value in the key all the same, and by another session's "
@@ -152,8 +145,8 @@ def no_policy(openly, session):
     )
     for words, attributes, auth_policy, authorized in (
         ("An index with an empty authPolicy", BY_POLICY, b"", None),
-        ("One of 32 zeros, without POLICYREAD", Attribute.POLICYWRITE, ZEROS, CC.NV_Write),
-        ("One of 32 zeros, without POLICYWRITE", Attribute.POLICYREAD, ZEROS, CC.NV_Read),
+        ("One of 32 zeros, without POLICYREAD", NvAttribute.POLICYWRITE, ZEROS, CC.NV_Write),
+        ("One of 32 zeros, without POLICYWRITE", NvAttribute.POLICYREAD, ZEROS, CC.NV_Read),
     ):
         index = tpm.written_index(words, attributes | BY_OWNER, auth_policy)
         for code, name, prepare in (
@@ -394,10 +387,8 @@ def locked(openly, demanding, undemanding, hmac, session):
     tpm.chapter("LOCKOUT. Who would compare the value of a protected entity is refused.")
     bound = tpm.start("A session bound to the object", openly)
     tpm.set_protection("maxTries is 1, and there were more", 1, 1000, 1)
-    lost(
-        "By the password, by an unbound session and by the bound one: LOCKOUT",
-        *(tpm.unsealing(openly, it) for it in (PIN, hmac, bound)),
-    )
+    case = "By the password, by an unbound session and by the bound one: LOCKOUT"
+    lost(case, *(tpm.unsealing(openly, it) for it in (PIN, hmac, bound)))
     use = lambda: tpm.unsealing(demanding, Use(session, demand=AUTH_VALUE))
     tpm.asserts_value(session)
     lost("By a policy that demands the value: LOCKOUT", use())
@@ -450,7 +441,7 @@ lost(
 tpm.unseal("By the value", handle, SECRET, PIN)
 for words, attributes, outcome in (
     ("A protected index", BY_VALUE, "AUTH_FAIL/s1"),
-    ("An index with NO_DA", BY_VALUE | Attribute.NO_DA, "BAD_AUTH/s1"),
+    ("An index with NO_DA", BY_VALUE | NvAttribute.NO_DA, "BAD_AUTH/s1"),
 ):
     index = tpm.index(words, attributes)
     lost(f"By another password: {outcome}", tpm.writing(index, DATA, b"other"))
@@ -465,26 +456,19 @@ tpm.unseal("TPM2_Unseal by the password", usable, SECRET, PIN)
 tpm.unseal("And by the HMAC session", usable, SECRET, hmac)
 tpm.flushed(closed, usable)
 said = tpm("An index with AUTHWRITE and without AUTHREAD")
-to_write = said.written_index(Attribute.AUTHWRITE | BY_OWNER)
-lost(
-    "TPM2_NV_Read: AUTH_UNAVAILABLE", tpm.reading(to_write, 8, PIN), tpm.reading(to_write, 8, hmac)
-)
+to_write = said.written_index(NvAttribute.AUTHWRITE | BY_OWNER)
+case = "TPM2_NV_Read: AUTH_UNAVAILABLE"
+lost(case, tpm.reading(to_write, 8, PIN), tpm.reading(to_write, 8, hmac))
 tpm("TPM2_NV_Write").writing(to_write, DATA, PIN)
 said = tpm("One with AUTHREAD and without AUTHWRITE")
-to_read = said.written_index(Attribute.AUTHREAD | BY_OWNER)
-lost(
-    "TPM2_NV_Write: AUTH_UNAVAILABLE",
-    tpm.writing(to_read, DATA, PIN),
-    tpm.writing(to_read, DATA, hmac),
-)
+to_read = said.written_index(NvAttribute.AUTHREAD | BY_OWNER)
+case = "TPM2_NV_Write: AUTH_UNAVAILABLE"
+lost(case, tpm.writing(to_read, DATA, PIN), tpm.writing(to_read, DATA, hmac))
 tpm.read("TPM2_NV_Read", to_read, DATA, PIN)
 said = tpm("One whose policy is the command TPM2_NV_ChangeAuth")
 admin = said.index(BY_VALUE, after_code(CC.NV_ChangeAuth))
-lost(
-    "TPM2_NV_ChangeAuth, which is in the ADMIN role: AUTH_UNAVAILABLE",
-    tpm.changing_auth(admin, PIN, PIN),
-    tpm.changing_auth(admin, PIN, hmac),
-)
+case = "TPM2_NV_ChangeAuth, which is in the ADMIN role: AUTH_UNAVAILABLE"
+lost(case, tpm.changing_auth(admin, PIN, PIN), tpm.changing_auth(admin, PIN, hmac))
 tpm("TPM2_NV_Write, in the USER role").writing(admin, DATA, PIN)
 tpm.refused_by(
     "A1",

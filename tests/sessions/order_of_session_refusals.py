@@ -1,20 +1,16 @@
-"""Writes order_of_session_refusals.tpm: commands with sessions and many faults."""
+"""Writes order_of_session_refusals.tpm. The order of refusals of commands with sessions: of many
+faults one after the other is repaired. What is answered is the first that is left, in the order of
+docs/table/order_of_refusals.md.
+"""
 
-from tpmsim.caller import Use, flipped
-from tpmsim.standard import CC, CONTINUE_SESSION, DECRYPT, ENCRYPT, Entry, RH_NULL, RH_OWNER
-from tpmsim.standard import frames, number, sized
-from tests.common.teller import Teller
+from tests.common.vocabulary import CC, CONTINUE_SESSION, DECRYPT, ENCRYPT, Entry, flipped, frames
+from tests.common.vocabulary import number, RH_NULL, RH_OWNER, sized, Teller, Use
 
 DECRYPTS = CONTINUE_SESSION | DECRYPT
 ENCRYPTS = CONTINUE_SESSION | ENCRYPT
 NULLS = [RH_NULL, RH_NULL]
 
-tpm = Teller(
-    "tests/sessions/order_of_session_refusals.tpm",
-    "The order of refusals of commands with sessions: of many faults one after the other is "
-    "repaired. What is answered is the first that is left, in the order of "
-    "docs/table/order_of_refusals.md.",
-)
+tpm = Teller(__name__, __doc__)
 
 
 def wrong(prepared, *places):

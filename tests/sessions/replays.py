@@ -1,13 +1,15 @@
-"""Writes replays.tpm: commands that were accepted, and are sent again byte for byte."""
+"""Writes replays.tpm. Commands that were accepted, and are sent again byte for byte. The hmac of a
+session is of its nonceTPM, which each accepted command makes a new one, so that it is refused where
+the hmac is compared. Where nothing is compared, or random bytes come again, it is accepted. Each
+command of a session has random bytes of its own, where nothing else is said.
+"""
 
 from dataclasses import replace
 
-from tpmsim.caller import BY_POLICY, BY_VALUE, CLEAR, STATE, Use
-from tpmsim.standard import CC, CONTINUE_SESSION, DECRYPT, ENCRYPT, RH_ENDORSEMENT, RH_LOCKOUT
-from tpmsim.standard import RH_NULL, RH_OWNER, SE_HMAC, SE_POLICY, SHA256, frames
-from tpmsim.standard.nv import Attribute
-from tpmsim.standard.policy import AUTH_VALUE, PASSWORD
-from tpmsim.caller.script_caller import FIRST
+from tests.common.vocabulary import AUTH_VALUE, BY_POLICY, BY_VALUE, CC, CLEAR, CONTINUE_SESSION
+from tests.common.vocabulary import DECRYPT, ENCRYPT, FIRST, frames, NvAttribute, PASSWORD
+from tests.common.vocabulary import RH_ENDORSEMENT, RH_LOCKOUT, RH_NULL, RH_OWNER, SE_HMAC
+from tests.common.vocabulary import SE_POLICY, SHA256, STATE, Use
 from tests.sessions.grounds_caller import AFTER_AUTH_VALUE, DATA, OWNER, ZEROS, GroundsCaller
 
 VALUE, LOCKOUT_AUTH, OTHER_DATA = b"a", b"lockout", b"to write"
@@ -18,13 +20,7 @@ RECOVERY = 1_000_000  # milliseconds of recoveryTime and lockoutRecovery, as the
 # Random bytes that are given more than once.
 SEED, OTHER_SEED = b"\xa1", b"\xb2"
 
-tpm = GroundsCaller(
-    "tests/sessions/replays.tpm",
-    "Commands that were accepted, and are sent again byte for byte. The hmac of a session is of "
-    "its nonceTPM, which each accepted command makes a new one, so that it is refused where the "
-    "hmac is compared. Where nothing is compared, or random bytes come again, it is accepted. Each "
-    "command of a session has random bytes of its own, where nothing else is said.",
-)
+tpm = GroundsCaller(__name__, __doc__)
 
 
 def with_random(what, seed, prepared):
@@ -120,7 +116,7 @@ def protected():
 
 def not_counted(session, to_endorsement):
     tpm.chapter("WHAT IS NOT PROTECTED. A wrong entry is no try.")
-    openly = tpm.index("An index with NO_DA", BY_VALUE | Attribute.NO_DA, value=VALUE)
+    openly = tpm.index("An index with NO_DA", BY_VALUE | NvAttribute.NO_DA, value=VALUE)
     tpm.does("", write(VALUE, index=openly))
     for what, prepare in (
         ("TPM2_NV_Write of it", lambda: write(session, index=openly)),
@@ -188,20 +184,16 @@ def other_places(session, to_endorsement):
         ),
     ):
         again(f"The same again: {outcome}", accepted(what, prepare()), "G10")
-    decrypting = accepted(
-        "TPM2_NV_Write, and the session decrypts",
-        tpm.writing(FIRST, OTHER_DATA, VALUE, Use(aes, DECRYPTS)),
-    )
+    case = "TPM2_NV_Write, and the session decrypts"
+    decrypting = accepted(case, tpm.writing(FIRST, OTHER_DATA, VALUE, Use(aes, DECRYPTS)))
     tpm.does("Other data are written", write(VALUE))
     again("What decrypts again: BAD_AUTH/s2", decrypting, "G10")
     tpm.read("The data are as they were", FIRST, DATA, VALUE)
     first = accepted("TPM2_GetRandom: the first entry authorizes nothing", tpm.random(2, aes))
     again("The same again: BAD_AUTH/s1", first, "G10")
     tpm.tries_are("None of these was a failed try", 0)
-    both = accepted(
-        "TPM2_NV_Write by a session, and another one decrypts",
-        tpm.writing(FIRST, DATA, session, Use(aes, DECRYPTS)),
-    )
+    case = "TPM2_NV_Write by a session, and another one decrypts"
+    both = accepted(case, tpm.writing(FIRST, DATA, session, Use(aes, DECRYPTS)))
     again("The same again: AUTH_FAIL/s1, which the first entry refuses", both)
     tpm.tries_are("And that is a failed try", 1)
     unlocked()
@@ -220,10 +212,8 @@ def compared_with_nothing(session):
 
     tpm.chapter("Parameter encryption has the nonce in its key all the same.")
     aes = tpm.start("A session with AES, bound to nothing", aes=True)
-    decrypting = accepted(
-        "TPM2_NV_Write by the password, and this session decrypts, whose hmac is empty",
-        tpm.writing(FIRST, OTHER_DATA, VALUE, Use(aes, DECRYPTS)),
-    )
+    case = "TPM2_NV_Write by the password, and this session decrypts, whose hmac is empty"
+    decrypting = accepted(case, tpm.writing(FIRST, OTHER_DATA, VALUE, Use(aes, DECRYPTS)))
     tpm.read("What was written", FIRST, OTHER_DATA, VALUE)
     accepted_again("The same again", decrypting)
     answer = tpm("Other bytes were written").reading(FIRST, 8, VALUE)
@@ -253,7 +243,7 @@ def policy_sessions():
 
     tpm.chapter("The same with what TPM2_PolicyAuthValue and TPM2_PolicyPassword demand.")
     said = tpm("An index of their policy")
-    value = said.written_index(BY_POLICY | Attribute.OWNERWRITE, AFTER_AUTH_VALUE)
+    value = said.written_index(BY_POLICY | NvAttribute.OWNERWRITE, AFTER_AUTH_VALUE)
     tpm.asserts_value(bound)
     first = accepted("TPM2_NV_Write", write(Use(bound, demand=AUTH_VALUE), index=value))
     again("The same again: POLICY_FAIL/s1, as nothing was told", first)

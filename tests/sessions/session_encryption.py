@@ -1,19 +1,16 @@
-"""Writes session_encryption.tpm: first parameters and first answers that sessions encrypt."""
+"""Writes session_encryption.tpm. Parameter encryption by AES-128 in mode CFB: a session with the
+attribute decrypt has encrypted the bytes of the first parameter, and one with encrypt those of the
+first answer.
+"""
 
-from tpmsim.caller import Use, flipped
-from tpmsim.standard import CC, CONTINUE_SESSION, DECRYPT, ENCRYPT, RH_ENDORSEMENT, RH_OWNER, SHA1
-from tpmsim.standard import SHA256, frames, sized
-from tests.common.teller import Teller
+from tests.common.vocabulary import CC, CONTINUE_SESSION, DECRYPT, ENCRYPT, flipped, frames
+from tests.common.vocabulary import RH_ENDORSEMENT, RH_OWNER, SHA1, SHA256, sized, Teller, Use
 
 DECRYPTS = CONTINUE_SESSION | DECRYPT
 ENCRYPTS = CONTINUE_SESSION | ENCRYPT
 NAMES = {SHA1: "SHA-1", SHA256: "SHA-256"}
 
-tpm = Teller(
-    "tests/sessions/session_encryption.tpm",
-    "Parameter encryption by AES-128 in mode CFB: a session with the attribute decrypt has "
-    "encrypted the bytes of the first parameter, and one with encrypt those of the first answer.",
-)
+tpm = Teller(__name__, __doc__)
 
 
 def others_are(*sessions):

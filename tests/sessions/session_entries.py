@@ -1,18 +1,14 @@
-"""Writes session_entries.tpm: what is refused of entries before any hmac is looked at."""
+"""Writes session_entries.tpm. Entries of sessions in an authorization area: what is refused of them
+before any hmac is looked at, entry by entry, and in each the first of these faults.
+"""
 
-from tpmsim.caller import Use
-from tpmsim.standard import CC, CONTINUE_SESSION, DECRYPT, ENCRYPT, Entry, RH_OWNER, RS_PW, SHA256
-from tpmsim.standard import frames, number, sized
-from tests.common.teller import Teller
+from tests.common.vocabulary import CC, CONTINUE_SESSION, DECRYPT, ENCRYPT, Entry, frames, number
+from tests.common.vocabulary import RH_OWNER, RS_PW, SHA256, sized, Teller, Use
 
 STAYS = CONTINUE_SESSION
 BOTH = DECRYPT | ENCRYPT
 
-tpm = Teller(
-    "tests/sessions/session_entries.tpm",
-    "Entries of sessions in an authorization area: what is refused of them before any hmac is "
-    "looked at, entry by entry, and in each the first of these faults.",
-)
+tpm = Teller(__name__, __doc__)
 
 
 def entry(session, attributes=STAYS, nonce=b"", hmac=b""):

@@ -1,21 +1,17 @@
-"""Writes start_auth_session.tpm: TPM2_StartAuthSession, its faults and its sessions."""
+"""Writes start_auth_session.tpm. TPM2_StartAuthSession starts an HMAC session, a policy session or
+a trial session. Its handles are tpmKey and bind; its parameters are nonceCaller, encryptedSalt,
+sessionType, symmetric and authHash.
+"""
 
-from tpmsim.caller import Use
-from tpmsim.standard import ALG_NULL, CC, RH_ENDORSEMENT, RH_LOCKOUT, RH_NULL, RH_OWNER
-from tpmsim.standard import RH_PLATFORM, RS_PW, SHA1, SHA256, area, command, entry, frames, number
-from tpmsim.standard import sized
-from tests.common.teller import Teller
+from tpmsim.standard import area
+from tests.common.vocabulary import ALG_NULL, CC, command, entry, frames, number, RH_ENDORSEMENT
+from tests.common.vocabulary import RH_LOCKOUT, RH_NULL, RH_OWNER, RH_PLATFORM, RS_PW, SHA1, SHA256
+from tests.common.vocabulary import sized, Teller, Use
 
 NONCE = bytes(range(16))
 ENDS = 0x00
 
-tpm = Teller(
-    "tests/sessions/start_auth_session.tpm",
-    "TPM2_StartAuthSession starts an HMAC session, a policy session or a trial session. Its "
-    "handles are tpmKey and bind; its parameters are nonceCaller, encryptedSalt, sessionType, "
-    "symmetric and authHash.",
-    starts=False,
-)
+tpm = Teller(__name__, __doc__, starts=False)
 
 
 def start(**changes):
@@ -43,11 +39,8 @@ refused("Before TPM2_Startup: INITIALIZE", start())
 tpm.startup()
 
 tpm.chapter("The handles, one after the other.")
-refused(
-    "No handle, and two bytes of one: INSUFFICIENT/h1",
-    command(CC.StartAuthSession, b""),
-    command(CC.StartAuthSession, b"\x40\0"),
-)
+case = "No handle, and two bytes of one: INSUFFICIENT/h1"
+refused(case, command(CC.StartAuthSession, b""), command(CC.StartAuthSession, b"\x40\0"))
 refused(
     "Salted sessions are not served: a tpmKey that is not TPM_RH_NULL, here TPM_RH_OWNER, PCR "
     "0, a transient object, a persistent one, an NV index and a session: VALUE/h1",
@@ -56,10 +49,8 @@ refused(
         for it in (RH_OWNER, 0, 0x8000_0000, 0x8100_0000, 0x0100_0000, 0x0200_0000)
     ),
 )
-refused(
-    "It is looked at before bind is read: VALUE/h1",
-    command(CC.StartAuthSession, number(RH_OWNER, 4)),
-)
+case = "It is looked at before bind is read: VALUE/h1"
+refused(case, command(CC.StartAuthSession, number(RH_OWNER, 4)))
 refused(
     "No bind, and three bytes of it: INSUFFICIENT/h2",
     command(CC.StartAuthSession, number(RH_NULL, 4)),
@@ -73,49 +64,25 @@ refused(
         for it in (24, RS_PW, 0x4000_0000, 0x4000_0008, 0x0200_0000, 0x0300_0000, 0xFF00_0000)
     ),
 )
-refused(
-    "A transient object, while there is none: REFERENCE_H1",
-    start(bind=0x8000_0000),
-    start(bind=0x80FF_FFFF),
-)
-refused(
-    "A persistent object, and an NV index, while there are none: HANDLE/h2",
-    start(bind=0x8100_0000),
-    start(bind=0x0100_0000),
-)
-refused(
-    "With sessions (tag 8002) and no authorization area, behind the handles: AUTHSIZE",
-    command(CC.StartAuthSession, number(RH_NULL, 4) * 2, frames.SESSIONS),
-)
-refused(
-    "A password, which authorizes nothing here: HANDLE/s1",
-    command(CC.StartAuthSession, number(RH_NULL, 4) * 2 + area(entry()), frames.SESSIONS),
-)
+case = "A transient object, while there is none: REFERENCE_H1"
+refused(case, start(bind=0x8000_0000), start(bind=0x80FF_FFFF))
+case = "A persistent object, and an NV index, while there are none: HANDLE/h2"
+refused(case, start(bind=0x8100_0000), start(bind=0x0100_0000))
+case = "With sessions (tag 8002) and no authorization area, behind the handles: AUTHSIZE"
+refused(case, command(CC.StartAuthSession, number(RH_NULL, 4) * 2, frames.SESSIONS))
+case = "A password, which authorizes nothing here: HANDLE/s1"
+refused(case, command(CC.StartAuthSession, number(RH_NULL, 4) * 2 + area(entry()), frames.SESSIONS))
 
 tpm.chapter("The parameters, read in order.")
 NULLS = [RH_NULL, RH_NULL]
-refused(
-    "nonceCaller that is cut: INSUFFICIENT/p1",
-    on(NULLS, b""),
-    on(NULLS, b"\0"),
-    on(NULLS, number(16, 2) + bytes(15)),
-)
-refused(
-    "One of more than 32 bytes, whole or cut: SIZE/p1",
-    start(nonce=bytes(33)),
-    on(NULLS, number(33, 2)),
-    on(NULLS, b"\xff\xff"),
-)
-refused(
-    "encryptedSalt that is cut: INSUFFICIENT/p2",
-    on(NULLS, sized(NONCE)),
-    on(NULLS, sized(NONCE) + b"\0\x01"),
-)
-refused(
-    "One of more than 32 bytes, whole or cut: SIZE/p2",
-    start(salt=bytes(33)),
-    on(NULLS, sized(NONCE) + number(33, 2)),
-)
+case = "nonceCaller that is cut: INSUFFICIENT/p1"
+refused(case, on(NULLS, b""), on(NULLS, b"\0"), on(NULLS, number(16, 2) + bytes(15)))
+case = "One of more than 32 bytes, whole or cut: SIZE/p1"
+refused(case, start(nonce=bytes(33)), on(NULLS, number(33, 2)), on(NULLS, b"\xff\xff"))
+case = "encryptedSalt that is cut: INSUFFICIENT/p2"
+refused(case, on(NULLS, sized(NONCE)), on(NULLS, sized(NONCE) + b"\0\x01"))
+case = "One of more than 32 bytes, whole or cut: SIZE/p2"
+refused(case, start(salt=bytes(33)), on(NULLS, sized(NONCE) + number(33, 2)))
 refused("No sessionType: INSUFFICIENT/p3", on(NULLS, sized(NONCE) + sized(b"")))
 refused(
     "A sessionType that is none of the three, TPM_SE_HMAC (00), TPM_SE_POLICY (01) and "
@@ -149,11 +116,8 @@ refused(
     with_symmetric(words(frames.AES, 128, 0x0040)),
     with_symmetric(words(frames.AES, 128, ALG_NULL), b""),
 )
-refused(
-    "No authHash, and half of it: INSUFFICIENT/p5",
-    with_symmetric(words(ALG_NULL), b""),
-    with_symmetric(words(ALG_NULL), b"\0"),
-)
+case = "No authHash, and half of it: INSUFFICIENT/p5"
+refused(case, with_symmetric(words(ALG_NULL), b""), with_symmetric(words(ALG_NULL), b"\0"))
 refused(
     "One that is neither SHA-1 nor SHA-256, here TPM_ALG_NULL, TPM_ALG_SHA384 and TPM_ALG_HMAC: "
     "HASH/p5",
@@ -162,34 +126,21 @@ refused(
 refused("A byte behind them: SIZE", on(NULLS, frames.start_auth_session(NONCE)[1] + b"\0"))
 
 tpm.chapter("Of two faults the one that is read first.")
-refused(
-    "nonceCaller that says too much, and a sessionType of 02: SIZE/p1",
-    start(nonce=bytes(33), kind=0x02),
-)
-refused(
-    "A sessionType of 02 with TPM_ALG_XOR: VALUE/p3",
-    on(NULLS, sized(NONCE) + sized(b"") + b"\x02" + words(frames.XOR, SHA256)),
-)
-refused(
-    "TPM_ALG_XOR with a wrong hash, and no authHash: HASH/p4",
-    with_symmetric(words(frames.XOR, 0x000C), b""),
-)
+case = "nonceCaller that says too much, and a sessionType of 02: SIZE/p1"
+refused(case, start(nonce=bytes(33), kind=0x02))
+case = "A sessionType of 02 with TPM_ALG_XOR: VALUE/p3"
+refused(case, on(NULLS, sized(NONCE) + sized(b"") + b"\x02" + words(frames.XOR, SHA256)))
+case = "TPM_ALG_XOR with a wrong hash, and no authHash: HASH/p4"
+refused(case, with_symmetric(words(frames.XOR, 0x000C), b""))
 
 tpm.chapter("The command's own checks come behind all of these.")
-refused(
-    "A nonce of 15 bytes and a salt, and a byte left over: SIZE",
-    on(NULLS, frames.start_auth_session(bytes(15), salt=b"\x01")[1] + b"\0"),
-)
-refused(
-    "A nonce of 15 bytes and a salt, and a wrong hash: HASH/p5",
-    start(nonce=bytes(15), salt=b"\x01", algorithm=0x000C),
-)
+case = "A nonce of 15 bytes and a salt, and a byte left over: SIZE"
+refused(case, on(NULLS, frames.start_auth_session(bytes(15), salt=b"\x01")[1] + b"\0"))
+case = "A nonce of 15 bytes and a salt, and a wrong hash: HASH/p5"
+refused(case, start(nonce=bytes(15), salt=b"\x01", algorithm=0x000C))
 refused("A nonce of no bytes and one of 15: SIZE/p1", start(nonce=b""), start(nonce=bytes(15)))
-refused(
-    "One of more bytes than the digest has, 21 and 32 for SHA-1: SIZE/p1",
-    start(nonce=bytes(21), algorithm=SHA1),
-    start(nonce=bytes(32), algorithm=SHA1),
-)
+case = "One of more bytes than the digest has, 21 and 32 for SHA-1: SIZE/p1"
+refused(case, start(nonce=bytes(21), algorithm=SHA1), start(nonce=bytes(32), algorithm=SHA1))
 refused("A nonce of 15 bytes, and a salt: SIZE/p1", start(nonce=bytes(15), salt=b"\x01"))
 refused("A salt of 1 byte and of 32: VALUE/p2", start(salt=b"\x01"), start(salt=bytes(32)))
 
@@ -299,10 +250,8 @@ refused(
     "key: HASH/p4",
     *(with_symmetric(words(frames.XOR, it)) for it in (ALG_NULL, 0x000C, 128)),
 )
-refused(
-    "It comes before authHash: HASH/p4",
-    with_symmetric(words(frames.XOR, ALG_NULL), words(ALG_NULL)),
-)
+case = "It comes before authHash: HASH/p4"
+refused(case, with_symmetric(words(frames.XOR, ALG_NULL), words(ALG_NULL)))
 refused("No authHash: INSUFFICIENT/p5", with_symmetric(words(frames.XOR, SHA256), b""))
 refused("A wrong one: HASH/p5", with_symmetric(words(frames.XOR, SHA256), words(ALG_NULL)))
 OTHERS = dict(xor=SHA1), dict(xor=SHA256, algorithm=SHA1)
@@ -313,14 +262,10 @@ refused(
 )
 refused("And a salt: VALUE/p2", *(start(salt=b"\1", **it) for it in OTHERS))
 refused("And a nonce of 15 bytes: SIZE/p1", *(start(nonce=bytes(15), **it) for it in OTHERS))
-refused(
-    "And a byte behind it: SIZE",
-    *(on(NULLS, frames.start_auth_session(NONCE, **it)[1] + b"\0") for it in OTHERS),
-)
-refused(
-    "The same hash, and there is no place: SESSION_MEMORY",
-    *(start(xor=it, algorithm=it) for it in (SHA1, SHA256)),
-)
+case = "And a byte behind it: SIZE"
+refused(case, *(on(NULLS, frames.start_auth_session(NONCE, **it)[1] + b"\0") for it in OTHERS))
+case = "The same hash, and there is no place: SESSION_MEMORY"
+refused(case, *(start(xor=it, algorithm=it) for it in (SHA1, SHA256)))
 tpm.accepted("The first is flushed", tpm.flush(sessions[0].handle))
 refused("Another hash, while there is a place: HASH/p4", *(start(**it) for it in OTHERS))
 starts("The same one, SHA-256", xor=True)
