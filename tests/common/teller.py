@@ -14,11 +14,26 @@ import functools
 import inspect
 from typing import Any, Callable
 
-from tpmsim.caller import Prepared
+from tpmsim.caller import Prepared, Session, flipped
 from tpmsim.caller.script import OUTCOME, SUCCESS, Script
 from tpmsim.caller.script_caller import ScriptCaller
 from tpmsim.model.machine import Outcome
 from tpmsim.standard import frames
+
+
+def wrong_in(prepared: Prepared, *places: int) -> Prepared:
+    """With a bit changed in the hmac of each of these entries, or a zero where there is none."""
+    for place in places or (1,):
+        hmac = prepared.entries[place - 1].hmac
+        prepared = prepared.but_entry(place, hmac=flipped(hmac) if hmac else b"\0")
+    return prepared
+
+
+def others_in(prepared: Prepared, *places: int) -> Prepared:
+    """With other bytes in place of these hmacs."""
+    for place in places:
+        prepared = prepared.but_entry(place, hmac=b"wrong")
+    return prepared
 
 
 class Teller(ScriptCaller):
@@ -49,6 +64,18 @@ class Teller(ScriptCaller):
             )
         self.fails(words, prepared)
         return b""
+
+    # What many scripts do.
+
+    def restarts(self, session: Session) -> None:
+        self.does("TPM2_PolicyRestart", self.restart(session))
+
+    def unlocks(self) -> None:
+        self.does("TPM2_DictionaryAttackLockReset", self.lock_reset())
+
+    def undefines(self, *indices: int) -> None:
+        for index in indices:
+            self.does("It is undefined" if index == indices[0] else "", self.undefining(index))
 
     # The script's events.
 

@@ -1,6 +1,6 @@
 """The names that most programs of scripts use, in one place."""
 
-from tests.common.teller import Teller
+from tests.common.teller import Teller, others_in, wrong_in
 from tpmsim.caller import area, bits, BY_OWNER, BY_PLATFORM, BY_POLICY, BY_VALUE, CLEAR, counter
 from tpmsim.caller import extended, flipped, HERE, hmac_key, OPEN, sealed, STATE, storage_key
 from tpmsim.caller import STORES, Use, wrong
@@ -23,6 +23,6 @@ __all__ = [
     "ObjectAttribute", "on_handle", "OPEN", "PASSWORD", "policy", "Public", "RH_ENDORSEMENT",
     "RH_LOCKOUT", "RH_NULL", "RH_OWNER", "RH_PLATFORM", "RS_PW", "SE_HMAC", "SE_POLICY", "SE_TRIAL",
     "sealed", "SECOND", "selection", "SHA1", "SHA256", "sized", "STATE", "storage_key", "STORES",
-    "SYMCIPHER", "Teller", "THIRD", "Use", "wrong", "zeros"
+    "SYMCIPHER", "others_in", "Teller", "wrong_in", "THIRD", "Use", "wrong", "zeros"
 ]
 # fmt: on

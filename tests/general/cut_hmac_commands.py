@@ -25,10 +25,6 @@ NO_TRY, TRY = 0, 1
 tpm = GroundsCaller(__name__, __doc__)
 
 
-def unlock() -> None:
-    tpm("TPM2_DictionaryAttackLockReset").lock_reset()
-
-
 def refused(what: str, outcome: str, tries: int, *buffers: bytes) -> None:
     """What is refused, and how many tries have failed then."""
     tpm.raw(f"{what}: {outcome}", *buffers)
@@ -39,7 +35,7 @@ def refused_alone(what: str, outcome: str, tries: int, buffer: bytes) -> None:
     """The same, where a try that counts is taken back."""
     refused(what, outcome, tries, buffer)
     if tries:
-        unlock()
+        tpm.unlocks()
 
 
 def cuts_of(prepared: Prepared) -> Iterator[tuple[str, bytes]]:
@@ -133,7 +129,7 @@ def up_to_lockout(session: Session) -> None:
     for tries, (what, buffer) in enumerate(cuts_of(prepared), 1):
         refused(what, "AUTH_FAIL/s1" if tries <= 3 else "LOCKOUT", min(tries, 3), buffer)
     refused("Whole", "LOCKOUT", 3, prepared.buffer())
-    unlock()
+    tpm.unlocks()
     comes_whole(prepared)
 
     tpm.set_protection("TPM2_DictionaryAttackParameters: maxTries is 1", 1, 1000, 1000)
@@ -195,7 +191,7 @@ before_the_parameters(tpm.writing(FIRST, DATA, UNBOUND, offset=2))
 of_what_is_left(UNBOUND)
 up_to_lockout(UNBOUND)
 tpm.set_protection("maxTries is 3 again", 3, 1000, 1000)
-tpm("TPM2_PolicyRestart").restart(TOLD)
+tpm.restarts(TOLD)
 by_each_command(UNBOUND, TOLD, KEY)
 beside(UNBOUND, BOUND)
 

@@ -196,7 +196,7 @@ def tries():
     tpm.fails("Two wrong ones are not counted: AUTH_FAIL/s1", bad, bad)
     tpm.wait(2**32 - 1)
     are("Nor are others forgiven", 2)
-    tpm("TPM2_DictionaryAttackLockReset").lock_reset()
+    tpm.unlocks()
     are("None", 0)
 
 

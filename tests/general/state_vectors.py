@@ -178,7 +178,7 @@ write = tpm.writing(FIRST, b"87654321", session)
 tpm.does("TPM2_NV_Write by it", write)
 answered("The same buffer", "AUTH_FAIL/s1", write.buffer().hex(), code(0x98E))
 tries_are("One try", 1)
-tpm("TPM2_DictionaryAttackLockReset").lock_reset()
+tpm.unlocks()
 
 passwords()
 

@@ -70,7 +70,7 @@ def change_auth():
     told = tpm.policy("A policy session")
 
     def prepare():
-        tpm("TPM2_PolicyRestart").restart(told)
+        tpm.restarts(told)
         code = tpm.command_code(told, CC.NV_ChangeAuth)
         tpm.says("TPM2_PolicyCommandCode: SUCCESS", code)
         tpm("TPM2_PolicyAuthValue").auth_value_told(told)

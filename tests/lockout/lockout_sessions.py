@@ -93,15 +93,11 @@ def check(name, handle, use):
         tpm.refused("Now it is locked: right: LOCKOUT", way.prepare())
         tpm.refused("And the password: LOCKOUT", use(PIN))
         if way.tell:
-            tpm("TPM2_PolicyRestart").restart(sessions[4])
-        unlock()
+            tpm.restarts(sessions[4])
+        tpm.unlocks()
     not_a_try(name, handle, sessions)
     for session in sessions:
         tpm("It is flushed" if session is sessions[0] else "").flush(session)
-
-
-def unlock():
-    tpm("TPM2_DictionaryAttackLockReset").lock_reset()
 
 
 def not_a_try(name, handle, sessions):
@@ -140,10 +136,10 @@ def policy_without_value():
 
     tpm.accepted("TPM2_NV_Write", use())
     tpm.refused("With an hmac that is not asked for: BAD_AUTH/s1", wrong(use()))
-    tpm("TPM2_PolicyRestart").restart(session)
+    tpm.restarts(session)
     tpm.refused("A try at another entity: AUTH_FAIL/s1", tpm.writing(FIRST, DATA, b"x"))
     tpm.accepted("It is open still", use())
-    unlock()
+    tpm.unlocks()
     bound = tpm.policy("A policy session that is bound to the other entity", bind=FIRST)
 
     def bound_use():
@@ -153,7 +149,7 @@ def policy_without_value():
     tpm.accepted("TPM2_NV_Write", bound_use())
     tpm.refused("A wrong hmac: a try at the other entity: AUTH_FAIL/s1", wrong(bound_use()))
     tpm("It is locked: LOCKOUT").writing(SECOND, DATA, bound)
-    unlock()
+    tpm.unlocks()
     tpm("The index is undefined").undefining(SECOND, OWNER)
     tpm("The sessions are flushed").flush(session)
     tpm("").flush(bound)
@@ -183,7 +179,7 @@ tpm("The index is undefined").undefining(SECOND, OWNER)
 tpm("On PCR 16").reset(bound)
 tpm.refused("Wrong: that is a try: AUTH_FAIL/s1", wrong(tpm.reset(bound)))
 tpm("It is locked: LOCKOUT").reset(bound)
-unlock()
+tpm.unlocks()
 said = tpm("The index again, with TPMA_NV_NO_DA")
 said.define(area(SECOND, BY_VALUE | NvAttribute.NO_DA), OWNER, auth=PIN)
 free = tpm.start("A session that is bound to it now", SECOND)
@@ -191,6 +187,6 @@ tpm.refused("Wrong: no try: BAD_AUTH/s1", wrong(tpm.reset(free)))
 said = tpm("The first session on it: what that was bound to was protected: AUTH_FAIL/s1")
 said.refused(wrong(tpm.writing(SECOND, DATA, bound)))
 tpm("Locked or not, the second session").writing(SECOND, DATA, free)
-unlock()
+tpm.unlocks()
 for session in (bound, free):
     tpm("It is flushed").flush(session)

@@ -16,17 +16,8 @@ def changing_policy(algorithm=SHA256, before=None):
     return policy.after_command_code(algorithm, old, CC.NV_ChangeAuth)
 
 
-def says(what, prepared):
-    tpm.says(f"{what}: SUCCESS", prepared)
-
-
 def told(session, what="TPM2_PolicyCommandCode of TPM2_NV_ChangeAuth"):
-    says(what, tpm.command_code(session, CC.NV_ChangeAuth))
-
-
-def undefine(*indices):
-    for index in indices:
-        tpm("It is undefined" if index == indices[0] else "").undefining(index)
+    tpm.comes_to(what, tpm.command_code(session, CC.NV_ChangeAuth))
 
 
 tpm.startup()
@@ -45,9 +36,9 @@ tpm("Before TPM2_PolicyCommandCode: POLICY_FAIL/s1").changing_auth(FIRST, b"new"
 trial = tpm.trial("A trial session")
 told(trial)
 tpm("By it: ATTRIBUTES/s1").changing_auth(FIRST, b"new", trial)
-says("TPM2_PolicyCommandCode of TPM2_NV_Write", tpm.command_code(session, CC.NV_Write))
+tpm("TPM2_PolicyCommandCode of TPM2_NV_Write").command_code(session, CC.NV_Write)
 tpm("By this session: POLICY_CC/s1").changing_auth(FIRST, b"new", session)
-says("TPM2_PolicyRestart", tpm.restart(session))
+tpm("TPM2_PolicyRestart").restart(session)
 tpm("The value is as it was: TPM2_NV_Write by it").writing(FIRST, b"x")
 
 tpm.chapter("By the policy.")
@@ -67,33 +58,33 @@ tpm.read("They do not count", FIRST, b"y", b"a")
 tpm.power()
 tpm.startup()
 tpm.read("It outlives a power cycle", FIRST, b"y", b"a")
-undefine(FIRST)
+tpm.undefines(FIRST)
 
 tpm.chapter("A digest that is right, and no TPM2_PolicyCommandCode in it.")
 said = tpm("An index whose policy is TPM2_PolicyAuthValue")
 said.define(area(FIRST, BY_POLICY, auth_policy=AFTER_AUTH_VALUE), auth=b"old")
 session = tpm.policy("A policy session")
-says("TPM2_PolicyAuthValue", tpm.auth_value_told(session))
+tpm("TPM2_PolicyAuthValue").auth_value_told(session)
 by_value = Use(session, demand=AUTH_VALUE)
 tpm("TPM2_NV_Write by it: what is no ADMIN role asks for no code").writing(FIRST, b"x", by_value)
-says("TPM2_PolicyAuthValue", tpm.auth_value_told(session))
+tpm("TPM2_PolicyAuthValue").auth_value_told(session)
 said = tpm("TPM2_NV_ChangeAuth: POLICY_FAIL/s1")
 said.changing_auth(FIRST, b"new", Use(session, demand=AUTH_VALUE))
-undefine(FIRST)
+tpm.undefines(FIRST)
 tpm.define(
     "One whose policy is TPM2_PolicyCommandCode of TPM2_NV_Write",
     area(FIRST, BY_POLICY, auth_policy=policy.after_command_code(SHA256, bytes(32), CC.NV_Write)),
 )
-says("TPM2_PolicyRestart", tpm.restart(session))
-says("TPM2_PolicyCommandCode of TPM2_NV_Write", tpm.command_code(session, CC.NV_Write))
+tpm("TPM2_PolicyRestart").restart(session)
+tpm("TPM2_PolicyCommandCode of TPM2_NV_Write").command_code(session, CC.NV_Write)
 tpm("TPM2_NV_ChangeAuth: POLICY_CC/s1").changing_auth(FIRST, b"new", session)
 tpm("TPM2_NV_Write").writing(FIRST, b"x", session)
-undefine(FIRST)
+tpm.undefines(FIRST)
 tpm.define("One without a policy", area(FIRST, BY_VALUE))
 told(session)
 tpm("TPM2_NV_ChangeAuth: AUTH_UNAVAILABLE").changing_auth(FIRST, b"new", session)
-says("TPM2_PolicyRestart", tpm.restart(session))
-undefine(FIRST)
+tpm("TPM2_PolicyRestart").restart(session)
+tpm.undefines(FIRST)
 
 tpm.chapter("No attribute has to allow it, and no lock forbids it.")
 locks = NvAttribute.WRITE_STCLEAR | NvAttribute.READ_STCLEAR
@@ -107,7 +98,7 @@ for what, prepared in (
     tpm.does(what, prepared)
 told(session)
 tpm("TPM2_NV_ChangeAuth").changing_auth(FIRST, b"new", session)
-undefine(FIRST)
+tpm.undefines(FIRST)
 created = area(SECOND, BY_OWNER | NvAttribute.PLATFORMCREATE, auth_policy=changing_policy())
 tpm.define("One of the platform's", created, by=RH_PLATFORM)
 told(session)
@@ -138,7 +129,7 @@ for algorithm, name in HASHES:
     told(session)
     tpm("32 zeros").changing_auth(FIRST, bytes(32), session)
     tpm("TPM2_NV_Write by the empty password").writing(FIRST, b"x", b"")
-    undefine(FIRST)
+    tpm.undefines(FIRST)
 
 tpm.chapter("A policy that asks for the old value too. The response shows the new one.")
 BOTH = changing_policy(before=AFTER_AUTH_VALUE)
@@ -149,7 +140,7 @@ aes = tpm.policy("A policy session with AES", aes=True)
 def both_told(demand):
     prepare = tpm.auth_value_told if demand == AUTH_VALUE else tpm.password_told
     name = "TPM2_PolicyAuthValue" if demand == AUTH_VALUE else "TPM2_PolicyPassword"
-    says(name, prepare(aes))
+    tpm.comes_to(name, prepare(aes))
     told(aes)
 
 

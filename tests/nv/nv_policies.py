@@ -14,15 +14,6 @@ LOCKS = NvAttribute.WRITE_STCLEAR | NvAttribute.READ_STCLEAR
 tpm = Teller(__name__, __doc__, tries=True)
 
 
-def says(what, prepared):
-    tpm.says(f"{what}: SUCCESS", prepared)
-
-
-def undefine(*indices):
-    for index in indices:
-        tpm("It is undefined" if index == indices[0] else "").undefining(index)
-
-
 def after_auth_value(algorithm=SHA256):
     return policy.after_auth_value(algorithm, bytes(digest_bytes(algorithm)))
 
@@ -54,15 +45,15 @@ def availability():
         tpm.define(what, public, auth=b"a")
         for name, is_reading, prepare in COMMANDS:
             if is_reading == writes:
-                says("TPM2_PolicyAuthValue", tpm.auth_value_told(session))
+                tpm("TPM2_PolicyAuthValue").auth_value_told(session)
                 said = tpm(f"{name} by the policy: AUTH_UNAVAILABLE")
                 said.fails(prepare(Use(session, demand=AUTH_VALUE)))
-                says("TPM2_PolicyRestart", tpm.restart(session))
+                tpm("TPM2_PolicyRestart").restart(session)
             else:
                 tpm.fails(f"{name} by the password: AUTH_UNAVAILABLE", prepare(b"a"))
                 said = tpm("By a wrong one, or an HMAC session: AUTH_UNAVAILABLE")
                 said.fails(prepare(b"x"), prepare(hmac))
-        undefine(FIRST)
+        tpm.undefines(FIRST)
 
     tpm.chapter("With all attributes and without a policy.")
     tpm.define("The index", area(FIRST, nv.WRITES | nv.READS | LOCKS), auth=b"a")
@@ -70,18 +61,18 @@ def availability():
         tpm.fails(f"{name} by a policy session: AUTH_UNAVAILABLE", prepare(session))
     for name, _, prepare in USES:
         tpm.does(f"{name} by the password", prepare(b"a"))
-    says("TPM2_PolicyRestart of the session that was told", tpm.restart(told))
-    undefine(FIRST)
+    tpm("TPM2_PolicyRestart of the session that was told").restart(told)
+    tpm.undefines(FIRST)
 
     tpm.chapter("With all attributes and a policy, each way is open.")
     public = area(FIRST, nv.WRITES | nv.READS | LOCKS, auth_policy=after_auth_value())
     tpm.define("The index", public, auth=b"a")
     for name, _, prepare in USES + LOCKING:
-        says("TPM2_PolicyAuthValue", tpm.auth_value_told(session))
+        tpm("TPM2_PolicyAuthValue").auth_value_told(session)
         tpm.does(f"{name} by the policy", prepare(Use(session, demand=AUTH_VALUE)))
     for each in (session, hmac):
-        says("A session is flushed", tpm.flush(each))
-    undefine(FIRST)
+        tpm("A session is flushed").flush(each)
+    tpm.undefines(FIRST)
 
 
 def by_code_and_pcrs():
@@ -99,16 +90,16 @@ def by_code_and_pcrs():
     session = tpm.policy("A policy session")
 
     def or_told():
-        says("TPM2_PolicyOR of both", tpm.branches(session, to_write, to_read))
+        tpm("TPM2_PolicyOR of both").branches(session, to_write, to_read)
 
     def writer():
-        says("TPM2_PolicyAuthValue", tpm.auth_value_told(session))
-        says("TPM2_PolicyCommandCode of TPM2_NV_Write", tpm.command_code(session, CC.NV_Write))
+        tpm("TPM2_PolicyAuthValue").auth_value_told(session)
+        tpm("TPM2_PolicyCommandCode of TPM2_NV_Write").command_code(session, CC.NV_Write)
         or_told()
 
     def reader():
-        says("TPM2_PolicyPCR of PCR 10", tpm.pcrs(session, chosen))
-        says("TPM2_PolicyCommandCode of TPM2_NV_Read", tpm.command_code(session, CC.NV_Read))
+        tpm("TPM2_PolicyPCR of PCR 10").pcrs(session, chosen)
+        tpm("TPM2_PolicyCommandCode of TPM2_NV_Read").command_code(session, CC.NV_Read)
         or_told()
 
     by_value = lambda: Use(session, demand=AUTH_VALUE)
@@ -121,16 +112,16 @@ def by_code_and_pcrs():
     reader()
     tpm("PCR 10 is extended").event(b"program", b"", pcr=10)
     tpm("TPM2_NV_Read: PCR_CHANGED").reading(FIRST, 8, session)
-    says("TPM2_PolicyRestart", tpm.restart(session))
-    says("TPM2_PolicyPCR of PCR 10", tpm.pcrs(session, chosen))
-    says("TPM2_PolicyCommandCode of TPM2_NV_Read", tpm.command_code(session, CC.NV_Read))
+    tpm("TPM2_PolicyRestart").restart(session)
+    tpm("TPM2_PolicyPCR of PCR 10").pcrs(session, chosen)
+    tpm("TPM2_PolicyCommandCode of TPM2_NV_Read").command_code(session, CC.NV_Read)
     tpm("TPM2_PolicyOR: VALUE/p1").branches(session, to_write, to_read)
     tpm("TPM2_NV_Read: POLICY_FAIL/s1").reading(FIRST, 8, session)
-    says("TPM2_PolicyRestart", tpm.restart(session))
+    tpm("TPM2_PolicyRestart").restart(session)
     writer()
     tpm("TPM2_NV_Write is as before").writing(FIRST, DATA[::-1], by_value())
-    undefine(FIRST)
-    says("The session is flushed", tpm.flush(session))
+    tpm.undefines(FIRST)
+    tpm("The session is flushed").flush(session)
 
 
 def by_locality():
@@ -139,14 +130,14 @@ def by_locality():
     public = area(FIRST, POLICYWRITE | NvAttribute.OWNERREAD, auth_policy=auth_policy)
     tpm.define("The index", public)
     session = tpm.policy("A policy session")
-    says("TPM2_PolicyLocality", tpm.locality(session, 0b10))
+    tpm("TPM2_PolicyLocality").locality(session, 0b10)
     tpm("TPM2_NV_Write at locality 0: LOCALITY").writing(FIRST, DATA, session)
     tpm.locality_is(1)
     tpm("At locality 1").writing(FIRST, DATA, session)
     tpm.locality_is(0)
     tpm.read("TPM2_NV_Read by the owner", FIRST, DATA, by=RH_OWNER)
-    undefine(FIRST)
-    says("The session is flushed", tpm.flush(session))
+    tpm.undefines(FIRST)
+    tpm("The session is flushed").flush(session)
 
 
 def bound_and_encrypting():
@@ -157,15 +148,15 @@ def bound_and_encrypting():
         ("TPM2_NV_Write, with the value in both keys", CONTINUE_SESSION),
         ("Once more, with its data encrypted", CONTINUE_SESSION | DECRYPT),
     ):
-        says("TPM2_PolicyAuthValue", tpm.auth_value_told(session))
+        tpm("TPM2_PolicyAuthValue").auth_value_told(session)
         tpm(what).writing(FIRST, DATA, Use(session, attributes, demand=AUTH_VALUE))
-    says("TPM2_PolicyPassword", tpm.password_told(session))
+    tpm("TPM2_PolicyPassword").password_told(session)
     use = Use(session, CONTINUE_SESSION | ENCRYPT, demand=PASSWORD)
     tpm.read("TPM2_NV_Read by the password, with what is read encrypted", FIRST, DATA, use)
-    says("TPM2_PolicyAuthValue", tpm.auth_value_told(session))
+    tpm("TPM2_PolicyAuthValue").auth_value_told(session)
     tpm("It ends with the command").writing(FIRST, DATA, Use(session, 0, demand=AUTH_VALUE))
     tpm("It is no more: REFERENCE_H0").get_digest(session)
-    undefine(FIRST)
+    tpm.undefines(FIRST)
 
 
 def who_authorizes():
@@ -178,17 +169,17 @@ def who_authorizes():
     session = tpm.policy("A policy session")
     by_value = lambda: Use(session, demand=AUTH_VALUE)
     tpm("The third, whose policy is zeros, asks for no assertion").writing(THIRD, DATA, session)
-    says("TPM2_PolicyAuthValue", tpm.auth_value_told(session))
+    tpm("TPM2_PolicyAuthValue").auth_value_told(session)
     tpm("The third by another digest: POLICY_FAIL/s1").writing(THIRD, DATA, by_value())
     tpm("The first, by the second: NV_AUTHORIZATION").writing(FIRST, DATA, by_value(), by=SECOND)
     tpm("The first, by the owner: AUTH_UNAVAILABLE").writing(FIRST, DATA, by_value(), by=RH_OWNER)
     tpm("The first, by itself").writing(FIRST, DATA, by_value())
     trial = tpm.trial("A trial session")
-    says("TPM2_PolicyAuthValue", tpm.auth_value_told(trial))
+    tpm("TPM2_PolicyAuthValue").auth_value_told(trial)
     tpm("By it: ATTRIBUTES/s1").writing(FIRST, DATA, trial)
     tpm("Also where nothing can: ATTRIBUTES/s1").writing(FIRST, DATA, trial, by=RH_OWNER)
     tpm("The first is undefined: its policy is nobody's").undefining(FIRST)
-    says("TPM2_PolicyAuthValue", tpm.auth_value_told(session))
+    tpm("TPM2_PolicyAuthValue").auth_value_told(session)
     tpm("The second").writing(SECOND, DATA, by_value())
     said = tpm("TPM2_NV_Write through the session, which then returns to its start")
     said.writing(THIRD, DATA, session)
@@ -209,23 +200,23 @@ for algorithm, name in HASHES:
         (PASSWORD, "TPM2_PolicyPassword", tpm.password_told),
     ):
         use = lambda: Use(session, demand=demand)
-        says(name, prepare(session))
+        tpm.comes_to(name, prepare(session))
         wrong = tpm.writing(FIRST, DATA, use())
         tpm.fails("TPM2_NV_Write by a wrong value: AUTH_FAIL/s1", wrong.but_entry(1, hmac=b"wrong"))
         tpm("TPM2_NV_Write").writing(FIRST, DATA, use())
         tpm.digest_is("It counts once", session, zeros(session))
         tpm("TPM2_NV_Read: POLICY_FAIL/s1").reading(FIRST, 8, use())
-        says(name, prepare(session))
+        tpm.comes_to(name, prepare(session))
         tpm.read("TPM2_NV_Read", FIRST, DATA, use())
-    undefine(FIRST)
+    tpm.undefines(FIRST)
     other = tpm.policy("A session of the other hash", algorithm=SHA1 + SHA256 - algorithm)
     tpm.define("The index again", public, auth=b"a")
-    says("TPM2_PolicyAuthValue", tpm.auth_value_told(other))
+    tpm("TPM2_PolicyAuthValue").auth_value_told(other)
     said = tpm("TPM2_NV_Write by it: POLICY_FAIL/s1")
     said.writing(FIRST, DATA, Use(other, demand=AUTH_VALUE))
-    undefine(FIRST)
+    tpm.undefines(FIRST)
     for each in (session, other):
-        says("A session is flushed", tpm.flush(each))
+        tpm("A session is flushed").flush(each)
 
 availability()
 by_code_and_pcrs()

@@ -5,8 +5,9 @@ left.
 
 from tpmsim.standard import area as entries_area, handle_kinds
 from tests.common.vocabulary import area, bits, BY_OWNER, BY_POLICY, BY_VALUE, CC, command, counter
-from tests.common.vocabulary import DECRYPT, Entry, extended, frames, number, NvAttribute, policy
-from tests.common.vocabulary import RH_LOCKOUT, RH_OWNER, RH_PLATFORM, SHA1, sized, Teller, Use
+from tests.common.vocabulary import DECRYPT, Entry, extended, frames, number, NvAttribute, others_in
+from tests.common.vocabulary import policy, RH_LOCKOUT, RH_OWNER, RH_PLATFORM, SHA1, sized, Teller
+from tests.common.vocabulary import Use
 
 ORDINARY, COUNTER, BITS, EXTENDED = range(0x0100_0001, 0x0100_0005)
 LOCKED_ORDINARY, LOCKED_COUNTER, READ_LOCKED, UNWRITTEN = range(0x0100_0011, 0x0100_0015)
@@ -16,12 +17,6 @@ VALUE = b"a"
 LOCKS = NvAttribute.WRITE_STCLEAR | NvAttribute.READ_STCLEAR
 
 tpm = Teller(__name__, __doc__, tries=True)
-
-
-def wrong(prepared, *places):
-    for place in places:
-        prepared = prepared.but_entry(place, hmac=b"wrong")
-    return prepared
 
 
 def handles_in_order(code, handles):
@@ -53,16 +48,16 @@ def general_refusals(code, handles, cut, uses):
     prepared = tpm.prepare(code, handles, cut, *uses)
     last = len(uses)
     said = tpm(f"A wrong first entry, and the last one is not there: REFERENCE_S{last - 1}")
-    said.refused(prepared.but(entries=[*wrong(prepared, 1).entries[:-1], ABSENT_SESSION]))
+    said.refused(prepared.but(entries=[*others_in(prepared, 1).entries[:-1], ABSENT_SESSION]))
     is_first = handle_kinds.IS_OF_KIND[code.handles[0].kind]
     if code.authorized and is_first(BY_OTHERS) and code != CC.NV_ChangeAuth:
         unavailable = tpm.prepare(code, [BY_OTHERS, *handles[1:]], cut, *uses)
         said = tpm("Both entries are wrong, on an index that no password can use: AUTH_UNAVAILABLE")
-        said.refused(wrong(unavailable, 1, last))
+        said.refused(others_in(unavailable, 1, last))
     if last > 1:
         refused = "AUTH_FAIL/s1" if handle_kinds.is_index(handles[0]) else "BAD_AUTH/s1"
-        tpm.refused(f"Both entries are wrong: {refused}", wrong(prepared, 1, last))
-    tpm.refused(f"The last one is: BAD_AUTH/s{last}", wrong(prepared, last))
+        tpm.refused(f"Both entries are wrong: {refused}", others_in(prepared, 1, last))
+    tpm.refused(f"The last one is: BAD_AUTH/s{last}", others_in(prepared, last))
 
 
 def in_order(code, uses, *cases):
@@ -200,17 +195,17 @@ def change_auth():
     both = prepared(cut, Use(told, shows_empty_key=True), hides)
     refused(
         "The last entry is not there: REFERENCE_S1",
-        both.but(entries=[wrong(both, 1).entries[0], ABSENT_SESSION]),
+        both.but(entries=[others_in(both, 1).entries[0], ABSENT_SESSION]),
     )
     trial = tpm.trial("A trial session")
     refused(
         "A trial session, on an index without a policy: ATTRIBUTES/s1",
-        wrong(prepared(cut, Use(trial, shows_empty_key=True), hides, index=ORDINARY), 1, 2),
+        others_in(prepared(cut, Use(trial, shows_empty_key=True), hides, index=ORDINARY), 1, 2),
     )
-    refused("A password: AUTH_UNAVAILABLE", wrong(prepared(cut, VALUE, hides), 1, 2))
+    refused("A password: AUTH_UNAVAILABLE", others_in(prepared(cut, VALUE, hides), 1, 2))
     refused(
         "A policy session, on an index without a policy: AUTH_UNAVAILABLE",
-        wrong(prepared(cut, Use(told, shows_empty_key=True), hides, index=ORDINARY), 1, 2),
+        others_in(prepared(cut, Use(told, shows_empty_key=True), hides, index=ORDINARY), 1, 2),
     )
     tpm("TPM2_PolicyPCR of no PCRs").pcrs(told, [])
     tpm("TPM2_PolicyCommandCode of TPM2_NV_Write").command_code(told, CC.NV_Write)
@@ -218,26 +213,26 @@ def change_auth():
     tpm("A PCR is extended").event(b"", b"")
 
     def all_wrong():
-        return wrong(prepared(cut, Use(told, shows_empty_key=True), hides), 1, 2)
+        return others_in(prepared(cut, Use(told, shows_empty_key=True), hides), 1, 2)
 
     refused("A PCR has changed, and another code is recorded: PCR_CHANGED", all_wrong())
-    tpm("TPM2_PolicyRestart").restart(told)
+    tpm.restarts(told)
     tpm("TPM2_PolicyCommandCode of TPM2_NV_Write").command_code(told, CC.NV_Write)
     tpm("TPM2_PolicyLocality of locality 1").locality(told, 2)
     refused("Another code, and another locality: POLICY_CC/s1", all_wrong())
-    tpm("TPM2_PolicyRestart").restart(told)
+    tpm.restarts(told)
     tpm("TPM2_PolicyLocality of locality 1").locality(told, 2)
     refused("No code, and another locality: POLICY_FAIL/s1", all_wrong())
     tpm("TPM2_PolicyCommandCode of TPM2_NV_ChangeAuth").command_code(told, CC.NV_ChangeAuth)
     refused("Another locality, and another digest: LOCALITY", all_wrong())
     tpm.locality_is(1)
     refused("Another digest: POLICY_FAIL/s1", all_wrong())
-    tpm("TPM2_PolicyRestart").restart(told)
+    tpm.restarts(told)
     tpm("TPM2_PolicyCommandCode of TPM2_NV_ChangeAuth").command_code(told, CC.NV_ChangeAuth)
     refused("Both hmacs are wrong: BAD_AUTH/s1", all_wrong())
     refused(
         "The last one is: BAD_AUTH/s2",
-        wrong(prepared(cut, Use(told, shows_empty_key=True), hides), 2),
+        others_in(prepared(cut, Use(told, shows_empty_key=True), hides), 2),
     )
     for what, outcome, parameters in (
         ("newAuth is cut", "INSUFFICIENT/p1", cut),

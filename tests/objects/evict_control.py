@@ -204,7 +204,7 @@ def restarts():
     tpm.unseal("TPM2_Unseal", handle, b"another")
     tpm("A third wrong password locks: AUTH_FAIL/s1").unsealing(OTHER, b"nip")
     tpm("The right one: LOCKOUT").unsealing(OTHER, b"pin")
-    tpm("TPM2_DictionaryAttackLockReset").lock_reset()
+    tpm.unlocks()
     start_again()
     tpm.unseal("It is there", OTHER, b"a secret", b"pin")
     tpm("What was loaded is not: REFERENCE_H0").public(handle)

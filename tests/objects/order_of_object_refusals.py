@@ -5,18 +5,12 @@ left.
 
 from tpmsim.standard import area
 from tests.common.vocabulary import ALG_NULL, CC, command, DECRYPT, Entry, frames, HERE, hmac_key
-from tests.common.vocabulary import number, ObjectAttribute, OPEN, RH_LOCKOUT, RH_OWNER, sealed
-from tests.common.vocabulary import SHA1, SHA256, sized, storage_key, Teller, Use
+from tests.common.vocabulary import number, ObjectAttribute, OPEN, others_in, RH_LOCKOUT, RH_OWNER
+from tests.common.vocabulary import sealed, SHA1, SHA256, sized, storage_key, Teller, Use
 
 tpm = Teller(__name__, __doc__)
 ABSENT, SECRET = 0x8000_0007, b"secret"
 ABSENT_SESSION = Entry(0x0200_000F, b"", 1, b"")
-
-
-def wrong(prepared, *places):
-    for place in places:
-        prepared = prepared.but_entry(place, hmac=b"wrong")
-    return prepared
 
 
 def general_refusals(code, handle, other_handle, cut, uses):
@@ -40,10 +34,12 @@ def general_refusals(code, handle, other_handle, cut, uses):
     prepared = tpm.prepare(code, [handle], cut, *uses)
     last = len(uses)
     said = tpm(f"A wrong first entry, and the last one is not there: REFERENCE_S{last - 1}")
-    said.refused(wrong(prepared, 1).but(entries=[*wrong(prepared, 1).entries[:-1], ABSENT_SESSION]))
+    said.refused(
+        others_in(prepared, 1).but(entries=[*others_in(prepared, 1).entries[:-1], ABSENT_SESSION])
+    )
     if last > 1:
-        tpm.refused("Both entries are wrong: BAD_AUTH/s1", wrong(prepared, 1, 2))
-    tpm.refused(f"The last one is: BAD_AUTH/s{last}", wrong(prepared, last))
+        tpm.refused("Both entries are wrong: BAD_AUTH/s1", others_in(prepared, 1, 2))
+    tpm.refused(f"The last one is: BAD_AUTH/s{last}", others_in(prepared, last))
 
 
 def parameters_in_order(code, handle, uses, cases):

@@ -3,22 +3,15 @@ one after the other is repaired. What is answered is the first that is left, in 
 docs/table/order_of_refusals.md.
 """
 
-from tests.common.vocabulary import CC, CONTINUE_SESSION, DECRYPT, ENCRYPT, Entry, flipped, frames
-from tests.common.vocabulary import number, RH_LOCKOUT, RH_NULL, RH_OWNER, selection, SHA256, sized
-from tests.common.vocabulary import Teller, Use
+from tests.common.vocabulary import CC, CONTINUE_SESSION, DECRYPT, ENCRYPT, Entry, frames, number
+from tests.common.vocabulary import RH_LOCKOUT, RH_NULL, RH_OWNER, selection, SHA256, sized, Teller
+from tests.common.vocabulary import Use, wrong_in
 
 DECRYPTS, ENCRYPTS = CONTINUE_SESSION | DECRYPT, CONTINUE_SESSION | ENCRYPT
 ABSENT_POLICY = 0x0300_000F
 ABSENT = Entry(0x0200_0009, b"", 0xFF, b"")
 
 tpm = Teller(__name__, __doc__, tries=True)
-
-
-def wrong(prepared, *places):
-    for place in places:
-        hmac = prepared.entries[place - 1].hmac
-        prepared = prepared.but_entry(place, hmac=flipped(hmac) if hmac else b"\0")
-    return prepared
 
 
 hmac = tpm.start("An HMAC session, with AES", RH_OWNER, aes=True)
@@ -34,7 +27,7 @@ def up_to_hmacs(code, text):
         return tpm.prepare(code, [handle], text, *uses)
 
     said = tpm("A handle of another kind, and an entry that is not there: VALUE/h1")
-    said.refused(wrong(prepared(hmac, handle=hmac.handle), 1).but(entries=[ABSENT]))
+    said.refused(wrong_in(prepared(hmac, handle=hmac.handle), 1).but(entries=[ABSENT]))
     said = tpm("A session that is not there: REFERENCE_H0")
     said.refused(prepared(hmac, handle=ABSENT_POLICY).but(entries=[ABSENT]))
     said = tpm("A fourth entry, and one that is not there: AUTHSIZE")
@@ -43,13 +36,13 @@ def up_to_hmacs(code, text):
     said.refused(prepared(hmac).but(entries=[Entry(hmac.handle, bytes(33), 0xFF, b""), ABSENT]))
     tpm.refused("An entry that is not there: REFERENCE_S0", prepared().but(entries=[ABSENT]))
     said = tpm("A password behind a session whose hmac is wrong: HANDLE/s2")
-    said.refused(wrong(prepared(hmac, b""), 1))
+    said.refused(wrong_in(prepared(hmac, b""), 1))
     said = tpm("Reserved attributes behind it: RESERVED_BITS/s2")
-    said.refused(wrong(prepared(hmac, plain), 1).but_entry(2, attributes=0x98))
+    said.refused(wrong_in(prepared(hmac, plain), 1).but_entry(2, attributes=0x98))
     said = tpm("audit behind it: ATTRIBUTES/s2")
-    said.refused(wrong(prepared(hmac, plain), 1).but_entry(2, attributes=0x81))
-    tpm.refused("Both hmacs: BAD_AUTH/s1", wrong(prepared(hmac, policy), 1, 2))
-    tpm.refused("The second one's: BAD_AUTH/s2", wrong(prepared(hmac, policy), 2))
+    said.refused(wrong_in(prepared(hmac, plain), 1).but_entry(2, attributes=0x81))
+    tpm.refused("Both hmacs: BAD_AUTH/s1", wrong_in(prepared(hmac, policy), 1, 2))
+    tpm.refused("The second one's: BAD_AUTH/s2", wrong_in(prepared(hmac, policy), 2))
 
 
 def says(words, code, text, session=policy):
@@ -73,7 +66,7 @@ for name, code in (
 tpm.chapter("TPM2_PolicyGetDigest with a byte too many.")
 up_to_hmacs(CC.PolicyGetDigest, b"\0")
 said = tpm("encrypt in a session that cannot, and a wrong hmac before: SYMMETRIC/s2")
-said.refused(wrong(tpm.told(CC.PolicyGetDigest, policy, b"\0", hmac, Use(plain, ENCRYPTS)), 1))
+said.refused(wrong_in(tpm.told(CC.PolicyGetDigest, policy, b"\0", hmac, Use(plain, ENCRYPTS)), 1))
 says("The byte: SIZE", CC.PolicyGetDigest, b"\0")
 ends_well(CC.PolicyGetDigest, b"")
 
@@ -91,7 +84,7 @@ up_to_hmacs(CC.PolicyCommandCode, b"\0\0\1")
 says("Three bytes: INSUFFICIENT/p1", CC.PolicyCommandCode, b"\0\0\1")
 says("Another code, 0, and a byte behind it: SIZE", CC.PolicyCommandCode, bytes(5))
 says("0, which is no code, and another: VALUE/p1", CC.PolicyCommandCode, bytes(4))
-tpm("TPM2_PolicyRestart").restart(policy)
+tpm.restarts(policy)
 says("0, and none is recorded: POLICY_CC/p1", CC.PolicyCommandCode, bytes(4))
 ends_well(CC.PolicyCommandCode, number(CC.Unseal, 4))
 
@@ -107,17 +100,17 @@ case = "The second over 32 and cut, though the digest is not among them: SIZE/p1
 says(case, OR, number(2, 4) + sized(b"x") + b"\0\x21")
 says("A byte behind two of others: SIZE", OR, frames.sized_list(b"x", b"y") + b"\0")
 says("Two of others: VALUE/p1", OR, frames.sized_list(b"x", b"y"))
-tpm("TPM2_PolicyRestart").restart(policy)
+tpm.restarts(policy)
 ends_well(OR, frames.sized_list(b"x", bytes(32)))
 
 tpm.chapter("TPM2_PolicyPCR behind TPM2_PolicyPCR, and PCR 16 has changed; hmac decrypts.")
-tpm("TPM2_PolicyRestart").restart(policy)
+tpm.restarts(policy)
 tpm("TPM2_PolicyPCR").pcrs(policy, [(SHA256, [0])])
 tpm.accepted("TPM2_PCR_Reset of PCR 16", tpm.reset(b""))
 PCR = CC.PolicyPCR
 up_to_hmacs(PCR, sized(bytes(32))[:-1])
 said = tpm("decrypt in a session that cannot, and a wrong hmac before: SYMMETRIC/s2")
-said.refused(wrong(tpm.told(PCR, policy, b"\0", hmac, Use(plain, DECRYPTS)), 1))
+said.refused(wrong_in(tpm.told(PCR, policy, b"\0", hmac, Use(plain, DECRYPTS)), 1))
 
 
 def pcr(words, text, session=policy):
@@ -134,13 +127,13 @@ pcr("Of four octets, and cut: VALUE/p2", GIVEN + number(1, 4) + b"\0\x0b\4")
 pcr("Cut: INSUFFICIENT/p2", GIVEN + selection((SHA256, [0]))[:-1])
 pcr("A byte behind it: SIZE", GIVEN + selection((SHA256, [0])) + b"\0")
 pcr("The PCR that has changed, and a wrong pcrDigest: PCR_CHANGED", GIVEN + selection())
-tpm("TPM2_PolicyRestart").restart(policy)
+tpm.restarts(policy)
 pcr("The pcrDigest: VALUE/p1", GIVEN + selection())
 tpm("No fault is left").pcrs(policy, [], b"", [Use(hmac, DECRYPTS)])
 
 tpm.chapter("TPM2_PolicySecret of TPM_RH_LOCKOUT.")
 tpm.script.wait_each_time()
-tpm("TPM2_PolicyRestart").restart(policy)
+tpm.restarts(policy)
 CP_HASH = bytes([1]) * 32
 tpm.accepted('lockoutAuth is "lockout"', tpm.change_auth(RH_LOCKOUT, b"lockout", b""))
 tpm.accepted("A cpHash", tpm.secret(policy, cp_hash=CP_HASH))
@@ -168,14 +161,16 @@ tpm.refused("A second password behind a wrong one: HANDLE/s2", secret(CUT, b"wro
 said = tpm("decrypt in a session that cannot, behind a wrong password: SYMMETRIC/s2")
 said.refused(secret(CUT, b"wrong", Use(plain, DECRYPTS)))
 said = tpm("A trial session that is to authorize it, and a wrong hmac behind it: ATTRIBUTES/s1")
-said.refused(wrong(secret(CUT, trial, hmac), 1, 2))
+said.refused(wrong_in(secret(CUT, trial, hmac), 1, 2))
 said = tpm("A policy session that is to authorize it, and a wrong hmac behind it: AUTH_UNAVAILABLE")
-said.refused(wrong(secret(CUT, policy, hmac), 1, 2))
+said.refused(wrong_in(secret(CUT, policy, hmac), 1, 2))
 said = tpm("A wrong password, and a wrong hmac behind it: AUTH_FAIL/s1")
-said.refused(wrong(secret(CUT, b"wrong", Use(hmac, DECRYPTS)), 2))
+said.refused(wrong_in(secret(CUT, b"wrong", Use(hmac, DECRYPTS)), 2))
 said = tpm("A wrong hmac, and another behind it: AUTH_FAIL/s1")
-said.refused(wrong(secret(CUT, hmac, policy), 1, 2))
-tpm.refused("The one behind: BAD_AUTH/s2", wrong(secret(CUT, b"lockout", Use(policy, DECRYPTS)), 2))
+said.refused(wrong_in(secret(CUT, hmac, policy), 1, 2))
+tpm.refused(
+    "The one behind: BAD_AUTH/s2", wrong_in(secret(CUT, b"lockout", Use(policy, DECRYPTS)), 2)
+)
 
 
 def by_right(words, *texts):
@@ -233,7 +228,7 @@ tpm("A cpHash").cp_hash_told(policy, CP_HASH)
 tpm("In the trial session too").cp_hash_told(trial, CP_HASH)
 up_to_hmacs(CP, sized(bytes(32))[:-1])
 said = tpm("decrypt in a session that cannot, and a wrong hmac before: SYMMETRIC/s2")
-said.refused(wrong(tpm.told(CP, policy, b"\0", hmac, Use(plain, DECRYPTS)), 1))
+said.refused(wrong_in(tpm.told(CP, policy, b"\0", hmac, Use(plain, DECRYPTS)), 1))
 
 
 def cp_hash(what, outcome, text):

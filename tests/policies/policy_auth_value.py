@@ -14,7 +14,7 @@ for session in tpm.each_session():
     tpm.digest_is("Its digest is the hash of zeros and 0000016B", session, after)
     tpm("TPM2_PolicyPassword behind it").password_told(session)
     tpm.digest_is("The hash of that and 0000016B once more", session, twice)
-    tpm("TPM2_PolicyRestart").restart(session)
+    tpm.restarts(session)
     tpm("TPM2_PolicyPassword").password_told(session)
     tpm.digest_is("The digest is the same as that of TPM2_PolicyAuthValue", session, after)
     tpm("TPM2_PolicyAuthValue behind it").auth_value_told(session)

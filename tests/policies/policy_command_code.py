@@ -49,7 +49,7 @@ for kind, name, algorithm, hash_name in (
         tpm.digest_is("", session, after)
 
     tpm.chapter("And each number between 11F and 190 that is no code.")
-    tpm("TPM2_PolicyRestart").restart(session)
+    tpm.restarts(session)
     others = sorted(set(range(0x11F, 0x191)) - set(CC))
     tpm.says("All of them: POLICY_CC/p1", *(tpm.command_code(session, it) for it in others))
     tpm.says(

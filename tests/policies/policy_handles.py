@@ -7,6 +7,7 @@ from tests.common.vocabulary import CC, entry, flipped, frames, number, RH_ENDOR
 from tests.common.vocabulary import RH_OWNER, RS_PW, SHA1, SHA256, Teller
 
 tpm = Teller(__name__, __doc__, starts=False)
+refused = tpm.raw
 
 COMMANDS = (
     ("TPM2_PolicyRestart", CC.PolicyRestart, b""),
@@ -41,10 +42,6 @@ def by_password(handle, session, parameters, cut=None):
     """TPM2_PolicySecret by the empty password."""
     text = number(handle, 4) + number(session, 4)
     return frames.command(CC.PolicySecret, text[:cut] + area(entry()) + parameters, frames.SESSIONS)
-
-
-def refused(words, *buffers):
-    tpm.raw(words, *buffers)
 
 
 NOTHING = frames.policy_secret()

@@ -43,7 +43,7 @@ for session in tpm.each_session():
         twice = policy.after_nv_written(algorithm, once, value)
         tpm.digest_is("And it is in the digest again", session, twice)
         says(f"{other:d}: VALUE/p1", session, other)
-        tpm("TPM2_PolicyRestart").restart(session)
+        tpm.restarts(session)
         tpm.digest_is("The digest is zeros", session, zeros(session))
 
 for algorithm, hash_name, index in ((SHA256, "SHA-256", FIRST), (SHA1, "SHA-1", SECOND)):
@@ -56,7 +56,7 @@ for algorithm, hash_name, index in ((SHA256, "SHA-256", FIRST), (SHA1, "SHA-1", 
     tpm("TPM2_NV_Write without it: POLICY_FAIL/s1").writing(index, b"1", session)
     says("1, which is another policy: SUCCESS", session, YES)
     tpm("TPM2_NV_Write: POLICY_FAIL/s1").writing(index, b"1", session)
-    tpm("TPM2_PolicyRestart").restart(session)
+    tpm.restarts(session)
     says("0: SUCCESS", session, NO)
     tpm("TPM2_NV_Write, the first one").writing(index, b"first", session)
     tpm.digest_is("It counted once: the digest is zeros", session, zeros(session))
@@ -64,7 +64,7 @@ for algorithm, hash_name, index in ((SHA256, "SHA-256", FIRST), (SHA1, "SHA-1", 
     said = tpm("TPM2_NV_Write, the second one, of anything: POLICY_FAIL/s1")
     said.fails(*(tpm.writing(index, it, session) for it in (b"other", b"first", b"")))
     tpm("TPM2_NV_Read by it: POLICY_FAIL/s1").reading(index, 5, session)
-    tpm("TPM2_PolicyRestart").restart(session)
+    tpm.restarts(session)
     says("1 is what holds now, and is not its policy: SUCCESS", session, YES)
     tpm("TPM2_NV_Write: POLICY_FAIL/s1").writing(index, b"other", session)
     tpm.read("It is as it was first written", index, b"first", by=RH_OWNER)
@@ -105,7 +105,7 @@ for _ in range(2):
     tpm("TPM2_NV_Increment").incrementing(FIFTH, session)
     says("0: SUCCESS", session, NO)
     tpm("Once more: POLICY_FAIL/s1").incrementing(FIFTH, session)
-    tpm("TPM2_PolicyRestart").restart(session)
+    tpm.restarts(session)
     tpm("It is undefined").undefining(FIFTH)
     tpm.define("And defined again", counter(FIFTH, BY_OWNER | BY_POLICY, auth_policy=unwritten))
 
@@ -122,7 +122,7 @@ for value in (NO, YES):
     says(f"{value:d}: SUCCESS", session, value)
     tpm("TPM2_Unseal: POLICY_FAIL/s1").unsealing(handle, session)
     tpm.digest_is("The digest is its authPolicy", session, digest)
-    tpm("TPM2_PolicyRestart").restart(session)
+    tpm.restarts(session)
     trial = tpm.trial("A trial session")
     says(f"{value:d}: SUCCESS", trial, value)
     tpm("TPM2_Unseal by it: ATTRIBUTES/s1").unsealing(handle, trial)
@@ -153,7 +153,7 @@ tpm.fails("The command code refuses before it: POLICY_CC/s1", reads)
 tpm("TPM2_PolicyPCR of no PCR").pcrs(session, [])
 tpm.accepted("TPM2_PCR_Reset of PCR 16", tpm.reset(b""))
 tpm("And a PCR before that: PCR_CHANGED").reading(SIXTH, 4, session)
-tpm("TPM2_PolicyRestart").restart(session)
+tpm.restarts(session)
 
 
 def hash_of(prepared):
@@ -180,7 +180,7 @@ for words, cp_hash, value, outcome in (
         tpm.locality(session, 2),
     )
     tpm.fails(f"TPM2_NV_Write: {outcome}", writes)
-    tpm("TPM2_PolicyRestart").restart(session)
+    tpm.restarts(session)
 
 tpm.chapter("The role ADMIN asks for the command code before.")
 changes = policy.after_nv_written(SHA256, bytes(32), NO)

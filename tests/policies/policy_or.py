@@ -20,7 +20,7 @@ def joins(what, session, *branches):
 
 def again(session):
     """As a new one; its digest is zeros."""
-    tpm("TPM2_PolicyRestart").restart(session)
+    tpm.restarts(session)
     return zeros(session)
 
 

@@ -22,10 +22,6 @@ def after(session, banks, old=None, given=b""):
     return policy.after_pcr(session.algorithm, before, selection(*banks), hashed)
 
 
-def restarted(session):
-    tpm("TPM2_PolicyRestart").restart(session)
-
-
 def changed(what, session, banks):
     """Refused in a policy session, and not in a trial session."""
     outcome = "SUCCESS" if is_trial(session) else "PCR_CHANGED"
@@ -103,7 +99,7 @@ for session in tpm.each_session():
     tpm.chapter("A digest that is given.")
     both = [(SHA1, [1]), (SHA256, [0, 23])]
     right = values_digest(session, both)
-    restarted(session)
+    tpm.restarts(session)
     tpm("The right one").pcrs(session, both, right)
     once = after(session, both)
     tpm.digest_is("It is as if none were given", session, once)
@@ -122,7 +118,7 @@ for session in tpm.each_session():
     ):
         if given == right:
             continue
-        restarted(session)
+        tpm.restarts(session)
         outcome = "SUCCESS" if is_trial(session) else "VALUE/p1"
         tpm(f"{words}: {outcome}").pcrs(session, both, given)
         wanted = after(session, both, given=given) if is_trial(session) else zeros(session)
@@ -131,7 +127,7 @@ for session in tpm.each_session():
 
     tpm.chapter("PCRs that change behind it.")
     zero = [(SHA256, [0])]
-    restarted(session)
+    tpm.restarts(session)
     tpm("PCR 0").pcrs(session, zero)
     tpm("Once more, and nothing has changed").pcrs(session, zero)
     value = digest(SHA256, b"more")
@@ -144,23 +140,23 @@ for session in tpm.each_session():
         "With a wrong digest it is no other refusal: "
         + ("SUCCESS" if is_trial(session) else "PCR_CHANGED")
     ).pcrs(session, zero, b"wrong")
-    restarted(session)
+    tpm.restarts(session)
     tpm("A policy from the start has the new value").pcrs(session, zero)
     tpm.digest_is("Its digest", session, after(session, zero))
     said = tpm("PCR 16, which is not selected, is extended in one bank")
     said.accepted(tpm.prepare(CC.PCR_Extend, [16], frames.digests((SHA1, bytes(20))), b""))
     changed("TPM2_PolicyPCR again", session, zero)
-    restarted(session)
+    tpm.restarts(session)
     tpm("From the start").pcrs(session, zero)
     tpm.accepted("TPM2_PCR_Reset of PCR 23", tpm.reset(b"", pcr=23))
     changed("TPM2_PolicyPCR again", session, zero)
-    restarted(session)
+    tpm.restarts(session)
     tpm("From the start").pcrs(session, zero)
     tpm.accepted("TPM2_PCR_Event into PCR 23", tpm.event(b"abc", b"", pcr=23))
     changed("TPM2_PolicyPCR again", session, zero)
 
     tpm.chapter("What changes no PCR.")
-    restarted(session)
+    tpm.restarts(session)
     tpm("From the start").pcrs(session, zero)
     tpm.accepted("TPM2_PCR_Event on TPM_RH_NULL", tpm.event(b"abc", b"", pcr=RH_NULL))
     said = tpm("TPM2_PCR_Extend of PCR 0 by no digest")
@@ -183,13 +179,13 @@ told = policy.after_auth_value(session.algorithm, told)
 tpm.digest_is("Its digest", session, told)
 
 tpm.chapter("That nothing changes is asked from the first one on, also where it selects none.")
-restarted(session)
+tpm.restarts(session)
 tpm("No PCR").pcrs(session, [])
 tpm.accepted("TPM2_PCR_Event into PCR 0", tpm.event(b"abc", b"", pcr=0))
 tpm("PCR 0: PCR_CHANGED").pcrs(session, zero)
 
 tpm.chapter("But not from one that was refused.")
-restarted(session)
+tpm.restarts(session)
 tpm("A wrong digest: VALUE/p1").pcrs(session, zero, bytes(32))
 tpm.digest_is("The digest is zeros", session, zeros(session))
 tpm.accepted("TPM2_PCR_Event into PCR 0", tpm.event(b"abc", b"", pcr=0))

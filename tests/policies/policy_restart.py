@@ -13,7 +13,7 @@ def forgets(what, session, *told):
     """What is told, restarted, and what was in its way."""
     for prepared in told:
         tpm.says(f"{what}: SUCCESS", prepared)
-    tpm("TPM2_PolicyRestart").restart(session)
+    tpm.restarts(session)
     tpm.digest_is("The digest is zeros", session, zeros(session))
 
 
@@ -60,7 +60,7 @@ for algorithm in (SHA1, SHA256):
     session = tpm.policy(
         "A session bound to TPM_RH_OWNER", bind=RH_OWNER, algorithm=algorithm, aes=True
     )
-    tpm("TPM2_PolicyRestart").restart(session)
+    tpm.restarts(session)
     said = tpm("TPM2_PolicySecret with its nonceTPM")
     said.accepted(tpm.secret(session, nonce_tpm=session.nonce_tpm))
     tpm("TPM2_PolicyRestart by its own hmac").restart(session, session)

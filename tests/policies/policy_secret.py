@@ -27,16 +27,12 @@ def raw(session, text):
     return tpm.secret(session).but(parameters=text)
 
 
-def restarted(session):
-    tpm("TPM2_PolicyRestart").restart(session)
-
-
 def digests(session):
     for handle, name in ENTITIES:
-        restarted(session)
+        tpm.restarts(session)
         tpm.accepted(f"By {name}", tpm.secret(session, of=handle))
         tpm.digest_is("Its digest", session, after(session, zeros(session), handle))
-    restarted(session)
+    tpm.restarts(session)
     digest = zeros(session)
     for policy_ref, words in (
         (b"", "No policyRef, which is hashed all the same"),
@@ -51,7 +47,7 @@ def digests(session):
 
 
 def nonces(session):
-    restarted(session)
+    tpm.restarts(session)
     right = session.nonce_tpm
     tpm.accepted("nonceTPM, the right one", tpm.secret(session, nonce_tpm=right))
     digest = after(session, zeros(session))
@@ -81,7 +77,7 @@ def nonces(session):
 def cp_hashes(session):
     size = digest_bytes(session.algorithm)
     one, other = bytes([1]) * size, bytes(size)
-    restarted(session)
+    tpm.restarts(session)
     tpm.refused(
         "cpHashA of another size than the session's digests, also where it is in a trial session: "
         "SIZE/p2",
@@ -106,7 +102,7 @@ def cp_hashes(session):
         tpm.refused(f"{what}: CPHASH", *buffers)
     tpm.accepted("The first", tpm.secret(session, cp_hash=one))
     tpm.digest_is("Its digest", session, after(session, digest))
-    restarted(session)
+    tpm.restarts(session)
     said = tpm("One in a command that is refused: VALUE/p4")
     said.refused(tpm.secret(session, cp_hash=one, expiration=1))
     if not is_trial(session):
@@ -119,7 +115,7 @@ def cp_hashes(session):
 
 
 def edges(session):
-    restarted(session)
+    tpm.restarts(session)
     tpm.refused(
         "expiration that is not 0, of either sign: VALUE/p4",
         *(tpm.secret(session, expiration=it) for it in (1, 0x100, 0x0100_0000, 0xFFFF_FFFF)),

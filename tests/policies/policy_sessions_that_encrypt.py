@@ -6,16 +6,11 @@ and encrypt, and keep what they were told.
 from tpmsim.caller.script_caller import KINDS
 from tests.common.vocabulary import CC, CONTINUE_SESSION, DECRYPT, digest, ENCRYPT, flipped, frames
 from tests.common.vocabulary import HASHES, name_of, policy, RH_ENDORSEMENT, RH_LOCKOUT, RH_OWNER
-from tests.common.vocabulary import SE_POLICY, SE_TRIAL, SHA1, Teller, Use, zeros
+from tests.common.vocabulary import SE_POLICY, SE_TRIAL, SHA1, Teller, Use, wrong_in, zeros
 
 DECRYPTS, ENCRYPTS = CONTINUE_SESSION | DECRYPT, CONTINUE_SESSION | ENCRYPT
 
 tpm = Teller(__name__, __doc__, tries=True)
-
-
-def wrong(prepared, place):
-    hmac = prepared.entries[place - 1].hmac
-    return prepared.but_entry(place, hmac=flipped(hmac) if hmac else b"\0")
 
 
 tpm.accepted('ownerAuth is "owner"', tpm.change_auth(RH_OWNER, b"owner", b""))
@@ -43,7 +38,7 @@ for algorithm, hash_name in HASHES:
         right = tpm.event(b"event data", b"", Use(session, DECRYPTS))
         tpm.refused(
             "A wrong hmac: by a bit, none, and the attribute taken away: BAD_AUTH/s2",
-            wrong(right, 2),
+            wrong_in(right, 2),
             right.but_entry(2, hmac=b""),
             right.but_entry(2, attributes=CONTINUE_SESSION),
         )
@@ -142,7 +137,7 @@ for algorithm, hash_name in HASHES:
         said.event(b"event data", b"", Use(session, DECRYPTS, shows_empty_key=True))
         shown = tpm.event(b"event data", b"", Use(session, DECRYPTS, shows_empty_key=True))
         said = tpm("With a wrong one, and with a byte: BAD_AUTH/s2")
-        said.refused(wrong(shown, 2), shown.but_entry(2, hmac=b"\0"))
+        said.refused(wrong_in(shown, 2), shown.but_entry(2, hmac=b"\0"))
         tpm.accepted("The right one", shown)
         tpm("TPM2_GetRandom, which it encrypts without a key").random(8, Use(session, ENCRYPTS))
         tpm("TPM2_PolicyGetDigest, which it encrypts").get_digest(session, Use(session, ENCRYPTS))
@@ -188,7 +183,7 @@ tpm.accepted("One does both", secret(second, Use(first, DECRYPTS | ENCRYPT)))
 with tpm.breaking(nonces_of_others=lambda *_: [first.nonce_tpm, second.nonce_tpm]):
     turned = secret(Use(first, ENCRYPTS), Use(second, DECRYPTS))
 tpm.refused("In the other order: BAD_AUTH/s1", turned)
-tpm("TPM2_PolicyRestart").restart(first)
+tpm.restarts(first)
 for it, kind in ((first, SE_POLICY), (second, SE_TRIAL)):
     assert it.kind == kind
     tpm.digest_is("Its digest is zeros", it, zeros(it))
@@ -198,8 +193,8 @@ tpm.script.wait_each_time()
 locked = tpm.policy("A policy session", bind=RH_LOCKOUT)
 trial = tpm.trial("A trial session, of SHA-1", bind=RH_LOCKOUT, algorithm=SHA1)
 for it in (locked, trial):
-    tpm.refused("Behind a password: AUTH_FAIL/s2", wrong(tpm.event(b"a", b"", it), 2))
-    tpm.refused("As the first entry: AUTH_FAIL/s1", wrong(tpm.random(1, it), 1))
+    tpm.refused("Behind a password: AUTH_FAIL/s2", wrong_in(tpm.event(b"a", b"", it), 2))
+    tpm.refused("As the first entry: AUTH_FAIL/s1", wrong_in(tpm.random(1, it), 1))
     tpm("A right one").random(1, it)
 said = tpm("One that is bound to TPM_RH_OWNER, beside them: BAD_AUTH/s3")
-said.refused(wrong(tpm.random(1, locked, trial, first), 3))
+said.refused(wrong_in(tpm.random(1, locked, trial, first), 3))

@@ -73,9 +73,6 @@ class GroundsCaller(Teller):
 
     # What a policy session is told.
 
-    def restarts(self, session):
-        self.does("TPM2_PolicyRestart", self.restart(session))
-
     def asserts(self, what, *told):
         """Assertions, in their order."""
         self.says(f"{what}: SUCCESS", *told)

@@ -394,7 +394,7 @@ def locked(openly, demanding, undemanding, hmac, session):
     lost("By a policy that demands the value: LOCKOUT", use())
     tpm.asserts("TPM2_PolicyRestart", tpm.restart(session))
     tpm.unseal("By a policy that demands none", undemanding, SECRET, session)
-    tpm("TPM2_DictionaryAttackLockReset").lock_reset()
+    tpm.unlocks()
     for what, by in (("By the password, and by both sessions", PIN), ("", hmac), ("", bound)):
         tpm.unseal(what, openly, SECRET, by)
     tpm.asserts_value(session)

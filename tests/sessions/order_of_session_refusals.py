@@ -3,21 +3,14 @@ faults one after the other is repaired. What is answered is the first that is le
 docs/table/order_of_refusals.md.
 """
 
-from tests.common.vocabulary import CC, CONTINUE_SESSION, DECRYPT, ENCRYPT, Entry, flipped, frames
-from tests.common.vocabulary import number, RH_NULL, RH_OWNER, sized, Teller, Use
+from tests.common.vocabulary import CC, CONTINUE_SESSION, DECRYPT, ENCRYPT, Entry, frames, number
+from tests.common.vocabulary import RH_NULL, RH_OWNER, sized, Teller, Use, wrong_in
 
 DECRYPTS = CONTINUE_SESSION | DECRYPT
 ENCRYPTS = CONTINUE_SESSION | ENCRYPT
 NULLS = [RH_NULL, RH_NULL]
 
 tpm = Teller(__name__, __doc__)
-
-
-def wrong(prepared, *places):
-    for place in places:
-        hmac = prepared.entries[place - 1].hmac
-        prepared = prepared.but_entry(place, hmac=flipped(hmac) if hmac else b"\0")
-    return prepared
 
 
 first = tpm.start("A session", RH_OWNER, aes=True)
@@ -37,23 +30,23 @@ uses = Use(first, DECRYPTS), Use(second, ENCRYPTS)
 cut = sized(bytes(16))[:-1]
 absent = Entry(0x0200_0005, b"", 0xFF, b"")
 said = tpm("tpmKey is not TPM_RH_NULL, and bind is not there: VALUE/h1")
-said.refused(wrong(start([RH_OWNER, 0x8000_0000], cut, *uses), 1, 2).but(entries=[absent]))
+said.refused(wrong_in(start([RH_OWNER, 0x8000_0000], cut, *uses), 1, 2).but(entries=[absent]))
 said = tpm("An object that is not there, as bind: REFERENCE_H1")
-said.refused(wrong(start([RH_NULL, 0x8000_0000], cut, *uses), 1, 2).but(entries=[absent]))
+said.refused(wrong_in(start([RH_NULL, 0x8000_0000], cut, *uses), 1, 2).but(entries=[absent]))
 said = tpm("An NV index that is not there: HANDLE/h2")
-said.refused(wrong(start([RH_NULL, 0x0100_0000], cut, *uses), 1, 2).but(entries=[absent]))
+said.refused(wrong_in(start([RH_NULL, 0x0100_0000], cut, *uses), 1, 2).but(entries=[absent]))
 said = tpm("A bind that is no entity: VALUE/h2")
-said.refused(wrong(start([RH_NULL, 0x0200_0000], cut, *uses), 1, 2).but(entries=[absent]))
+said.refused(wrong_in(start([RH_NULL, 0x0200_0000], cut, *uses), 1, 2).but(entries=[absent]))
 said = tpm("A session that is not there, as the first entry: REFERENCE_S0")
 said.refused(start(NULLS, cut, *uses).but(entries=[absent]))
 tpm.refused(
     "As the second, whose fault comes before the first one's wrong hmac: REFERENCE_S1",
-    wrong(start(NULLS, cut, uses[0]), 1).but(
-        entries=[*wrong(start(NULLS, cut, uses[0]), 1).entries, absent]
+    wrong_in(start(NULLS, cut, uses[0]), 1).but(
+        entries=[*wrong_in(start(NULLS, cut, uses[0]), 1).entries, absent]
     ),
 )
-tpm.refused("Both hmacs: BAD_AUTH/s1", wrong(start(NULLS, cut, *uses), 1, 2))
-tpm.refused("The second one's: BAD_AUTH/s2", wrong(start(NULLS, cut, *uses), 2))
+tpm.refused("Both hmacs: BAD_AUTH/s1", wrong_in(start(NULLS, cut, *uses), 1, 2))
+tpm.refused("The second one's: BAD_AUTH/s2", wrong_in(start(NULLS, cut, *uses), 2))
 said = tpm("The first parameter, which cannot be decrypted: INSUFFICIENT/p1")
 said.refused(start(NULLS, cut, *uses))
 no_type = sized(bytes(15)) + sized(b"\1") + b"\2" + frames.symmetric(False) + number(4, 2) + b"\0"
@@ -75,17 +68,17 @@ def event(text, *uses, pcr=17):
 tpm.refused("PCR 24, and no sessions (tag 8001): VALUE/h1", event(b"", pcr=24))
 tpm.refused("No sessions (tag 8001): AUTH_MISSING", event(b""))
 said = tpm("encrypt, as the first answer is no sized buffer, in the second entry: ATTRIBUTES/s2")
-said.refused(wrong(event(b"\0", first, Use(second, ENCRYPTS)), 1, 2))
+said.refused(wrong_in(event(b"\0", first, Use(second, ENCRYPTS)), 1, 2))
 said = tpm("The first hmac of two that are wrong: BAD_AUTH/s1")
-said.refused(wrong(event(b"\0", first, Use(second, DECRYPTS)), 1, 2))
-tpm.refused("A wrong password: BAD_AUTH/s1", wrong(event(b"\0", b"x", Use(second, DECRYPTS)), 2))
+said.refused(wrong_in(event(b"\0", first, Use(second, DECRYPTS)), 1, 2))
+tpm.refused("A wrong password: BAD_AUTH/s1", wrong_in(event(b"\0", b"x", Use(second, DECRYPTS)), 2))
 tpm.refused(
     "The second hmac: BAD_AUTH/s2",
-    wrong(event(b"\0", first, Use(second, DECRYPTS)), 2),
-    wrong(event(b"\0", b"", Use(second, DECRYPTS)), 2),
+    wrong_in(event(b"\0", first, Use(second, DECRYPTS)), 2),
+    wrong_in(event(b"\0", b"", Use(second, DECRYPTS)), 2),
 )
 said = tpm("The third hmac: BAD_AUTH/s3")
-said.refused(wrong(event(b"\0", b"", first, Use(second, DECRYPTS)), 3))
+said.refused(wrong_in(event(b"\0", b"", first, Use(second, DECRYPTS)), 3))
 tpm.refused(
     "The parameter that is cut: INSUFFICIENT/p1",
     event(b"\0", first, Use(second, DECRYPTS)),
@@ -109,7 +102,7 @@ def change(text, *uses):
 
 
 said = tpm("A wrong hmac, and a value that is too long: BAD_AUTH/s1")
-said.refused(wrong(change(sized(bytes(33)), first), 1))
+said.refused(wrong_in(change(sized(bytes(33)), first), 1))
 tpm.refused("That value, and a byte behind it: SIZE/p1", change(sized(bytes(33)) + b"\0", first))
 tpm.refused("The byte behind it: SIZE", change(sized(b"abc") + b"\0", first))
 tpm.accepted("No fault is left", change(sized(b"abc"), first))
@@ -142,7 +135,7 @@ def masked(tail, nonce=15, salt=b"\1", kind=b"\0"):
 WRONG_HASH = number(frames.XOR, 2) + number(0x000C, 2)
 OTHER_HASH = number(frames.XOR, 2) + number(frames.SHA1, 2) + number(frames.SHA256, 2)
 uses = (Use(masking, DECRYPTS | ENCRYPT),)
-tpm.refused("Its hmac: BAD_AUTH/s1", wrong(start(NULLS, cut, *uses), 1))
+tpm.refused("Its hmac: BAD_AUTH/s1", wrong_in(start(NULLS, cut, *uses), 1))
 tpm.refused("The nonce, which is cut: INSUFFICIENT/p1", start(NULLS, cut, *uses))
 said = tpm("It has 33 bytes once it is whole: SIZE/p1")
 said.refused(start(NULLS, masked(WRONG_HASH, 33), *uses))

@@ -75,10 +75,6 @@ def accepted(what, prepared):
     return prepared
 
 
-def unlocked():
-    tpm("TPM2_DictionaryAttackLockReset").lock_reset()
-
-
 def write(by, data=DATA, index=FIRST):
     return tpm.writing(index, data, by)
 
@@ -107,10 +103,10 @@ def protected():
     tpm.tries_are("recoveryTime later one try is forgiven", 2)
     again("The first again: AUTH_FAIL/s1", first)
     tpm.tries_are("It is locked again", 3)
-    unlocked()
+    tpm.unlocks()
     tpm.does("What LOCKOUT has refused was no use, and is accepted now", right)
     again("But not again: AUTH_FAIL/s1", right)
-    unlocked()
+    tpm.unlocks()
     return start, first
 
 
@@ -152,7 +148,7 @@ def counted_otherwise(session):
     first = accepted("TPM2_GetRandom, where it authorizes nothing", tpm.random(2, bound))
     again("The same again: AUTH_FAIL/s1", first, "G10")
     tpm.tries_are("A failed try", 2)
-    unlocked()
+    tpm.unlocks()
     tpm.flushed(bound)
 
 
@@ -196,7 +192,7 @@ def other_places(session, to_endorsement):
     both = accepted(case, tpm.writing(FIRST, DATA, session, Use(aes, DECRYPTS)))
     again("The same again: AUTH_FAIL/s1, which the first entry refuses", both)
     tpm.tries_are("And that is a failed try", 1)
-    unlocked()
+    tpm.unlocks()
     tpm.flushed(aes, unbound)
 
 
@@ -255,7 +251,7 @@ def policy_sessions():
     again("And behind TPM2_PolicyRestart: AUTH_FAIL/s1", first)
     tpm.tries_are("Another one", 2)
     tpm.restarts(bound)
-    unlocked()
+    tpm.unlocks()
     tpm.asserts_password(bound)
     first = accepted("TPM2_NV_Write", write(Use(bound, demand=PASSWORD), index=value))
     again("The same again: POLICY_FAIL/s1, as nothing was told", first)
@@ -284,7 +280,7 @@ def new_names(start):
     tpm("It is undefined").undefining(index)
     tpm.define("And defined as it was", public, auth=VALUE)
     accepted_again("The same again", first)
-    unlocked()
+    tpm.unlocks()
     tpm.flushed(start.session)
 
 
@@ -303,7 +299,7 @@ def repeated_nonces(start):
     with_random("TPM2_NV_Write, with the random bytes of before", OTHER_SEED, write(session))
     accepted_again("The same again, of a nonce that was past", first)
     again("And once more: AUTH_FAIL/s1", first)
-    unlocked()
+    tpm.unlocks()
     tpm.flushed(session)
 
 
@@ -343,7 +339,7 @@ start.otherwise(
     "With another nonceCaller, which is in no key of an unbound session", nonce=tpm.nonce()
 )
 accepted_again("The first again", first)
-unlocked()
+tpm.unlocks()
 tpm.flushed(session)
 other = tpm.policy("A policy session is started in its place")
 again("The first again: REFERENCE_S0, as this is no HMAC session", first, "G8")
@@ -390,11 +386,11 @@ for kind, words in ((CLEAR, "CLEAR"), (STATE, "STATE")):
         "G6", "TPM2_PolicyGetDigest of the policy session: REFERENCE_H0", tpm.get_digest(told)
     )
     tpm.tries_are("The failed try is kept, and there is no other", 1)
-    unlocked()
+    tpm.unlocks()
     start.again()
 accepted_again("The first TPM2_NV_Write again", first)
 again("And once more: AUTH_FAIL/s1", first)
-unlocked()
+tpm.unlocks()
 
 to_endorsement = tpm.start("A session bound to TPM_RH_ENDORSEMENT", RH_ENDORSEMENT)
 

@@ -12,6 +12,7 @@ NONCE = bytes(range(16))
 ENDS = 0x00
 
 tpm = Teller(__name__, __doc__, starts=False)
+refused = tpm.raw
 
 
 def start(**changes):
@@ -29,10 +30,6 @@ def with_symmetric(text, rest=number(SHA256, 2)):
 
 def words(*values):
     return b"".join(number(it, 2) for it in values)
-
-
-def refused(words, *buffers):
-    tpm.raw(words, *buffers)
 
 
 refused("Before TPM2_Startup: INITIALIZE", start())
