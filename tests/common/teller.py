@@ -99,6 +99,11 @@ class Teller(ScriptCaller):
     def power(self) -> None:
         self.script.power()
 
+    def power_cycle(self) -> None:
+        """And TPM2_Startup(CLEAR)."""
+        self.power()
+        self.startup()
+
     def wait(self, milliseconds: int) -> None:
         self.script.wait(milliseconds)
 

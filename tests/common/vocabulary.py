@@ -14,6 +14,13 @@ from tpmsim.standard.nv import Attribute as NvAttribute
 from tpmsim.standard.objects import Attribute as ObjectAttribute, Public
 from tpmsim.standard.policy import AUTH_VALUE, PASSWORD
 
+# Attributes of the entries of a session that goes on, and of one that ends.
+DECRYPTS, ENCRYPTS, ENDS = CONTINUE_SESSION | DECRYPT, CONTINUE_SESSION | ENCRYPT, 0
+
+LOCKS = NvAttribute.WRITE_STCLEAR | NvAttribute.READ_STCLEAR
+FIFTH = 0x0100_0005
+NAMES = {SHA1: "SHA-1", SHA256: "SHA-256"}
+
 # fmt: off
 __all__ = [
     "ALG_NULL", "area", "AUTH_VALUE", "bits", "BY_OWNER", "BY_PLATFORM", "BY_POLICY", "BY_VALUE",
@@ -23,6 +30,7 @@ __all__ = [
     "ObjectAttribute", "on_handle", "OPEN", "PASSWORD", "policy", "Public", "RH_ENDORSEMENT",
     "RH_LOCKOUT", "RH_NULL", "RH_OWNER", "RH_PLATFORM", "RS_PW", "SE_HMAC", "SE_POLICY", "SE_TRIAL",
     "sealed", "SECOND", "selection", "SHA1", "SHA256", "sized", "STATE", "storage_key", "STORES",
-    "SYMCIPHER", "others_in", "Teller", "wrong_in", "THIRD", "Use", "wrong", "zeros"
+    "SYMCIPHER", "others_in", "Teller", "wrong_in", "THIRD", "Use", "wrong", "zeros", "DECRYPTS", "ENCRYPTS", "ENDS", "LOCKS",
+    "FIFTH", "NAMES"
 ]
 # fmt: on

@@ -59,8 +59,7 @@ def primary_of(what, hierarchy):
 
 def set_up():
     tpm.chapter("There is something of each kind, a reset and a restart among it.")
-    tpm.power()
-    tpm.startup()
+    tpm.power_cycle()
     tpm("TPM2_Shutdown(STATE)").shutting_down(STATE)
     tpm.power()
     tpm.start_up("TPM2_Startup(STATE)", STATE)

@@ -9,16 +9,15 @@ with the same hmac.
 from collections.abc import Iterator
 
 from tpmsim.caller import Prepared, Session
-from tests.common.vocabulary import area, bits, BY_POLICY, BY_VALUE, CC, CONTINUE_SESSION, DECRYPT
-from tests.common.vocabulary import extended, FIRST, FOURTH, frames, HERE, hmac_key, NvAttribute
-from tests.common.vocabulary import ObjectAttribute, policy, RH_LOCKOUT, RH_OWNER, SECOND, SHA1
-from tests.common.vocabulary import SHA256, sized, THIRD, Use
+from tests.common.vocabulary import area, bits, BY_POLICY, BY_VALUE, CC, DECRYPTS, extended, FIRST
+from tests.common.vocabulary import FOURTH, frames, HERE, hmac_key, NvAttribute, ObjectAttribute
+from tests.common.vocabulary import policy, RH_LOCKOUT, RH_OWNER, SECOND, SHA1, SHA256, sized, THIRD
+from tests.common.vocabulary import Use
 from tests.general.cuts import HEADER_BYTES, with_size
 from tests.sessions.grounds_caller import GroundsCaller
 
 PIN, DATA, LOCKOUT = b"pin", b"abc", b"lockout"
 DEMANDING = policy.after_auth_value(SHA256, bytes(32))
-DECRYPTS = CONTINUE_SESSION | DECRYPT
 HANDLES_BYTES = 8
 NO_TRY, TRY = 0, 1
 

@@ -100,8 +100,7 @@ def sessions():
     handles = [*handles[:2], 0x0300_0002, handles[3], *range(0x0300_0004, 0x0300_0010)]
     borders("Sixteen sessions", HANDLES, 0x0200_0000, handles)
     borders("From the last", HANDLES, 0x0200_000F, handles[15:])
-    tpm.power()
-    tpm.startup()
+    tpm.power_cycle()
     borders("A power cycle has ended them", HANDLES, 0x0200_0000, [])
 
 
@@ -184,8 +183,7 @@ def tries():
     tpm.wait(2**32 - 1)
     are("Never less than 0", 0)
     tpm.fails("Two wrong ones: AUTH_FAIL/s1", bad, bad)
-    tpm.power()
-    tpm.startup()
+    tpm.power_cycle()
     are("After a power cycle", 2)
     tpm.wait(1_500_000)
     are("1,500 seconds later", 1)

@@ -6,13 +6,11 @@ then says whether the state was there still.
 
 from tpmsim.standard import Fact
 from tests.common.vocabulary import area, bits, BY_OWNER, BY_VALUE, CC, CLEAR, counter, extended
-from tests.common.vocabulary import FIRST, FOURTH, frames, hmac_key, NvAttribute, policy
+from tests.common.vocabulary import FIFTH, FIRST, FOURTH, frames, hmac_key, LOCKS, policy
 from tests.common.vocabulary import RH_ENDORSEMENT, RH_OWNER, RH_PLATFORM, sealed, SECOND, SHA256
 from tests.common.vocabulary import STATE, storage_key, Teller, THIRD, Use, wrong
 
-FIFTH = 0x0100_0005
 KEPT = 0x8100_0001
-LOCKS = NvAttribute.WRITE_STCLEAR | NvAttribute.READ_STCLEAR
 CHANGING = policy.after_command_code(SHA256, bytes(32), CC.NV_ChangeAuth)
 
 tpm = Teller(__name__, __doc__, starts=False)

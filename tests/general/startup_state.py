@@ -101,8 +101,7 @@ said.fails(tpm.get_digest(policy), tpm.get_digest(trial))
 tpm("The storage key: REFERENCE_H0").public(handle)
 for kind, words in ((SE_HMAC, "HMAC"), (SE_POLICY, "policy"), (SE_TRIAL, "trial")):
     tpm.start(f"A new {words} session has the next place", kind=kind)
-tpm.power()
-tpm.script.startup()
+tpm.power_cycle()
 
 policies()
 

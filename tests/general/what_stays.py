@@ -36,8 +36,7 @@ counts_up_to(4, handle, 1)
 
 tpm.chapter("It is undefined, and power goes off and on again. A new one begins at 5.")
 tpm("TPM2_NV_UndefineSpace").undefining(handle)
-tpm.power()
-tpm.startup()
+tpm.power_cycle()
 handle = tpm.define("TPM2_NV_DefineSpace of a counter", counter(SECOND))
 counts_up_to(5, handle, 1)
 assert not list(history.differences(tpm.script.device)) and history.counters.all == [1, 2, 3, 4, 5]

@@ -2,14 +2,12 @@
 1 one wrong entry locks, and the right one is refused then, whichever command the try was made by.
 """
 
-from tests.common.vocabulary import area, bits, BY_POLICY, BY_VALUE, CC, counter, extended, FIRST
-from tests.common.vocabulary import FOURTH, HERE, hmac_key, NvAttribute, ObjectAttribute, policy
+from tests.common.vocabulary import area, bits, BY_POLICY, BY_VALUE, CC, counter, extended, FIFTH
+from tests.common.vocabulary import FIRST, FOURTH, HERE, hmac_key, LOCKS, ObjectAttribute, policy
 from tests.common.vocabulary import RH_OWNER, sealed, SECOND, SHA256, storage_key, STORES, Teller
 from tests.common.vocabulary import THIRD, Use, wrong
 
 PIN, DATA = b"pin", b"data"
-FIFTH = 0x0100_0005
-LOCKS = NvAttribute.WRITE_STCLEAR | NvAttribute.READ_STCLEAR
 PROTECTED = HERE | ObjectAttribute.USER_WITH_AUTH
 PARENT, SEALED, KEY = range(0x8000_0000, 0x8000_0003)
 

@@ -3,8 +3,8 @@ the owner, the platform, the index itself and another one. By passwords, which a
 """
 
 from tests.common.vocabulary import area, bits, BY_POLICY, BY_VALUE, counter, extended, FIRST
-from tests.common.vocabulary import frames, nv, NvAttribute, RH_OWNER, RH_PLATFORM, SECOND, Teller
-from tests.common.vocabulary import THIRD
+from tests.common.vocabulary import frames, LOCKS, nv, NvAttribute, RH_OWNER, RH_PLATFORM, SECOND
+from tests.common.vocabulary import Teller, THIRD
 
 # What an index allows by one attribute for writing and one for reading, and who then may.
 ALLOWED = (
@@ -13,7 +13,6 @@ ALLOWED = (
     (NvAttribute.AUTHWRITE, NvAttribute.AUTHREAD, "index"),
     (NvAttribute.POLICYWRITE, NvAttribute.POLICYREAD, "policy"),
 )
-LOCKS = NvAttribute.WRITE_STCLEAR | NvAttribute.READ_STCLEAR
 
 tpm = Teller(__name__, __doc__, starts=False)
 ASKERS = (("The owner", RH_OWNER, "owner"), ("The platform", RH_PLATFORM, "platform"))
@@ -43,8 +42,7 @@ def each_asker(what, allowed, prepare):
 def changes(what, public, change, allowed):
     tpm.define(what, public, auth=b"a")
     each_asker("TPM2_NV_WriteLock", allowed, lambda by: tpm.write_locking(FIRST, by=by))
-    tpm.power()
-    tpm.startup()
+    tpm.power_cycle()
     each_asker("its change", allowed, lambda by: change(FIRST, by=by))
     tpm.is_now("TPM2_NV_ReadPublic", FIRST, cleared=NvAttribute.WRITELOCKED)
     tpm("It is undefined").undefining(FIRST)

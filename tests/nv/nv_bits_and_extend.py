@@ -60,8 +60,7 @@ for index, (algorithm, name) in zip((THIRD, THIRD + 1), HASHES):
     tpm.read("A piece of it", index, value[3:9], offset=3, by=RH_OWNER)
 
 tpm.chapter("At the next start the first is as it was, and the second is not written any more.")
-tpm.power()
-tpm.startup()
+tpm.power_cycle()
 tpm.read("TPM2_NV_Read of the first", FIRST, b"\xff" * 8, by=RH_OWNER)
 tpm("Of the second: NV_UNINITIALIZED").reading(SECOND, 8, by=RH_OWNER)
 set_bits("TPM2_NV_SetBits of 2 in the second", SECOND, 2, 2)
@@ -75,5 +74,4 @@ once = digest(algorithm, zeros + b"next")
 for what in ('TPM2_NV_Extend by "next"', "After the next start, the same"):
     tpm(what).extending(THIRD + 1, b"next", by=RH_OWNER)
     tpm.read("It is the digest of zeros and the data", THIRD + 1, once, by=RH_OWNER)
-    tpm.power()
-    tpm.startup()
+    tpm.power_cycle()

@@ -136,8 +136,7 @@ def limit_of_numbers():
     case = "A 65th, of eight bytes or of none: NV_SPACE"
     unfitting(case, area(0x0100_0100), area(0x0100_0100, size=0))
     unfitting("One that is there: NV_DEFINED", area(FIRST + 1))
-    tpm.power()
-    tpm.script.startup()
+    tpm.power_cycle()
     unfitting("One more after a power cycle: NV_SPACE", area(0x0100_0100))
     tpm("One is undefined").undefining(FIRST + 7)
     tpm.define("And another one defined", area(0x0100_0100))

@@ -16,8 +16,7 @@ tpm = Teller(__name__, __doc__)
 
 
 def start():
-    tpm.power()
-    tpm.script.startup()
+    tpm.power_cycle()
 
 
 def write(what="TPM2_NV_Write", index=FIRST):
@@ -193,8 +192,7 @@ write()
 write_lock()
 tpm.power()
 tpm("TPM2_NV_ReadPublic: INITIALIZE").index_public(FIRST)
-tpm.power()
-tpm.script.startup()
+tpm.power_cycle()
 tpm.is_now("After two power cycles and a start", FIRST, cleared=WRITTEN | WRITE_LOCKED)
 write()
 said = tpm("TPM2_Startup(CLEAR) on a device that is started: INITIALIZE")

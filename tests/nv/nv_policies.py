@@ -3,13 +3,12 @@ an index authorize what is asked of it.
 """
 
 from tests.common.vocabulary import area, AUTH_VALUE, BY_OWNER, BY_POLICY, CC, CONTINUE_SESSION
-from tests.common.vocabulary import DECRYPT, digest, digest_bytes, ENCRYPT, FIRST, HASHES, nv
+from tests.common.vocabulary import DECRYPT, digest, digest_bytes, ENCRYPT, FIRST, HASHES, LOCKS, nv
 from tests.common.vocabulary import NvAttribute, PASSWORD, policy, RH_OWNER, SECOND, selection, SHA1
 from tests.common.vocabulary import SHA256, Teller, THIRD, Use, zeros
 
 DATA = b"8 bytes."
 POLICYWRITE, POLICYREAD = NvAttribute.POLICYWRITE, NvAttribute.POLICYREAD
-LOCKS = NvAttribute.WRITE_STCLEAR | NvAttribute.READ_STCLEAR
 
 tpm = Teller(__name__, __doc__, tries=True)
 
@@ -48,7 +47,7 @@ def availability():
                 tpm("TPM2_PolicyAuthValue").auth_value_told(session)
                 said = tpm(f"{name} by the policy: AUTH_UNAVAILABLE")
                 said.fails(prepare(Use(session, demand=AUTH_VALUE)))
-                tpm("TPM2_PolicyRestart").restart(session)
+                tpm.restarts(session)
             else:
                 tpm.fails(f"{name} by the password: AUTH_UNAVAILABLE", prepare(b"a"))
                 said = tpm("By a wrong one, or an HMAC session: AUTH_UNAVAILABLE")
@@ -112,12 +111,12 @@ def by_code_and_pcrs():
     reader()
     tpm("PCR 10 is extended").event(b"program", b"", pcr=10)
     tpm("TPM2_NV_Read: PCR_CHANGED").reading(FIRST, 8, session)
-    tpm("TPM2_PolicyRestart").restart(session)
+    tpm.restarts(session)
     tpm("TPM2_PolicyPCR of PCR 10").pcrs(session, chosen)
     tpm("TPM2_PolicyCommandCode of TPM2_NV_Read").command_code(session, CC.NV_Read)
     tpm("TPM2_PolicyOR: VALUE/p1").branches(session, to_write, to_read)
     tpm("TPM2_NV_Read: POLICY_FAIL/s1").reading(FIRST, 8, session)
-    tpm("TPM2_PolicyRestart").restart(session)
+    tpm.restarts(session)
     writer()
     tpm("TPM2_NV_Write is as before").writing(FIRST, DATA[::-1], by_value())
     tpm.undefines(FIRST)

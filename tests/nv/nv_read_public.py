@@ -3,11 +3,11 @@ with the attributes of now, and the Name, which is nameAlg and the digest of the
 """
 
 from tests.common.vocabulary import area, BY_OWNER, BY_VALUE, CONTINUE_SESSION, counter, digest
-from tests.common.vocabulary import digest_bytes, ENCRYPT, extended, FIRST, frames, HASHES, number
-from tests.common.vocabulary import NvAttribute, RH_NULL, RH_OWNER, SECOND, sized, Teller, Use
+from tests.common.vocabulary import digest_bytes, ENCRYPT, extended, FIRST, frames, HASHES, LOCKS
+from tests.common.vocabulary import number, NvAttribute, RH_NULL, RH_OWNER, SECOND, sized, Teller
+from tests.common.vocabulary import Use
 
 tpm = Teller(__name__, __doc__, starts=False)
-LOCKS = NvAttribute.WRITE_STCLEAR | NvAttribute.READ_STCLEAR
 
 tpm.startup()
 tpm.chapter("Each fact of a public area, in both hash algorithms.")
@@ -42,8 +42,7 @@ for what, prepared in (
     tpm.is_now("TPM2_NV_ReadPublic", FIRST)
     names.add(tpm.names[FIRST])
 assert len(names) == 3
-tpm.power()
-tpm.startup()
+tpm.power_cycle()
 tpm.is_now("After the next start", FIRST, cleared=NvAttribute.WRITELOCKED | NvAttribute.READLOCKED)
 assert tpm.names[FIRST] in names
 

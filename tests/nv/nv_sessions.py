@@ -3,12 +3,10 @@ changes, is in the hmacs and in what a session is bound to.
 """
 
 from tests.common.vocabulary import area, bits, BY_OWNER, BY_VALUE, CC, CONTINUE_SESSION, counter
-from tests.common.vocabulary import DECRYPT, ENCRYPT, extended, FIRST, flipped, FOURTH, frames
-from tests.common.vocabulary import NvAttribute, RH_NULL, RH_OWNER, SECOND, SHA1, SHA256, Teller
-from tests.common.vocabulary import THIRD, Use
+from tests.common.vocabulary import DECRYPT, DECRYPTS, ENCRYPT, ENCRYPTS, extended, FIRST, flipped
+from tests.common.vocabulary import FOURTH, frames, LOCKS, NvAttribute, RH_NULL, RH_OWNER, SECOND
+from tests.common.vocabulary import SHA1, SHA256, Teller, THIRD, Use
 
-DECRYPTS, ENCRYPTS = CONTINUE_SESSION | DECRYPT, CONTINUE_SESSION | ENCRYPT
-LOCKS = NvAttribute.WRITE_STCLEAR | NvAttribute.READ_STCLEAR
 DATA = b"8 bytes."
 
 tpm = Teller(__name__, __doc__, tries=True)
@@ -63,8 +61,7 @@ def bound():
     tpm.read("TPM2_NV_Read", FIRST, DATA, session)
     tpm("TPM2_NV_ReadLock does").read_locking(FIRST, session)
     tpm("TPM2_NV_WriteLock").write_locking(FIRST, session)
-    tpm.power()
-    tpm.script.startup()
+    tpm.power_cycle()
     tpm.is_now(
         "After the next start", FIRST, cleared=NvAttribute.WRITELOCKED | NvAttribute.READLOCKED
     )

@@ -5,16 +5,15 @@ left.
 
 from tpmsim.standard import area as entries_area, handle_kinds
 from tests.common.vocabulary import area, bits, BY_OWNER, BY_POLICY, BY_VALUE, CC, command, counter
-from tests.common.vocabulary import DECRYPT, Entry, extended, frames, number, NvAttribute, others_in
-from tests.common.vocabulary import policy, RH_LOCKOUT, RH_OWNER, RH_PLATFORM, SHA1, sized, Teller
-from tests.common.vocabulary import Use
+from tests.common.vocabulary import DECRYPT, Entry, extended, frames, LOCKS, number, NvAttribute
+from tests.common.vocabulary import others_in, policy, RH_LOCKOUT, RH_OWNER, RH_PLATFORM, SHA1
+from tests.common.vocabulary import sized, Teller, Use
 
 ORDINARY, COUNTER, BITS, EXTENDED = range(0x0100_0001, 0x0100_0005)
 LOCKED_ORDINARY, LOCKED_COUNTER, READ_LOCKED, UNWRITTEN = range(0x0100_0011, 0x0100_0015)
 BY_OTHERS, PLATFORMS, CHANGED, NEW = range(0x0100_0021, 0x0100_0025)
 ABSENT, ABSENT_SESSION = 0x0100_0099, Entry(0x0200_000F, b"", 1, b"")
 VALUE = b"a"
-LOCKS = NvAttribute.WRITE_STCLEAR | NvAttribute.READ_STCLEAR
 
 tpm = Teller(__name__, __doc__, tries=True)
 

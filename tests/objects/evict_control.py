@@ -246,8 +246,7 @@ def sessions():
 
 tpm.startup()
 borders(*in_order())
-tpm.power()
-tpm.startup()
+tpm.power_cycle()
 
 tpm.chapter("Sixteen persistent objects, and no more.")
 transient = primary("An object of the owner", RH_OWNER)
@@ -271,8 +270,7 @@ tpm("It is undefined").undefining(0x0100_0001)
 tpm.remove("One is taken away", RH_OWNER, handles[5])
 tpm.keep("There is a place for another", RH_OWNER, transient, OTHER)
 kept_handles("They ascend", *sorted({*handles, OTHER} - {handles[5]}))
-tpm.power()
-tpm.startup()
+tpm.power_cycle()
 kept_handles("A power cycle later", *sorted({*handles, OTHER} - {handles[5]}))
 for handle in sorted({*handles, OTHER} - {handles[5]}):
     words = "The platform takes all away" if handle == FIRST else ""

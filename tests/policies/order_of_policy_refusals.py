@@ -3,11 +3,10 @@ one after the other is repaired. What is answered is the first that is left, in 
 docs/table/order_of_refusals.md.
 """
 
-from tests.common.vocabulary import CC, CONTINUE_SESSION, DECRYPT, ENCRYPT, Entry, frames, number
-from tests.common.vocabulary import RH_LOCKOUT, RH_NULL, RH_OWNER, selection, SHA256, sized, Teller
-from tests.common.vocabulary import Use, wrong_in
+from tests.common.vocabulary import CC, DECRYPTS, ENCRYPTS, Entry, frames, number, RH_LOCKOUT
+from tests.common.vocabulary import RH_NULL, RH_OWNER, selection, SHA256, sized, Teller, Use
+from tests.common.vocabulary import wrong_in
 
-DECRYPTS, ENCRYPTS = CONTINUE_SESSION | DECRYPT, CONTINUE_SESSION | ENCRYPT
 ABSENT_POLICY = 0x0300_000F
 ABSENT = Entry(0x0200_0009, b"", 0xFF, b"")
 

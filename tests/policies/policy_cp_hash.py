@@ -4,12 +4,11 @@ handles and its parameters. Its parameter is the cpHash of that command, by the 
 
 import hashlib
 
-from tests.common.vocabulary import area, BY_OWNER, BY_POLICY, CC, command_hash, CONTINUE_SESSION
-from tests.common.vocabulary import DECRYPT, digest_bytes, FIRST, flipped, HERE, is_trial, name_of
-from tests.common.vocabulary import number, ObjectAttribute, policy, RH_ENDORSEMENT, RH_OWNER
-from tests.common.vocabulary import sealed, SHA1, SHA256, sized, storage_key, Teller, Use, zeros
+from tests.common.vocabulary import area, BY_OWNER, BY_POLICY, CC, command_hash, DECRYPTS
+from tests.common.vocabulary import digest_bytes, FIRST, flipped, HERE, is_trial, name_of, number
+from tests.common.vocabulary import ObjectAttribute, policy, RH_ENDORSEMENT, RH_OWNER, sealed, SHA1
+from tests.common.vocabulary import SHA256, sized, storage_key, Teller, Use, zeros
 
-DECRYPTS = CONTINUE_SESSION | DECRYPT
 
 tpm = Teller(__name__, __doc__, tries=True)
 

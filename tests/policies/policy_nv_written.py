@@ -4,13 +4,12 @@
 
 import hashlib
 
-from tests.common.vocabulary import area, BY_OWNER, BY_POLICY, CC, command_hash, counter, FIRST
-from tests.common.vocabulary import flipped, FOURTH, frames, HERE, NvAttribute, ObjectAttribute
-from tests.common.vocabulary import policy, RH_OWNER, sealed, SECOND, SHA1, SHA256, storage_key
-from tests.common.vocabulary import Teller, THIRD, Use, zeros
+from tests.common.vocabulary import area, BY_OWNER, BY_POLICY, CC, command_hash, counter, FIFTH
+from tests.common.vocabulary import FIRST, flipped, FOURTH, frames, HERE, NvAttribute
+from tests.common.vocabulary import ObjectAttribute, policy, RH_OWNER, sealed, SECOND, SHA1, SHA256
+from tests.common.vocabulary import storage_key, Teller, THIRD, Use, zeros
 
 NO, YES = False, True
-FIFTH = 0x0100_0005
 
 tpm = Teller(__name__, __doc__, tries=True)
 
@@ -93,8 +92,7 @@ for words in ("TPM2_NV_Write", "After a startup it is a first one again"):
     tpm(words).writing(FOURTH, b"data", session)
     says("0: SUCCESS", session, NO)
     tpm("Another TPM2_NV_Write: POLICY_FAIL/s1").writing(FOURTH, b"x", session)
-    tpm.power()
-    tpm.script.startup()
+    tpm.power_cycle()
     tpm.read_index_public("TPM2_NV_ReadPublic: not written", FOURTH)
 
 tpm.chapter("Defined anew, an index is not written.")

@@ -4,11 +4,11 @@ and encrypt, and keep what they were told.
 """
 
 from tpmsim.caller.script_caller import KINDS
-from tests.common.vocabulary import CC, CONTINUE_SESSION, DECRYPT, digest, ENCRYPT, flipped, frames
-from tests.common.vocabulary import HASHES, name_of, policy, RH_ENDORSEMENT, RH_LOCKOUT, RH_OWNER
-from tests.common.vocabulary import SE_POLICY, SE_TRIAL, SHA1, Teller, Use, wrong_in, zeros
+from tests.common.vocabulary import CC, CONTINUE_SESSION, DECRYPTS, digest, ENCRYPT, ENCRYPTS
+from tests.common.vocabulary import flipped, frames, HASHES, name_of, policy, RH_ENDORSEMENT
+from tests.common.vocabulary import RH_LOCKOUT, RH_OWNER, SE_POLICY, SE_TRIAL, SHA1, Teller, Use
+from tests.common.vocabulary import wrong_in, zeros
 
-DECRYPTS, ENCRYPTS = CONTINUE_SESSION | DECRYPT, CONTINUE_SESSION | ENCRYPT
 
 tpm = Teller(__name__, __doc__, tries=True)
 

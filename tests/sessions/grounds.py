@@ -6,10 +6,10 @@ session, or a policy session whose policy holds.
 from dataclasses import dataclass
 from typing import Callable
 
-from tests.common.vocabulary import AUTH_VALUE, BY_OWNER, BY_PLATFORM, BY_POLICY, CC, HERE, name_of
-from tests.common.vocabulary import NvAttribute, ObjectAttribute, PASSWORD, policy, RH_ENDORSEMENT
-from tests.common.vocabulary import RH_LOCKOUT, RH_NULL, RH_OWNER, RH_PLATFORM, sealed, SHA1, SHA256
-from tests.common.vocabulary import Use
+from tests.common.vocabulary import AUTH_VALUE, BY_OWNER, BY_PLATFORM, BY_POLICY, CC, ENDS, HERE
+from tests.common.vocabulary import name_of, NvAttribute, ObjectAttribute, PASSWORD, policy
+from tests.common.vocabulary import RH_ENDORSEMENT, RH_LOCKOUT, RH_NULL, RH_OWNER, RH_PLATFORM
+from tests.common.vocabulary import sealed, SHA1, SHA256, Use
 from tests.sessions.grounds_caller import (
     AFTER_AUTH_VALUE,
     AFTER_LOCALITY_1,
@@ -29,7 +29,6 @@ from tests.sessions.grounds_caller import (
 from tests.sessions.grounds_caller import after_equal_data, after_secret
 
 USER = ObjectAttribute.USER_WITH_AUTH
-ENDS = 0x00
 KEPT = 0x8100_0001
 REF = b"disk"
 HIERARCHIES = {

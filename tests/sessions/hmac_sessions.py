@@ -3,12 +3,10 @@ they authorize, and bound to another. Each of their hmacs was computed outside, 
 `entropy` gives new random bytes, so that each command has its own nonces.
 """
 
-from tests.common.vocabulary import CC, flipped, frames, RH_ENDORSEMENT, RH_OWNER, SHA1, SHA256
-from tests.common.vocabulary import sized, Teller, Use
+from tests.common.vocabulary import CC, ENDS, flipped, frames, NAMES, RH_ENDORSEMENT, RH_OWNER, SHA1
+from tests.common.vocabulary import SHA256, sized, Teller, Use
 
-NAMES = {SHA1: "SHA-1", SHA256: "SHA-256"}
 AUTH = b"owner"
-ENDS = 0x00
 
 tpm = Teller(__name__, __doc__)
 

@@ -5,10 +5,10 @@ a session itself is lost shows tests/sessions/replays.tpm.
 
 from tpmsim.standard import digests
 from tpmsim.standard.policy import ALL_LOCALITIES
-from tests.common.vocabulary import AUTH_VALUE, BY_OWNER, BY_POLICY, BY_VALUE, CC, flipped, frames
-from tests.common.vocabulary import HERE, name_of, NvAttribute, ObjectAttribute, PASSWORD, policy
-from tests.common.vocabulary import RH_ENDORSEMENT, RH_LOCKOUT, RH_NULL, RH_OWNER, RH_PLATFORM
-from tests.common.vocabulary import sealed, SHA1, SHA256, Use
+from tests.common.vocabulary import AUTH_VALUE, BY_OWNER, BY_POLICY, BY_VALUE, CC, ENDS, flipped
+from tests.common.vocabulary import frames, HERE, name_of, NvAttribute, ObjectAttribute, PASSWORD
+from tests.common.vocabulary import policy, RH_ENDORSEMENT, RH_LOCKOUT, RH_NULL, RH_OWNER
+from tests.common.vocabulary import RH_PLATFORM, sealed, SHA1, SHA256, Use
 from tests.sessions.grounds_caller import (
     AFTER_AUTH_VALUE,
     AFTER_LOCALITY_1,
@@ -28,7 +28,6 @@ from tests.sessions.grounds_caller import (
 from tests.sessions.grounds_caller import after_equal_data, after_secret
 
 USER = ObjectAttribute.USER_WITH_AUTH
-ENDS = 0x00
 AFTER_UNSEAL = after_code(CC.Unseal)
 EQUAL, AT_LEAST = 0, 7  # operations of TPM2_PolicyNV
 AT_LOCALITY_0_OR_1 = 0b11

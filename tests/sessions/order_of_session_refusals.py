@@ -3,10 +3,9 @@ faults one after the other is repaired. What is answered is the first that is le
 docs/table/order_of_refusals.md.
 """
 
-from tests.common.vocabulary import CC, CONTINUE_SESSION, DECRYPT, ENCRYPT, Entry, frames, number
+from tests.common.vocabulary import CC, CONTINUE_SESSION, DECRYPTS, ENCRYPT, Entry, frames, number
 from tests.common.vocabulary import RH_NULL, RH_OWNER, sized, Teller, Use, wrong_in
 
-DECRYPTS = CONTINUE_SESSION | DECRYPT
 ENCRYPTS = CONTINUE_SESSION | ENCRYPT
 NULLS = [RH_NULL, RH_NULL]
 

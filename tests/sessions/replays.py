@@ -6,15 +6,13 @@ command of a session has random bytes of its own, where nothing else is said.
 
 from dataclasses import replace
 
-from tests.common.vocabulary import AUTH_VALUE, BY_POLICY, BY_VALUE, CC, CLEAR, CONTINUE_SESSION
-from tests.common.vocabulary import DECRYPT, ENCRYPT, FIRST, frames, NvAttribute, PASSWORD
-from tests.common.vocabulary import RH_ENDORSEMENT, RH_LOCKOUT, RH_NULL, RH_OWNER, SE_HMAC
-from tests.common.vocabulary import SE_POLICY, SHA256, STATE, Use
+from tests.common.vocabulary import AUTH_VALUE, BY_POLICY, BY_VALUE, CC, CLEAR, DECRYPTS, ENCRYPTS
+from tests.common.vocabulary import ENDS, FIRST, frames, NvAttribute, PASSWORD, RH_ENDORSEMENT
+from tests.common.vocabulary import RH_LOCKOUT, RH_NULL, RH_OWNER, SE_HMAC, SE_POLICY, SHA256, STATE
+from tests.common.vocabulary import Use
 from tests.sessions.grounds_caller import AFTER_AUTH_VALUE, DATA, OWNER, ZEROS, GroundsCaller
 
 VALUE, LOCKOUT_AUTH, OTHER_DATA = b"a", b"lockout", b"to write"
-ENDS = 0x00
-DECRYPTS, ENCRYPTS = CONTINUE_SESSION | DECRYPT, CONTINUE_SESSION | ENCRYPT
 RECOVERY = 1_000_000  # milliseconds of recoveryTime and lockoutRecovery, as they are at first
 
 # Random bytes that are given more than once.

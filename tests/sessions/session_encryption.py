@@ -3,12 +3,11 @@ attribute decrypt has encrypted the bytes of the first parameter, and one with e
 first answer.
 """
 
-from tests.common.vocabulary import CC, CONTINUE_SESSION, DECRYPT, ENCRYPT, flipped, frames
-from tests.common.vocabulary import RH_ENDORSEMENT, RH_OWNER, SHA1, SHA256, sized, Teller, Use
+from tests.common.vocabulary import CC, CONTINUE_SESSION, DECRYPT, DECRYPTS, ENCRYPT, flipped
+from tests.common.vocabulary import frames, NAMES, RH_ENDORSEMENT, RH_OWNER, SHA1, SHA256, sized
+from tests.common.vocabulary import Teller, Use
 
-DECRYPTS = CONTINUE_SESSION | DECRYPT
 ENCRYPTS = CONTINUE_SESSION | ENCRYPT
-NAMES = {SHA1: "SHA-1", SHA256: "SHA-256"}
 
 tpm = Teller(__name__, __doc__)
 

@@ -4,12 +4,11 @@ sessionType, symmetric and authHash.
 """
 
 from tpmsim.standard import area
-from tests.common.vocabulary import ALG_NULL, CC, command, entry, frames, number, RH_ENDORSEMENT
-from tests.common.vocabulary import RH_LOCKOUT, RH_NULL, RH_OWNER, RH_PLATFORM, RS_PW, SHA1, SHA256
-from tests.common.vocabulary import sized, Teller, Use
+from tests.common.vocabulary import ALG_NULL, CC, command, ENDS, entry, frames, number
+from tests.common.vocabulary import RH_ENDORSEMENT, RH_LOCKOUT, RH_NULL, RH_OWNER, RH_PLATFORM
+from tests.common.vocabulary import RS_PW, SHA1, SHA256, sized, Teller, Use
 
 NONCE = bytes(range(16))
-ENDS = 0x00
 
 tpm = Teller(__name__, __doc__, starts=False)
 refused = tpm.raw

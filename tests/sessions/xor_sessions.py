@@ -10,15 +10,13 @@ import hashlib
 import hmac
 
 from tpmsim.standard import COMMAND_BYTES
-from tests.common.vocabulary import area, AUTH_VALUE, CC, CONTINUE_SESSION, DECRYPT, ENCRYPT, FIRST
-from tests.common.vocabulary import flipped, frames, HERE, hmac_key, number, OPEN, PASSWORD, policy
-from tests.common.vocabulary import RH_ENDORSEMENT, RH_OWNER, SE_TRIAL, sealed, SHA1, SHA256, sized
-from tests.common.vocabulary import storage_key, Teller, Use
+from tests.common.vocabulary import area, AUTH_VALUE, CC, CONTINUE_SESSION, DECRYPT, DECRYPTS
+from tests.common.vocabulary import ENCRYPT, ENCRYPTS, FIRST, flipped, frames, HERE, hmac_key, NAMES
+from tests.common.vocabulary import number, OPEN, PASSWORD, policy, RH_ENDORSEMENT, RH_OWNER
+from tests.common.vocabulary import SE_TRIAL, sealed, SHA1, SHA256, sized, storage_key, Teller, Use
 
-DECRYPTS, ENCRYPTS = CONTINUE_SESSION | DECRYPT, CONTINUE_SESSION | ENCRYPT
 BOTH = DECRYPTS | ENCRYPT
 HASHES = {SHA1: hashlib.sha1, SHA256: hashlib.sha256}
-NAMES = {SHA1: "SHA-1", SHA256: "SHA-256"}
 OWNER_AUTH = b"owner"
 
 # Sizes of a first buffer: none, a byte, those of digests and a byte more, and the largest data.
