@@ -136,21 +136,31 @@ STRUCTURES = {
 }
 
 
-def numbers(buffer):
-    """The sizes and counts of a command behind its header."""
-    walk = Walk(buffer)
+def pieces(walk):
+    """Reads a command to its end: where in it each handle, the authorization area, which has no
+    place, and each parameter ends.
+    """
     tag, _, code = walk.number(2), walk.number(4), CC(walk.number(4))
-    for _ in code.handles:
+    for place in range(1, len(code.handles) + 1):
         walk.take(4)
+        yield f"h{place}", walk.at
     if tag == frames.SESSIONS:
         walk.entries()
+        yield "", walk.at
     for place, it in enumerate(code.parameters, 1):
         name, inside = f"parameter {place}", STRUCTURES.get((code, place))
         if inside:
             walk.sized(name, inside)
         else:
             FORMS[lines.WORDS[it.kind].name](walk, name)
-    assert walk.at == len(buffer)
+        yield f"p{place}", walk.at
+    assert walk.at == len(walk.buffer)
+
+
+def numbers(buffer):
+    """The sizes and counts of a command behind its header."""
+    walk = Walk(buffer)
+    list(pieces(walk))
     return walk.found
 
 
