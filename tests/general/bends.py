@@ -8,7 +8,20 @@ sized buffer of it holds a structure.
 
 from dataclasses import dataclass
 
-from tpmsim.standard import ALG_NULL, CC, KEYEDHASH, digest_bytes, frames, lines, number
+from tpmsim.standard import (
+    AES,
+    ALG_NULL,
+    CC,
+    KEYEDHASH,
+    XOR,
+    digest_bytes,
+    frames,
+    lines,
+    number,
+)
+
+# How many bytes stand behind the algorithm of a cipher.
+BEHIND_CIPHER = {ALG_NULL: 0, AES: 4, XOR: 2}
 
 
 @dataclass(frozen=True)
@@ -63,7 +76,7 @@ class Walk:
         self.take(digest_bytes(self.number(2)))
 
     def cipher(self, name=None):
-        self.take(lines.BEHIND_CIPHER[self.number(2)])
+        self.take(BEHIND_CIPHER[self.number(2)])
 
     def entries(self):
         size, place = self.found_number("authorizationSize", 4), 0

@@ -22,7 +22,7 @@ PCR_0 = [(SHA256, [0])]
 
 
 def template(public, data=b""):
-    return object_rules.Template(b"abc", data, public, b"outside", PCR_0)
+    return object_rules.Template((b"abc", data), public, b"outside", PCR_0)
 
 
 def creation(public, data=b""):
