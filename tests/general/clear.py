@@ -57,91 +57,6 @@ def primary_of(what, hierarchy):
     return name, tpm.ticket
 
 
-def set_up():
-    tpm.chapter("There is something of each kind, a reset and a restart among it.")
-    tpm.power_cycle()
-    tpm("TPM2_Shutdown(STATE)").shutting_down(STATE)
-    tpm.power()
-    tpm.start_up("TPM2_Startup(STATE)", STATE)
-    tpm.wait(5000)
-    for index, attributes, by in (
-        (FIRST, BY_OWNER | BY_VALUE, RH_OWNER),
-        (SECOND, BY_PLATFORM | BY_VALUE | NvAttribute.PLATFORMCREATE, RH_PLATFORM),
-    ):
-        words = "An NV index of the owner, and one of the platform" if index == FIRST else ""
-        tpm.define(words, area(index, attributes), by=by)
-        tpm("").writing(index, b"data", by=by)
-    tpm.define("A counter of the owner", counter(THIRD))
-    for _ in range(3):
-        tpm("It is 3" if not _ else "").incrementing(THIRD)
-    for hierarchy, words, kept, asker in WITH_OBJECTS:
-        handle = tpm.create_primary(f"An object of {words}", hierarchy, storage_key())
-        tpm.keep("It stays", asker, handle, kept)
-    tpm.create_primary("One of TPM_RH_NULL", RH_NULL, storage_key())
-    for handle, name, value in HIERARCHIES:
-        words = f'The value of {name} is "{value.decode()}"'
-        tpm(words).change_auth(handle, value, b"")
-    tpm.set_protection("maxTries is 5, and the times are others, too", 5, 2000, 3000)
-
-
-def what_is_left():
-    tpm.chapter("The handles that are there.")
-    left = 0x8000_0002, 0x8000_0003
-    listed("The transient objects of the platform and of TPM_RH_NULL", 0x8000_0000, *left)
-    listed("The persistent one of the platform", 0x8100_0000, 0x8180_0000)
-    listed("The index of the platform", 0x0100_0000, SECOND)
-    tpm("TPM2_ReadPublic of the platform's object").public(0x8180_0000)
-    tpm.read("TPM2_NV_Read of its index", SECOND, b"data", by=RH_PLATFORM)
-    tpm("The owner's index: HANDLE/h1").index_public(FIRST)
-    tpm("The owner's object: HANDLE/h1").public(0x8100_0000)
-
-
-def effects():
-    tpm.chapter("TPM2_Clear by the platform.")
-    names = {
-        hierarchy: primary_of("A primary object as it is before", hierarchy)
-        for hierarchy, *_ in HIERARCHIES[:3]
-    }
-    parent = tpm.create_primary("A storage key of the owner", RH_OWNER, storage_key(), b"owner")
-    below = tpm.create("An object below it", parent, sealed(), data=b"data")
-    bad = tpm.writing(SECOND, b"x", b"x")
-    tpm.fails("A try: AUTH_FAIL/s1", bad)
-    tpm("And one that closes lockoutAuth: AUTH_FAIL/s1").lock_reset(b"x")
-    session = tpm.start("A session that is bound to the owner", RH_OWNER)
-    policy = tpm.policy("A policy session")
-    tpm("TPM2_PolicyPCR").pcrs(policy, [(SHA256, [0])])
-    lockout_is("One try", 1, 5, 2000, 3000)
-    before = counter_of("The update counter, and PCR 16")
-    clock_is("The clock", 5000, 5000, 1, 1)
-    tpm.wait(70)
-    tpm("TPM2_Clear").clearing(RH_PLATFORM)
-    tpm.wait(7)
-    clock_is("The clock and the counts are 0, the time goes on", 5077, 7, 0, 0)
-    assert counter_of("The update counter is one more; PCR 16 is as it was") == before + 1
-    lockout_is("No try, and the parameters as they were", 0, 5, 2000, 3000)
-    tpm("lockoutAuth is open, and empty").lock_reset()
-    tpm("So is ownerAuth").change_auth(RH_OWNER, b"", b"")
-    tpm("And endorsementAuth").change_auth(RH_ENDORSEMENT, b"", b"")
-    tpm("platformAuth is as it was: BAD_AUTH/s1").change_auth(RH_PLATFORM, b"", b"")
-    pcr = tpm.pcrs(policy, [(SHA256, [0])])
-    tpm.fails("TPM2_PolicyPCR: as if a PCR had changed: PCR_CHANGED", pcr)
-    tpm("The sessions are there: on PCR 16").reset(session)
-    tpm("On TPM_RH_OWNER, whose value is another").change_auth(RH_OWNER, b"", session)
-    what_is_left()
-    tpm.chapter("The seed of the owner is new, and the others are not.")
-    for hierarchy, name, _ in HIERARCHIES[:3]:
-        object_name, ticket = primary_of(f"The same primary object of {name}", hierarchy)
-        assert (object_name == names[hierarchy][0]) == (hierarchy != RH_OWNER)
-        # The proofs of both are new, so that old tickets are worth nothing.
-        assert (ticket == names[hierarchy][1]) == (hierarchy == RH_PLATFORM)
-    parent = tpm.create_primary("A storage key of the new owner", RH_OWNER, storage_key())
-    tpm("What was created below the old one: INTEGRITY/p1").loading(parent, below)
-    tpm.chapter("No counter goes back.")
-    tpm.define("The counter is defined again", counter(THIRD))
-    tpm("TPM2_NV_Increment").incrementing(THIRD)
-    tpm.read("It is 4", THIRD, number(4, 8))
-
-
 says("Before TPM2_Startup: INITIALIZE", on_handle(CC.Clear, RH_PLATFORM))
 tpm.startup()
 says("No handle: INSUFFICIENT/h1", command(CC.Clear, b""))
@@ -159,8 +74,85 @@ tpm("It is flushed").flush(policy)
 case = "TPM2_Clear by the platform, and by lockoutAuth: SUCCESS"
 says(case, *(on_handle(CC.Clear, it) for it in (RH_PLATFORM, RH_LOCKOUT)))
 
-set_up()
-effects()
+
+tpm.chapter("There is something of each kind, a reset and a restart among it.")
+tpm.power_cycle()
+tpm("TPM2_Shutdown(STATE)").shutting_down(STATE)
+tpm.power()
+tpm.start_up("TPM2_Startup(STATE)", STATE)
+tpm.wait(5000)
+for index, attributes, by in (
+    (FIRST, BY_OWNER | BY_VALUE, RH_OWNER),
+    (SECOND, BY_PLATFORM | BY_VALUE | NvAttribute.PLATFORMCREATE, RH_PLATFORM),
+):
+    words = "An NV index of the owner, and one of the platform" if index == FIRST else ""
+    tpm.define(words, area(index, attributes), by=by)
+    tpm("").writing(index, b"data", by=by)
+tpm.define("A counter of the owner", counter(THIRD))
+for _ in range(3):
+    tpm("It is 3" if not _ else "").incrementing(THIRD)
+for hierarchy, words, kept, asker in WITH_OBJECTS:
+    handle = tpm.create_primary(f"An object of {words}", hierarchy, storage_key())
+    tpm.keep("It stays", asker, handle, kept)
+tpm.create_primary("One of TPM_RH_NULL", RH_NULL, storage_key())
+for handle, name, value in HIERARCHIES:
+    words = f'The value of {name} is "{value.decode()}"'
+    tpm(words).change_auth(handle, value, b"")
+tpm.set_protection("maxTries is 5, and the times are others, too", 5, 2000, 3000)
+
+
+tpm.chapter("TPM2_Clear by the platform.")
+names = {
+    hierarchy: primary_of("A primary object as it is before", hierarchy)
+    for hierarchy, *_ in HIERARCHIES[:3]
+}
+parent = tpm.create_primary("A storage key of the owner", RH_OWNER, storage_key(), b"owner")
+below = tpm.create("An object below it", parent, sealed(), data=b"data")
+bad = tpm.writing(SECOND, b"x", b"x")
+tpm.fails("A try: AUTH_FAIL/s1", bad)
+tpm("And one that closes lockoutAuth: AUTH_FAIL/s1").lock_reset(b"x")
+session = tpm.start("A session that is bound to the owner", RH_OWNER)
+policy = tpm.policy("A policy session")
+tpm("TPM2_PolicyPCR").pcrs(policy, [(SHA256, [0])])
+lockout_is("One try", 1, 5, 2000, 3000)
+before = counter_of("The update counter, and PCR 16")
+clock_is("The clock", 5000, 5000, 1, 1)
+tpm.wait(70)
+tpm("TPM2_Clear").clearing(RH_PLATFORM)
+tpm.wait(7)
+clock_is("The clock and the counts are 0, the time goes on", 5077, 7, 0, 0)
+assert counter_of("The update counter is one more; PCR 16 is as it was") == before + 1
+lockout_is("No try, and the parameters as they were", 0, 5, 2000, 3000)
+tpm("lockoutAuth is open, and empty").lock_reset()
+tpm("So is ownerAuth").change_auth(RH_OWNER, b"", b"")
+tpm("And endorsementAuth").change_auth(RH_ENDORSEMENT, b"", b"")
+tpm("platformAuth is as it was: BAD_AUTH/s1").change_auth(RH_PLATFORM, b"", b"")
+pcr = tpm.pcrs(policy, [(SHA256, [0])])
+tpm.fails("TPM2_PolicyPCR: as if a PCR had changed: PCR_CHANGED", pcr)
+tpm("The sessions are there: on PCR 16").reset(session)
+tpm("On TPM_RH_OWNER, whose value is another").change_auth(RH_OWNER, b"", session)
+tpm.chapter("The handles that are there.")
+left = 0x8000_0002, 0x8000_0003
+listed("The transient objects of the platform and of TPM_RH_NULL", 0x8000_0000, *left)
+listed("The persistent one of the platform", 0x8100_0000, 0x8180_0000)
+listed("The index of the platform", 0x0100_0000, SECOND)
+tpm("TPM2_ReadPublic of the platform's object").public(0x8180_0000)
+tpm.read("TPM2_NV_Read of its index", SECOND, b"data", by=RH_PLATFORM)
+tpm("The owner's index: HANDLE/h1").index_public(FIRST)
+tpm("The owner's object: HANDLE/h1").public(0x8100_0000)
+tpm.chapter("The seed of the owner is new, and the others are not.")
+for hierarchy, name, _ in HIERARCHIES[:3]:
+    object_name, ticket = primary_of(f"The same primary object of {name}", hierarchy)
+    assert (object_name == names[hierarchy][0]) == (hierarchy != RH_OWNER)
+    # The proofs of both are new, so that old tickets are worth nothing.
+    assert (ticket == names[hierarchy][1]) == (hierarchy == RH_PLATFORM)
+parent = tpm.create_primary("A storage key of the new owner", RH_OWNER, storage_key())
+tpm("What was created below the old one: INTEGRITY/p1").loading(parent, below)
+tpm.chapter("No counter goes back.")
+tpm.define("The counter is defined again", counter(THIRD))
+tpm("TPM2_NV_Increment").incrementing(THIRD)
+tpm.read("It is 4", THIRD, number(4, 8))
+
 
 tpm.chapter("By sessions. The answer's hmac is by the value after it, the empty one.")
 tpm('lockoutAuth is "lockout"').change_auth(RH_LOCKOUT, b"lockout", b"")

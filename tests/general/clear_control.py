@@ -26,43 +26,8 @@ def is_disabled(what):
     says(f"{what}: DISABLED", *(on_handle(CC.Clear, it) for it in BOTH))
 
 
-def no_try(what):
-    """TPM_PT_LOCKOUT_COUNTER is 0, and lockoutAuth is open."""
-    given = tpm(what).capability(PROPERTIES, LOCKOUT_COUNTER, 1)
-    assert given[-4:] == bytes(4)
-    tpm("lockoutAuth is open").lock_reset()
-
-
 def wrong_control(session):
     return wrong(tpm.clear_control(RH_LOCKOUT, NO, session))
-
-
-def order():
-    tpm.chapter("DISABLED is the check of the command itself, behind all others.")
-    says("A byte behind the handle: SIZE", *(on_handle(CC.Clear, it, b"\0") for it in BOTH))
-    wrong_password = [frames.entry(hmac=b"x")]
-    case = "A wrong password of the platform: BAD_AUTH/s1"
-    says(case, on_handle(CC.Clear, RH_PLATFORM, b"", wrong_password))
-    case = "One of TPM_RH_LOCKOUT: a try, which is counted: AUTH_FAIL/s1"
-    says(case, on_handle(CC.Clear, RH_LOCKOUT, b"", wrong_password))
-    says("The right one: LOCKOUT", on_handle(CC.Clear, RH_LOCKOUT))
-    says("Of TPM2_ClearControl, too: LOCKOUT", control(RH_LOCKOUT, NO), control(RH_LOCKOUT, YES))
-    tpm.wait(1_000_000)
-    is_disabled("Behind lockoutRecovery")
-
-
-def sessions():
-    tpm.chapter("By sessions that cannot encrypt what is no sized buffer.")
-    session = tpm.start("An HMAC session with AES", aes=True)
-    for attribute in (DECRYPT, ENCRYPT):
-        words = "Its only parameter is one byte, and nothing is answered"
-        tpm.fails(
-            f"{words if attribute == DECRYPT else ''}: ATTRIBUTES/s1",
-            tpm.clear_control(RH_PLATFORM, NO, session).but_entry(
-                1, attributes=CONTINUE_SESSION | attribute
-            ),
-        )
-    tpm("It is flushed").flush(session)
 
 
 says("Before TPM2_Startup: INITIALIZE", control(RH_PLATFORM, YES))
@@ -100,7 +65,13 @@ is_disabled("TPM2_Clear by lockoutAuth, and by the platform")
 says("YES again: SUCCESS", control(RH_LOCKOUT, YES))
 says("NO: AUTH_FAIL", control(RH_LOCKOUT, NO))
 is_disabled("It is disabled as before")
-no_try("That was no try, though its code is of one")
+
+# TPM_PT_LOCKOUT_COUNTER is 0, and lockoutAuth is open.
+what = "That was no try, though its code is of one"
+given = tpm(what).capability(PROPERTIES, LOCKOUT_COUNTER, 1)
+assert given[-4:] == bytes(4)
+tpm("lockoutAuth is open").lock_reset()
+
 for session, words in (
     (tpm.start("A session that is bound to nothing"), "By it"),
     (tpm.start("One that is bound to TPM_RH_LOCKOUT", RH_LOCKOUT), "By that"),
@@ -113,8 +84,32 @@ for session, words in (
     tpm("It opens with the time").lock_reset()
     tpm("It is flushed").flush(session)
 
-order()
-sessions()
+
+tpm.chapter("DISABLED is the check of the command itself, behind all others.")
+says("A byte behind the handle: SIZE", *(on_handle(CC.Clear, it, b"\0") for it in BOTH))
+wrong_password = [frames.entry(hmac=b"x")]
+case = "A wrong password of the platform: BAD_AUTH/s1"
+says(case, on_handle(CC.Clear, RH_PLATFORM, b"", wrong_password))
+case = "One of TPM_RH_LOCKOUT: a try, which is counted: AUTH_FAIL/s1"
+says(case, on_handle(CC.Clear, RH_LOCKOUT, b"", wrong_password))
+says("The right one: LOCKOUT", on_handle(CC.Clear, RH_LOCKOUT))
+says("Of TPM2_ClearControl, too: LOCKOUT", control(RH_LOCKOUT, NO), control(RH_LOCKOUT, YES))
+tpm.wait(1_000_000)
+is_disabled("Behind lockoutRecovery")
+
+
+tpm.chapter("By sessions that cannot encrypt what is no sized buffer.")
+session = tpm.start("An HMAC session with AES", aes=True)
+for attribute in (DECRYPT, ENCRYPT):
+    words = "Its only parameter is one byte, and nothing is answered"
+    tpm.fails(
+        f"{words if attribute == DECRYPT else ''}: ATTRIBUTES/s1",
+        tpm.clear_control(RH_PLATFORM, NO, session).but_entry(
+            1, attributes=CONTINUE_SESSION | attribute
+        ),
+    )
+tpm("It is flushed").flush(session)
+
 
 tpm.chapter("It is kept over starts.")
 tpm.power_cycle()

@@ -84,77 +84,6 @@ def beside(session: Session, bound: Session) -> None:
     )
 
 
-def before_the_parameters(prepared: Prepared) -> None:
-    tpm.chapter(
-        "TPM2_NV_Write, cut before its parameters, with commandSize corrected, and anywhere, with "
-        "commandSize as it was. No hmac is compared, so that is no try."
-    )
-    whole = prepared.buffer()
-    handles, area_end = HEADER_BYTES + HANDLES_BYTES, len(whole) - len(prepared.parameters)
-    for words, start, end, outcome in (
-        ("Within authHandle", HEADER_BYTES, HEADER_BYTES + 4, "INSUFFICIENT/h1"),
-        ("Within nvIndex", HEADER_BYTES + 4, handles, "INSUFFICIENT/h2"),
-        ("Within the authorization area", handles, area_end, "AUTHSIZE"),
-    ):
-        shorter = [with_size(whole[:length]) for length in range(start, end)]
-        refused(words, outcome, NO_TRY, *shorter)
-    as_it_was = [whole[:length] for length in range(len(whole))]
-    refused("With commandSize as it was", "COMMAND_SIZE", NO_TRY, *as_it_was)
-    comes_whole(prepared)
-
-
-def of_what_is_left(session: Session) -> None:
-    """An entry that is right for what is left of the parameters: then they are what is refused."""
-    whole = frames.nv_write(DATA, 2)
-    in_data = range(len(sized(DATA)))
-    for words, use in (
-        ("An hmac that is made of what is left of the parameters", session),
-        ("The password", PIN),
-    ):
-        tpm.chapter(f"{words} is right: so the parameters are refused, and that is no try.")
-        for left in range(len(whole)):
-            prepared = tpm.prepare(CC.NV_Write, [FIRST, FIRST], whole[:left], use)
-            outcome = f"INSUFFICIENT/{'p1' if left in in_data else 'p2'}"
-            refused(f"{left} bytes are left", outcome, NO_TRY, prepared.buffer())
-    tpm.chapter("A wrong password is a try, whatever is left.")
-    for left in range(len(whole)):
-        prepared = tpm.prepare(CC.NV_Write, [FIRST, FIRST], whole[:left], b"x")
-        refused_alone(f"{left} bytes are left", "AUTH_FAIL/s1", TRY, prepared.buffer())
-
-
-def up_to_lockout(session: Session) -> None:
-    tpm.chapter("Tries add up to maxTries, which is 3. No more is counted then.")
-    prepared = tpm.writing(FIRST, DATA, session, offset=2)
-    for tries, (what, buffer) in enumerate(cuts_of(prepared), 1):
-        refused(what, "AUTH_FAIL/s1" if tries <= 3 else "LOCKOUT", min(tries, 3), buffer)
-    refused("Whole", "LOCKOUT", 3, prepared.buffer())
-    tpm.unlocks()
-    comes_whole(prepared)
-
-    tpm.set_protection("TPM2_DictionaryAttackParameters: maxTries is 1", 1, 1000, 1000)
-    prepared = tpm.writing(FIRST, DATA, session, offset=2)
-    for what, buffer in cuts_of(prepared):
-        refused(what, "AUTH_FAIL/s1", TRY, buffer)
-        refused("Now it is locked: the same", "LOCKOUT", TRY, buffer)
-        refused_alone("And whole", "LOCKOUT", TRY, prepared.buffer())
-    comes_whole(prepared)
-
-
-def at_lockout_auth(session: Session) -> None:
-    tpm.chapter(
-        "TPM2_DictionaryAttackParameters by a session: a try at lockoutAuth counts nothing, and "
-        "closes it for lockoutRecovery, which is 1,000 seconds."
-    )
-    tpm('lockoutAuth is "lockout"').change_auth(RH_LOCKOUT, LOCKOUT, b"")
-    prepared = tpm.attack_parameters(3, 1000, 1000, session)
-    for what, buffer in cuts_of(prepared):
-        refused(what, "AUTH_FAIL/s1", NO_TRY, buffer)
-        refused("Now it is closed: the same", "LOCKOUT", NO_TRY, buffer)
-        refused("And whole", "LOCKOUT", NO_TRY, prepared.buffer())
-        tpm.wait(1_000_000)
-    comes_whole(prepared)
-
-
 said = tpm("A protected NV index, with a policy that asks for its value")
 said.define(area(FIRST, BY_VALUE | BY_POLICY, auth_policy=DEMANDING), auth=PIN)
 tpm.define("Protected bits", bits(SECOND, BY_VALUE), auth=PIN)
@@ -186,9 +115,62 @@ cut("TPM2_NV_Write by it", tpm.writing(FIRST, DATA, by_policy, offset=2))
 UNBOUND, OF_SHA1, BOUND, TO_OWNER, TOLD = unbound, sha1, bound, to_owner, told
 
 tpm("A session is flushed").flush(OF_SHA1)
-before_the_parameters(tpm.writing(FIRST, DATA, UNBOUND, offset=2))
-of_what_is_left(UNBOUND)
-up_to_lockout(UNBOUND)
+
+prepared = tpm.writing(FIRST, DATA, UNBOUND, offset=2)
+tpm.chapter(
+    "TPM2_NV_Write, cut before its parameters, with commandSize corrected, and anywhere, with "
+    "commandSize as it was. No hmac is compared, so that is no try."
+)
+whole = prepared.buffer()
+handles, area_end = HEADER_BYTES + HANDLES_BYTES, len(whole) - len(prepared.parameters)
+for words, start, end, outcome in (
+    ("Within authHandle", HEADER_BYTES, HEADER_BYTES + 4, "INSUFFICIENT/h1"),
+    ("Within nvIndex", HEADER_BYTES + 4, handles, "INSUFFICIENT/h2"),
+    ("Within the authorization area", handles, area_end, "AUTHSIZE"),
+):
+    shorter = [with_size(whole[:length]) for length in range(start, end)]
+    refused(words, outcome, NO_TRY, *shorter)
+as_it_was = [whole[:length] for length in range(len(whole))]
+refused("With commandSize as it was", "COMMAND_SIZE", NO_TRY, *as_it_was)
+comes_whole(prepared)
+
+
+# An entry that is right for what is left of the parameters: then they are what is refused.
+session = UNBOUND
+whole = frames.nv_write(DATA, 2)
+in_data = range(len(sized(DATA)))
+for words, use in (
+    ("An hmac that is made of what is left of the parameters", session),
+    ("The password", PIN),
+):
+    tpm.chapter(f"{words} is right: so the parameters are refused, and that is no try.")
+    for left in range(len(whole)):
+        prepared = tpm.prepare(CC.NV_Write, [FIRST, FIRST], whole[:left], use)
+        outcome = f"INSUFFICIENT/{'p1' if left in in_data else 'p2'}"
+        refused(f"{left} bytes are left", outcome, NO_TRY, prepared.buffer())
+tpm.chapter("A wrong password is a try, whatever is left.")
+for left in range(len(whole)):
+    prepared = tpm.prepare(CC.NV_Write, [FIRST, FIRST], whole[:left], b"x")
+    refused_alone(f"{left} bytes are left", "AUTH_FAIL/s1", TRY, prepared.buffer())
+
+
+session = UNBOUND
+tpm.chapter("Tries add up to maxTries, which is 3. No more is counted then.")
+prepared = tpm.writing(FIRST, DATA, session, offset=2)
+for tries, (what, buffer) in enumerate(cuts_of(prepared), 1):
+    refused(what, "AUTH_FAIL/s1" if tries <= 3 else "LOCKOUT", min(tries, 3), buffer)
+refused("Whole", "LOCKOUT", 3, prepared.buffer())
+tpm.unlocks()
+comes_whole(prepared)
+
+tpm.set_protection("TPM2_DictionaryAttackParameters: maxTries is 1", 1, 1000, 1000)
+prepared = tpm.writing(FIRST, DATA, session, offset=2)
+for what, buffer in cuts_of(prepared):
+    refused(what, "AUTH_FAIL/s1", TRY, buffer)
+    refused("Now it is locked: the same", "LOCKOUT", TRY, buffer)
+    refused_alone("And whole", "LOCKOUT", TRY, prepared.buffer())
+comes_whole(prepared)
+
 tpm.set_protection("maxTries is 3 again", 3, 1000, 1000)
 tpm.restarts(TOLD)
 by_each_command(UNBOUND, TOLD, KEY)
@@ -202,4 +184,17 @@ tpm('ownerAuth is "pin"').change_auth(RH_OWNER, PIN, b"")
 case = "TPM2_HierarchyChangeAuth of TPM_RH_OWNER"
 cut(case, tpm.change_auth(RH_OWNER, b"", session), "BAD_AUTH/s1", NO_TRY)
 
-at_lockout_auth(UNBOUND)
+
+session = UNBOUND
+tpm.chapter(
+    "TPM2_DictionaryAttackParameters by a session: a try at lockoutAuth counts nothing, and "
+    "closes it for lockoutRecovery, which is 1,000 seconds."
+)
+tpm('lockoutAuth is "lockout"').change_auth(RH_LOCKOUT, LOCKOUT, b"")
+prepared = tpm.attack_parameters(3, 1000, 1000, session)
+for what, buffer in cuts_of(prepared):
+    refused(what, "AUTH_FAIL/s1", NO_TRY, buffer)
+    refused("Now it is closed: the same", "LOCKOUT", NO_TRY, buffer)
+    refused("And whole", "LOCKOUT", NO_TRY, prepared.buffer())
+    tpm.wait(1_000_000)
+comes_whole(prepared)

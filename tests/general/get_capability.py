@@ -47,111 +47,6 @@ def borders(name, capability, wanted, whole):
         gives("All but the last", capability, wanted, len(whole) - 1, whole[:-1], more=True)
 
 
-def refusals():
-    asked = number(PROPERTIES, 4) + number(0x100, 4) + number(1, 4)
-    says("Before TPM2_Startup: INITIALIZE", command(CC.GetCapability, asked))
-    tpm.startup()
-    says("As it is asked for: SUCCESS", command(CC.GetCapability, asked))
-    for place in (1, 2, 3):
-        case = f"Cut within parameter {place}: INSUFFICIENT/p{place}"
-        says(case, *(command(CC.GetCapability, asked[: 4 * place - it]) for it in (4, 1)))
-    says("A byte behind them: SIZE", command(CC.GetCapability, asked + b"\0"))
-    says(
-        "Algorithms (0), and others that are not served: VALUE/p1",
-        *(
-            command(CC.GetCapability, number(it, 4) + asked[4:])
-            for it in (0, 3, 4, 7, 8, 9, 0x100, 0x0100_0001, MOST)
-        ),
-    )
-    case = "Such a one and a byte behind it: the bytes are looked at first: SIZE"
-    says(case, command(CC.GetCapability, bytes(13)))
-    says(
-        "Handles that begin with another byte than 00, 01, 02, 03, 40, 80 and 81: HANDLE/p2",
-        *(
-            command(CC.GetCapability, number(HANDLES, 4) + number(it << 24, 4) + number(count, 4))
-            for it in (0x04, 0x3F, 0x41, 0x7F, 0x82, 0x90, 0xFF)
-            for count in (0, 1)
-        ),
-    )
-    case = "A password, as there is nothing to authorize: HANDLE/s1"
-    says(case, command(CC.GetCapability, frames.area(frames.entry()) + asked, frames.SESSIONS))
-
-
-def sessions():
-    tpm.chapter("Sessions: those of every type are 02, by their places.")
-    borders("There is none", HANDLES, 0x0200_0000, [])
-    borders("Nor from its last one on", HANDLES, 0x02FF_FFFF, [])
-    kinds = SE_TRIAL, SE_HMAC, SE_POLICY, SE_HMAC
-    words = "A trial session", "An HMAC session", "A policy session", "An HMAC session"
-    held = [tpm.start(name, kind=kind) for name, kind in zip(words, kinds)]
-    handles = [it.handle for it in held]
-    assert handles == [0x0300_0000, 0x0200_0001, 0x0300_0002, 0x0200_0003]
-    borders("From 02000000", HANDLES, 0x0200_0000, handles)
-    borders("From 02000001", HANDLES, 0x0200_0001, handles[1:])
-    borders("From 02000003", HANDLES, 0x0200_0003, handles[3:])
-    borders("From 02000004", HANDLES, 0x0200_0004, [])
-    borders("03 are saved sessions, of which there are none", HANDLES, 0x0300_0000, [])
-    gives("From 03000002 on, too", HANDLES, 0x0300_0002, 1, [])
-    tpm("The third is flushed").flush(held[2])
-    borders("From 02000001", HANDLES, 0x0200_0001, [handles[1], handles[3]])
-    borders("From 02000002", HANDLES, 0x0200_0002, handles[3:])
-    for place in (2, *range(4, 16)):
-        tpm.start("All places are taken" if place == 2 else "", kind=SE_POLICY)
-    handles = [*handles[:2], 0x0300_0002, handles[3], *range(0x0300_0004, 0x0300_0010)]
-    borders("Sixteen sessions", HANDLES, 0x0200_0000, handles)
-    borders("From the last", HANDLES, 0x0200_000F, handles[15:])
-    tpm.power_cycle()
-    borders("A power cycle has ended them", HANDLES, 0x0200_0000, [])
-
-
-def indices():
-    tpm.chapter("NV indices, which are defined in no order.")
-    borders("There is none", HANDLES, 0x0100_0000, [])
-    handles = [0x01FF_FFFF, 0x0100_0000, 0x01C0_0002, 0x0180_0000, 0x0100_0001]
-    for index in handles:
-        tpm.define("Five indices" if index == handles[0] else "", area(index, BY_VALUE))
-    handles.sort()
-    borders("From 01000000", HANDLES, 0x0100_0000, handles)
-    borders("From the second", HANDLES, handles[1], handles[1:])
-    borders("From behind it", HANDLES, handles[1] + 1, handles[2:])
-    borders("From the last", HANDLES, handles[-1], handles[-1:])
-    for index in range(0x0100_1000, 0x0100_103B):
-        tpm.define("There are 64" if index == 0x0100_1000 else "", area(index, BY_VALUE))
-        handles.append(index)
-    handles.sort()
-    borders("From 01000000", HANDLES, 0x0100_0000, handles)
-    tpm("One is undefined").undefining(handles[7])
-    del handles[7]
-    borders("From 01000000", HANDLES, 0x0100_0000, handles)
-
-
-def pcrs():
-    tpm.chapter("PCRs: both banks have all of them, whatever property and count are.")
-    banks = number(frames.SHA1, 2) + b"\3\xff\xff\xff", number(frames.SHA256, 2) + b"\3\xff\xff\xff"
-    for wanted, count in ((0, 64), (0, 0), (0, 1), (1, 1), (MOST, MOST), (MOST, 0)):
-        words = f"Property {wanted:X}, count {count:X}"
-        given = tpm(words).capability(PCRS, wanted, count)
-        assert given == answer(PCRS, banks, more=False)
-
-
-def properties():
-    tpm.chapter(
-        "Properties: TPM_PT_FAMILY_INDICATOR (100), TPM_PT_TOTAL_COMMANDS (129), "
-        "TPM_PT_LOCKOUT_COUNTER (20E), TPM_PT_MAX_AUTH_FAIL (20F), TPM_PT_LOCKOUT_INTERVAL (210) "
-        "and TPM_PT_LOCKOUT_RECOVERY (211)."
-    )
-    family, total = (0x100, 0x322E3000), (0x129, len(ATTRIBUTES))
-    whole = [family, total, (0x20E, 0), (0x20F, 3), (0x210, 1000), (0x211, 1000)]
-    borders("From 0", PROPERTIES, 0, whole)
-    borders("From the first", PROPERTIES, 0x100, whole)
-    for at, (key, _) in enumerate(whole):
-        borders(f"From {key + 1:X}", PROPERTIES, key + 1, whole[at + 1 :])
-    gives("From FFFFFFFF", PROPERTIES, MOST, MOST, [])
-    tpm.set_protection("TPM2_DictionaryAttackParameters", 4, 0x12345678, 0xFFFFFFFE)
-    gives("The three", PROPERTIES, 0x20F, 3, [(0x20F, 4), (0x210, 0x12345678), (0x211, MOST - 1)])
-    tpm.set_protection("TPM2_DictionaryAttackParameters", 3, 1000, 1000)
-
-
 def tries():
     tpm.chapter("The tries that are counted (20E).")
     index = 0x0100_2000
@@ -198,7 +93,34 @@ def tries():
     are("None", 0)
 
 
-refusals()
+asked = number(PROPERTIES, 4) + number(0x100, 4) + number(1, 4)
+says("Before TPM2_Startup: INITIALIZE", command(CC.GetCapability, asked))
+tpm.startup()
+says("As it is asked for: SUCCESS", command(CC.GetCapability, asked))
+for place in (1, 2, 3):
+    case = f"Cut within parameter {place}: INSUFFICIENT/p{place}"
+    says(case, *(command(CC.GetCapability, asked[: 4 * place - it]) for it in (4, 1)))
+says("A byte behind them: SIZE", command(CC.GetCapability, asked + b"\0"))
+says(
+    "Algorithms (0), and others that are not served: VALUE/p1",
+    *(
+        command(CC.GetCapability, number(it, 4) + asked[4:])
+        for it in (0, 3, 4, 7, 8, 9, 0x100, 0x0100_0001, MOST)
+    ),
+)
+case = "Such a one and a byte behind it: the bytes are looked at first: SIZE"
+says(case, command(CC.GetCapability, bytes(13)))
+says(
+    "Handles that begin with another byte than 00, 01, 02, 03, 40, 80 and 81: HANDLE/p2",
+    *(
+        command(CC.GetCapability, number(HANDLES, 4) + number(it << 24, 4) + number(count, 4))
+        for it in (0x04, 0x3F, 0x41, 0x7F, 0x82, 0x90, 0xFF)
+        for count in (0, 1)
+    ),
+)
+case = "A password, as there is nothing to authorize: HANDLE/s1"
+says(case, command(CC.GetCapability, frames.area(frames.entry()) + asked, frames.SESSIONS))
+
 
 tpm.chapter("With a session.")
 session = tpm.start("An HMAC session with AES", aes=True)
@@ -228,7 +150,32 @@ borders("From the last", HANDLES, whole[-1], whole[-1:])
 borders("From behind it", HANDLES, whole[-1] + 1, [])
 gives("From the last one of the kind", HANDLES, 0x40FF_FFFF, 1, [])
 
-sessions()
+
+tpm.chapter("Sessions: those of every type are 02, by their places.")
+borders("There is none", HANDLES, 0x0200_0000, [])
+borders("Nor from its last one on", HANDLES, 0x02FF_FFFF, [])
+kinds = SE_TRIAL, SE_HMAC, SE_POLICY, SE_HMAC
+words = "A trial session", "An HMAC session", "A policy session", "An HMAC session"
+held = [tpm.start(name, kind=kind) for name, kind in zip(words, kinds)]
+handles = [it.handle for it in held]
+assert handles == [0x0300_0000, 0x0200_0001, 0x0300_0002, 0x0200_0003]
+borders("From 02000000", HANDLES, 0x0200_0000, handles)
+borders("From 02000001", HANDLES, 0x0200_0001, handles[1:])
+borders("From 02000003", HANDLES, 0x0200_0003, handles[3:])
+borders("From 02000004", HANDLES, 0x0200_0004, [])
+borders("03 are saved sessions, of which there are none", HANDLES, 0x0300_0000, [])
+gives("From 03000002 on, too", HANDLES, 0x0300_0002, 1, [])
+tpm("The third is flushed").flush(held[2])
+borders("From 02000001", HANDLES, 0x0200_0001, [handles[1], handles[3]])
+borders("From 02000002", HANDLES, 0x0200_0002, handles[3:])
+for place in (2, *range(4, 16)):
+    tpm.start("All places are taken" if place == 2 else "", kind=SE_POLICY)
+handles = [*handles[:2], 0x0300_0002, handles[3], *range(0x0300_0004, 0x0300_0010)]
+borders("Sixteen sessions", HANDLES, 0x0200_0000, handles)
+borders("From the last", HANDLES, 0x0200_000F, handles[15:])
+tpm.power_cycle()
+borders("A power cycle has ended them", HANDLES, 0x0200_0000, [])
+
 
 tpm.chapter("Transient objects.")
 borders("There is none", HANDLES, 0x8000_0000, [])
@@ -245,7 +192,26 @@ borders("From behind it", HANDLES, handles[3] + 1, [])
 borders("There is no persistent object", HANDLES, 0x8100_0000, [])
 gives("From the last one of the kind", HANDLES, 0x80FF_FFFF, 1, [])
 
-indices()
+
+tpm.chapter("NV indices, which are defined in no order.")
+borders("There is none", HANDLES, 0x0100_0000, [])
+handles = [0x01FF_FFFF, 0x0100_0000, 0x01C0_0002, 0x0180_0000, 0x0100_0001]
+for index in handles:
+    tpm.define("Five indices" if index == handles[0] else "", area(index, BY_VALUE))
+handles.sort()
+borders("From 01000000", HANDLES, 0x0100_0000, handles)
+borders("From the second", HANDLES, handles[1], handles[1:])
+borders("From behind it", HANDLES, handles[1] + 1, handles[2:])
+borders("From the last", HANDLES, handles[-1], handles[-1:])
+for index in range(0x0100_1000, 0x0100_103B):
+    tpm.define("There are 64" if index == 0x0100_1000 else "", area(index, BY_VALUE))
+    handles.append(index)
+handles.sort()
+borders("From 01000000", HANDLES, 0x0100_0000, handles)
+tpm("One is undefined").undefining(handles[7])
+del handles[7]
+borders("From 01000000", HANDLES, 0x0100_0000, handles)
+
 
 tpm.chapter("Commands, by their codes; the attributes are answered.")
 borders("From 0", COMMANDS, 0, ATTRIBUTES)
@@ -266,6 +232,29 @@ for at, attributes in enumerate(ATTRIBUTES):
     is_more = at + 2 < len(ATTRIBUTES)
     gives("From behind each" if not at else "", COMMANDS, code, 1, following, is_more)
 
-pcrs()
-properties()
+
+tpm.chapter("PCRs: both banks have all of them, whatever property and count are.")
+banks = number(frames.SHA1, 2) + b"\3\xff\xff\xff", number(frames.SHA256, 2) + b"\3\xff\xff\xff"
+for wanted, count in ((0, 64), (0, 0), (0, 1), (1, 1), (MOST, MOST), (MOST, 0)):
+    words = f"Property {wanted:X}, count {count:X}"
+    given = tpm(words).capability(PCRS, wanted, count)
+    assert given == answer(PCRS, banks, more=False)
+
+
+tpm.chapter(
+    "Properties: TPM_PT_FAMILY_INDICATOR (100), TPM_PT_TOTAL_COMMANDS (129), "
+    "TPM_PT_LOCKOUT_COUNTER (20E), TPM_PT_MAX_AUTH_FAIL (20F), TPM_PT_LOCKOUT_INTERVAL (210) "
+    "and TPM_PT_LOCKOUT_RECOVERY (211)."
+)
+family, total = (0x100, 0x322E3000), (0x129, len(ATTRIBUTES))
+whole = [family, total, (0x20E, 0), (0x20F, 3), (0x210, 1000), (0x211, 1000)]
+borders("From 0", PROPERTIES, 0, whole)
+borders("From the first", PROPERTIES, 0x100, whole)
+for at, (key, _) in enumerate(whole):
+    borders(f"From {key + 1:X}", PROPERTIES, key + 1, whole[at + 1 :])
+gives("From FFFFFFFF", PROPERTIES, MOST, MOST, [])
+tpm.set_protection("TPM2_DictionaryAttackParameters", 4, 0x12345678, 0xFFFFFFFE)
+gives("The three", PROPERTIES, 0x20F, 3, [(0x20F, 4), (0x210, 0x12345678), (0x211, MOST - 1)])
+tpm.set_protection("TPM2_DictionaryAttackParameters", 3, 1000, 1000)
+
 tries()

@@ -37,14 +37,6 @@ def restart(kind, words):
     tpm.start_up(f"TPM2_Startup({'STATE' if kind else 'CLEAR'}), {words}", kind)
 
 
-def policies():
-    tpm.chapter("A policy that was told before has no session any more.")
-    policy = tpm.policy("A policy session")
-    tpm("TPM2_PolicyPCR of PCR 3").pcrs(policy, [(SHA256, [3])])
-    restart(STATE, "a resume")
-    tpm("TPM2_PolicyGetDigest: REFERENCE_H0").get_digest(policy)
-
-
 def null_name(what):
     handle = tpm.create_primary(what, RH_NULL, storage_key())
     name = tpm.names[handle]
@@ -103,7 +95,13 @@ for kind, words in ((SE_HMAC, "HMAC"), (SE_POLICY, "policy"), (SE_TRIAL, "trial"
     tpm.start(f"A new {words} session has the next place", kind=kind)
 tpm.power_cycle()
 
-policies()
+
+tpm.chapter("A policy that was told before has no session any more.")
+policy = tpm.policy("A policy session")
+tpm("TPM2_PolicyPCR of PCR 3").pcrs(policy, [(SHA256, [3])])
+restart(STATE, "a resume")
+tpm("TPM2_PolicyGetDigest: REFERENCE_H0").get_digest(policy)
+
 
 tpm.chapter("platformAuth, and the primary seed of the null hierarchy.")
 name = null_name("A primary object of TPM_RH_NULL")

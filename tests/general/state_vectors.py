@@ -36,54 +36,6 @@ def tries_are(what, tries):
     answered(what, "SUCCESS", READ_TRIES, wanted)
 
 
-def passwords():
-    tpm.chapter("Passwords count without their trailing zeros; and which wrong ones are tries.")
-    change = "8002 {:08X} 00000129 40000001 {:08X} 40000009 0000 01 {} 0003 616263"
-    answered('ownerAuth is "abc"', "SUCCESS", change.format(0x20, 9, "0000"), OK)
-    answered("61626300 is it too", "SUCCESS", change.format(0x24, 13, "0004 61626300"), OK)
-    other = change.format(0x23, 12, "0003 616264")
-    answered('"abd" is not, and no try', "BAD_AUTH/s1", other, code(0x9A2))
-    tries_are("None", 0)
-    template = sealed(attributes=ObjectAttribute.USER_WITH_AUTH)
-    said = tpm("A sealed object without noDA")
-    handle = said.create_primary(RH_NULL, template, user_auth=b"pin", data=b"data")
-    assert handle == 0x8000_0000
-    answered(
-        "TPM2_Unseal by a wrong password",
-        "AUTH_FAIL/s1",
-        "8002 0000001C 0000015E 80000000 0000000A 40000009 0000 01 0001 78",
-        code(0x98E),
-    )
-    tries_are("One", 1)
-
-
-def saved():
-    tpm.chapter("PCR 3 and 16 are extended, and TPM2_Shutdown(STATE) saves the first of them.")
-    extend = "8002 00000041 00000182 {:08X} " + PW + " 00000001 000B " + "00" * 32
-    extended = "f5a5fd42d16a20302798ef6ed309979b43003d2320d9f0e8ea9831a92759fb4b"
-    answered("TPM2_PCR_Extend of PCR 3 by zeros", "SUCCESS", extend.format(3), OK)
-    answered("Of PCR 16", "SUCCESS", extend.format(16), OK)
-    session = tpm.policy("A policy session")
-    assert session.handle == 0x0300_0002
-    answered("TPM2_Shutdown(STATE)", "SUCCESS", SHUTDOWN_STATE, SUCCESS)
-    tpm.power()
-    answered("TPM2_Startup(STATE)", "SUCCESS", STARTUP_STATE, SUCCESS)
-    answered(
-        "TPM2_PCR_Read of PCR 3 and 16: the first as before, the second zeros",
-        "SUCCESS",
-        "8001 00000014 0000017E 00000001 000B 03 080001",
-        "8001 00000060 00000000 00000000 00000001 000B 03 080001 00000002 "
-        f"0020 {extended} 0020 {'00' * 32}",
-    )
-    answered("The old session", "REFERENCE_H0", "8001 0000000E 00000189 03000002", code(0x910))
-    tpm.chapter("With TPM2_PCR_Extend behind TPM2_Shutdown.")
-    answered("TPM2_Shutdown(STATE)", "SUCCESS", SHUTDOWN_STATE, SUCCESS)
-    answered("TPM2_PCR_Extend of PCR 3", "SUCCESS", extend.format(3), OK)
-    tpm.power()
-    answered("TPM2_Startup(STATE)", "VALUE/p1", STARTUP_STATE, code(0x1C4))
-    answered("TPM2_Startup(CLEAR)", "SUCCESS", STARTUP, SUCCESS)
-
-
 answered("TPM2_Startup(CLEAR)", "SUCCESS", STARTUP, SUCCESS)
 tpm.wait(5)
 answered(
@@ -180,7 +132,26 @@ answered("The same buffer", "AUTH_FAIL/s1", write.buffer().hex(), code(0x98E))
 tries_are("One try", 1)
 tpm.unlocks()
 
-passwords()
+
+tpm.chapter("Passwords count without their trailing zeros; and which wrong ones are tries.")
+change = "8002 {:08X} 00000129 40000001 {:08X} 40000009 0000 01 {} 0003 616263"
+answered('ownerAuth is "abc"', "SUCCESS", change.format(0x20, 9, "0000"), OK)
+answered("61626300 is it too", "SUCCESS", change.format(0x24, 13, "0004 61626300"), OK)
+other = change.format(0x23, 12, "0003 616264")
+answered('"abd" is not, and no try', "BAD_AUTH/s1", other, code(0x9A2))
+tries_are("None", 0)
+template = sealed(attributes=ObjectAttribute.USER_WITH_AUTH)
+said = tpm("A sealed object without noDA")
+handle = said.create_primary(RH_NULL, template, user_auth=b"pin", data=b"data")
+assert handle == 0x8000_0000
+answered(
+    "TPM2_Unseal by a wrong password",
+    "AUTH_FAIL/s1",
+    "8002 0000001C 0000015E 80000000 0000000A 40000009 0000 01 0001 78",
+    code(0x98E),
+)
+tries_are("One", 1)
+
 
 tpm.chapter("maxTries 3 and recoveryTime 1000, which are those of a new device.")
 unseal = "8002 {:08X} 0000015E 80000000 {:08X} 40000009 0000 01 {}"
@@ -196,4 +167,28 @@ tpm.wait(1)
 answered("One more", "SUCCESS", right, opened)
 tries_are("Two", 2)
 
-saved()
+
+tpm.chapter("PCR 3 and 16 are extended, and TPM2_Shutdown(STATE) saves the first of them.")
+extend = "8002 00000041 00000182 {:08X} " + PW + " 00000001 000B " + "00" * 32
+extended = "f5a5fd42d16a20302798ef6ed309979b43003d2320d9f0e8ea9831a92759fb4b"
+answered("TPM2_PCR_Extend of PCR 3 by zeros", "SUCCESS", extend.format(3), OK)
+answered("Of PCR 16", "SUCCESS", extend.format(16), OK)
+session = tpm.policy("A policy session")
+assert session.handle == 0x0300_0002
+answered("TPM2_Shutdown(STATE)", "SUCCESS", SHUTDOWN_STATE, SUCCESS)
+tpm.power()
+answered("TPM2_Startup(STATE)", "SUCCESS", STARTUP_STATE, SUCCESS)
+answered(
+    "TPM2_PCR_Read of PCR 3 and 16: the first as before, the second zeros",
+    "SUCCESS",
+    "8001 00000014 0000017E 00000001 000B 03 080001",
+    "8001 00000060 00000000 00000000 00000001 000B 03 080001 00000002 "
+    f"0020 {extended} 0020 {'00' * 32}",
+)
+answered("The old session", "REFERENCE_H0", "8001 0000000E 00000189 03000002", code(0x910))
+tpm.chapter("With TPM2_PCR_Extend behind TPM2_Shutdown.")
+answered("TPM2_Shutdown(STATE)", "SUCCESS", SHUTDOWN_STATE, SUCCESS)
+answered("TPM2_PCR_Extend of PCR 3", "SUCCESS", extend.format(3), OK)
+tpm.power()
+answered("TPM2_Startup(STATE)", "VALUE/p1", STARTUP_STATE, code(0x1C4))
+answered("TPM2_Startup(CLEAR)", "SUCCESS", STARTUP, SUCCESS)

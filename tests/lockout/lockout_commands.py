@@ -36,34 +36,6 @@ def tries(name, prepare, outcome="SUCCESS"):
     unlock()
 
 
-def indices():
-    tpm.chapter("NV indices.")
-    for words, public in (
-        ("An ordinary one with locks", area(FIRST, BY_VALUE | LOCKS)),
-        ("A counter", counter(SECOND, BY_VALUE)),
-        ("Bits", bits(THIRD, BY_VALUE)),
-        ("One that is extended", extended(FOURTH, BY_VALUE)),
-        ("One with a policy for TPM2_NV_ChangeAuth", area(FIFTH, BY_POLICY, auth_policy=CHANGING)),
-    ):
-        tpm.define(words, public, auth=PIN)
-    session = tpm.policy("A policy session")
-    tries("NV_Write", lambda: tpm.writing(FIRST, DATA))
-    tries("NV_Write past the end", lambda: tpm.writing(FIRST, DATA, offset=5), "NV_RANGE")
-    tries("NV_Read", lambda: tpm.reading(FIRST, 4))
-    tries("NV_Increment", lambda: tpm.incrementing(SECOND))
-    tries("NV_SetBits", lambda: tpm.setting(THIRD, 1))
-    tries("NV_Extend", lambda: tpm.extending(FOURTH, DATA))
-    tries("PolicySecret of an index", lambda: tpm.secret(session, PIN, of=FIRST))
-    tries("PolicyNV", lambda: tpm.comparing(session, FIRST, DATA))
-    tries("PolicyNV that does not hold", lambda: tpm.comparing(session, FIRST, b"x"), "POLICY")
-    other = "NV_Write of another index than the one that authorizes"
-    tries(other, lambda: tpm.writing(THIRD, DATA, PIN, by=FIRST), "NV_AUTHORIZATION")
-    tries("NV_WriteLock", lambda: tpm.write_locking(FIRST))
-    tries("NV_Write of what is locked", lambda: tpm.writing(FIRST, DATA), "NV_LOCKED")
-    tries("NV_ReadLock", lambda: tpm.read_locking(FIRST))
-    tpm("The session is flushed").flush(session)
-
-
 def change_auth():
     told = tpm.policy("A policy session")
 
@@ -98,7 +70,33 @@ tries("Unseal of an HMAC key", lambda: tpm.unsealing(KEY), "ATTRIBUTES/h1")
 session = tpm.policy("A policy session")
 tries("PolicySecret of an object", lambda: tpm.secret(session, PIN, of=SEALED))
 
-indices()
+
+tpm.chapter("NV indices.")
+for words, public in (
+    ("An ordinary one with locks", area(FIRST, BY_VALUE | LOCKS)),
+    ("A counter", counter(SECOND, BY_VALUE)),
+    ("Bits", bits(THIRD, BY_VALUE)),
+    ("One that is extended", extended(FOURTH, BY_VALUE)),
+    ("One with a policy for TPM2_NV_ChangeAuth", area(FIFTH, BY_POLICY, auth_policy=CHANGING)),
+):
+    tpm.define(words, public, auth=PIN)
+session = tpm.policy("A policy session")
+tries("NV_Write", lambda: tpm.writing(FIRST, DATA))
+tries("NV_Write past the end", lambda: tpm.writing(FIRST, DATA, offset=5), "NV_RANGE")
+tries("NV_Read", lambda: tpm.reading(FIRST, 4))
+tries("NV_Increment", lambda: tpm.incrementing(SECOND))
+tries("NV_SetBits", lambda: tpm.setting(THIRD, 1))
+tries("NV_Extend", lambda: tpm.extending(FOURTH, DATA))
+tries("PolicySecret of an index", lambda: tpm.secret(session, PIN, of=FIRST))
+tries("PolicyNV", lambda: tpm.comparing(session, FIRST, DATA))
+tries("PolicyNV that does not hold", lambda: tpm.comparing(session, FIRST, b"x"), "POLICY")
+other = "NV_Write of another index than the one that authorizes"
+tries(other, lambda: tpm.writing(THIRD, DATA, PIN, by=FIRST), "NV_AUTHORIZATION")
+tries("NV_WriteLock", lambda: tpm.write_locking(FIRST))
+tries("NV_Write of what is locked", lambda: tpm.writing(FIRST, DATA), "NV_LOCKED")
+tries("NV_ReadLock", lambda: tpm.read_locking(FIRST))
+tpm("The session is flushed").flush(session)
+
 change_auth()
 
 tpm.chapter("A command makes one try at most, whichever of its entries are wrong.")

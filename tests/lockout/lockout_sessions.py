@@ -95,13 +95,7 @@ def check(name, handle, use):
         if way.tell:
             tpm.restarts(sessions[4])
         tpm.unlocks()
-    not_a_try(name, handle, sessions)
-    for session in sessions:
-        tpm("It is flushed" if session is sessions[0] else "").flush(session)
-
-
-def not_a_try(name, handle, sessions):
-    """The ways that have nothing to do with a protected value are open while it is locked."""
+    # The ways that have nothing to do with a protected value are open while it is locked.
     unbound, to_owner, bound, to_lockout, told, bound_policy = sessions
     tpm.chapter(f"What is no try, {name}.")
     others = (
@@ -121,6 +115,8 @@ def not_a_try(name, handle, sessions):
     tpm("Bound to TPM_RH_LOCKOUT, on PCR 16").reset(to_lockout)
     said = tpm("Bound to the entity, on TPM_RH_LOCKOUT: lockoutAuth is what is tried there")
     said.lock_reset(bound)
+    for session in sessions:
+        tpm("It is flushed" if session is sessions[0] else "").flush(session)
 
 
 def policy_without_value():

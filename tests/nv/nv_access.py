@@ -39,17 +39,13 @@ def each_asker(what, allowed, prepare):
     tpm.fails(f"Another index that can be written, {what}: NV_AUTHORIZATION", prepare(SECOND))
 
 
-def changes(what, public, change, allowed):
-    tpm.define(what, public, auth=b"a")
-    each_asker("TPM2_NV_WriteLock", allowed, lambda by: tpm.write_locking(FIRST, by=by))
-    tpm.power_cycle()
-    each_asker("its change", allowed, lambda by: change(FIRST, by=by))
-    tpm.is_now("TPM2_NV_ReadPublic", FIRST, cleared=NvAttribute.WRITELOCKED)
-    tpm("It is undefined").undefining(FIRST)
-
-
-def may_write(attribute, allowed):
-    """All changes ask for the same attribute."""
+tpm.startup()
+tpm.define("Another index, which can be used by its value", area(SECOND, BY_VALUE), auth=b"b")
+tpm("It is written").writing(SECOND, b"other...")
+for write, read, allowed in ALLOWED:
+    tpm.chapter(f"{write.name} alone.")
+    # All changes ask for the same attribute.
+    attribute = write
     for name, make, change in (
         ("An ordinary index", area, lambda it, by: tpm.writing(it, b"x", by=by)),
         ("A counter", counter, tpm.incrementing),
@@ -57,10 +53,16 @@ def may_write(attribute, allowed):
         ("One that is extended", extended, lambda it, by: tpm.extending(it, b"x", by=by)),
     ):
         public = make(FIRST, attribute | nv.READS | LOCKS)
-        changes(f"{name} with {attribute.name} and all that allow to read", public, change, allowed)
-
-
-def may_read(attribute, allowed):
+        what = f"{name} with {attribute.name} and all that allow to read"
+        tpm.define(what, public, auth=b"a")
+        each_asker("TPM2_NV_WriteLock", allowed, lambda by: tpm.write_locking(FIRST, by=by))
+        tpm.power_cycle()
+        each_asker("its change", allowed, lambda by: change(FIRST, by=by))
+        tpm.is_now("TPM2_NV_ReadPublic", FIRST, cleared=NvAttribute.WRITELOCKED)
+        tpm("It is undefined").undefining(FIRST)
+for write, read, allowed in ALLOWED:
+    tpm.chapter(f"{read.name} alone.")
+    attribute = read
     public = area(FIRST, attribute | nv.WRITES | LOCKS)
     tpm.define(f"{attribute.name}, and all that allow to write", public, auth=b"a")
     tpm("TPM2_NV_Write").writing(FIRST, b"written.")
@@ -74,17 +76,6 @@ def may_read(attribute, allowed):
     tpm("It is flushed").flush(session)
     each_asker("TPM2_NV_ReadLock", allowed, lambda by: tpm.read_locking(FIRST, by=by))
     tpm("It is undefined").undefining(FIRST)
-
-
-tpm.startup()
-tpm.define("Another index, which can be used by its value", area(SECOND, BY_VALUE), auth=b"b")
-tpm("It is written").writing(SECOND, b"other...")
-for write, read, allowed in ALLOWED:
-    tpm.chapter(f"{write.name} alone.")
-    may_write(write, allowed)
-for write, read, allowed in ALLOWED:
-    tpm.chapter(f"{read.name} alone.")
-    may_read(read, allowed)
 
 tpm.chapter("Another index as authHandle: its own attributes say whether it authorizes at all.")
 tpm.define("The index that is asked for", area(FIRST, BY_VALUE), auth=b"a")

@@ -87,102 +87,6 @@ def sizes():
             fitting(f"Of {each} bytes", of(size=each))
 
 
-def attributes():
-    tpm.chapter("Types.")
-    unfitting(
-        "Every type but ordinary 0, counter 1, bits 2 and extend 4, whatever the size: "
-        "ATTRIBUTES/p2",
-        *(area(kind=it) for it in range(16) if it not in list(Type)),
-    )
-    tpm.chapter("Attributes.")
-    unfitting(
-        "POLICY_DELETE, WRITELOCKED, GLOBALLOCK, ORDERLY, READLOCKED and WRITTEN: ATTRIBUTES/p2",
-        *(area(attributes=BY_OWNER | it) for it in NvAttribute if it & nv_commands.NOT_DEFINED),
-    )
-    unfitting(
-        "No attribute that allows to write: ATTRIBUTES/p2",
-        area(attributes=0),
-        *(area(attributes=it) for it in NvAttribute if it & nv.READS),
-        area(attributes=nv.READS),
-    )
-    unfitting(
-        "None that allows to read: ATTRIBUTES/p2",
-        *(area(attributes=it) for it in NvAttribute if it & nv.WRITES),
-        area(attributes=nv.WRITES),
-    )
-    clears = NvAttribute.CLEAR_STCLEAR
-    unfitting("A counter with CLEAR_STCLEAR: ATTRIBUTES/p2", counter(attributes=BY_OWNER | clears))
-    for make, name in ((bits, "Bits"), (extended, "An index that is extended,")):
-        fitting(f"{name} with it", make(attributes=BY_OWNER | clears))
-    for each in NvAttribute:
-        if each & nv.WRITES:
-            fitting(f"{each.name} and OWNERREAD", area(attributes=each | NvAttribute.OWNERREAD))
-        elif each & nv.READS:
-            fitting(f"OWNERWRITE and {each.name}", area(attributes=each | NvAttribute.OWNERWRITE))
-        elif not each & nv_commands.NOT_DEFINED and each != CREATED:
-            fitting(f"OWNERWRITE, OWNERREAD and {each.name}", area(attributes=each | BY_OWNER))
-    every = nv.NAMED & ~nv_commands.NOT_DEFINED & ~CREATED & ~nv.of_type(nv.TYPE_MASK)
-    fitting("All of these", area(attributes=every))
-
-
-def limit_of_numbers():
-    tpm.chapter("There are at most 64 indices, by whomever they are defined.")
-    every = range(FIRST, FIRST + 64)
-    for index in every:
-        by = RH_PLATFORM if index % 2 else RH_OWNER
-        public = area(index, BY_OWNER | (CREATED if index % 2 else 0))
-        words = {FIRST: "64 of them, of eight bytes", FIRST + 32: "The 33rd of them"}
-        tpm.define(words.get(index, ""), public, by=by)
-    case = "A 65th, of eight bytes or of none: NV_SPACE"
-    unfitting(case, area(0x0100_0100), area(0x0100_0100, size=0))
-    unfitting("One that is there: NV_DEFINED", area(FIRST + 1))
-    tpm.power_cycle()
-    unfitting("One more after a power cycle: NV_SPACE", area(0x0100_0100))
-    tpm("One is undefined").undefining(FIRST + 7)
-    tpm.define("And another one defined", area(0x0100_0100))
-    unfitting("But no second one: NV_SPACE", area(FIRST + 7))
-    for index in (*every, 0x0100_0100):
-        if index != FIRST + 7:
-            by = RH_PLATFORM if index in every and index % 2 else RH_OWNER
-            what = "All are undefined" if index == FIRST else ""
-            tpm(what).undefining(index, by=by)
-
-
-def limit_of_bytes():
-    tpm.chapter("All have at most 16,384 bytes, whether they are written or not.")
-    every = range(FIRST, FIRST + 8)
-    values = {it: bytes([it & 0xFF]) * 2048 for it in every}
-    for index in every:
-        tpm.define("" if index > FIRST else "Eight of 2,048 bytes", area(index, size=2048))
-    unfitting("A ninth, of a byte: NV_SPACE", area(FIRST + 8, size=1))
-    for index in every:
-        for half in (0, 1024):
-            what = "All are written, each in two halves" if (index, half) == (FIRST, 0) else ""
-            part = values[index][half : half + 1024]
-            tpm(what).writing(index, part, offset=half)
-    unfitting("Another one, of a byte: NV_SPACE", area(FIRST + 8, size=1))
-    tpm("The second is undefined").undefining(FIRST + 1)
-    unfitting("One of 2,049 bytes: SIZE/p2", area(FIRST + 8, size=2049))
-    for index in (FIRST + 8, FIRST + 9):
-        what = "Two of 1,024 bytes are defined" if index == FIRST + 8 else ""
-        tpm.define(what, area(index, size=1024))
-    unfitting("One of a byte: NV_SPACE", area(FIRST + 1, size=1))
-    tpm.define("One of no bytes", area(FIRST + 1, size=0))
-    for index in every:
-        if index == FIRST + 1:
-            continue
-        for half in (0, 1024):
-            what = "The others read as written" if (index, half) == (FIRST, 0) else ""
-            tpm.read(what, index, values[index][half : half + 1024], offset=half)
-    tpm("The last one is undefined").undefining(FIRST + 9)
-    unfitting("One of 1,025 bytes: NV_SPACE", area(FIRST + 9, size=1025))
-    tpm.define("One of 1,016", area(FIRST + 9, size=1016))
-    unfitting("One of nine: NV_SPACE", area(FIRST + 10, size=9))
-    tpm.define("A counter, which fills the space", counter(FIRST + 10))
-    unfitting("Bits: NV_SPACE", bits(FIRST + 11))
-    unfitting("An index that is extended: NV_SPACE", extended(FIRST + 11))
-
-
 tpm.chapter("The parameters: auth and publicInfo.")
 good = sized(area().text)
 said = tpm("auth that is cut: before its size, within it, and within its bytes: INSUFFICIENT/p1")
@@ -222,7 +126,43 @@ said.fails(raw(empty + sized(number(0, 6))))
 
 handles()
 sizes()
-attributes()
+
+tpm.chapter("Types.")
+unfitting(
+    "Every type but ordinary 0, counter 1, bits 2 and extend 4, whatever the size: "
+    "ATTRIBUTES/p2",
+    *(area(kind=it) for it in range(16) if it not in list(Type)),
+)
+tpm.chapter("Attributes.")
+unfitting(
+    "POLICY_DELETE, WRITELOCKED, GLOBALLOCK, ORDERLY, READLOCKED and WRITTEN: ATTRIBUTES/p2",
+    *(area(attributes=BY_OWNER | it) for it in NvAttribute if it & nv_commands.NOT_DEFINED),
+)
+unfitting(
+    "No attribute that allows to write: ATTRIBUTES/p2",
+    area(attributes=0),
+    *(area(attributes=it) for it in NvAttribute if it & nv.READS),
+    area(attributes=nv.READS),
+)
+unfitting(
+    "None that allows to read: ATTRIBUTES/p2",
+    *(area(attributes=it) for it in NvAttribute if it & nv.WRITES),
+    area(attributes=nv.WRITES),
+)
+clears = NvAttribute.CLEAR_STCLEAR
+unfitting("A counter with CLEAR_STCLEAR: ATTRIBUTES/p2", counter(attributes=BY_OWNER | clears))
+for make, name in ((bits, "Bits"), (extended, "An index that is extended,")):
+    fitting(f"{name} with it", make(attributes=BY_OWNER | clears))
+for each in NvAttribute:
+    if each & nv.WRITES:
+        fitting(f"{each.name} and OWNERREAD", area(attributes=each | NvAttribute.OWNERREAD))
+    elif each & nv.READS:
+        fitting(f"OWNERWRITE and {each.name}", area(attributes=each | NvAttribute.OWNERWRITE))
+    elif not each & nv_commands.NOT_DEFINED and each != CREATED:
+        fitting(f"OWNERWRITE, OWNERREAD and {each.name}", area(attributes=each | BY_OWNER))
+every = nv.NAMED & ~nv_commands.NOT_DEFINED & ~CREATED & ~nv.of_type(nv.TYPE_MASK)
+fitting("All of these", area(attributes=every))
+
 
 tpm.chapter("Numbers of indices.")
 for each in (0x0100_0000, 0x0140_0001, 0x01C0_0000, 0x01FF_FFFF):
@@ -232,5 +172,58 @@ unfitting("The same, or with anything else in it: NV_DEFINED", area(), counter()
 unfitting("Also by the platform: NV_DEFINED", area(attributes=BY_OWNER | CREATED), by=RH_PLATFORM)
 tpm("It is undefined").undefining(FIRST)
 
-limit_of_numbers()
-limit_of_bytes()
+
+tpm.chapter("There are at most 64 indices, by whomever they are defined.")
+every = range(FIRST, FIRST + 64)
+for index in every:
+    by = RH_PLATFORM if index % 2 else RH_OWNER
+    public = area(index, BY_OWNER | (CREATED if index % 2 else 0))
+    words = {FIRST: "64 of them, of eight bytes", FIRST + 32: "The 33rd of them"}
+    tpm.define(words.get(index, ""), public, by=by)
+case = "A 65th, of eight bytes or of none: NV_SPACE"
+unfitting(case, area(0x0100_0100), area(0x0100_0100, size=0))
+unfitting("One that is there: NV_DEFINED", area(FIRST + 1))
+tpm.power_cycle()
+unfitting("One more after a power cycle: NV_SPACE", area(0x0100_0100))
+tpm("One is undefined").undefining(FIRST + 7)
+tpm.define("And another one defined", area(0x0100_0100))
+unfitting("But no second one: NV_SPACE", area(FIRST + 7))
+for index in (*every, 0x0100_0100):
+    if index != FIRST + 7:
+        by = RH_PLATFORM if index in every and index % 2 else RH_OWNER
+        what = "All are undefined" if index == FIRST else ""
+        tpm(what).undefining(index, by=by)
+
+
+tpm.chapter("All have at most 16,384 bytes, whether they are written or not.")
+every = range(FIRST, FIRST + 8)
+values = {it: bytes([it & 0xFF]) * 2048 for it in every}
+for index in every:
+    tpm.define("" if index > FIRST else "Eight of 2,048 bytes", area(index, size=2048))
+unfitting("A ninth, of a byte: NV_SPACE", area(FIRST + 8, size=1))
+for index in every:
+    for half in (0, 1024):
+        what = "All are written, each in two halves" if (index, half) == (FIRST, 0) else ""
+        part = values[index][half : half + 1024]
+        tpm(what).writing(index, part, offset=half)
+unfitting("Another one, of a byte: NV_SPACE", area(FIRST + 8, size=1))
+tpm("The second is undefined").undefining(FIRST + 1)
+unfitting("One of 2,049 bytes: SIZE/p2", area(FIRST + 8, size=2049))
+for index in (FIRST + 8, FIRST + 9):
+    what = "Two of 1,024 bytes are defined" if index == FIRST + 8 else ""
+    tpm.define(what, area(index, size=1024))
+unfitting("One of a byte: NV_SPACE", area(FIRST + 1, size=1))
+tpm.define("One of no bytes", area(FIRST + 1, size=0))
+for index in every:
+    if index == FIRST + 1:
+        continue
+    for half in (0, 1024):
+        what = "The others read as written" if (index, half) == (FIRST, 0) else ""
+        tpm.read(what, index, values[index][half : half + 1024], offset=half)
+tpm("The last one is undefined").undefining(FIRST + 9)
+unfitting("One of 1,025 bytes: NV_SPACE", area(FIRST + 9, size=1025))
+tpm.define("One of 1,016", area(FIRST + 9, size=1016))
+unfitting("One of nine: NV_SPACE", area(FIRST + 10, size=9))
+tpm.define("A counter, which fills the space", counter(FIRST + 10))
+unfitting("Bits: NV_SPACE", bits(FIRST + 11))
+unfitting("An index that is extended: NV_SPACE", extended(FIRST + 11))

@@ -8,18 +8,17 @@ tpm = Teller(__name__, __doc__, starts=False)
 PUBLIC = area(FIRST, BY_VALUE)
 
 
-def spelled(prepared, wanted):
-    """The command is the one that these hex digits spell."""
-    assert prepared.buffer() == bytes.fromhex(wanted), prepared.buffer().hex()
-    return prepared
-
-
 tpm.startup()
-defining = spelled(
-    tpm.defining(PUBLIC, auth=b"a"),
+
+# The command is the one that these hex digits spell.
+prepared = tpm.defining(PUBLIC, auth=b"a")
+wanted = (
     "8002 0000002E 0000012A 40000001 00000009 40000009 0000 01 0000"
-    "0001 61 000E 01000001 000B 00040004 0000 0008",
+    "0001 61 000E 01000001 000B 00040004 0000 0008"
 )
+assert prepared.buffer() == bytes.fromhex(wanted), prepared.buffer().hex()
+defining = prepared
+
 tpm.define("TPM2_NV_DefineSpace by the owner, whose value is empty", PUBLIC, auth=b"a")
 tpm.fails("The same again: NV_DEFINED", defining)
 tpm.is_now("TPM2_NV_ReadPublic, which needs no authorization", FIRST)

@@ -31,49 +31,6 @@ LOCKING = tuple(it for it in COMMANDS if it[0].endswith("Lock"))
 USES = tuple(it for it in COMMANDS if it not in LOCKING)
 
 
-def availability():
-    tpm.chapter("Which attribute lets what authorize: the others do not.")
-    session = tpm.policy("A policy session")
-    hmac = tpm.start("An HMAC session")
-    for what, attributes in (
-        ("POLICYWRITE and what allows all others to read", POLICYWRITE | nv.READS & ~POLICYREAD),
-        ("POLICYREAD and what allows all others to write", POLICYREAD | nv.WRITES & ~POLICYWRITE),
-    ):
-        writes = bool(attributes & POLICYWRITE)
-        public = area(FIRST, attributes | LOCKS, auth_policy=after_auth_value())
-        tpm.define(what, public, auth=b"a")
-        for name, is_reading, prepare in COMMANDS:
-            if is_reading == writes:
-                tpm("TPM2_PolicyAuthValue").auth_value_told(session)
-                said = tpm(f"{name} by the policy: AUTH_UNAVAILABLE")
-                said.fails(prepare(Use(session, demand=AUTH_VALUE)))
-                tpm.restarts(session)
-            else:
-                tpm.fails(f"{name} by the password: AUTH_UNAVAILABLE", prepare(b"a"))
-                said = tpm("By a wrong one, or an HMAC session: AUTH_UNAVAILABLE")
-                said.fails(prepare(b"x"), prepare(hmac))
-        tpm.undefines(FIRST)
-
-    tpm.chapter("With all attributes and without a policy.")
-    tpm.define("The index", area(FIRST, nv.WRITES | nv.READS | LOCKS), auth=b"a")
-    for name, _, prepare in COMMANDS:
-        tpm.fails(f"{name} by a policy session: AUTH_UNAVAILABLE", prepare(session))
-    for name, _, prepare in USES:
-        tpm.does(f"{name} by the password", prepare(b"a"))
-    tpm("TPM2_PolicyRestart of the session that was told").restart(told)
-    tpm.undefines(FIRST)
-
-    tpm.chapter("With all attributes and a policy, each way is open.")
-    public = area(FIRST, nv.WRITES | nv.READS | LOCKS, auth_policy=after_auth_value())
-    tpm.define("The index", public, auth=b"a")
-    for name, _, prepare in USES + LOCKING:
-        tpm("TPM2_PolicyAuthValue").auth_value_told(session)
-        tpm.does(f"{name} by the policy", prepare(Use(session, demand=AUTH_VALUE)))
-    for each in (session, hmac):
-        tpm("A session is flushed").flush(each)
-    tpm.undefines(FIRST)
-
-
 def by_code_and_pcrs():
     tpm.chapter(
         "One policy with two branches: who knows the value writes, and everybody reads while PCR "
@@ -123,67 +80,6 @@ def by_code_and_pcrs():
     tpm("The session is flushed").flush(session)
 
 
-def by_locality():
-    tpm.chapter("TPM2_PolicyLocality: written from locality 1 alone.")
-    auth_policy = policy.after_locality(SHA256, bytes(32), 0b10)
-    public = area(FIRST, POLICYWRITE | NvAttribute.OWNERREAD, auth_policy=auth_policy)
-    tpm.define("The index", public)
-    session = tpm.policy("A policy session")
-    tpm("TPM2_PolicyLocality").locality(session, 0b10)
-    tpm("TPM2_NV_Write at locality 0: LOCALITY").writing(FIRST, DATA, session)
-    tpm.locality_is(1)
-    tpm("At locality 1").writing(FIRST, DATA, session)
-    tpm.locality_is(0)
-    tpm.read("TPM2_NV_Read by the owner", FIRST, DATA, by=RH_OWNER)
-    tpm.undefines(FIRST)
-    tpm("The session is flushed").flush(session)
-
-
-def bound_and_encrypting():
-    tpm.chapter("A policy session that is bound to the index. The first write ends no key of it.")
-    tpm.define("The index", area(FIRST, BY_POLICY, auth_policy=after_auth_value()), auth=b"a")
-    session = tpm.policy("The session, with AES", bind=FIRST, aes=True)
-    for what, attributes in (
-        ("TPM2_NV_Write, with the value in both keys", CONTINUE_SESSION),
-        ("Once more, with its data encrypted", CONTINUE_SESSION | DECRYPT),
-    ):
-        tpm("TPM2_PolicyAuthValue").auth_value_told(session)
-        tpm(what).writing(FIRST, DATA, Use(session, attributes, demand=AUTH_VALUE))
-    tpm("TPM2_PolicyPassword").password_told(session)
-    use = Use(session, CONTINUE_SESSION | ENCRYPT, demand=PASSWORD)
-    tpm.read("TPM2_NV_Read by the password, with what is read encrypted", FIRST, DATA, use)
-    tpm("TPM2_PolicyAuthValue").auth_value_told(session)
-    tpm("It ends with the command").writing(FIRST, DATA, Use(session, 0, demand=AUTH_VALUE))
-    tpm("It is no more: REFERENCE_H0").get_digest(session)
-    tpm.undefines(FIRST)
-
-
-def who_authorizes():
-    tpm.chapter("The policy is that of the index that authorizes, and of no other entity.")
-    auth_policy = after_auth_value()
-    tpm.define("An index", area(FIRST, BY_POLICY | BY_OWNER, auth_policy=auth_policy), auth=b"a")
-    said = tpm("Another one with the same")
-    said.define(area(SECOND, BY_POLICY, auth_policy=auth_policy), auth=b"a")
-    tpm.define("A third one with another", area(THIRD, BY_POLICY, auth_policy=bytes(32)), auth=b"a")
-    session = tpm.policy("A policy session")
-    by_value = lambda: Use(session, demand=AUTH_VALUE)
-    tpm("The third, whose policy is zeros, asks for no assertion").writing(THIRD, DATA, session)
-    tpm("TPM2_PolicyAuthValue").auth_value_told(session)
-    tpm("The third by another digest: POLICY_FAIL/s1").writing(THIRD, DATA, by_value())
-    tpm("The first, by the second: NV_AUTHORIZATION").writing(FIRST, DATA, by_value(), by=SECOND)
-    tpm("The first, by the owner: AUTH_UNAVAILABLE").writing(FIRST, DATA, by_value(), by=RH_OWNER)
-    tpm("The first, by itself").writing(FIRST, DATA, by_value())
-    trial = tpm.trial("A trial session")
-    tpm("TPM2_PolicyAuthValue").auth_value_told(trial)
-    tpm("By it: ATTRIBUTES/s1").writing(FIRST, DATA, trial)
-    tpm("Also where nothing can: ATTRIBUTES/s1").writing(FIRST, DATA, trial, by=RH_OWNER)
-    tpm("The first is undefined: its policy is nobody's").undefining(FIRST)
-    tpm("TPM2_PolicyAuthValue").auth_value_told(session)
-    tpm("The second").writing(SECOND, DATA, by_value())
-    said = tpm("TPM2_NV_Write through the session, which then returns to its start")
-    said.writing(THIRD, DATA, session)
-
-
 told = tpm.policy("A session that TPM2_PolicyNV and TPM2_PolicySecret are told to")
 
 for algorithm, name in HASHES:
@@ -217,8 +113,103 @@ for algorithm, name in HASHES:
     for each in (session, other):
         tpm("A session is flushed").flush(each)
 
-availability()
+
+tpm.chapter("Which attribute lets what authorize: the others do not.")
+session = tpm.policy("A policy session")
+hmac = tpm.start("An HMAC session")
+for what, attributes in (
+    ("POLICYWRITE and what allows all others to read", POLICYWRITE | nv.READS & ~POLICYREAD),
+    ("POLICYREAD and what allows all others to write", POLICYREAD | nv.WRITES & ~POLICYWRITE),
+):
+    writes = bool(attributes & POLICYWRITE)
+    public = area(FIRST, attributes | LOCKS, auth_policy=after_auth_value())
+    tpm.define(what, public, auth=b"a")
+    for name, is_reading, prepare in COMMANDS:
+        if is_reading == writes:
+            tpm("TPM2_PolicyAuthValue").auth_value_told(session)
+            said = tpm(f"{name} by the policy: AUTH_UNAVAILABLE")
+            said.fails(prepare(Use(session, demand=AUTH_VALUE)))
+            tpm.restarts(session)
+        else:
+            tpm.fails(f"{name} by the password: AUTH_UNAVAILABLE", prepare(b"a"))
+            said = tpm("By a wrong one, or an HMAC session: AUTH_UNAVAILABLE")
+            said.fails(prepare(b"x"), prepare(hmac))
+    tpm.undefines(FIRST)
+
+tpm.chapter("With all attributes and without a policy.")
+tpm.define("The index", area(FIRST, nv.WRITES | nv.READS | LOCKS), auth=b"a")
+for name, _, prepare in COMMANDS:
+    tpm.fails(f"{name} by a policy session: AUTH_UNAVAILABLE", prepare(session))
+for name, _, prepare in USES:
+    tpm.does(f"{name} by the password", prepare(b"a"))
+tpm("TPM2_PolicyRestart of the session that was told").restart(told)
+tpm.undefines(FIRST)
+
+tpm.chapter("With all attributes and a policy, each way is open.")
+public = area(FIRST, nv.WRITES | nv.READS | LOCKS, auth_policy=after_auth_value())
+tpm.define("The index", public, auth=b"a")
+for name, _, prepare in USES + LOCKING:
+    tpm("TPM2_PolicyAuthValue").auth_value_told(session)
+    tpm.does(f"{name} by the policy", prepare(Use(session, demand=AUTH_VALUE)))
+for each in (session, hmac):
+    tpm("A session is flushed").flush(each)
+tpm.undefines(FIRST)
+
 by_code_and_pcrs()
-by_locality()
-bound_and_encrypting()
-who_authorizes()
+
+tpm.chapter("TPM2_PolicyLocality: written from locality 1 alone.")
+auth_policy = policy.after_locality(SHA256, bytes(32), 0b10)
+public = area(FIRST, POLICYWRITE | NvAttribute.OWNERREAD, auth_policy=auth_policy)
+tpm.define("The index", public)
+session = tpm.policy("A policy session")
+tpm("TPM2_PolicyLocality").locality(session, 0b10)
+tpm("TPM2_NV_Write at locality 0: LOCALITY").writing(FIRST, DATA, session)
+tpm.locality_is(1)
+tpm("At locality 1").writing(FIRST, DATA, session)
+tpm.locality_is(0)
+tpm.read("TPM2_NV_Read by the owner", FIRST, DATA, by=RH_OWNER)
+tpm.undefines(FIRST)
+tpm("The session is flushed").flush(session)
+
+
+tpm.chapter("A policy session that is bound to the index. The first write ends no key of it.")
+tpm.define("The index", area(FIRST, BY_POLICY, auth_policy=after_auth_value()), auth=b"a")
+session = tpm.policy("The session, with AES", bind=FIRST, aes=True)
+for what, attributes in (
+    ("TPM2_NV_Write, with the value in both keys", CONTINUE_SESSION),
+    ("Once more, with its data encrypted", CONTINUE_SESSION | DECRYPT),
+):
+    tpm("TPM2_PolicyAuthValue").auth_value_told(session)
+    tpm(what).writing(FIRST, DATA, Use(session, attributes, demand=AUTH_VALUE))
+tpm("TPM2_PolicyPassword").password_told(session)
+use = Use(session, CONTINUE_SESSION | ENCRYPT, demand=PASSWORD)
+tpm.read("TPM2_NV_Read by the password, with what is read encrypted", FIRST, DATA, use)
+tpm("TPM2_PolicyAuthValue").auth_value_told(session)
+tpm("It ends with the command").writing(FIRST, DATA, Use(session, 0, demand=AUTH_VALUE))
+tpm("It is no more: REFERENCE_H0").get_digest(session)
+tpm.undefines(FIRST)
+
+
+tpm.chapter("The policy is that of the index that authorizes, and of no other entity.")
+auth_policy = after_auth_value()
+tpm.define("An index", area(FIRST, BY_POLICY | BY_OWNER, auth_policy=auth_policy), auth=b"a")
+said = tpm("Another one with the same")
+said.define(area(SECOND, BY_POLICY, auth_policy=auth_policy), auth=b"a")
+tpm.define("A third one with another", area(THIRD, BY_POLICY, auth_policy=bytes(32)), auth=b"a")
+session = tpm.policy("A policy session")
+by_value = lambda: Use(session, demand=AUTH_VALUE)
+tpm("The third, whose policy is zeros, asks for no assertion").writing(THIRD, DATA, session)
+tpm("TPM2_PolicyAuthValue").auth_value_told(session)
+tpm("The third by another digest: POLICY_FAIL/s1").writing(THIRD, DATA, by_value())
+tpm("The first, by the second: NV_AUTHORIZATION").writing(FIRST, DATA, by_value(), by=SECOND)
+tpm("The first, by the owner: AUTH_UNAVAILABLE").writing(FIRST, DATA, by_value(), by=RH_OWNER)
+tpm("The first, by itself").writing(FIRST, DATA, by_value())
+trial = tpm.trial("A trial session")
+tpm("TPM2_PolicyAuthValue").auth_value_told(trial)
+tpm("By it: ATTRIBUTES/s1").writing(FIRST, DATA, trial)
+tpm("Also where nothing can: ATTRIBUTES/s1").writing(FIRST, DATA, trial, by=RH_OWNER)
+tpm("The first is undefined: its policy is nobody's").undefining(FIRST)
+tpm("TPM2_PolicyAuthValue").auth_value_told(session)
+tpm("The second").writing(SECOND, DATA, by_value())
+said = tpm("TPM2_NV_Write through the session, which then returns to its start")
+said.writing(THIRD, DATA, session)

@@ -22,165 +22,6 @@ def undefine(*indices):
         tpm("An index is undefined" if index == indices[0] else "").undefining(index)
 
 
-def names():
-    tpm.chapter("An hmac of before the index was written names another index.")
-    tpm.define("An index", area(FIRST, BY_VALUE), auth=b"a")
-    session = tpm.start("A session")
-    before = tpm.writing(FIRST, DATA, session)
-    tpm("TPM2_NV_Write by the password").writing(FIRST, DATA)
-    tpm.fails("By the session, as it was prepared before: AUTH_FAIL/s1", before)
-    tpm("With the Name of now").writing(FIRST, DATA, session)
-    tpm.define("Another index with the same value", area(SECOND, BY_VALUE), auth=b"a")
-    prepared = tpm.writing(FIRST, DATA, session)
-    tpm.fails(
-        "An hmac for the first, sent with the handle of the second: AUTH_FAIL/s1",
-        prepared.but(handles=[FIRST, SECOND]),
-        prepared.but(handles=[SECOND, FIRST]),
-        prepared.but(handles=[SECOND, SECOND]),
-    )
-    tpm.fails("With other data: AUTH_FAIL/s1", prepared.but(parameters=frames.nv_write(DATA, 1)))
-    tpm.does("As it was prepared", prepared)
-    flush(session)
-    undefine(FIRST, SECOND)
-
-
-def bound():
-    tpm.chapter(
-        "A session that is bound to an index before its first write. The command's hmac is without "
-        "the value; as the Name is another then, the response's has it in its key."
-    )
-    tpm.define("An index", area(FIRST, BY_VALUE | LOCKS), auth=b"a")
-    session = tpm.start("A session that is bound to it", bind=FIRST)
-    tpm("TPM2_NV_Write").writing(FIRST, DATA, session)
-    tpm("TPM2_NV_Write: the value is in both keys").writing(FIRST, DATA, session)
-    flush(session)
-
-    tpm.chapter("A session that is bound to it as it is written.")
-    session = tpm.start("A session that is bound to it", bind=FIRST)
-    tpm("TPM2_NV_Write changes no Name now").writing(FIRST, DATA, session)
-    tpm.read("TPM2_NV_Read", FIRST, DATA, session)
-    tpm("TPM2_NV_ReadLock does").read_locking(FIRST, session)
-    tpm("TPM2_NV_WriteLock").write_locking(FIRST, session)
-    tpm.power_cycle()
-    tpm.is_now(
-        "After the next start", FIRST, cleared=NvAttribute.WRITELOCKED | NvAttribute.READLOCKED
-    )
-
-    tpm.chapter("A session that is bound to one index, and authorizes another.")
-    tpm.define("Another index", area(SECOND, BY_VALUE | NvAttribute.NO_DA), auth=b"b")
-    session = tpm.start("A session that is bound to the first", bind=FIRST)
-    tpm("TPM2_NV_Write of the second").writing(SECOND, DATA, session)
-    tpm("TPM2_NV_Write of the first").writing(FIRST, DATA, session)
-    said = tpm("A wrong hmac on the second, which has NO_DA, is a try at the first: AUTH_FAIL/s1")
-    said.fails(tpm.writing(SECOND, DATA, session).but_entry(1, hmac=bytes(32)))
-    other = tpm.start("A session that is bound to the second", bind=SECOND)
-    said = tpm("A wrong hmac by it on the second is none: BAD_AUTH/s1")
-    said.fails(tpm.writing(SECOND, DATA, other).but_entry(1, hmac=bytes(32)))
-    said = tpm("On the first it is: AUTH_FAIL/s1")
-    said.fails(tpm.writing(FIRST, DATA, other).but_entry(1, hmac=bytes(32)))
-    said = tpm("A wrong hmac by the first session on TPM_RH_OWNER: AUTH_FAIL/s1")
-    said.fails(tpm.undefining(FIRST, session).but_entry(1, hmac=bytes(32)))
-    said = tpm("And by the second: BAD_AUTH/s1")
-    said.fails(tpm.undefining(FIRST, other).but_entry(1, hmac=bytes(32)))
-    tpm("A wrong password of the second: BAD_AUTH/s1").reading(SECOND, 1, b"x")
-    tpm("Of the first: AUTH_FAIL/s1").reading(FIRST, 1, b"x")
-    flush(session, other)
-    undefine(FIRST, SECOND)
-
-
-def encryption():
-    tpm.chapter("Parameters that are encrypted.")
-    tpm('ownerAuth becomes "owner"').change_auth(RH_OWNER, b"owner", b"")
-    owner = tpm.start("A session that is bound to TPM_RH_OWNER, with AES", bind=RH_OWNER, aes=True)
-    for index, make in ((FIRST, area), (SECOND, extended), (THIRD, bits), (FOURTH, counter)):
-        what = "TPM2_NV_DefineSpace with auth encrypted" if index == FIRST else ""
-        tpm.define(what, make(index, BY_VALUE), Use(owner, DECRYPTS), auth=b"hidden")
-    tpm("The value is the one that was sent: TPM2_NV_Write").writing(FIRST, b"x")
-    session = tpm.start(
-        "A session that is bound to the first index, with AES", bind=FIRST, aes=True
-    )
-    plain = tpm.start("One that is bound to nothing, with AES", aes=True)
-    for name, use in (("the bound session", session), ("the other", plain)):
-        said = tpm(f"TPM2_NV_Write with its data encrypted by {name}")
-        said.writing(FIRST, DATA, Use(use, DECRYPTS))
-        tpm.read("TPM2_NV_Read with its answer encrypted", FIRST, DATA, Use(use, ENCRYPTS))
-        tpm("TPM2_NV_Extend").extending(SECOND, DATA, Use(use, DECRYPTS))
-        tpm.is_now("TPM2_NV_ReadPublic", SECOND, Use(use, ENCRYPTS))
-    said = tpm("The password authorizes, and a session beside it encrypts")
-    said.writing(FIRST, b"8 others", b"hidden", Use(session, DECRYPTS))
-    tpm.read("So in TPM2_NV_Read", FIRST, b"8 others", b"hidden", Use(owner, ENCRYPTS))
-    said = tpm("One session authorizes, another encrypts")
-    said.read(FIRST, b"8 others", plain, Use(owner, ENCRYPTS))
-    tpm("No bytes to encrypt").writing(FIRST, b"", Use(session, DECRYPTS), offset=3)
-    whole = bytes(range(256)) * 4
-    said = tpm("An index of 1,024 bytes")
-    said.define(area(0x0100_0005, BY_VALUE, size=1024), Use(owner, DECRYPTS), auth=b"long")
-    said = tpm("TPM2_NV_Write of 1,024 bytes that are encrypted")
-    said.writing(0x0100_0005, whole, Use(session, DECRYPTS))
-    tpm.read("TPM2_NV_Read", 0x0100_0005, whole, Use(session, ENCRYPTS))
-    read = tpm.reading(FIRST, 8, Use(session, 1))
-    write = tpm.writing(FIRST, DATA, Use(session, 1))
-    for what, attribute, commands in (
-        (
-            "decrypt, where the first parameter is no sized buffer or none: TPM2_NV_Read, "
-            "TPM2_NV_SetBits, TPM2_NV_Increment, TPM2_NV_WriteLock and TPM2_NV_UndefineSpace",
-            DECRYPT,
-            (
-                read,
-                tpm.setting(THIRD, 1, Use(session, 1)),
-                tpm.incrementing(FOURTH, Use(session, 1)),
-                tpm.write_locking(FIRST, Use(session, 1)),
-                tpm.undefining(FIRST, Use(owner, 1)),
-            ),
-        ),
-        (
-            "encrypt, where nothing is answered: TPM2_NV_Write, TPM2_NV_Extend and "
-            "TPM2_NV_DefineSpace",
-            ENCRYPT,
-            (
-                write,
-                tpm.extending(SECOND, DATA, Use(session, 1)),
-                tpm.defining(area(0x0100_0006), Use(owner, 1)),
-            ),
-        ),
-    ):
-        said = tpm(f"{what}: ATTRIBUTES/s1")
-        said.fails(*(it.but_entry(1, attributes=CONTINUE_SESSION | attribute) for it in commands))
-    none = tpm.start("A session without AES", bind=FIRST)
-    tpm.fails(
-        "It cannot encrypt: SYMMETRIC/s1",
-        tpm.writing(FIRST, DATA, none).but_entry(1, attributes=DECRYPTS),
-        tpm.reading(FIRST, 8, none).but_entry(1, attributes=ENCRYPTS),
-    )
-    said = tpm("Data that are cut, and decrypted: INSUFFICIENT/p1")
-    said.prepare(CC.NV_Write, [FIRST, FIRST], b"\0\4abc", Use(session, DECRYPTS))
-    flush(session, plain, none, owner)
-    undefine(FIRST, SECOND, THIRD, FOURTH, 0x0100_0005)
-    tpm("ownerAuth is empty again").change_auth(RH_OWNER, b"", b"owner")
-
-
-def others():
-    tpm.chapter("TPM2_StartAuthSession and TPM2_PolicySecret of an index.")
-    tpm.define("An index", area(FIRST, BY_VALUE), auth=b"a")
-    handles, parameters = frames.start_auth_session(bytes(16), FIRST)
-    start = tpm.prepare(CC.StartAuthSession, handles, parameters)
-    tpm.fails("Bound to what is not there: HANDLE/h2", start.but(handles=[RH_NULL, SECOND]))
-    session = tpm.start("A session that is bound to the index", bind=FIRST)
-    secret = tpm.policy("A policy session")
-    tpm("TPM2_PolicySecret of the index by the session").secret(secret, session, of=FIRST)
-    tpm("TPM2_NV_Write by it").writing(FIRST, DATA, session)
-    tpm("TPM2_PolicySecret: it has another Name").secret(secret, session, of=FIRST)
-    tpm("A wrong password: AUTH_FAIL/s1").secret(secret, b"x", of=FIRST)
-    flush(session, secret)
-    only = area(SECOND, BY_OWNER | NvAttribute.AUTHWRITE)
-    tpm.define("An index that its value can only write", only, auth=b"a")
-    secret = tpm.policy("A policy session")
-    said = tpm("TPM2_PolicySecret asks for what TPM2_NV_Read does: AUTH_UNAVAILABLE")
-    said.secret(secret, b"a", of=SECOND)
-    flush(secret)
-    undefine(FIRST, SECOND)
-
-
 def sent_again():
     tpm.chapter(
         "A buffer that is sent again. The index has the attributes 00040004, eight bytes and the "
@@ -243,8 +84,155 @@ for algorithm, name in ((SHA256, "SHA-256"), (SHA1, "SHA-1")):
         tpm("TPM2_NV_UndefineSpace").undefining(index, session)
     flush(session)
 
-names()
-bound()
-encryption()
-others()
+
+tpm.chapter("An hmac of before the index was written names another index.")
+tpm.define("An index", area(FIRST, BY_VALUE), auth=b"a")
+session = tpm.start("A session")
+before = tpm.writing(FIRST, DATA, session)
+tpm("TPM2_NV_Write by the password").writing(FIRST, DATA)
+tpm.fails("By the session, as it was prepared before: AUTH_FAIL/s1", before)
+tpm("With the Name of now").writing(FIRST, DATA, session)
+tpm.define("Another index with the same value", area(SECOND, BY_VALUE), auth=b"a")
+prepared = tpm.writing(FIRST, DATA, session)
+tpm.fails(
+    "An hmac for the first, sent with the handle of the second: AUTH_FAIL/s1",
+    prepared.but(handles=[FIRST, SECOND]),
+    prepared.but(handles=[SECOND, FIRST]),
+    prepared.but(handles=[SECOND, SECOND]),
+)
+tpm.fails("With other data: AUTH_FAIL/s1", prepared.but(parameters=frames.nv_write(DATA, 1)))
+tpm.does("As it was prepared", prepared)
+flush(session)
+undefine(FIRST, SECOND)
+
+
+tpm.chapter(
+    "A session that is bound to an index before its first write. The command's hmac is without "
+    "the value; as the Name is another then, the response's has it in its key."
+)
+tpm.define("An index", area(FIRST, BY_VALUE | LOCKS), auth=b"a")
+session = tpm.start("A session that is bound to it", bind=FIRST)
+tpm("TPM2_NV_Write").writing(FIRST, DATA, session)
+tpm("TPM2_NV_Write: the value is in both keys").writing(FIRST, DATA, session)
+flush(session)
+
+tpm.chapter("A session that is bound to it as it is written.")
+session = tpm.start("A session that is bound to it", bind=FIRST)
+tpm("TPM2_NV_Write changes no Name now").writing(FIRST, DATA, session)
+tpm.read("TPM2_NV_Read", FIRST, DATA, session)
+tpm("TPM2_NV_ReadLock does").read_locking(FIRST, session)
+tpm("TPM2_NV_WriteLock").write_locking(FIRST, session)
+tpm.power_cycle()
+tpm.is_now("After the next start", FIRST, cleared=NvAttribute.WRITELOCKED | NvAttribute.READLOCKED)
+
+tpm.chapter("A session that is bound to one index, and authorizes another.")
+tpm.define("Another index", area(SECOND, BY_VALUE | NvAttribute.NO_DA), auth=b"b")
+session = tpm.start("A session that is bound to the first", bind=FIRST)
+tpm("TPM2_NV_Write of the second").writing(SECOND, DATA, session)
+tpm("TPM2_NV_Write of the first").writing(FIRST, DATA, session)
+said = tpm("A wrong hmac on the second, which has NO_DA, is a try at the first: AUTH_FAIL/s1")
+said.fails(tpm.writing(SECOND, DATA, session).but_entry(1, hmac=bytes(32)))
+other = tpm.start("A session that is bound to the second", bind=SECOND)
+said = tpm("A wrong hmac by it on the second is none: BAD_AUTH/s1")
+said.fails(tpm.writing(SECOND, DATA, other).but_entry(1, hmac=bytes(32)))
+said = tpm("On the first it is: AUTH_FAIL/s1")
+said.fails(tpm.writing(FIRST, DATA, other).but_entry(1, hmac=bytes(32)))
+said = tpm("A wrong hmac by the first session on TPM_RH_OWNER: AUTH_FAIL/s1")
+said.fails(tpm.undefining(FIRST, session).but_entry(1, hmac=bytes(32)))
+said = tpm("And by the second: BAD_AUTH/s1")
+said.fails(tpm.undefining(FIRST, other).but_entry(1, hmac=bytes(32)))
+tpm("A wrong password of the second: BAD_AUTH/s1").reading(SECOND, 1, b"x")
+tpm("Of the first: AUTH_FAIL/s1").reading(FIRST, 1, b"x")
+flush(session, other)
+undefine(FIRST, SECOND)
+
+
+tpm.chapter("Parameters that are encrypted.")
+tpm('ownerAuth becomes "owner"').change_auth(RH_OWNER, b"owner", b"")
+owner = tpm.start("A session that is bound to TPM_RH_OWNER, with AES", bind=RH_OWNER, aes=True)
+for index, make in ((FIRST, area), (SECOND, extended), (THIRD, bits), (FOURTH, counter)):
+    what = "TPM2_NV_DefineSpace with auth encrypted" if index == FIRST else ""
+    tpm.define(what, make(index, BY_VALUE), Use(owner, DECRYPTS), auth=b"hidden")
+tpm("The value is the one that was sent: TPM2_NV_Write").writing(FIRST, b"x")
+session = tpm.start("A session that is bound to the first index, with AES", bind=FIRST, aes=True)
+plain = tpm.start("One that is bound to nothing, with AES", aes=True)
+for name, use in (("the bound session", session), ("the other", plain)):
+    said = tpm(f"TPM2_NV_Write with its data encrypted by {name}")
+    said.writing(FIRST, DATA, Use(use, DECRYPTS))
+    tpm.read("TPM2_NV_Read with its answer encrypted", FIRST, DATA, Use(use, ENCRYPTS))
+    tpm("TPM2_NV_Extend").extending(SECOND, DATA, Use(use, DECRYPTS))
+    tpm.is_now("TPM2_NV_ReadPublic", SECOND, Use(use, ENCRYPTS))
+said = tpm("The password authorizes, and a session beside it encrypts")
+said.writing(FIRST, b"8 others", b"hidden", Use(session, DECRYPTS))
+tpm.read("So in TPM2_NV_Read", FIRST, b"8 others", b"hidden", Use(owner, ENCRYPTS))
+said = tpm("One session authorizes, another encrypts")
+said.read(FIRST, b"8 others", plain, Use(owner, ENCRYPTS))
+tpm("No bytes to encrypt").writing(FIRST, b"", Use(session, DECRYPTS), offset=3)
+whole = bytes(range(256)) * 4
+said = tpm("An index of 1,024 bytes")
+said.define(area(0x0100_0005, BY_VALUE, size=1024), Use(owner, DECRYPTS), auth=b"long")
+said = tpm("TPM2_NV_Write of 1,024 bytes that are encrypted")
+said.writing(0x0100_0005, whole, Use(session, DECRYPTS))
+tpm.read("TPM2_NV_Read", 0x0100_0005, whole, Use(session, ENCRYPTS))
+read = tpm.reading(FIRST, 8, Use(session, 1))
+write = tpm.writing(FIRST, DATA, Use(session, 1))
+for what, attribute, commands in (
+    (
+        "decrypt, where the first parameter is no sized buffer or none: TPM2_NV_Read, "
+        "TPM2_NV_SetBits, TPM2_NV_Increment, TPM2_NV_WriteLock and TPM2_NV_UndefineSpace",
+        DECRYPT,
+        (
+            read,
+            tpm.setting(THIRD, 1, Use(session, 1)),
+            tpm.incrementing(FOURTH, Use(session, 1)),
+            tpm.write_locking(FIRST, Use(session, 1)),
+            tpm.undefining(FIRST, Use(owner, 1)),
+        ),
+    ),
+    (
+        "encrypt, where nothing is answered: TPM2_NV_Write, TPM2_NV_Extend and "
+        "TPM2_NV_DefineSpace",
+        ENCRYPT,
+        (
+            write,
+            tpm.extending(SECOND, DATA, Use(session, 1)),
+            tpm.defining(area(0x0100_0006), Use(owner, 1)),
+        ),
+    ),
+):
+    said = tpm(f"{what}: ATTRIBUTES/s1")
+    said.fails(*(it.but_entry(1, attributes=CONTINUE_SESSION | attribute) for it in commands))
+none = tpm.start("A session without AES", bind=FIRST)
+tpm.fails(
+    "It cannot encrypt: SYMMETRIC/s1",
+    tpm.writing(FIRST, DATA, none).but_entry(1, attributes=DECRYPTS),
+    tpm.reading(FIRST, 8, none).but_entry(1, attributes=ENCRYPTS),
+)
+said = tpm("Data that are cut, and decrypted: INSUFFICIENT/p1")
+said.prepare(CC.NV_Write, [FIRST, FIRST], b"\0\4abc", Use(session, DECRYPTS))
+flush(session, plain, none, owner)
+undefine(FIRST, SECOND, THIRD, FOURTH, 0x0100_0005)
+tpm("ownerAuth is empty again").change_auth(RH_OWNER, b"", b"owner")
+
+
+tpm.chapter("TPM2_StartAuthSession and TPM2_PolicySecret of an index.")
+tpm.define("An index", area(FIRST, BY_VALUE), auth=b"a")
+handles, parameters = frames.start_auth_session(bytes(16), FIRST)
+start = tpm.prepare(CC.StartAuthSession, handles, parameters)
+tpm.fails("Bound to what is not there: HANDLE/h2", start.but(handles=[RH_NULL, SECOND]))
+session = tpm.start("A session that is bound to the index", bind=FIRST)
+secret = tpm.policy("A policy session")
+tpm("TPM2_PolicySecret of the index by the session").secret(secret, session, of=FIRST)
+tpm("TPM2_NV_Write by it").writing(FIRST, DATA, session)
+tpm("TPM2_PolicySecret: it has another Name").secret(secret, session, of=FIRST)
+tpm("A wrong password: AUTH_FAIL/s1").secret(secret, b"x", of=FIRST)
+flush(session, secret)
+only = area(SECOND, BY_OWNER | NvAttribute.AUTHWRITE)
+tpm.define("An index that its value can only write", only, auth=b"a")
+secret = tpm.policy("A policy session")
+said = tpm("TPM2_PolicySecret asks for what TPM2_NV_Read does: AUTH_UNAVAILABLE")
+said.secret(secret, b"a", of=SECOND)
+flush(secret)
+undefine(FIRST, SECOND)
+
 sent_again()

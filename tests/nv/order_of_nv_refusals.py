@@ -134,47 +134,6 @@ def define_space():
     tpm("It is undefined").undefining(NEW)
 
 
-def read():
-    tpm.chapter("TPM2_NV_Read.")
-    code, uses = CC.NV_Read, [VALUE, Use(session)]
-    general_refusals(code, [ORDINARY, ORDINARY], b"\0", uses)
-    far = frames.nv_read(1025, 9)
-    in_order(
-        code,
-        uses,
-        ("size is cut", "INSUFFICIENT/p1", [RH_OWNER, READ_LOCKED], far[:1]),
-        ("offset is cut", "INSUFFICIENT/p2", [RH_OWNER, READ_LOCKED], far[:3]),
-        ("A byte behind it", "SIZE", [RH_OWNER, READ_LOCKED], far + b"\0"),
-        ("By the owner, who may not", "NV_AUTHORIZATION", [RH_OWNER, READ_LOCKED], far),
-        ("By another index", "NV_AUTHORIZATION", [ORDINARY, READ_LOCKED], far),
-        ("Locked, and not written", "NV_LOCKED", [READ_LOCKED, READ_LOCKED], far),
-        ("Not written", "NV_UNINITIALIZED", [UNWRITTEN, UNWRITTEN], far),
-        ("1,025 bytes", "VALUE/p1", [ORDINARY, ORDINARY], far),
-        ("1,024", "NV_RANGE", [ORDINARY, ORDINARY], frames.nv_read(1024, 9)),
-        ("With nothing wrong", "SUCCESS", [ORDINARY, ORDINARY], frames.nv_read(8)),
-    )
-
-
-def locks():
-    for code, name in (
-        (CC.NV_WriteLock, "TPM2_NV_WriteLock"),
-        (CC.NV_ReadLock, "TPM2_NV_ReadLock"),
-    ):
-        tpm.chapter(f"{name}.")
-        uses = [VALUE, Use(session)]
-        general_refusals(code, [ORDINARY, ORDINARY], b"\0", uses)
-        in_order(
-            code,
-            uses,
-            ("A byte behind the area", "SIZE", [RH_OWNER, ORDINARY], b"\0"),
-            ("By the owner, who may not", "NV_AUTHORIZATION", [RH_OWNER, ORDINARY], b""),
-            ("By another index", "NV_AUTHORIZATION", [COUNTER, ORDINARY], b""),
-            ("What cannot be locked", "ATTRIBUTES/h2", [ORDINARY, ORDINARY], b""),
-            ("With nothing wrong", "SUCCESS", [UNWRITTEN, UNWRITTEN], b""),
-            ("And again", "SUCCESS", [UNWRITTEN, UNWRITTEN], b""),
-        )
-
-
 def change_auth():
     tpm.chapter("TPM2_NV_ChangeAuth, with newAuth encrypted by another session.")
     code = CC.NV_ChangeAuth
@@ -360,7 +319,41 @@ changes(
     sized(b"abc"),
     [("data are cut", "INSUFFICIENT/p1", b"\0\3ab"), ("1,025 bytes", "SIZE/p1", LONG + b"\0")],
 )
-read()
-locks()
+
+tpm.chapter("TPM2_NV_Read.")
+code, uses = CC.NV_Read, [VALUE, Use(session)]
+general_refusals(code, [ORDINARY, ORDINARY], b"\0", uses)
+far = frames.nv_read(1025, 9)
+in_order(
+    code,
+    uses,
+    ("size is cut", "INSUFFICIENT/p1", [RH_OWNER, READ_LOCKED], far[:1]),
+    ("offset is cut", "INSUFFICIENT/p2", [RH_OWNER, READ_LOCKED], far[:3]),
+    ("A byte behind it", "SIZE", [RH_OWNER, READ_LOCKED], far + b"\0"),
+    ("By the owner, who may not", "NV_AUTHORIZATION", [RH_OWNER, READ_LOCKED], far),
+    ("By another index", "NV_AUTHORIZATION", [ORDINARY, READ_LOCKED], far),
+    ("Locked, and not written", "NV_LOCKED", [READ_LOCKED, READ_LOCKED], far),
+    ("Not written", "NV_UNINITIALIZED", [UNWRITTEN, UNWRITTEN], far),
+    ("1,025 bytes", "VALUE/p1", [ORDINARY, ORDINARY], far),
+    ("1,024", "NV_RANGE", [ORDINARY, ORDINARY], frames.nv_read(1024, 9)),
+    ("With nothing wrong", "SUCCESS", [ORDINARY, ORDINARY], frames.nv_read(8)),
+)
+
+
+for code, name in ((CC.NV_WriteLock, "TPM2_NV_WriteLock"), (CC.NV_ReadLock, "TPM2_NV_ReadLock")):
+    tpm.chapter(f"{name}.")
+    uses = [VALUE, Use(session)]
+    general_refusals(code, [ORDINARY, ORDINARY], b"\0", uses)
+    in_order(
+        code,
+        uses,
+        ("A byte behind the area", "SIZE", [RH_OWNER, ORDINARY], b"\0"),
+        ("By the owner, who may not", "NV_AUTHORIZATION", [RH_OWNER, ORDINARY], b""),
+        ("By another index", "NV_AUTHORIZATION", [COUNTER, ORDINARY], b""),
+        ("What cannot be locked", "ATTRIBUTES/h2", [ORDINARY, ORDINARY], b""),
+        ("With nothing wrong", "SUCCESS", [UNWRITTEN, UNWRITTEN], b""),
+        ("And again", "SUCCESS", [UNWRITTEN, UNWRITTEN], b""),
+    )
+
 change_auth()
 policy_nv()

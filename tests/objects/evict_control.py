@@ -156,94 +156,6 @@ def borders(owners, endorsements, platforms):
     fails("None is there: HANDLE/h2", (RH_PLATFORM, LAST, LAST), (RH_OWNER, FIRST, FIRST))
 
 
-def use():
-    tpm.chapter("A persistent object is what the transient one was.")
-    root = primary("A storage key", RH_OWNER)
-    public, qualified = tpm.read_public("TPM2_ReadPublic of it", root)
-    tpm.keep("It stays as 81000000", RH_OWNER, root, FIRST)
-    assert tpm.read_public("The same public area and names", FIRST) == (public, qualified)
-    tpm.flush_objects("The transient one is flushed", root)
-    tpm("The persistent one cannot be: VALUE/p1").flush(FIRST)
-    secret = tpm.create(
-        "TPM2_Create under the persistent one",
-        FIRST,
-        sealed(attributes=HERE | ObjectAttribute.USER_WITH_AUTH),
-        user_auth=b"pin",
-        data=b"a secret",
-    )
-    handle = tpm.load("TPM2_Load", FIRST, secret)
-    below = tpm.read_public("Its qualified name is of the parent's", handle)
-    tpm.keep("It stays as 81000001", RH_OWNER, handle, OTHER)
-    assert tpm.read_public("It is the same there", OTHER) == below
-    said = tpm("An HMAC key of the endorsement hierarchy")
-    mac_key = said.create_primary(RH_ENDORSEMENT, hmac_key(), user_auth=b"mac", data=b"a key")
-    session = tpm.start("A session that is bound to it", mac_key)
-    tpm.keep("It stays as 81000002", RH_OWNER, mac_key, 0x8100_0002)
-    first = tpm("TPM2_HMAC by it").hmac(mac_key, b"data", SHA256, session)
-    tpm.flush_objects("The transient one is flushed", mac_key)
-    said = tpm("The session is bound to the persistent one too, as both have one Name")
-    second = said.hmac(0x8100_0002, b"data", SHA256, session)
-    assert first == second
-    restarts()
-
-
-def restarts():
-    tpm.chapter("After a power cycle.")
-    tpm.power()
-    tpm("Before TPM2_Startup: INITIALIZE").public(OTHER)
-    tpm.startup()
-    tpm.unseal("TPM2_Unseal by the password", OTHER, b"a secret", b"pin")
-    session = tpm.start("A session that is bound to it, with AES", OTHER, aes=True)
-    tpm.unseal("TPM2_Unseal by it, encrypted", OTHER, b"a secret", Use(session, ENCRYPTING))
-    tpm.fails("A wrong hmac: AUTH_FAIL/s1", wrong(tpm.unsealing(OTHER, session)))
-    tpm("A wrong password: AUTH_FAIL/s1").unsealing(OTHER, b"nip")
-    policy = tpm.policy("A policy session")
-    tpm.accepted("TPM2_PolicySecret of it", tpm.secret(policy, b"pin", of=OTHER))
-    made = tpm.create("TPM2_Create under 81000000", FIRST, sealed(), data=b"another")
-    handle = tpm.load("TPM2_Load", FIRST, made)
-    tpm.unseal("TPM2_Unseal", handle, b"another")
-    tpm("A third wrong password locks: AUTH_FAIL/s1").unsealing(OTHER, b"nip")
-    tpm("The right one: LOCKOUT").unsealing(OTHER, b"pin")
-    tpm.unlocks()
-    start_again()
-    tpm.unseal("It is there", OTHER, b"a secret", b"pin")
-    tpm("What was loaded is not: REFERENCE_H0").public(handle)
-
-
-def start_again():
-    """Through TPM2_Shutdown."""
-    tpm("TPM2_Shutdown(STATE)").shutting_down(STATE)
-    tpm.power()
-    tpm.start_up("TPM2_Startup(STATE)", STATE)
-
-
-def sessions():
-    tpm.chapter("TPM2_EvictControl by sessions.")
-    handle = primary("An object of the owner", RH_OWNER)
-    wanted = 0x8100_0003
-    tpm('ownerAuth is "owner"').change_auth(RH_OWNER, b"owner", b"")
-    session = tpm.start("An HMAC session, bound to TPM_RH_OWNER", RH_OWNER, aes=True)
-    evicting = tpm.evicting(RH_OWNER, handle, wanted, session)
-    tpm.fails("A wrong hmac: BAD_AUTH/s1", wrong(evicting))
-    tpm.keep("The right one", RH_OWNER, handle, wanted, session)
-    tpm.remove("It takes it away again", RH_OWNER, wanted, session)
-    tpm.fails(
-        "Nothing can be encrypted or decrypted: ATTRIBUTES/s1",
-        *(
-            tpm.evicting(RH_OWNER, handle, wanted, session).but_entry(1, attributes=it)
-            for it in (frames.DECRYPT, frames.ENCRYPT)
-        ),
-    )
-    policy = tpm.policy("A policy session")
-    said = tpm("No policy authorizes a hierarchy: AUTH_UNAVAILABLE")
-    said.evicting(RH_OWNER, handle, wanted, policy)
-    tpm("ownerAuth is empty").change_auth(RH_OWNER, b"", b"owner")
-    for kept in (FIRST, OTHER, 0x8100_0002):
-        tpm.remove("All are taken away" if kept == FIRST else "", RH_OWNER, kept)
-    tpm("They are gone: HANDLE/h1").public(FIRST)
-    kept_handles("None")
-
-
 tpm.startup()
 borders(*in_order())
 tpm.power_cycle()
@@ -277,5 +189,83 @@ for handle in sorted({*handles, OTHER} - {handles[5]}):
     tpm.remove(words, RH_PLATFORM, handle)
 kept_handles("None")
 
-use()
-sessions()
+
+tpm.chapter("A persistent object is what the transient one was.")
+root = primary("A storage key", RH_OWNER)
+public, qualified = tpm.read_public("TPM2_ReadPublic of it", root)
+tpm.keep("It stays as 81000000", RH_OWNER, root, FIRST)
+assert tpm.read_public("The same public area and names", FIRST) == (public, qualified)
+tpm.flush_objects("The transient one is flushed", root)
+tpm("The persistent one cannot be: VALUE/p1").flush(FIRST)
+secret = tpm.create(
+    "TPM2_Create under the persistent one",
+    FIRST,
+    sealed(attributes=HERE | ObjectAttribute.USER_WITH_AUTH),
+    user_auth=b"pin",
+    data=b"a secret",
+)
+handle = tpm.load("TPM2_Load", FIRST, secret)
+below = tpm.read_public("Its qualified name is of the parent's", handle)
+tpm.keep("It stays as 81000001", RH_OWNER, handle, OTHER)
+assert tpm.read_public("It is the same there", OTHER) == below
+said = tpm("An HMAC key of the endorsement hierarchy")
+mac_key = said.create_primary(RH_ENDORSEMENT, hmac_key(), user_auth=b"mac", data=b"a key")
+session = tpm.start("A session that is bound to it", mac_key)
+tpm.keep("It stays as 81000002", RH_OWNER, mac_key, 0x8100_0002)
+first = tpm("TPM2_HMAC by it").hmac(mac_key, b"data", SHA256, session)
+tpm.flush_objects("The transient one is flushed", mac_key)
+said = tpm("The session is bound to the persistent one too, as both have one Name")
+second = said.hmac(0x8100_0002, b"data", SHA256, session)
+assert first == second
+
+tpm.chapter("After a power cycle.")
+tpm.power()
+tpm("Before TPM2_Startup: INITIALIZE").public(OTHER)
+tpm.startup()
+tpm.unseal("TPM2_Unseal by the password", OTHER, b"a secret", b"pin")
+session = tpm.start("A session that is bound to it, with AES", OTHER, aes=True)
+tpm.unseal("TPM2_Unseal by it, encrypted", OTHER, b"a secret", Use(session, ENCRYPTING))
+tpm.fails("A wrong hmac: AUTH_FAIL/s1", wrong(tpm.unsealing(OTHER, session)))
+tpm("A wrong password: AUTH_FAIL/s1").unsealing(OTHER, b"nip")
+policy = tpm.policy("A policy session")
+tpm.accepted("TPM2_PolicySecret of it", tpm.secret(policy, b"pin", of=OTHER))
+made = tpm.create("TPM2_Create under 81000000", FIRST, sealed(), data=b"another")
+handle = tpm.load("TPM2_Load", FIRST, made)
+tpm.unseal("TPM2_Unseal", handle, b"another")
+tpm("A third wrong password locks: AUTH_FAIL/s1").unsealing(OTHER, b"nip")
+tpm("The right one: LOCKOUT").unsealing(OTHER, b"pin")
+tpm.unlocks()
+
+# Through TPM2_Shutdown.
+tpm("TPM2_Shutdown(STATE)").shutting_down(STATE)
+tpm.power()
+tpm.start_up("TPM2_Startup(STATE)", STATE)
+
+tpm.unseal("It is there", OTHER, b"a secret", b"pin")
+tpm("What was loaded is not: REFERENCE_H0").public(handle)
+
+
+tpm.chapter("TPM2_EvictControl by sessions.")
+handle = primary("An object of the owner", RH_OWNER)
+wanted = 0x8100_0003
+tpm('ownerAuth is "owner"').change_auth(RH_OWNER, b"owner", b"")
+session = tpm.start("An HMAC session, bound to TPM_RH_OWNER", RH_OWNER, aes=True)
+evicting = tpm.evicting(RH_OWNER, handle, wanted, session)
+tpm.fails("A wrong hmac: BAD_AUTH/s1", wrong(evicting))
+tpm.keep("The right one", RH_OWNER, handle, wanted, session)
+tpm.remove("It takes it away again", RH_OWNER, wanted, session)
+tpm.fails(
+    "Nothing can be encrypted or decrypted: ATTRIBUTES/s1",
+    *(
+        tpm.evicting(RH_OWNER, handle, wanted, session).but_entry(1, attributes=it)
+        for it in (frames.DECRYPT, frames.ENCRYPT)
+    ),
+)
+policy = tpm.policy("A policy session")
+said = tpm("No policy authorizes a hierarchy: AUTH_UNAVAILABLE")
+said.evicting(RH_OWNER, handle, wanted, policy)
+tpm("ownerAuth is empty").change_auth(RH_OWNER, b"", b"owner")
+for kept in (FIRST, OTHER, 0x8100_0002):
+    tpm.remove("All are taken away" if kept == FIRST else "", RH_OWNER, kept)
+tpm("They are gone: HANDLE/h1").public(FIRST)
+kept_handles("None")

@@ -167,9 +167,8 @@ said = tpm("A wrong password, and a wrong hmac behind it: AUTH_FAIL/s1")
 said.refused(wrong_in(secret(CUT, b"wrong", Use(hmac, DECRYPTS)), 2))
 said = tpm("A wrong hmac, and another behind it: AUTH_FAIL/s1")
 said.refused(wrong_in(secret(CUT, hmac, policy), 1, 2))
-tpm.refused(
-    "The one behind: BAD_AUTH/s2", wrong_in(secret(CUT, b"lockout", Use(policy, DECRYPTS)), 2)
-)
+said = tpm("The one behind: BAD_AUTH/s2")
+said.refused(wrong_in(secret(CUT, b"lockout", Use(policy, DECRYPTS)), 2))
 
 
 def by_right(words, *texts):

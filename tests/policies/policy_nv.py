@@ -52,29 +52,6 @@ def fails(
     )
 
 
-def the_name_of_now():
-    tpm.chapter("The digest has the Name of the index as it is then.")
-    trial = tpm.trial("A trial session")
-    tpm.define("An index that is not written", area(SECOND, BY_OWNER))
-    holds("A trial session asserts of it all the same", trial, EQ, bytes(8), index=SECOND)
-    before = after(trial, zeros(trial), SECOND, bytes(8), 0, EQ)
-    tpm.digest_is("The digest is of its Name of now", trial, before)
-    session = tpm.policy("A policy session")
-    case = "A policy session does not"
-    fails(case, session, EQ, bytes(8), index=SECOND, outcome="NV_UNINITIALIZED")
-    tpm("It is written").writing(SECOND, bytes(8), by=RH_OWNER)
-    holds("Now it does", session, EQ, bytes(8), index=SECOND)
-    written = after(session, zeros(session), SECOND, bytes(8), 0, EQ)
-    assert written != before
-    tpm.digest_is("The digest is another than before", session, written)
-    restarted(trial)
-    holds("So in the trial session", trial, EQ, bytes(8), index=SECOND)
-    tpm.digest_is("It is the same", trial, written)
-    for each in (trial, session):
-        tpm("It is flushed").flush(each)
-    tpm("The index is undefined").undefining(SECOND)
-
-
 # What an index of four bytes holds, and for each operand how it compares: unsigned, and signed.
 HELD = 0x0000_0005
 OPERANDS = {
@@ -122,102 +99,6 @@ def both(what, session, operation, true, false, **more):
         )
     if false:
         fails("Of these it does not", session, operation, *false, **more)
-
-
-def numbers():
-    session = tpm.policy("A policy session")
-    for held, operands in ((HELD, OPERANDS), (NEGATIVE, NEGATIVE_OPERANDS)):
-        tpm.chapter(f"Comparisons with {held:08X}.")
-        tpm("It is written").writing(SECOND, number(held, 4), by=RH_OWNER)
-        for operation, compare in COMPARISONS.items():
-            true = [number(it, 4) for it, how in operands.items() if compare(*how)]
-            false = [number(it, 4) for it, how in operands.items() if not compare(*how)]
-            case = f"Operation {operation:X}, {NAMES[operation]}"
-            both(case, session, operation, true, false, index=SECOND)
-    tpm.chapter("Bits of A5A5A5A5.")
-    tpm("It is written").writing(SECOND, b"\xa5" * 4, by=RH_OWNER)
-    zero, one, all_bits = bytes(4), number(1, 4), b"\xff" * 4
-    both(
-        f"Operation {BITSET:X}, {NAMES[BITSET]}",
-        session,
-        BITSET,
-        [b"\xa5" * 4, b"\x80\0\0\0", one, b"\x21" * 4, zero],
-        [all_bits, number(2, 4), b"\xa5\xa5\xa5\xa7", b"\xe5\xa5\xa5\xa5", b"\x5a" * 4],
-        index=SECOND,
-    )
-    both(
-        f"Operation {BITCLEAR:X}, {NAMES[BITCLEAR]}",
-        session,
-        BITCLEAR,
-        [b"\x5a" * 4, number(2, 4), b"\x40\0\0\0", zero],
-        [all_bits, one, b"\xa5" * 4, b"\x5b\x5a\x5a\x5a", b"\x80\0\0\0"],
-        index=SECOND,
-    )
-    tpm.chapter("No bytes are equal to no bytes, at every offset.")
-    for operation in range(12):
-        what = f"Operation {operation:X}, {NAMES[operation]}"
-        if operation in (NEQ, SIGNED_GT, GT, SIGNED_LT, LT):
-            fails(what, session, operation, b"", index=SECOND)
-        else:
-            holds(what, session, operation, b"", index=SECOND)
-            holds("At the end", session, operation, b"", 4, index=SECOND)
-    tpm("The session is flushed").flush(session)
-
-
-def sizes_and_offsets():
-    tpm.chapter(
-        "Operands of other sizes, and at other offsets: the sign is that of their first bit."
-    )
-    session = tpm.policy("A policy session")
-    data = bytes([0x80, 0x00, 0x7F, 0xFF]) + bytes(range(60))
-    tpm.define("An index of 64 bytes", area(THIRD, BY_OWNER, size=64))
-    tpm("It is written").writing(THIRD, data, by=RH_OWNER)
-    for size, offset in ((1, 0), (2, 2), (3, 1), (32, 0), (32, 32), (31, 33), (1, 63)):
-        piece = data[offset : offset + size]
-        holds(f"{size} bytes at {offset}, equal", session, EQ, piece, offset, index=THIRD)
-        holds("Less or equal, signed", session, SIGNED_LE, piece, offset, index=THIRD)
-        other = piece[:-1] + bytes([piece[-1] ^ 1])
-        fails("Another last bit", session, EQ, other, offset=offset, index=THIRD)
-    holds("80 is less than 7F, signed", session, SIGNED_LT, b"\x7f", 0, index=THIRD)
-    fails("And not unsigned", session, LT, b"\x7f", index=THIRD)
-    holds("8000 is less than 0000, signed", session, SIGNED_LT, b"\0\0", 0, index=THIRD)
-    case = "007FFF is less than 008000, signed or not"
-    holds(case, session, SIGNED_LT, b"\0\x80\0", 1, index=THIRD)
-    holds("", session, LT, b"\0\x80\0", 1, index=THIRD)
-    case = "Past the end"
-    fails(case, session, EQ, b"\x3b\0", bytes(32), offset=63, index=THIRD, outcome="NV_RANGE")
-    case = "One byte, and none, behind it"
-    fails(case, session, EQ, b"x", offset=64, index=THIRD, outcome="NV_RANGE")
-    fails("", session, EQ, b"", offset=65, index=THIRD, outcome="NV_RANGE")
-    fails("At FFFF", session, EQ, bytes(32), b"", offset=0xFFFF, index=THIRD, outcome="NV_RANGE")
-    tpm("The index is undefined").undefining(THIRD)
-    tpm("The session is flushed").flush(session)
-
-
-def types():
-    tpm.chapter("Indices of each type.")
-    session = tpm.policy("A policy session")
-    for index, make, change, held in (
-        (THIRD, counter, tpm.incrementing, number(1, 8)),
-        (FOURTH, bits, lambda it, by: tpm.setting(it, 5, by=by), number(5, 8)),
-        (
-            0x0100_0005,
-            extended,
-            lambda it, by: tpm.extending(it, b"abc", by=by),
-            hashlib.sha256(bytes(32) + b"abc").digest(),
-        ),
-    ):
-        tpm.define("TPM2_NV_DefineSpace", make(index, BY_OWNER))
-        tpm.does("Its change", change(index, by=RH_OWNER))
-        holds("TPM2_PolicyNV", session, EQ, held, index=index)
-        tpm.does("Its change again", change(index, by=RH_OWNER))
-        if make == bits:
-            holds("It is the same", session, EQ, held, index=index)
-        else:
-            fails("It is another", session, EQ, held, index=index)
-    for index in (THIRD, FOURTH, 0x0100_0005):
-        tpm("They are undefined" if index == THIRD else "").undefining(index)
-    tpm("The session is flushed").flush(session)
 
 
 def refusals():
@@ -345,9 +226,118 @@ for session in tpm.each_session():
         old = after(session, old, FIRST, b"9", 0, EQ)
     tpm.digest_is("Its digest", session, old)
 
-the_name_of_now()
+
+tpm.chapter("The digest has the Name of the index as it is then.")
+trial = tpm.trial("A trial session")
+tpm.define("An index that is not written", area(SECOND, BY_OWNER))
+holds("A trial session asserts of it all the same", trial, EQ, bytes(8), index=SECOND)
+before = after(trial, zeros(trial), SECOND, bytes(8), 0, EQ)
+tpm.digest_is("The digest is of its Name of now", trial, before)
+session = tpm.policy("A policy session")
+case = "A policy session does not"
+fails(case, session, EQ, bytes(8), index=SECOND, outcome="NV_UNINITIALIZED")
+tpm("It is written").writing(SECOND, bytes(8), by=RH_OWNER)
+holds("Now it does", session, EQ, bytes(8), index=SECOND)
+written = after(session, zeros(session), SECOND, bytes(8), 0, EQ)
+assert written != before
+tpm.digest_is("The digest is another than before", session, written)
+restarted(trial)
+holds("So in the trial session", trial, EQ, bytes(8), index=SECOND)
+tpm.digest_is("It is the same", trial, written)
+for each in (trial, session):
+    tpm("It is flushed").flush(each)
+tpm("The index is undefined").undefining(SECOND)
+
 tpm.define("An index of four bytes", area(SECOND, BY_OWNER, size=4))
-numbers()
-sizes_and_offsets()
-types()
+
+session = tpm.policy("A policy session")
+for held, operands in ((HELD, OPERANDS), (NEGATIVE, NEGATIVE_OPERANDS)):
+    tpm.chapter(f"Comparisons with {held:08X}.")
+    tpm("It is written").writing(SECOND, number(held, 4), by=RH_OWNER)
+    for operation, compare in COMPARISONS.items():
+        true = [number(it, 4) for it, how in operands.items() if compare(*how)]
+        false = [number(it, 4) for it, how in operands.items() if not compare(*how)]
+        case = f"Operation {operation:X}, {NAMES[operation]}"
+        both(case, session, operation, true, false, index=SECOND)
+tpm.chapter("Bits of A5A5A5A5.")
+tpm("It is written").writing(SECOND, b"\xa5" * 4, by=RH_OWNER)
+zero, one, all_bits = bytes(4), number(1, 4), b"\xff" * 4
+both(
+    f"Operation {BITSET:X}, {NAMES[BITSET]}",
+    session,
+    BITSET,
+    [b"\xa5" * 4, b"\x80\0\0\0", one, b"\x21" * 4, zero],
+    [all_bits, number(2, 4), b"\xa5\xa5\xa5\xa7", b"\xe5\xa5\xa5\xa5", b"\x5a" * 4],
+    index=SECOND,
+)
+both(
+    f"Operation {BITCLEAR:X}, {NAMES[BITCLEAR]}",
+    session,
+    BITCLEAR,
+    [b"\x5a" * 4, number(2, 4), b"\x40\0\0\0", zero],
+    [all_bits, one, b"\xa5" * 4, b"\x5b\x5a\x5a\x5a", b"\x80\0\0\0"],
+    index=SECOND,
+)
+tpm.chapter("No bytes are equal to no bytes, at every offset.")
+for operation in range(12):
+    what = f"Operation {operation:X}, {NAMES[operation]}"
+    if operation in (NEQ, SIGNED_GT, GT, SIGNED_LT, LT):
+        fails(what, session, operation, b"", index=SECOND)
+    else:
+        holds(what, session, operation, b"", index=SECOND)
+        holds("At the end", session, operation, b"", 4, index=SECOND)
+tpm("The session is flushed").flush(session)
+
+
+tpm.chapter("Operands of other sizes, and at other offsets: the sign is that of their first bit.")
+session = tpm.policy("A policy session")
+data = bytes([0x80, 0x00, 0x7F, 0xFF]) + bytes(range(60))
+tpm.define("An index of 64 bytes", area(THIRD, BY_OWNER, size=64))
+tpm("It is written").writing(THIRD, data, by=RH_OWNER)
+for size, offset in ((1, 0), (2, 2), (3, 1), (32, 0), (32, 32), (31, 33), (1, 63)):
+    piece = data[offset : offset + size]
+    holds(f"{size} bytes at {offset}, equal", session, EQ, piece, offset, index=THIRD)
+    holds("Less or equal, signed", session, SIGNED_LE, piece, offset, index=THIRD)
+    other = piece[:-1] + bytes([piece[-1] ^ 1])
+    fails("Another last bit", session, EQ, other, offset=offset, index=THIRD)
+holds("80 is less than 7F, signed", session, SIGNED_LT, b"\x7f", 0, index=THIRD)
+fails("And not unsigned", session, LT, b"\x7f", index=THIRD)
+holds("8000 is less than 0000, signed", session, SIGNED_LT, b"\0\0", 0, index=THIRD)
+case = "007FFF is less than 008000, signed or not"
+holds(case, session, SIGNED_LT, b"\0\x80\0", 1, index=THIRD)
+holds("", session, LT, b"\0\x80\0", 1, index=THIRD)
+case = "Past the end"
+fails(case, session, EQ, b"\x3b\0", bytes(32), offset=63, index=THIRD, outcome="NV_RANGE")
+case = "One byte, and none, behind it"
+fails(case, session, EQ, b"x", offset=64, index=THIRD, outcome="NV_RANGE")
+fails("", session, EQ, b"", offset=65, index=THIRD, outcome="NV_RANGE")
+fails("At FFFF", session, EQ, bytes(32), b"", offset=0xFFFF, index=THIRD, outcome="NV_RANGE")
+tpm("The index is undefined").undefining(THIRD)
+tpm("The session is flushed").flush(session)
+
+
+tpm.chapter("Indices of each type.")
+session = tpm.policy("A policy session")
+for index, make, change, held in (
+    (THIRD, counter, tpm.incrementing, number(1, 8)),
+    (FOURTH, bits, lambda it, by: tpm.setting(it, 5, by=by), number(5, 8)),
+    (
+        0x0100_0005,
+        extended,
+        lambda it, by: tpm.extending(it, b"abc", by=by),
+        hashlib.sha256(bytes(32) + b"abc").digest(),
+    ),
+):
+    tpm.define("TPM2_NV_DefineSpace", make(index, BY_OWNER))
+    tpm.does("Its change", change(index, by=RH_OWNER))
+    holds("TPM2_PolicyNV", session, EQ, held, index=index)
+    tpm.does("Its change again", change(index, by=RH_OWNER))
+    if make == bits:
+        holds("It is the same", session, EQ, held, index=index)
+    else:
+        fails("It is another", session, EQ, held, index=index)
+for index in (THIRD, FOURTH, 0x0100_0005):
+    tpm("They are undefined" if index == THIRD else "").undefining(index)
+tpm("The session is flushed").flush(session)
+
 sessions(*refusals())

@@ -154,17 +154,16 @@ tpm("And a PCR before that: PCR_CHANGED").reading(SIXTH, 4, session)
 tpm.restarts(session)
 
 
-def hash_of(prepared):
-    names = map(tpm.name, prepared.handles)
-    return command_hash(SHA256, prepared.code, names, prepared.parameters)
-
-
 tpm.chapter(
     "With a cpHash. Which of both is looked at first cannot be seen, as both answer POLICY_FAIL; "
     "the locality behind them shows whether both hold."
 )
 writes = tpm.writing(SIXTH, b"data", session)
-right = hash_of(writes)
+
+prepared = writes
+names = map(tpm.name, prepared.handles)
+right = command_hash(SHA256, prepared.code, names, prepared.parameters)
+
 for words, cp_hash, value, outcome in (
     ("both hold", right, YES, "LOCALITY"),
     ("it does not", right, NO, "POLICY_FAIL/s1"),

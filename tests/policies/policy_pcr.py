@@ -32,8 +32,11 @@ def raw(session, text):
     return tpm.told(CC.PolicyPCR, session, text)
 
 
-def edges(session):
-    """What is refused of the parameters, and the digest is zeros behind it."""
+for pcr in (0, 1, 7, 8, 16, 23):
+    tpm.accepted(f"TPM2_PCR_Event into PCR {pcr}", tpm.event(b"event %d" % pcr, b"", pcr=pcr))
+
+for session in tpm.each_session():
+    # What is refused of the parameters, and the digest is zeros behind it.
     one = selection((SHA256, [0]))
     said = tpm("pcrDigest that is cut: INSUFFICIENT/p1")
     said.says(*(raw(session, it) for it in (b"", b"\0", b"\0\x01", number(32, 2) + bytes(31))))
@@ -70,13 +73,6 @@ def edges(session):
     said = tpm("A byte behind them, also where pcrDigest is another: SIZE")
     said.says(raw(session, sized(b"") + one + b"\0"), raw(session, sized(bytes(32)) + one + b"\0"))
     tpm.digest_is("The digest is zeros", session, zeros(session))
-
-
-for pcr in (0, 1, 7, 8, 16, 23):
-    tpm.accepted(f"TPM2_PCR_Event into PCR {pcr}", tpm.event(b"event %d" % pcr, b"", pcr=pcr))
-
-for session in tpm.each_session():
-    edges(session)
     for what, banks in (
         ("No bank at all, and so no value", []),
         ("A bank of which no PCR is selected", [(SHA256, [])]),

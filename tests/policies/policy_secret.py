@@ -27,7 +27,7 @@ def raw(session, text):
     return tpm.secret(session).but(parameters=text)
 
 
-def digests(session):
+for session in tpm.each_session():
     for handle, name in ENTITIES:
         tpm.restarts(session)
         tpm.accepted(f"By {name}", tpm.secret(session, of=handle))
@@ -44,9 +44,6 @@ def digests(session):
         tpm.accepted(words, tpm.secret(session, policy_ref=policy_ref))
         digest = after(session, digest, policy_ref=policy_ref)
         tpm.digest_is("Its digest", session, digest)
-
-
-def nonces(session):
     tpm.restarts(session)
     right = session.nonce_tpm
     tpm.accepted("nonceTPM, the right one", tpm.secret(session, nonce_tpm=right))
@@ -72,9 +69,6 @@ def nonces(session):
         tpm.refused("The one before: NONCE/p1", tpm.secret(session, nonce_tpm=right))
     tpm.accepted("The new one", tpm.secret(session, nonce_tpm=session.nonce_tpm))
     tpm.digest_is("Its digest", session, after(session, digest))
-
-
-def cp_hashes(session):
     size = digest_bytes(session.algorithm)
     one, other = bytes([1]) * size, bytes(size)
     tpm.restarts(session)
@@ -112,9 +106,6 @@ def cp_hashes(session):
     tpm.accepted("Zeros as the first one", tpm.secret(session, cp_hash=other))
     if not is_trial(session):
         tpm.refused("Another: CPHASH", tpm.secret(session, cp_hash=one))
-
-
-def edges(session):
     tpm.restarts(session)
     tpm.refused(
         "expiration that is not 0, of either sign: VALUE/p4",
@@ -146,13 +137,6 @@ def edges(session):
         raw(session, frames.policy_secret(expiration=1) + b"\0"),
     )
     tpm.digest_is("The digest is zeros", session, zeros(session))
-
-
-for session in tpm.each_session():
-    digests(session)
-    nonces(session)
-    cp_hashes(session)
-    edges(session)
 
 tpm.chapter("A nonceTPM of 32 bytes, of a session of SHA-256.")
 session = tpm.policy("The session", size=32)

@@ -96,10 +96,6 @@ def is_policy_session(session):
     tpm.says("As no trial session it is refused a wrong list: VALUE/p1", branches)
 
 
-def is_trial_session(session):
-    tpm("As a trial session it takes any").branches(session, b"x", b"y")
-
-
 tpm("A trial session ends").flush(sessions[7])
 told = start(SE_POLICY, 7, "A policy session in its place")
 is_policy_session(told)
@@ -113,7 +109,10 @@ tpm.accepted("TPM2_PCR_Reset of PCR 16", tpm.reset(b""))
 tpm("It ends by TPM2_FlushContext").flush(told)
 told = start(SE_TRIAL, 7, "A trial session in its place")
 tell(told, 0x15E, 4, CP_HASHES[0])
-is_trial_session(told)
+
+session = told
+tpm("As a trial session it takes any").branches(session, b"x", b"y")
+
 tpm("It ends by TPM2_FlushContext").flush(told)
 told = start(SE_POLICY, 7, "And a policy session again")
 tpm.digest_is("It begins with zeros", told, zeros(told))

@@ -136,65 +136,7 @@ def other_comparisons(session, index, other):
     )
 
 
-def lost_ways_of_update(session, update, index, other, key):
-    tpm.chapter("What is refused. The locality is another.")
-    asserts("TPM2_PolicyLocality, PolicyOR", *update.from_locality(session, LOCALITIES_3_AND_4))
-    asserts("TPM2_PolicyNV, PolicyOR", compares(session, index), update.end(session))
-    lost("TPM2_Unseal from locality 0: LOCALITY", tpm.unsealing(key, session))
-    for words, compared in other_comparisons(session, index, other):
-        tpm.chapter(f"TPM2_PolicyNV with {words}.")
-        asserts("TPM2_PolicyRestart", tpm.restart(session), *update.from_locality(session))
-        asserts("TPM2_PolicyNV", compared)
-        tpm.says("TPM2_PolicyOR: VALUE/p1", update.end(session))
-        lost("TPM2_Unseal: POLICY_FAIL/s1", tpm.unsealing(key, session))
-    tpm.chapter("The version is not high enough, for who asks for one of 7.")
-    asserts("TPM2_PolicyRestart", tpm.restart(session), *update.from_locality(session))
-    tpm.says("TPM2_PolicyNV: POLICY", compares(session, index, operand=number(7, 8)))
-    asserts("TPM2_PolicyRestart", tpm.restart(session))
-
-
 # Other policies.
-
-
-def version_alone(session, index, other):
-    tpm.chapter("OTHER POLICIES. A version alone.")
-    handle = tpm.sealed_object("An object with this policy", after_version(index))
-    for words, compared in other_comparisons(session, index, other):
-        asserts(f"TPM2_PolicyNV with {words}", compared)
-        lost("TPM2_Unseal: POLICY_FAIL/s1", tpm.unsealing(handle, session))
-        asserts("TPM2_PolicyRestart", tpm.restart(session))
-    asserts("TPM2_PolicyNV", compares(session, index))
-    tpm.unseal("TPM2_Unseal", handle, SECRET, session)
-    tpm.flushed(handle)
-
-
-def other_policies(session):
-    tpm.chapter("A cpHash, which is that of no command.")
-    auth_policy = policy.after_cp_hash(SHA256, ZEROS, OF_NO_COMMAND)
-    handle = tpm.sealed_object("An object with this policy", auth_policy)
-    asserts("TPM2_PolicyCpHash", tpm.cp_hash_told(session, OF_NO_COMMAND))
-    lost("TPM2_Unseal: POLICY_FAIL/s1", tpm.unsealing(handle, session))
-    asserts("TPM2_PolicyRestart", tpm.restart(session))
-    tpm.chapter("An index is written once.")
-    auth_policy = policy.after_nv_written(SHA256, ZEROS, False)
-    index = tpm.index("It has this policy", NvAttribute.POLICYWRITE | BY_OWNER, auth_policy)
-    for is_lost in (False, True):
-        asserts("TPM2_PolicyNvWritten of 0", tpm.written_told(session, False))
-        writing = tpm.writing(index, VERSION, session)
-        if is_lost:
-            lost("TPM2_NV_Write once more: POLICY_FAIL/s1", writing)
-        else:
-            tpm.does("TPM2_NV_Write", writing)
-    asserts("TPM2_PolicyRestart", tpm.restart(session))
-    tpm.chapter("An object of SHA-1, for one command.")
-    of_sha1 = tpm.sealed_object("It is created", after_code(CC.Unseal, SHA1), algorithm=SHA1)
-    session = tpm.policy("A policy session of SHA-1", algorithm=SHA1)
-    tpm.asserts_code(session)
-    tpm.unseal("TPM2_Unseal", of_sha1, SECRET, session)
-    lost("It has counted: TPM2_Unseal: POLICY_FAIL/s1", tpm.unsealing(of_sha1, session))
-    tpm.asserts_code(session, CC.HMAC, "TPM2_HMAC")
-    lost("Another command: TPM2_Unseal: POLICY_CC/s1", tpm.unsealing(of_sha1, session))
-    tpm.sealed_object("An object with a policy that is not in words", AFTER_AUTH_VALUE)
 
 
 tpm("A recovery secret").change_auth(RH_ENDORSEMENT, RECOVERY, b"")
@@ -248,7 +190,58 @@ tpm.chapter("By the value of the index.")
 asserts("TPM2_PolicySecret", recovery(session, of=index, ref=b""), update.end(session))
 tpm.unseal("TPM2_Unseal", key, SECRET, session)
 
-lost_ways_of_update(session, update, index, other, key)
+
+tpm.chapter("What is refused. The locality is another.")
+asserts("TPM2_PolicyLocality, PolicyOR", *update.from_locality(session, LOCALITIES_3_AND_4))
+asserts("TPM2_PolicyNV, PolicyOR", compares(session, index), update.end(session))
+lost("TPM2_Unseal from locality 0: LOCALITY", tpm.unsealing(key, session))
+for words, compared in other_comparisons(session, index, other):
+    tpm.chapter(f"TPM2_PolicyNV with {words}.")
+    asserts("TPM2_PolicyRestart", tpm.restart(session), *update.from_locality(session))
+    asserts("TPM2_PolicyNV", compared)
+    tpm.says("TPM2_PolicyOR: VALUE/p1", update.end(session))
+    lost("TPM2_Unseal: POLICY_FAIL/s1", tpm.unsealing(key, session))
+tpm.chapter("The version is not high enough, for who asks for one of 7.")
+asserts("TPM2_PolicyRestart", tpm.restart(session), *update.from_locality(session))
+tpm.says("TPM2_PolicyNV: POLICY", compares(session, index, operand=number(7, 8)))
+asserts("TPM2_PolicyRestart", tpm.restart(session))
+
 tpm.flushed(openly, key)
-version_alone(session, index, other)
-other_policies(session)
+
+tpm.chapter("OTHER POLICIES. A version alone.")
+handle = tpm.sealed_object("An object with this policy", after_version(index))
+for words, compared in other_comparisons(session, index, other):
+    asserts(f"TPM2_PolicyNV with {words}", compared)
+    lost("TPM2_Unseal: POLICY_FAIL/s1", tpm.unsealing(handle, session))
+    asserts("TPM2_PolicyRestart", tpm.restart(session))
+asserts("TPM2_PolicyNV", compares(session, index))
+tpm.unseal("TPM2_Unseal", handle, SECRET, session)
+tpm.flushed(handle)
+
+
+tpm.chapter("A cpHash, which is that of no command.")
+auth_policy = policy.after_cp_hash(SHA256, ZEROS, OF_NO_COMMAND)
+handle = tpm.sealed_object("An object with this policy", auth_policy)
+asserts("TPM2_PolicyCpHash", tpm.cp_hash_told(session, OF_NO_COMMAND))
+lost("TPM2_Unseal: POLICY_FAIL/s1", tpm.unsealing(handle, session))
+asserts("TPM2_PolicyRestart", tpm.restart(session))
+tpm.chapter("An index is written once.")
+auth_policy = policy.after_nv_written(SHA256, ZEROS, False)
+index = tpm.index("It has this policy", NvAttribute.POLICYWRITE | BY_OWNER, auth_policy)
+for is_lost in (False, True):
+    asserts("TPM2_PolicyNvWritten of 0", tpm.written_told(session, False))
+    writing = tpm.writing(index, VERSION, session)
+    if is_lost:
+        lost("TPM2_NV_Write once more: POLICY_FAIL/s1", writing)
+    else:
+        tpm.does("TPM2_NV_Write", writing)
+asserts("TPM2_PolicyRestart", tpm.restart(session))
+tpm.chapter("An object of SHA-1, for one command.")
+of_sha1 = tpm.sealed_object("It is created", after_code(CC.Unseal, SHA1), algorithm=SHA1)
+session = tpm.policy("A policy session of SHA-1", algorithm=SHA1)
+tpm.asserts_code(session)
+tpm.unseal("TPM2_Unseal", of_sha1, SECRET, session)
+lost("It has counted: TPM2_Unseal: POLICY_FAIL/s1", tpm.unsealing(of_sha1, session))
+tpm.asserts_code(session, CC.HMAC, "TPM2_HMAC")
+lost("Another command: TPM2_Unseal: POLICY_CC/s1", tpm.unsealing(of_sha1, session))
+tpm.sealed_object("An object with a policy that is not in words", AFTER_AUTH_VALUE)

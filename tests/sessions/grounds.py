@@ -110,41 +110,6 @@ def at_null(*uses):
     return tpm.primary(RH_NULL, sealed(), *uses, data=SECRET)
 
 
-def by_hmac_sessions(found):
-    tpm.chapter(
-        "HMAC SESSIONS. The key of the hmac is the session key, which an unbound session has not, "
-        "and the value of the entity; but where the session is bound to that very entity its value "
-        "is left out."
-    )
-    unbound = tpm.start("A session bound to nothing")
-    other = tpm.start("One bound to PCR 16", 16)
-    for entity in found:
-        tpm.chapter(f"{entity.words}: {entity.command}.")
-        tpm.does("Bound to nothing: the key is the value", entity.prepare(unbound))
-        tpm.does("Bound to another: the key is both", entity.prepare(other))
-        bound = tpm.start("A session bound to the entity", entity.handle)
-        tpm.does("The key is the session key|and it ends", entity.prepare(Use(bound, ENDS)))
-
-    loaded, kept = found[4:6]
-    tpm.chapter("A session is bound by the Name, so that it may be a copy that is authorized.")
-    bound = tpm.start("A session of SHA-1, bound to the object", loaded.handle, SHA1)
-    tpm.does("TPM2_Unseal of the object, whose nameAlg is SHA-256", loaded.prepare(bound))
-    tpm.does("Of the persistent object, and the key is the session key", kept.prepare(bound))
-    tpm.flushed(bound)
-
-    tpm.chapter("Key and hmac are both empty: a session bound to nothing, and an empty value.")
-    openly = tpm.sealed_object(
-        "An object with userWithAuth, whose value is empty", attributes=HERE | USER, value=b""
-    )
-    tpm("A PCR: TPM2_PCR_Reset").reset(unbound)
-    tpm.flushed_new("TPM_RH_NULL: TPM2_CreatePrimary", at_null(unbound))
-    tpm.unseal("The object: TPM2_Unseal", openly, SECRET, unbound)
-    shown = Use(unbound, shows_empty_key=True)
-    tpm.unseal("Or it is the hmac of the empty key", openly, SECRET, shown)
-    tpm.unseal("A session that has a key shows it", openly, SECRET, other)
-    tpm.flushed(openly, unbound, other)
-
-
 # Policies.
 
 
@@ -175,87 +140,6 @@ def with_policy(auth_policy):
     """A sealed object and an index that this policy alone authorizes."""
     handle = tpm.sealed_object("An object and an index with this policy", auth_policy)
     return handle, tpm.index("", BY_POLICY, auth_policy)
-
-
-def in_turn(session, condition):
-    """An object and an index are authorized under a condition."""
-    tpm.chapter(condition.words)
-    handle, index = with_policy(condition.auth_policy)
-    if condition.locality:
-        tpm.locality_is(condition.locality)
-    for name, prepare in uses_of(handle, index):
-        prepared = prepare(Use(session, demand=condition.demand))
-        tpm.asserts(f"{condition.told}, and {name}", *condition.assertions(session, prepared))
-        tpm.does("", prepared)
-    if condition.locality:
-        tpm.locality_is(0)
-    tpm.flushed(handle)
-
-
-def demanding_the_value(bound):
-    tpm.chapter("What is demanded, with other keys and other values.")
-    handle = tpm.sealed_object("An object whose policy is either of the two", AFTER_AUTH_VALUE)
-    tpm.asserts_value(bound)
-    demanded = Use(bound, demand=AUTH_VALUE)
-    tpm.unseal("TPM2_Unseal: the key is the session key and the value", handle, SECRET, demanded)
-    tpm.asserts_password(bound)
-    demanded = Use(bound, demand=PASSWORD)
-    tpm.unseal("TPM2_Unseal by the value, and by no key", handle, SECRET, demanded)
-    to_it = tpm.policy("A policy session bound to the object", bind=handle)
-    tpm.asserts_value(to_it)
-    said = tpm("TPM2_Unseal: here the value is in the key all the same")
-    said.unseal(handle, SECRET, Use(to_it, demand=AUTH_VALUE))
-    tpm.flushed(to_it, handle)
-    said = tpm("An object with this policy, whose value is empty")
-    openly = said.sealed_object(AFTER_AUTH_VALUE, value=b"")
-    unbound = tpm.policy("A policy session bound to nothing")
-    for told, demand in ((tpm.asserts_value, AUTH_VALUE), (tpm.asserts_password, PASSWORD)):
-        told(unbound)
-        tpm.unseal("TPM2_Unseal by an empty hmac", openly, SECRET, Use(unbound, demand=demand))
-    tpm.flushed(unbound, openly)
-
-
-def command_codes(session):
-    tpm.chapter(
-        "TPM2_PolicyCommandCode: the command is the one that is recorded. So an object and two "
-        "indices have each a policy of their own. All three are in the USER role."
-    )
-    handle = tpm.sealed_object("An object for TPM2_Unseal", after_code(CC.Unseal))
-    said = tpm("An index for TPM2_NV_Write")
-    written = said.index(NvAttribute.POLICYWRITE | NvAttribute.OWNERREAD, after_code(CC.NV_Write))
-    said = tpm("One for TPM2_NV_Read, which the owner writes")
-    read = said.written_index(
-        NvAttribute.POLICYREAD | NvAttribute.OWNERWRITE, after_code(CC.NV_Read)
-    )
-    for name, code, prepared in (
-        ("TPM2_Unseal", CC.Unseal, lambda: tpm.unsealing(handle, session)),
-        ("TPM2_NV_Write", CC.NV_Write, lambda: tpm.writing(written, DATA, session)),
-        ("TPM2_NV_Read", CC.NV_Read, lambda: tpm.reading(read, len(DATA), session)),
-    ):
-        tpm.asserts_code(session, code, name)
-        tpm.does(name, prepared())
-    tpm.flushed(handle)
-
-
-def admin_role(session):
-    tpm.chapter(
-        "The ADMIN role, in which TPM2_NV_ChangeAuth alone authorizes: the command is recorded. No "
-        "attribute of the index is asked for."
-    )
-    code, name = CC.NV_ChangeAuth, "TPM2_NV_ChangeAuth"
-    recorded = after_code(code)
-    index = tpm.index("An index whose policy is that command", BY_OWNER, recorded)
-    tpm.asserts_code(session, code, name)
-    tpm(name).changing_auth(index, b"new", session)
-    said = tpm("One whose policy has TPM2_PolicyAuthValue or TPM2_PolicyPassword behind it")
-    index = said.index(BY_OWNER, policy.after_auth_value(SHA256, recorded))
-    tpm.asserts_code(session, code, name)
-    tpm.asserts_value(session)
-    said = tpm(f"{name} by the value, and its answer is by the new one")
-    said.changing_auth(index, b"new", Use(session, demand=AUTH_VALUE))
-    tpm.asserts_code(session, code, name)
-    tpm.asserts_password(session)
-    tpm(f"{name} by it").changing_auth(index, PIN, Use(session, demand=PASSWORD))
 
 
 def conditions():
@@ -358,28 +242,6 @@ def conditions():
     )
 
 
-def all_at_once(session):
-    tpm.chapter("All at once: a PCR, a locality, a command, a cpHash and the value.")
-    auth_policy = AFTER_PCR_16
-    auth_policy = policy.after_locality(SHA256, auth_policy, AT_LOCALITY_1)
-    auth_policy = policy.after_command_code(SHA256, auth_policy, CC.NV_Write)
-    auth_policy = policy.after_secret(SHA256, auth_policy, name_of(RH_OWNER), b"")
-    auth_policy = policy.after_auth_value(SHA256, auth_policy)
-    index = tpm.index("An index with this policy", BY_POLICY, auth_policy)
-    prepared = tpm.writing(index, DATA, Use(session, demand=AUTH_VALUE))
-    tpm.locality_is(1)
-    tpm.asserts(
-        "What the policy says, in its order",
-        tpm.pcrs(session, PCR_16),
-        tpm.locality(session, AT_LOCALITY_1),
-        tpm.command_code(session, CC.NV_Write),
-        tpm.secret(session, OWNER, of=RH_OWNER, cp_hash=tpm.cp_hash(prepared)),
-        tpm.auth_value_told(session),
-    )
-    tpm.does("TPM2_NV_Write", prepared)
-    tpm.locality_is(0)
-
-
 found = entities()
 
 tpm.chapter("PASSWORDS. The password is the authorization value of the entity.")
@@ -392,7 +254,40 @@ for entity in found[:8]:
     tpm.does(what, entity.prepare(entity.value + bytes(2)))
 tpm("And where it is empty").reset(bytes(32))
 
-by_hmac_sessions(found)
+
+tpm.chapter(
+    "HMAC SESSIONS. The key of the hmac is the session key, which an unbound session has not, "
+    "and the value of the entity; but where the session is bound to that very entity its value "
+    "is left out."
+)
+unbound = tpm.start("A session bound to nothing")
+other = tpm.start("One bound to PCR 16", 16)
+for entity in found:
+    tpm.chapter(f"{entity.words}: {entity.command}.")
+    tpm.does("Bound to nothing: the key is the value", entity.prepare(unbound))
+    tpm.does("Bound to another: the key is both", entity.prepare(other))
+    bound = tpm.start("A session bound to the entity", entity.handle)
+    tpm.does("The key is the session key|and it ends", entity.prepare(Use(bound, ENDS)))
+
+loaded, kept = found[4:6]
+tpm.chapter("A session is bound by the Name, so that it may be a copy that is authorized.")
+bound = tpm.start("A session of SHA-1, bound to the object", loaded.handle, SHA1)
+tpm.does("TPM2_Unseal of the object, whose nameAlg is SHA-256", loaded.prepare(bound))
+tpm.does("Of the persistent object, and the key is the session key", kept.prepare(bound))
+tpm.flushed(bound)
+
+tpm.chapter("Key and hmac are both empty: a session bound to nothing, and an empty value.")
+openly = tpm.sealed_object(
+    "An object with userWithAuth, whose value is empty", attributes=HERE | USER, value=b""
+)
+tpm("A PCR: TPM2_PCR_Reset").reset(unbound)
+tpm.flushed_new("TPM_RH_NULL: TPM2_CreatePrimary", at_null(unbound))
+tpm.unseal("The object: TPM2_Unseal", openly, SECRET, unbound)
+shown = Use(unbound, shows_empty_key=True)
+tpm.unseal("Or it is the hmac of the empty key", openly, SECRET, shown)
+tpm.unseal("A session that has a key shows it", openly, SECRET, other)
+tpm.flushed(openly, unbound, other)
+
 
 tpm.chapter(
     "POLICY SESSIONS, on objects and NV indices: nothing else has a policy. The session is no "
@@ -419,9 +314,98 @@ tpm.unseal("And by the password", both, SECRET, PIN)
 tpm.flushed(both)
 
 for condition in conditions():
-    in_turn(session, condition)
-demanding_the_value(bound)
-command_codes(session)
-admin_role(session)
-all_at_once(session)
+    # An object and an index are authorized under a condition.
+    tpm.chapter(condition.words)
+    handle, index = with_policy(condition.auth_policy)
+    if condition.locality:
+        tpm.locality_is(condition.locality)
+    for name, prepare in uses_of(handle, index):
+        prepared = prepare(Use(session, demand=condition.demand))
+        tpm.asserts(f"{condition.told}, and {name}", *condition.assertions(session, prepared))
+        tpm.does("", prepared)
+    if condition.locality:
+        tpm.locality_is(0)
+    tpm.flushed(handle)
+
+tpm.chapter("What is demanded, with other keys and other values.")
+handle = tpm.sealed_object("An object whose policy is either of the two", AFTER_AUTH_VALUE)
+tpm.asserts_value(bound)
+demanded = Use(bound, demand=AUTH_VALUE)
+tpm.unseal("TPM2_Unseal: the key is the session key and the value", handle, SECRET, demanded)
+tpm.asserts_password(bound)
+demanded = Use(bound, demand=PASSWORD)
+tpm.unseal("TPM2_Unseal by the value, and by no key", handle, SECRET, demanded)
+to_it = tpm.policy("A policy session bound to the object", bind=handle)
+tpm.asserts_value(to_it)
+said = tpm("TPM2_Unseal: here the value is in the key all the same")
+said.unseal(handle, SECRET, Use(to_it, demand=AUTH_VALUE))
+tpm.flushed(to_it, handle)
+said = tpm("An object with this policy, whose value is empty")
+openly = said.sealed_object(AFTER_AUTH_VALUE, value=b"")
+unbound = tpm.policy("A policy session bound to nothing")
+for told, demand in ((tpm.asserts_value, AUTH_VALUE), (tpm.asserts_password, PASSWORD)):
+    told(unbound)
+    tpm.unseal("TPM2_Unseal by an empty hmac", openly, SECRET, Use(unbound, demand=demand))
+tpm.flushed(unbound, openly)
+
+
+tpm.chapter(
+    "TPM2_PolicyCommandCode: the command is the one that is recorded. So an object and two "
+    "indices have each a policy of their own. All three are in the USER role."
+)
+handle = tpm.sealed_object("An object for TPM2_Unseal", after_code(CC.Unseal))
+said = tpm("An index for TPM2_NV_Write")
+written = said.index(NvAttribute.POLICYWRITE | NvAttribute.OWNERREAD, after_code(CC.NV_Write))
+said = tpm("One for TPM2_NV_Read, which the owner writes")
+read = said.written_index(NvAttribute.POLICYREAD | NvAttribute.OWNERWRITE, after_code(CC.NV_Read))
+for name, code, prepared in (
+    ("TPM2_Unseal", CC.Unseal, lambda: tpm.unsealing(handle, session)),
+    ("TPM2_NV_Write", CC.NV_Write, lambda: tpm.writing(written, DATA, session)),
+    ("TPM2_NV_Read", CC.NV_Read, lambda: tpm.reading(read, len(DATA), session)),
+):
+    tpm.asserts_code(session, code, name)
+    tpm.does(name, prepared())
+tpm.flushed(handle)
+
+
+tpm.chapter(
+    "The ADMIN role, in which TPM2_NV_ChangeAuth alone authorizes: the command is recorded. No "
+    "attribute of the index is asked for."
+)
+code, name = CC.NV_ChangeAuth, "TPM2_NV_ChangeAuth"
+recorded = after_code(code)
+index = tpm.index("An index whose policy is that command", BY_OWNER, recorded)
+tpm.asserts_code(session, code, name)
+tpm(name).changing_auth(index, b"new", session)
+said = tpm("One whose policy has TPM2_PolicyAuthValue or TPM2_PolicyPassword behind it")
+index = said.index(BY_OWNER, policy.after_auth_value(SHA256, recorded))
+tpm.asserts_code(session, code, name)
+tpm.asserts_value(session)
+said = tpm(f"{name} by the value, and its answer is by the new one")
+said.changing_auth(index, b"new", Use(session, demand=AUTH_VALUE))
+tpm.asserts_code(session, code, name)
+tpm.asserts_password(session)
+tpm(f"{name} by it").changing_auth(index, PIN, Use(session, demand=PASSWORD))
+
+
+tpm.chapter("All at once: a PCR, a locality, a command, a cpHash and the value.")
+auth_policy = AFTER_PCR_16
+auth_policy = policy.after_locality(SHA256, auth_policy, AT_LOCALITY_1)
+auth_policy = policy.after_command_code(SHA256, auth_policy, CC.NV_Write)
+auth_policy = policy.after_secret(SHA256, auth_policy, name_of(RH_OWNER), b"")
+auth_policy = policy.after_auth_value(SHA256, auth_policy)
+index = tpm.index("An index with this policy", BY_POLICY, auth_policy)
+prepared = tpm.writing(index, DATA, Use(session, demand=AUTH_VALUE))
+tpm.locality_is(1)
+tpm.asserts(
+    "What the policy says, in its order",
+    tpm.pcrs(session, PCR_16),
+    tpm.locality(session, AT_LOCALITY_1),
+    tpm.command_code(session, CC.NV_Write),
+    tpm.secret(session, OWNER, of=RH_OWNER, cp_hash=tpm.cp_hash(prepared)),
+    tpm.auth_value_told(session),
+)
+tpm.does("TPM2_NV_Write", prepared)
+tpm.locality_is(0)
+
 tpm.flushed(session, bound)

@@ -16,34 +16,6 @@ said = tpm('endorsementAuth is "endorsement"')
 said.accepted(tpm.change_auth(RH_ENDORSEMENT, b"endorsement", b""))
 
 
-def wrong_bytes(session, right):
-    """Each part of an authorized TPM2_HierarchyChangeAuth with one bit changed."""
-    entry = right.entries[0]
-    tpm.refused(
-        "A wrong hmac: in its last byte, in its first, of half the length, and of no bytes: "
-        "BAD_AUTH/s1",
-        right.but_entry(1, hmac=flipped(entry.hmac)),
-        right.but_entry(1, hmac=flipped(entry.hmac, 0)),
-        right.but_entry(1, hmac=entry.hmac[: len(entry.hmac) // 2]),
-        right.but_entry(1, hmac=b""),
-    )
-    said = tpm(f"And a byte too long: {'BAD_AUTH' if session.algorithm == SHA1 else 'SIZE'}/s1")
-    said.refused(right.but_entry(1, hmac=entry.hmac + b"\0"))
-    said = tpm("Another nonce than the one that the hmac is of, and none: BAD_AUTH/s1")
-    said.refused(right.but_entry(1, nonce=flipped(entry.nonce)), right.but_entry(1, nonce=b""))
-    said = tpm("Other attributes, without continueSession: BAD_AUTH/s1")
-    said.refused(right.but_entry(1, attributes=ENDS))
-    tpm.refused(
-        "Other parameters, one bit of them or one byte less: BAD_AUTH/s1",
-        right.but(parameters=flipped(right.parameters)),
-        right.but(parameters=sized(AUTH[:-1])),
-    )
-    said = tpm("Another command, TPM2_PCR_Event, with the handle PCR 16: BAD_AUTH/s1")
-    said.refused(right.but(code=CC.PCR_Event, handles=[16]))
-    said = tpm("Another handle, TPM_RH_ENDORSEMENT: BAD_AUTH/s1")
-    said.refused(right.but(handles=[RH_ENDORSEMENT]))
-
-
 for bind, words in (
     (frames.RH_NULL, "to nothing"),
     (RH_OWNER, "to TPM_RH_OWNER"),
@@ -56,7 +28,31 @@ for bind, words in (
         )
         session = tpm.start("TPM2_StartAuthSession", bind, algorithm)
         right = tpm.change_auth(RH_OWNER, AUTH, session)
-        wrong_bytes(session, right)
+        # Each part of an authorized TPM2_HierarchyChangeAuth with one bit changed.
+        entry = right.entries[0]
+        tpm.refused(
+            "A wrong hmac: in its last byte, in its first, of half the length, and of no bytes: "
+            "BAD_AUTH/s1",
+            right.but_entry(1, hmac=flipped(entry.hmac)),
+            right.but_entry(1, hmac=flipped(entry.hmac, 0)),
+            right.but_entry(1, hmac=entry.hmac[: len(entry.hmac) // 2]),
+            right.but_entry(1, hmac=b""),
+        )
+        said = tpm(f"And a byte too long: {'BAD_AUTH' if session.algorithm == SHA1 else 'SIZE'}/s1")
+        said.refused(right.but_entry(1, hmac=entry.hmac + b"\0"))
+        said = tpm("Another nonce than the one that the hmac is of, and none: BAD_AUTH/s1")
+        said.refused(right.but_entry(1, nonce=flipped(entry.nonce)), right.but_entry(1, nonce=b""))
+        said = tpm("Other attributes, without continueSession: BAD_AUTH/s1")
+        said.refused(right.but_entry(1, attributes=ENDS))
+        tpm.refused(
+            "Other parameters, one bit of them or one byte less: BAD_AUTH/s1",
+            right.but(parameters=flipped(right.parameters)),
+            right.but(parameters=sized(AUTH[:-1])),
+        )
+        said = tpm("Another command, TPM2_PCR_Event, with the handle PCR 16: BAD_AUTH/s1")
+        said.refused(right.but(code=CC.PCR_Event, handles=[16]))
+        said = tpm("Another handle, TPM_RH_ENDORSEMENT: BAD_AUTH/s1")
+        said.refused(right.but(handles=[RH_ENDORSEMENT]))
         tpm.accepted("As it was computed|and the nonces are new, which no refusal did", right)
         tpm.refused("The same buffer again, of a nonce that is past: BAD_AUTH/s1", right)
         said = tpm("With the new nonce|and the session ends")

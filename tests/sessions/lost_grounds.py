@@ -102,60 +102,7 @@ def other_keys(handle, unbound):
     tpm.flushed(bound, other)
 
 
-def lapsed_bindings():
-    tpm.chapter("A binding that has lapsed, by another value or by another Name.")
-    bound = tpm.start("A session bound to the owner", RH_OWNER)
-    tpm("ownerAuth is another").change_auth(RH_OWNER, b"other", OWNER)
-    changing = tpm.change_auth, RH_OWNER, OWNER, bound
-    lost("Without the value in the key: BAD_AUTH/s1", with_key(bound.key, *changing))
-    tpm("With it, and ownerAuth is as it was").change_auth(RH_OWNER, OWNER, bound)
-    tpm("Without it, as it holds again").change_auth(RH_OWNER, OWNER, bound)
-    index = tpm.index("An index that is not written", BY_VALUE)
-    to_index = tpm.start("A session bound to it", index)
-    tpm("TPM2_NV_Write gives it another Name").writing(index, DATA)
-    writing = tpm.writing, index, DATA, to_index
-    lost("Without the value in the key: AUTH_FAIL/s1", with_key(to_index.key, *writing))
-    tpm("With it").writing(index, DATA, to_index)
-    tpm.flushed(bound, to_index)
-
-
 # Policy sessions: the conditions of a use, in the order of docs/table/policies.md.
-
-
-def trial_sessions(handle, session):
-    tpm.chapter("A POLICY. The session is a trial session (condition 1).")
-    trial = tpm.trial("It is started")
-    tpm.asserts_code(trial)
-    lost("TPM2_Unseal by it: ATTRIBUTES/s1", tpm.unsealing(handle, trial))
-    tpm.asserts_code(session)
-    tpm.unseal("By a policy session", handle, SECRET, session)
-    tpm.flushed(trial)
-
-
-def no_policy(openly, session):
-    tpm.chapter("The entity cannot have a policy (condition 2). No policy is asserted here.")
-    lost("An object with an empty authPolicy: AUTH_UNAVAILABLE", tpm.unsealing(openly, session))
-    hierarchies = RH_OWNER, RH_ENDORSEMENT, RH_PLATFORM, RH_LOCKOUT
-    lost(
-        "The hierarchies, TPM_RH_NULL and a PCR: AUTH_UNAVAILABLE",
-        *(tpm.change_auth(it, OWNER, session) for it in hierarchies),
-        tpm.primary(RH_NULL, sealed(), session, data=SECRET),
-        tpm.reset(session),
-    )
-    for words, attributes, auth_policy, authorized in (
-        ("An index with an empty authPolicy", BY_POLICY, b"", None),
-        ("One of 32 zeros, without POLICYREAD", NvAttribute.POLICYWRITE, ZEROS, CC.NV_Write),
-        ("One of 32 zeros, without POLICYWRITE", NvAttribute.POLICYREAD, ZEROS, CC.NV_Read),
-    ):
-        index = tpm.written_index(words, attributes | BY_OWNER, auth_policy)
-        for code, name, prepare in (
-            (CC.NV_Write, "TPM2_NV_Write", lambda: tpm.writing(index, DATA, session)),
-            (CC.NV_Read, "TPM2_NV_Read", lambda: tpm.reading(index, 8, session)),
-        ):
-            if code == authorized:
-                tpm.does(name, prepare())
-            else:
-                lost(f"{name}: AUTH_UNAVAILABLE", prepare())
 
 
 def extending(pcr, *values):
@@ -201,29 +148,6 @@ def changed_pcrs(session):
     tpm.flushed(handle, either)
 
 
-def other_commands(session):
-    tpm.chapter("The command is another than the one recorded (condition 4).")
-    said = tpm("An index whose policy is TPM2_NV_Read")
-    index = said.written_index(BY_POLICY | BY_OWNER, after_code(CC.NV_Read))
-    tpm.asserts_code(session, CC.NV_Read, "TPM2_NV_Read")
-    lost("TPM2_NV_Write: POLICY_CC/s1", tpm.writing(index, DATA, session))
-    tpm.read("TPM2_NV_Read", index, DATA, session)
-
-
-def admin_role(session):
-    tpm.chapter("The ADMIN role, and no command is recorded (condition 5), or another.")
-    index = tpm.index("An index whose authPolicy is 32 zeros", BY_POLICY, ZEROS)
-    lost("TPM2_NV_ChangeAuth: POLICY_FAIL/s1", tpm.changing_auth(index, PIN, session))
-    tpm("TPM2_NV_Write, in the USER role").writing(index, DATA, session)
-    said = tpm("One whose policy is TPM2_NV_ChangeAuth")
-    admin = said.index(BY_POLICY, after_code(CC.NV_ChangeAuth))
-    tpm.asserts_code(session, CC.NV_Read, "TPM2_NV_Read")
-    lost("TPM2_NV_ChangeAuth: POLICY_CC/s1", tpm.changing_auth(admin, PIN, session))
-    tpm.restarts(session)
-    tpm.asserts_code(session, CC.NV_ChangeAuth, "TPM2_NV_ChangeAuth")
-    tpm("TPM2_NV_ChangeAuth").changing_auth(admin, PIN, session)
-
-
 def other_cp_hashes(session):
     tpm.chapter(
         "The command has another cpHash than TPM2_PolicySecret has recorded (condition 5). The "
@@ -249,48 +173,6 @@ def other_cp_hashes(session):
     tpm.restarts(session)
     asserts("now", tpm.cp_hash(writing()))
     tpm.does("TPM2_NV_Write", writing())
-
-
-def other_written_values(session):
-    tpm.chapter("The policy is for an NV index that is not written (condition 6).")
-    unwritten = policy.after_nv_written(SHA256, ZEROS, False)
-    index = tpm.index("An index with this policy", BY_POLICY, unwritten)
-    handle = tpm.sealed_object("An object with it", unwritten)
-    asserts = lambda: tpm.asserts("TPM2_PolicyNvWritten of 0", tpm.written_told(session, False))
-    asserts()
-    lost("TPM2_Unseal of the object: POLICY_FAIL/s1", tpm.unsealing(handle, session))
-    tpm("TPM2_NV_Write, the first one").writing(index, DATA, session)
-    asserts()
-    lost("The second one: POLICY_FAIL/s1", tpm.writing(index, DATA, session))
-    tpm.restarts(session)
-    tpm.flushed(handle)
-
-
-def other_localities(session):
-    tpm.chapter("The command comes from a locality that is not named (condition 7).")
-    handle = tpm.sealed_object("An object whose policy is locality 1", AFTER_LOCALITY_1)
-    tpm.asserts("TPM2_PolicyLocality of 1", tpm.locality(session, AT_LOCALITY_1))
-    lost("TPM2_Unseal from locality 0: LOCALITY", tpm.unsealing(handle, session))
-    tpm.locality_is(2)
-    lost("From locality 2: LOCALITY", tpm.unsealing(handle, session))
-    tpm.locality_is(1)
-    tpm.unseal("From locality 1", handle, SECRET, session)
-    tpm.locality_is(0)
-    tpm.flushed(handle)
-
-
-def other_hashes(handle, session):
-    tpm.chapter("The hash of the session is not the nameAlg of the entity (condition 8).")
-    by_sha1 = tpm.policy("A policy session of SHA-1", algorithm=SHA1)
-    tpm.asserts_code(by_sha1)
-    lost("The nameAlg is SHA-256: POLICY_FAIL/s1", tpm.unsealing(handle, by_sha1))
-    said = tpm("An object with nameAlg SHA-1")
-    of_sha1 = said.sealed_object(after_code(CC.Unseal, SHA1), algorithm=SHA1)
-    tpm.unseal("It is authorized", of_sha1, SECRET, by_sha1)
-    tpm.asserts_code(session)
-    lost("And not by a session of SHA-256: POLICY_FAIL/s1", tpm.unsealing(of_sha1, session))
-    tpm.unseal("Which authorizes what has its hash", handle, SECRET, session)
-    tpm.flushed(by_sha1, of_sha1)
 
 
 def other_digests(session):
@@ -338,88 +220,6 @@ def other_digests(session):
     lost("Once more: POLICY_FAIL/s1, as it has counted for one command", use())
     tpm.flushed(handle)
     return compared
-
-
-def session_keys(session):
-    tpm.chapter("THE HMAC OF A POLICY SESSION. Nothing is demanded: the key is the session key.")
-    handle = tpm.sealed_object("An object whose authPolicy is 32 zeros", ZEROS)
-    bound = tpm.policy("A policy session bound to TPM_RH_OWNER, which has a key", bind=RH_OWNER)
-    right = tpm.unsealing(handle, bound)
-    lost("By no hmac: BAD_AUTH/s1", right.but_entry(1, hmac=b""))
-    with_value = by_key(bound.key + PIN, handle, bound)
-    lost("With the value of the object in the key: BAD_AUTH/s1", with_value)
-    tpm.unseal("By its key", handle, SECRET, bound)
-    lost("With the nonceTPM of before: BAD_AUTH/s1", right)
-    tpm.unseal("With that of now", handle, SECRET, bound)
-    shown = by_key(b"other", handle, session)
-    lost("An unbound session, whose key is empty: by another key: BAD_AUTH/s1", shown)
-    tpm.unseal("By none", handle, SECRET, session)
-    tpm.flushed(bound)
-    return handle
-
-
-def demands(session):
-    tpm.chapter("TPM2_PolicyPassword: the hmac is not the value in plain.")
-    said = tpm("An object with its policy, which is that of TPM2_PolicyAuthValue, too")
-    handle = said.sealed_object(AFTER_AUTH_VALUE)
-    by_password = lambda: tpm.unsealing(handle, Use(session, demand=PASSWORD))
-    by_value = lambda: tpm.unsealing(handle, Use(session, demand=AUTH_VALUE))
-    by_nothing = lambda: tpm.unsealing(handle, Use(session, shows_empty_key=True))
-    tpm.asserts_password(session)
-    lost("It is empty: AUTH_FAIL/s1", by_password().but_entry(1, hmac=b""))
-    lost("It is another value: AUTH_FAIL/s1", by_password().but_entry(1, hmac=b"other"))
-    lost("It is an hmac, with the value in its key: AUTH_FAIL/s1", by_value())
-    tpm.does("It is the value", by_password())
-
-    tpm.chapter("TPM2_PolicyAuthValue: the value is not in the key of the hmac.")
-    tpm.asserts_value(session)
-    lost("There is no hmac: AUTH_FAIL/s1", by_value().but_entry(1, hmac=b""))
-    lost("The hmac is by the session key alone, which is empty: AUTH_FAIL/s1", by_nothing())
-    lost("Another value is in the key: AUTH_FAIL/s1", by_key(b"other", handle, session))
-    lost("The value is there in plain: AUTH_FAIL/s1", by_password())
-    tpm.does("The value is in the key", by_value())
-    return handle
-
-
-def locked(openly, demanding, undemanding, hmac, session):
-    """What is right, and refused, as the failed tries of this script lock."""
-    tpm.chapter("LOCKOUT. Who would compare the value of a protected entity is refused.")
-    bound = tpm.start("A session bound to the object", openly)
-    tpm.set_protection("maxTries is 1, and there were more", 1, 1000, 1)
-    case = "By the password, by an unbound session and by the bound one: LOCKOUT"
-    lost(case, *(tpm.unsealing(openly, it) for it in (PIN, hmac, bound)))
-    use = lambda: tpm.unsealing(demanding, Use(session, demand=AUTH_VALUE))
-    tpm.asserts_value(session)
-    lost("By a policy that demands the value: LOCKOUT", use())
-    tpm.asserts("TPM2_PolicyRestart", tpm.restart(session))
-    tpm.unseal("By a policy that demands none", undemanding, SECRET, session)
-    tpm.unlocks()
-    for what, by in (("By the password, and by both sessions", PIN), ("", hmac), ("", bound)):
-        tpm.unseal(what, openly, SECRET, by)
-    tpm.asserts_value(session)
-    tpm.does("By the policy that demands the value", use())
-    tpm.flushed(bound, demanding, undemanding)
-
-
-def asked_once(session, compared):
-    tpm.chapter(
-        "WHAT IS ASKED ONCE. TPM2_PolicyNV and TPM2_PolicySecret look at data and at a value as "
-        "they are told, and not as the command comes."
-    )
-    said = tpm("An object whose policy is what an index holds")
-    handle = said.sealed_object(after_equal_data(tpm.name(compared)))
-    told = tpm.comparing(session, compared, DATA, by=RH_OWNER)
-    tpm.does("TPM2_PolicyNV", told)
-    tpm("Other data are written").writing(compared, DATA[::-1], by=RH_OWNER)
-    tpm.unseal("TPM2_Unseal", handle, SECRET, session)
-    tpm.refused_by("A5", "TPM2_PolicyNV once more: POLICY", told)
-    said = tpm("An object whose policy is the owner's value")
-    handle = said.sealed_object(after_secret(name_of(RH_OWNER)))
-    told = tpm.secret(session, OWNER, of=RH_OWNER)
-    tpm.does("TPM2_PolicySecret", told)
-    tpm("ownerAuth is another").change_auth(RH_OWNER, b"other", OWNER)
-    tpm.unseal("TPM2_Unseal", handle, SECRET, session)
-    lost("TPM2_PolicySecret once more: BAD_AUTH/s1", told)
 
 
 tpm('ownerAuth is "owner" from here on').change_auth(RH_OWNER, OWNER, b"")
@@ -478,20 +278,197 @@ tpm.read("And not for one that has it", to_read, DATA, by=RH_OWNER)
 
 other_texts(to_write, hmac)
 other_keys(openly, hmac)
-lapsed_bindings()
+
+tpm.chapter("A binding that has lapsed, by another value or by another Name.")
+bound = tpm.start("A session bound to the owner", RH_OWNER)
+tpm("ownerAuth is another").change_auth(RH_OWNER, b"other", OWNER)
+changing = tpm.change_auth, RH_OWNER, OWNER, bound
+lost("Without the value in the key: BAD_AUTH/s1", with_key(bound.key, *changing))
+tpm("With it, and ownerAuth is as it was").change_auth(RH_OWNER, OWNER, bound)
+tpm("Without it, as it holds again").change_auth(RH_OWNER, OWNER, bound)
+index = tpm.index("An index that is not written", BY_VALUE)
+to_index = tpm.start("A session bound to it", index)
+tpm("TPM2_NV_Write gives it another Name").writing(index, DATA)
+writing = tpm.writing, index, DATA, to_index
+lost("Without the value in the key: AUTH_FAIL/s1", with_key(to_index.key, *writing))
+tpm("With it").writing(index, DATA, to_index)
+tpm.flushed(bound, to_index)
+
 named = tpm.sealed_object("An object whose policy is the command TPM2_Unseal", AFTER_UNSEAL)
 session = tpm.policy("A policy session, which is unbound")
-trial_sessions(named, session)
-no_policy(openly, session)
+
+handle = named
+tpm.chapter("A POLICY. The session is a trial session (condition 1).")
+trial = tpm.trial("It is started")
+tpm.asserts_code(trial)
+lost("TPM2_Unseal by it: ATTRIBUTES/s1", tpm.unsealing(handle, trial))
+tpm.asserts_code(session)
+tpm.unseal("By a policy session", handle, SECRET, session)
+tpm.flushed(trial)
+
+
+tpm.chapter("The entity cannot have a policy (condition 2). No policy is asserted here.")
+lost("An object with an empty authPolicy: AUTH_UNAVAILABLE", tpm.unsealing(openly, session))
+hierarchies = RH_OWNER, RH_ENDORSEMENT, RH_PLATFORM, RH_LOCKOUT
+lost(
+    "The hierarchies, TPM_RH_NULL and a PCR: AUTH_UNAVAILABLE",
+    *(tpm.change_auth(it, OWNER, session) for it in hierarchies),
+    tpm.primary(RH_NULL, sealed(), session, data=SECRET),
+    tpm.reset(session),
+)
+for words, attributes, auth_policy, authorized in (
+    ("An index with an empty authPolicy", BY_POLICY, b"", None),
+    ("One of 32 zeros, without POLICYREAD", NvAttribute.POLICYWRITE, ZEROS, CC.NV_Write),
+    ("One of 32 zeros, without POLICYWRITE", NvAttribute.POLICYREAD, ZEROS, CC.NV_Read),
+):
+    index = tpm.written_index(words, attributes | BY_OWNER, auth_policy)
+    for code, name, prepare in (
+        (CC.NV_Write, "TPM2_NV_Write", lambda: tpm.writing(index, DATA, session)),
+        (CC.NV_Read, "TPM2_NV_Read", lambda: tpm.reading(index, 8, session)),
+    ):
+        if code == authorized:
+            tpm.does(name, prepare())
+        else:
+            lost(f"{name}: AUTH_UNAVAILABLE", prepare())
+
 changed_pcrs(session)
-other_commands(session)
-admin_role(session)
+
+tpm.chapter("The command is another than the one recorded (condition 4).")
+said = tpm("An index whose policy is TPM2_NV_Read")
+index = said.written_index(BY_POLICY | BY_OWNER, after_code(CC.NV_Read))
+tpm.asserts_code(session, CC.NV_Read, "TPM2_NV_Read")
+lost("TPM2_NV_Write: POLICY_CC/s1", tpm.writing(index, DATA, session))
+tpm.read("TPM2_NV_Read", index, DATA, session)
+
+
+tpm.chapter("The ADMIN role, and no command is recorded (condition 5), or another.")
+index = tpm.index("An index whose authPolicy is 32 zeros", BY_POLICY, ZEROS)
+lost("TPM2_NV_ChangeAuth: POLICY_FAIL/s1", tpm.changing_auth(index, PIN, session))
+tpm("TPM2_NV_Write, in the USER role").writing(index, DATA, session)
+said = tpm("One whose policy is TPM2_NV_ChangeAuth")
+admin = said.index(BY_POLICY, after_code(CC.NV_ChangeAuth))
+tpm.asserts_code(session, CC.NV_Read, "TPM2_NV_Read")
+lost("TPM2_NV_ChangeAuth: POLICY_CC/s1", tpm.changing_auth(admin, PIN, session))
+tpm.restarts(session)
+tpm.asserts_code(session, CC.NV_ChangeAuth, "TPM2_NV_ChangeAuth")
+tpm("TPM2_NV_ChangeAuth").changing_auth(admin, PIN, session)
+
 other_cp_hashes(session)
-other_written_values(session)
-other_localities(session)
-other_hashes(named, session)
+
+tpm.chapter("The policy is for an NV index that is not written (condition 6).")
+unwritten = policy.after_nv_written(SHA256, ZEROS, False)
+index = tpm.index("An index with this policy", BY_POLICY, unwritten)
+handle = tpm.sealed_object("An object with it", unwritten)
+asserts = lambda: tpm.asserts("TPM2_PolicyNvWritten of 0", tpm.written_told(session, False))
+asserts()
+lost("TPM2_Unseal of the object: POLICY_FAIL/s1", tpm.unsealing(handle, session))
+tpm("TPM2_NV_Write, the first one").writing(index, DATA, session)
+asserts()
+lost("The second one: POLICY_FAIL/s1", tpm.writing(index, DATA, session))
+tpm.restarts(session)
+tpm.flushed(handle)
+
+
+tpm.chapter("The command comes from a locality that is not named (condition 7).")
+handle = tpm.sealed_object("An object whose policy is locality 1", AFTER_LOCALITY_1)
+tpm.asserts("TPM2_PolicyLocality of 1", tpm.locality(session, AT_LOCALITY_1))
+lost("TPM2_Unseal from locality 0: LOCALITY", tpm.unsealing(handle, session))
+tpm.locality_is(2)
+lost("From locality 2: LOCALITY", tpm.unsealing(handle, session))
+tpm.locality_is(1)
+tpm.unseal("From locality 1", handle, SECRET, session)
+tpm.locality_is(0)
+tpm.flushed(handle)
+
+
+handle = named
+tpm.chapter("The hash of the session is not the nameAlg of the entity (condition 8).")
+by_sha1 = tpm.policy("A policy session of SHA-1", algorithm=SHA1)
+tpm.asserts_code(by_sha1)
+lost("The nameAlg is SHA-256: POLICY_FAIL/s1", tpm.unsealing(handle, by_sha1))
+said = tpm("An object with nameAlg SHA-1")
+of_sha1 = said.sealed_object(after_code(CC.Unseal, SHA1), algorithm=SHA1)
+tpm.unseal("It is authorized", of_sha1, SECRET, by_sha1)
+tpm.asserts_code(session)
+lost("And not by a session of SHA-256: POLICY_FAIL/s1", tpm.unsealing(of_sha1, session))
+tpm.unseal("Which authorizes what has its hash", handle, SECRET, session)
+tpm.flushed(by_sha1, of_sha1)
+
 compared = other_digests(session)
-undemanding = session_keys(session)
-demanding = demands(session)
-locked(openly, demanding, undemanding, hmac, session)
-asked_once(session, compared)
+
+tpm.chapter("THE HMAC OF A POLICY SESSION. Nothing is demanded: the key is the session key.")
+handle = tpm.sealed_object("An object whose authPolicy is 32 zeros", ZEROS)
+bound = tpm.policy("A policy session bound to TPM_RH_OWNER, which has a key", bind=RH_OWNER)
+right = tpm.unsealing(handle, bound)
+lost("By no hmac: BAD_AUTH/s1", right.but_entry(1, hmac=b""))
+with_value = by_key(bound.key + PIN, handle, bound)
+lost("With the value of the object in the key: BAD_AUTH/s1", with_value)
+tpm.unseal("By its key", handle, SECRET, bound)
+lost("With the nonceTPM of before: BAD_AUTH/s1", right)
+tpm.unseal("With that of now", handle, SECRET, bound)
+shown = by_key(b"other", handle, session)
+lost("An unbound session, whose key is empty: by another key: BAD_AUTH/s1", shown)
+tpm.unseal("By none", handle, SECRET, session)
+tpm.flushed(bound)
+undemanding = handle
+
+
+tpm.chapter("TPM2_PolicyPassword: the hmac is not the value in plain.")
+said = tpm("An object with its policy, which is that of TPM2_PolicyAuthValue, too")
+handle = said.sealed_object(AFTER_AUTH_VALUE)
+by_password = lambda: tpm.unsealing(handle, Use(session, demand=PASSWORD))
+by_value = lambda: tpm.unsealing(handle, Use(session, demand=AUTH_VALUE))
+by_nothing = lambda: tpm.unsealing(handle, Use(session, shows_empty_key=True))
+tpm.asserts_password(session)
+lost("It is empty: AUTH_FAIL/s1", by_password().but_entry(1, hmac=b""))
+lost("It is another value: AUTH_FAIL/s1", by_password().but_entry(1, hmac=b"other"))
+lost("It is an hmac, with the value in its key: AUTH_FAIL/s1", by_value())
+tpm.does("It is the value", by_password())
+
+tpm.chapter("TPM2_PolicyAuthValue: the value is not in the key of the hmac.")
+tpm.asserts_value(session)
+lost("There is no hmac: AUTH_FAIL/s1", by_value().but_entry(1, hmac=b""))
+lost("The hmac is by the session key alone, which is empty: AUTH_FAIL/s1", by_nothing())
+lost("Another value is in the key: AUTH_FAIL/s1", by_key(b"other", handle, session))
+lost("The value is there in plain: AUTH_FAIL/s1", by_password())
+tpm.does("The value is in the key", by_value())
+demanding = handle
+
+
+# What is right, and refused, as the failed tries of this script lock.
+tpm.chapter("LOCKOUT. Who would compare the value of a protected entity is refused.")
+bound = tpm.start("A session bound to the object", openly)
+tpm.set_protection("maxTries is 1, and there were more", 1, 1000, 1)
+case = "By the password, by an unbound session and by the bound one: LOCKOUT"
+lost(case, *(tpm.unsealing(openly, it) for it in (PIN, hmac, bound)))
+use = lambda: tpm.unsealing(demanding, Use(session, demand=AUTH_VALUE))
+tpm.asserts_value(session)
+lost("By a policy that demands the value: LOCKOUT", use())
+tpm.asserts("TPM2_PolicyRestart", tpm.restart(session))
+tpm.unseal("By a policy that demands none", undemanding, SECRET, session)
+tpm.unlocks()
+for what, by in (("By the password, and by both sessions", PIN), ("", hmac), ("", bound)):
+    tpm.unseal(what, openly, SECRET, by)
+tpm.asserts_value(session)
+tpm.does("By the policy that demands the value", use())
+tpm.flushed(bound, demanding, undemanding)
+
+
+tpm.chapter(
+    "WHAT IS ASKED ONCE. TPM2_PolicyNV and TPM2_PolicySecret look at data and at a value as "
+    "they are told, and not as the command comes."
+)
+said = tpm("An object whose policy is what an index holds")
+handle = said.sealed_object(after_equal_data(tpm.name(compared)))
+told = tpm.comparing(session, compared, DATA, by=RH_OWNER)
+tpm.does("TPM2_PolicyNV", told)
+tpm("Other data are written").writing(compared, DATA[::-1], by=RH_OWNER)
+tpm.unseal("TPM2_Unseal", handle, SECRET, session)
+tpm.refused_by("A5", "TPM2_PolicyNV once more: POLICY", told)
+said = tpm("An object whose policy is the owner's value")
+handle = said.sealed_object(after_secret(name_of(RH_OWNER)))
+told = tpm.secret(session, OWNER, of=RH_OWNER)
+tpm.does("TPM2_PolicySecret", told)
+tpm("ownerAuth is another").change_auth(RH_OWNER, b"other", OWNER)
+tpm.unseal("TPM2_Unseal", handle, SECRET, session)
+lost("TPM2_PolicySecret once more: BAD_AUTH/s1", told)

@@ -80,50 +80,6 @@ def write(by, data=DATA, index=FIRST):
 # What a replay is refused by, and what counts it.
 
 
-def protected():
-    """An unbound session, and a command of it that was accepted."""
-    tpm.chapter("A PROTECTED INDEX. It is no index with NO_DA, so each wrong entry is a try.")
-    start = Start("TPM2_StartAuthSession of an HMAC session, bound to nothing")
-    session = start.session
-    first = accepted("TPM2_NV_Write by it, and it goes on", write(session))
-    again("The same again: AUTH_FAIL/s1", first)
-    tpm.tries_are("That is a failed try", 1)
-    tpm.does("A refusal has left the nonce, by which another is accepted", write(session))
-    tpm.tries_are("It takes no try away", 1)
-    again("The first again, two nonces later: AUTH_FAIL/s1", first)
-    again("And once more: AUTH_FAIL/s1", first)
-    tpm.tries_are("Three failed tries, as many as maxTries", 3)
-    right = write(session, OTHER_DATA)
-    again("The index is locked: the first again: LOCKOUT", first)
-    again("And one by the nonce of now: LOCKOUT", right)
-    tpm.tries_are("Neither is a try", 3)
-    tpm.wait(RECOVERY)
-    tpm.tries_are("recoveryTime later one try is forgiven", 2)
-    again("The first again: AUTH_FAIL/s1", first)
-    tpm.tries_are("It is locked again", 3)
-    tpm.unlocks()
-    tpm.does("What LOCKOUT has refused was no use, and is accepted now", right)
-    again("But not again: AUTH_FAIL/s1", right)
-    tpm.unlocks()
-    return start, first
-
-
-def not_counted(session, to_endorsement):
-    tpm.chapter("WHAT IS NOT PROTECTED. A wrong entry is no try.")
-    openly = tpm.index("An index with NO_DA", BY_VALUE | NvAttribute.NO_DA, value=VALUE)
-    tpm.does("", write(VALUE, index=openly))
-    for what, prepare in (
-        ("TPM2_NV_Write of it", lambda: write(session, index=openly)),
-        (
-            "TPM2_HierarchyChangeAuth of the owner",
-            lambda: tpm.change_auth(RH_OWNER, OWNER, session),
-        ),
-        ("TPM2_PCR_Event by a session with a key", lambda: tpm.event(b"event", to_endorsement)),
-    ):
-        again("The same again: BAD_AUTH/s1", accepted(what, prepare()))
-    tpm.tries_are("There is no failed try", 0)
-
-
 def counted_otherwise(session):
     tpm.chapter("LOCKOUTAUTH. A wrong entry closes it for lockoutRecovery.")
     tpm('It is "lockout"').change_auth(RH_LOCKOUT, LOCKOUT_AUTH, b"")
@@ -306,10 +262,47 @@ assert FIRST == tpm.index(
     'An index with AUTHWRITE and AUTHREAD, whose value is "a"', BY_VALUE, value=VALUE
 )
 tpm.does("It is written, so that its Name stays from here on", write(VALUE))
-start, first = protected()
+
+# An unbound session, and a command of it that was accepted.
+tpm.chapter("A PROTECTED INDEX. It is no index with NO_DA, so each wrong entry is a try.")
+start = Start("TPM2_StartAuthSession of an HMAC session, bound to nothing")
+session = start.session
+first = accepted("TPM2_NV_Write by it, and it goes on", write(session))
+again("The same again: AUTH_FAIL/s1", first)
+tpm.tries_are("That is a failed try", 1)
+tpm.does("A refusal has left the nonce, by which another is accepted", write(session))
+tpm.tries_are("It takes no try away", 1)
+again("The first again, two nonces later: AUTH_FAIL/s1", first)
+again("And once more: AUTH_FAIL/s1", first)
+tpm.tries_are("Three failed tries, as many as maxTries", 3)
+right = write(session, OTHER_DATA)
+again("The index is locked: the first again: LOCKOUT", first)
+again("And one by the nonce of now: LOCKOUT", right)
+tpm.tries_are("Neither is a try", 3)
+tpm.wait(RECOVERY)
+tpm.tries_are("recoveryTime later one try is forgiven", 2)
+again("The first again: AUTH_FAIL/s1", first)
+tpm.tries_are("It is locked again", 3)
+tpm.unlocks()
+tpm.does("What LOCKOUT has refused was no use, and is accepted now", right)
+again("But not again: AUTH_FAIL/s1", right)
+tpm.unlocks()
+
 said = tpm("A session bound to TPM_RH_ENDORSEMENT, which is not protected")
 to_endorsement = said.start(RH_ENDORSEMENT)
-not_counted(start.session, to_endorsement)
+
+session = start.session
+tpm.chapter("WHAT IS NOT PROTECTED. A wrong entry is no try.")
+openly = tpm.index("An index with NO_DA", BY_VALUE | NvAttribute.NO_DA, value=VALUE)
+tpm.does("", write(VALUE, index=openly))
+for what, prepare in (
+    ("TPM2_NV_Write of it", lambda: write(session, index=openly)),
+    ("TPM2_HierarchyChangeAuth of the owner", lambda: tpm.change_auth(RH_OWNER, OWNER, session)),
+    ("TPM2_PCR_Event by a session with a key", lambda: tpm.event(b"event", to_endorsement)),
+):
+    again("The same again: BAD_AUTH/s1", accepted(what, prepare()))
+tpm.tries_are("There is no failed try", 0)
+
 counted_otherwise(start.session)
 other_places(start.session, to_endorsement)
 compared_with_nothing(start.session)
