@@ -75,6 +75,9 @@ fn try_main(rt: &HostRuntime) -> Result<(), Fault> {
         Arguments::Forms { name } => print_forms(rt, name),
         Arguments::Code { digits } => print_code(rt, digits),
         Arguments::Serve(service) => serve_device(rt, &service),
+        Arguments::Check { .. } | Arguments::Power { .. } | Arguments::Retell { .. } => {
+            Err(Fault::Usage)
+        }
         Arguments::Tell(text) => {
             print!(rt; "{text}").map_err(|error| Fault::of_io(error, Fault::File))
         }

@@ -13,12 +13,18 @@ use tpm_machine::Machine;
 use tpm_record::Keep;
 use tpm_saver::Saver;
 use tpm_wire::{HostFault, Mux, ServeFault, serve, serve_saving};
-use tpmsim_arguments::Service;
+use tpmsim_arguments::{Place, Service};
 
 /// Serves a device on a socket: the one whose image is in the file, or a new one where there is no
 /// file.
 pub fn serve_device(rt: &HostRuntime, service: &Service) -> Result<(), Fault> {
-    let file = ImageFile::take(rt, service.image)?;
+    let Place::Image(image) = service.place else {
+        return Err(Fault::Usage);
+    };
+    if service.log.is_some() {
+        return Err(Fault::Usage);
+    }
+    let file = ImageFile::take(rt, image)?;
     let opened = file.open(rt)?;
     let mut entropy = Entropy::open(rt, service.entropy)?;
     let mut saver = ImageSaver::new(rt, file);
