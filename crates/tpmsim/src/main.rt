@@ -15,12 +15,14 @@
 //! served. All that touches files, sockets and clocks is here; what the device answers is proved in
 //! the crates below.
 
+mod command_witness;
 mod entropy;
 mod fault;
 mod folder;
 mod image_file;
 mod image_lock;
 mod image_saver;
+mod log_file;
 mod running;
 mod serving;
 mod socket;
