@@ -29,7 +29,7 @@ pub struct Log<W> {
     pub(crate) room: [u8; ENTRY_ROOM],
 }
 
-impl<W: Write> Log<W> {
+impl<W: Write + Drop> Log<W> {
     ghost use Rattle.tpm_log.specs.Log.{Begins, written_of};
 
     /// Begins the log of a device as power came on, at this time of the host's clock in milliseconds.
