@@ -21,7 +21,7 @@ from tpmsim.standard import AES, RH_OWNER
 from tpmsim.standard.objects import Attribute
 from client import connected
 
-SERVE = "serve --socket socket --image image --entropy /dev/urandom --locality 0 --connections".split()
+SERVE = "serve --socket socket --image image --entropy /dev/urandom --locality 0".split()
 MOST_CONNECTIONS = 4294967295
 LINES_OF_A_HEAD, LINES_OF_AN_ENTRY = 2, 5
 CUTS, SECONDS = 12, 60
@@ -41,7 +41,7 @@ class Run:
         self.program, self.log = program, pathlib.Path(folder, f"{name}.log")
         self.start = pathlib.Path(f"{name}.start")
         shutil.copy("image", self.start)
-        words = [*SERVE, str(connections), "--log", str(self.log), *options]
+        words = [*SERVE, "--connections", str(connections), "--log", str(self.log), *options]
         self.process = subprocess.Popen(
             [program, *words], stdout=subprocess.PIPE, stderr=subprocess.STDOUT
         )
@@ -201,7 +201,8 @@ def check_full(program, folder, *options):
     again.log.unlink()
     # The start is one of the responses, and five increments were made before.
     more = int.from_bytes(number[16:24], "big") - 5 - (len(responses) - 1)
-    print(f"{' '.join(options) or 'no option'}: commands that are in the image and were not answered: {more}")
+    label = " ".join(options) or "no option"
+    print(f"{label}: commands that are in the image and were not answered: {more}")
 
 
 def main():

@@ -13,7 +13,7 @@ umask 000
 options='--log log'
 begin 3
 talk 'a new device' 7 "$startup" "$random" "$change"
-talk 'a size that no command has, and a part of a command' 4096 "$random" 80010000000000000000 "$startup"
+talk 'a size that no command has, and more behind it' 4096 "$random" 800100000000 "$startup"
 talk 'a second connection' 4096 "$random" 8001
 ended 'three connections'
 stat -c 'the log: %A' log
@@ -22,11 +22,18 @@ run 'the log on a new device with these random bytes' run --image anew --entropy
 
 # A start on its image has a log of its own.
 cp image start
+cp image played
+cp image traced
 options='--log second'
 begin 1
 talk 'the device behind a power cycle' 4096 "$startup" "$change" "$random"
 ended 'one connection'
-run 'its log on the image of the start' run --image start second
+run 'its log on the image of the start' run --image played second
+"$program" run --trace --image traced second >trace
+for reader in audit explain; do
+    python3 "$tests/../tools/$reader.py" second trace --image start >"$room/read"
+    echo "the log is read by $reader: status $?"
+done
 
 # What is at the path of a log stays as it was, and no device is served.
 options=''
