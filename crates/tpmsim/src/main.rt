@@ -15,7 +15,7 @@
 //! served. All that touches files, sockets and clocks is here; what the device answers is proved in
 //! the crates below.
 
-mod command_witness;
+mod command_saver;
 mod entropy;
 mod fault;
 mod folder;
