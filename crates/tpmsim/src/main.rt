@@ -11,9 +11,9 @@
 //! one line on standard error, and its exit status says of what kind that is ([`fault`]).
 //!
 //! The program uses tpmsim_arguments for its words, tpmsim_script for scripts, `tpm_text` and
-//! `tpm_line` for lines, `tpm_help` for what it tells of these, `tpm_image` for a device that is kept, and `tpm_wire` for one that is
-//! served. All that touches files, sockets and clocks is here; what the device answers is proved in
-//! the crates below.
+//! `tpm_line` for lines, `tpm_help` for what it tells of these, `tpm_image` for a device that is
+//! kept, `tpm_wire` for one that is served, and `tpm_log` for its log. All that touches files,
+//! sockets and clocks is here; what the device answers is proved in the crates below.
 
 mod command_saver;
 mod entropy;
