@@ -15,6 +15,7 @@
 //! served. All that touches files, sockets and clocks is here; what the device answers is proved in
 //! the crates below.
 
+mod checking;
 mod entropy;
 mod fault;
 mod folder;
@@ -28,6 +29,7 @@ mod source;
 mod stopwatch;
 mod telling;
 
+use checking::check_script;
 use fault::Fault;
 use hex::FromHexError;
 use running::{run_alone, run_kept};
@@ -75,7 +77,8 @@ fn try_main(rt: &HostRuntime) -> Result<(), Fault> {
         Arguments::Forms { name } => print_forms(rt, name),
         Arguments::Code { digits } => print_code(rt, digits),
         Arguments::Serve(service) => serve_device(rt, &service),
-        Arguments::Check { .. } | Arguments::Power { .. } | Arguments::Retell { .. } => {
+        Arguments::Check { script } => check_script(rt, script),
+        Arguments::Power { .. } | Arguments::Retell { .. } => {
             Err(Fault::Usage)
         }
         Arguments::Tell(text) => {
