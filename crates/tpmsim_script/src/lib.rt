@@ -15,15 +15,15 @@
 //! the fault, the lines before it were run, and the saver was told the device at each of them.
 //! Memory is taken only at the start, but for that of the device itself.
 
-mod answers;
+pub mod answers;
 pub mod fault;
-mod line;
+pub mod line;
 mod line_fault;
-mod lines;
+pub mod lines;
 mod player;
-mod room;
+pub mod room;
 pub mod run;
-mod script;
+pub mod script;
 
 pub use fault::ScriptFault;
 pub use run::{new_machine, run_device, run_script};
