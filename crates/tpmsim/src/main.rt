@@ -21,6 +21,7 @@ mod folder;
 mod image_file;
 mod image_lock;
 mod image_saver;
+mod kept;
 mod running;
 mod serving;
 mod socket;
@@ -30,6 +31,7 @@ mod telling;
 
 use fault::Fault;
 use hex::FromHexError;
+use kept::{cycle_kept, play_kept};
 use running::{run_alone, run_kept};
 use serving::serve_device;
 use std::env;
@@ -38,6 +40,7 @@ use telling::{print_code, print_forms};
 use tpm_line::line_of;
 use tpm_text::assemble;
 use tpmsim_arguments::Arguments;
+use tpmsim_kept::Force;
 
 fn main(rt: HostRuntime) -> ExitCode {
     match try_main(&rt) {
@@ -53,6 +56,12 @@ fn try_main(rt: &HostRuntime) -> Result<(), Fault> {
     let words: Vec<String> = env::args(rt)
         .map_err(|error| Fault::of_io(error, Fault::Usage))?
         .collect(rt.alloc())?;
+    if words.len() == 3 && words[1].as_str() == "power" {
+        return cycle_kept(rt, words[2].as_str(), Force::Power);
+    }
+    if words.len() == 5 && words[1].as_str() == "run" && words[2].as_str() == "--state" {
+        return play_kept(rt, words[4].as_str(), false, words[3].as_str(), None, Force::Power);
+    }
     match Arguments::parse(rt.alloc(), words.as_slice())? {
         Arguments::Run {
             script,

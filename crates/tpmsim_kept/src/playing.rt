@@ -14,10 +14,8 @@ use tpmsim_script::answers::Answers;
 use tpmsim_script::line::{BadLine, Line};
 use tpmsim_script::lines::{Lines, Next};
 use tpmsim_script::room::Room;
+use tpmsim_script::run::SCRIPT_LINES;
 use tpmsim_script::script::Script;
-
-/// How many lines a script may have.
-const LINES: u32 = 16_777_216;
 
 /// Why a script was not played to its end.
 #[derive(Clone, Copy, Debug, PartialEq, Eq)]
@@ -101,7 +99,7 @@ impl Player {
         reader: &mut Tap<R>,
         writer: &mut Tap<W>,
     ) -> Result<(), PlayFault> {
-        for number in 1..LINES + 1 {
+        for number in 1..SCRIPT_LINES + 1 {
             if !self.next_line(lines, reader, writer, number)? {
                 return Ok(());
             }
@@ -109,7 +107,7 @@ impl Player {
                 return Err(stop.at(number));
             }
         }
-        if self.next_line(lines, reader, writer, LINES)? {
+        if self.next_line(lines, reader, writer, SCRIPT_LINES)? {
             return Err(PlayFault::Script(ScriptFault::TooManyLines));
         }
         Ok(())

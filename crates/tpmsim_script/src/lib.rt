@@ -26,4 +26,4 @@ pub mod run;
 pub mod script;
 
 pub use fault::ScriptFault;
-pub use run::{new_machine, run_device, run_script};
+pub use run::{new_machine, run_device, run_script, script_random};
