@@ -32,7 +32,7 @@ pub struct Opened {
     pub taken: usize,
 }
 
-/// Opens a device from its journal, where a new machine of zeros lies. After a fault nothing is said
+/// Opens a device and its completing layer from their journal, where a new machine of zeros lies. After a fault nothing is said
 /// of the machine.
 pub fn open<K: Keep>(
     machine: &mut Machine<K>,
@@ -51,10 +51,7 @@ pub fn open<K: Keep>(
     if let Err(fault) = open_into(machine, head.image) {
         return Err(OpenFault::Image(fault));
     }
-    let mut journal = Journal {
-        sum: head.sum,
-        time: head.clock,
-    };
+    let mut journal = Journal::begun(head.sum, head.clock);
     let (_, rest) = text.split_at(head.size);
     let followed = journal.follow(machine, rest, outcome);
     match followed.fault {
