@@ -9,7 +9,7 @@ use tpm_bytes::Tap;
 use tpm_machine::Machine;
 use tpm_record::SlotKeep;
 use tpm_saver::Saver;
-use tpmsim_arguments::Storage;
+use tpmsim_arguments::{Place, Storage};
 use tpmsim_script::{new_machine, run_device, run_script};
 
 /// Runs a script, from a file or from standard input, on a new device that nobody keeps.
@@ -32,7 +32,10 @@ pub fn run_kept(
     trace: bool,
     storage: &Storage,
 ) -> Result<(), Fault> {
-    let file = ImageFile::take(rt, storage.image)?;
+    let Place::Image(image) = storage.place else {
+        return Err(Fault::Usage);
+    };
+    let file = ImageFile::take(rt, image)?;
     let opened = file.open(rt)?;
     let mut entropy = match storage.entropy {
         Some(path) => Some(Entropy::open(rt, path)?),

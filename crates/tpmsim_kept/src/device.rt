@@ -4,7 +4,7 @@ use crate::fault::Said;
 use std::alloc::Global;
 use tpm_bytes::NoMemory;
 use tpm_journal::opening::open;
-use tpm_journal::{FollowFault, Journal, OpenFault};
+use tpm_journal::Journal;
 use tpm_journal_text::ENTRY_ROOM;
 use tpm_machine::Machine;
 use tpm_record::SlotKeep;
@@ -27,7 +27,7 @@ impl Device {
         Ok(Device {
             machine,
             outcome: Outcome::empty(),
-            journal: Journal { sum: 0, time: 0 },
+            journal: Journal::begun(0, 0),
         })
     }
 
@@ -41,7 +41,7 @@ impl Device {
                 device.journal = opened.journal;
                 Ok((device, opened.taken))
             }
-            Err(fault) => Err(said_of_opening(fault)),
+            Err(fault) => Err(Said::of(fault)),
         }
     }
 
@@ -53,7 +53,7 @@ impl Device {
             .follow(&mut self.machine, text, &mut self.outcome);
         match followed.fault {
             None => Ok(followed.taken),
-            Some(fault) => Err(said_of(fault)),
+            Some(fault) => Err(Said::of_following(fault)),
         }
     }
 
@@ -78,26 +78,10 @@ impl Device {
             buffer,
             locality,
             now_ms,
+            false,
             random,
             &mut self.outcome,
             room,
         )
-    }
-}
-
-/// What is said of a journal that was not opened.
-fn said_of_opening(fault: OpenFault) -> Said {
-    match fault {
-        OpenFault::NoJournal => Said::IsNoJournal,
-        OpenFault::Image(_) => Said::HoldsNoImage,
-        OpenFault::Follow(fault) => said_of(fault),
-    }
-}
-
-/// What is said of a journal that was not followed.
-fn said_of(fault: FollowFault) -> Said {
-    match fault {
-        FollowFault::Damaged => Said::IsDamaged,
-        FollowFault::Otherwise => Said::WasAnsweredOtherwise,
     }
 }

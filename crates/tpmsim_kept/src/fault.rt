@@ -1,6 +1,7 @@
 //! What a fault of a kept device says, and of what.
 
 use std::fmt;
+use tpm_journal::{FollowFault, OpenFault};
 
 /// What a fault is about.
 #[derive(Clone, Copy, Debug, PartialEq, Eq)]
@@ -69,6 +70,23 @@ impl Place {
 }
 
 impl Said {
+    /// What is said of a journal that was not opened.
+    pub fn of(fault: OpenFault) -> Said {
+        match fault {
+            OpenFault::NoJournal => Said::IsNoJournal,
+            OpenFault::Image(_) => Said::HoldsNoImage,
+            OpenFault::Follow(fault) => Said::of_following(fault),
+        }
+    }
+
+    /// What is said of a journal that was not followed.
+    pub fn of_following(fault: FollowFault) -> Said {
+        match fault {
+            FollowFault::Damaged => Said::IsDamaged,
+            FollowFault::Otherwise => Said::WasAnsweredOtherwise,
+        }
+    }
+
     /// The words for it.
     pub fn words(self) -> &'static str {
         match self {

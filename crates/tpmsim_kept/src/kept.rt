@@ -70,6 +70,15 @@ impl<'a> Kept<'a> {
         self.begin(device)
     }
 
+    /// Opens the device that is in the folder.
+    pub fn open(&mut self) -> Result<(), KeptFault> {
+        self.lock.take(self.rt, &self.folder)?;
+        let opened = self.caught_up();
+        self.lock.give();
+        self.journal = Some(opened?);
+        Ok(())
+    }
+
     /// Executes a command, and adds its entry to the journal. The outcome is told by
     /// [`Kept::outcome`] then.
     pub fn execute(
