@@ -24,7 +24,7 @@
    - No pointer is NULL, not even with a size of 0. What a pointer leads to has the bytes that are
      said here, lies there during the call alone, and does not overlap what another one leads to,
      nor the handle.
-   - There are 64 KB of stack for each call, and 128 KB for tpmsim_journal_open.
+   - There are 64 KB of stack for each call.
    - malloc, realloc and free are the C library's, or others that keep its promises, of one
      allocator. A device takes some 45 KB, once. No call is made from a signal handler, nor
      in a forked child of a process with threads.

@@ -8,7 +8,7 @@ ghost use Rattle.tpm_record.specs.Record.{manufactured};
 use crate::following::FollowFault;
 use crate::journal::Journal;
 use tpm_image::{ImageFault, open_into};
-use tpm_journal_text::{HEAD_ROOM, IMAGE_ROOM, read_head};
+use tpm_journal_text::{IMAGE_ROOM, read_head};
 use tpm_machine::Machine;
 use tpm_record::Keep;
 use tpm_step::Outcome;
@@ -44,8 +44,7 @@ pub fn open<K: Keep>(
     ensures { OpensJournal text.now result (state_of K.record_of machine.new) }
 {
     let mut image = [0; IMAGE_ROOM];
-    let mut room = [0; HEAD_ROOM];
-    let Some(head) = read_head(text, &mut image, &mut room) else {
+    let Some(head) = read_head(text, &mut image) else {
         return Err(OpenFault::NoJournal);
     };
     if let Err(fault) = open_into(machine, head.image) {
