@@ -15,6 +15,7 @@
 //! served. All that touches files, sockets and clocks is here; what the device answers is proved in
 //! the crates below.
 
+mod checking;
 mod command_witness;
 mod entropy;
 mod fault;
@@ -32,6 +33,7 @@ mod source;
 mod stopwatch;
 mod telling;
 
+use checking::check_script;
 use fault::Fault;
 use hex::FromHexError;
 use kept::{cycle_power, play_script, print_script};
@@ -83,7 +85,7 @@ fn try_main(rt: &HostRuntime) -> Result<(), Fault> {
         Arguments::Serve(service) => serve_in_place(rt, &service),
         Arguments::Power { state } => cycle_power(rt, state),
         Arguments::Retell { state } => print_script(rt, state),
-        Arguments::Check { .. } => Err(Fault::Usage),
+        Arguments::Check { script } => check_script(rt, script),
         Arguments::Tell(text) => {
             print!(rt; "{text}").map_err(|error| Fault::of_io(error, Fault::File))
         }

@@ -12,7 +12,7 @@ use std::io::Write;
 use tpm_bytes::{Failed, Tap};
 use tpm_image::open_into;
 use tpm_journal::{FollowFault, Followed, Journal, OpenFault};
-use tpm_journal_text::{BYTES_ROOM, ENTRY_ROOM, HEAD_ROOM, IMAGE_ROOM, read_head};
+use tpm_journal_text::{BYTES_ROOM, ENTRY_ROOM, IMAGE_ROOM, read_head};
 use tpm_machine::Machine;
 use tpm_record::Keep;
 use tpm_step::Outcome;
@@ -40,8 +40,7 @@ pub fn retell<K: Keep, W: Write>(
         (W.contents (device_of writer.new)) (marks_of writer.new) result }
 {
     let mut image = [0; IMAGE_ROOM];
-    let mut room = [0; HEAD_ROOM];
-    let Some(head) = read_head(text, &mut image, &mut room) else {
+    let Some(head) = read_head(text, &mut image) else {
         return Err(RetellFault::Open(OpenFault::NoJournal));
     };
     if let Err(fault) = open_into(machine, head.image) {

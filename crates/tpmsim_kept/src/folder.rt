@@ -62,6 +62,9 @@ impl Folder {
                 Some(said) => Err(Place::Folder.that(said)),
                 None => Ok(folder),
             },
+            Err(error) if error.kind() == ErrorKind::NotFound => {
+                Err(Place::Folder.that(Said::IsNotThere))
+            }
             Err(error) => Err(fault_of(&error, Place::Folder, Said::CannotBeLookedAt)),
         }
     }

@@ -1,7 +1,8 @@
 #![tactic(auto)]
 
 //! Scripts of commands: [`run::run_device`] plays a script on a device and writes what the device
-//! answers, and [`run::run_script`] on a new device.
+//! answers, and [`run::run_script`] on a new device; [`checker::Checker`] reads the lines and runs
+//! none.
 //!
 //! A script is a text whose lines are read one after another ([`lines`], [`line`]), set what the
 //! next command is given ([`script`]) and are performed on the device ([`player`]), a command in
@@ -16,6 +17,8 @@
 //! Memory is taken only at the start, but for that of the device itself.
 
 pub mod answers;
+pub mod bad_line;
+pub mod checker;
 pub mod fault;
 pub mod line;
 mod line_fault;
@@ -25,5 +28,8 @@ pub mod room;
 pub mod run;
 pub mod script;
 
+pub use bad_line::{BadLine, Wanted};
+pub use checker::{Checker, check_laws};
 pub use fault::ScriptFault;
-pub use run::{new_machine, run_device, run_script, script_random};
+pub use line::Line;
+pub use run::{SCRIPT_LINES, new_machine, run_device, run_script, script_random};
