@@ -46,7 +46,13 @@ pub fn play_script(
     }
     let output = &mut Tap::new(rt.stdout());
     if script == "-" {
-        play(rt.alloc(), &mut kept, &mut Tap::new(rt.stdin()), output, trace)?;
+        play(
+            rt.alloc(),
+            &mut kept,
+            &mut Tap::new(rt.stdin()),
+            output,
+            trace,
+        )?;
     } else {
         let file = fs::open(rt, script).map_err(|error| Fault::of_io(error, Fault::File))?;
         play(rt.alloc(), &mut kept, &mut Tap::new(file), output, trace)?;

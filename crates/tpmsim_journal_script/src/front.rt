@@ -21,15 +21,9 @@ const MARK_LINE_SIZE: usize = 72;
 /// What was done about the front of a text.
 pub enum Front {
     /// Its entry, of so many bytes, was executed, and answered as it says.
-    Executed {
-        size: usize,
-        comment: Comment,
-    },
+    Executed { size: usize, comment: Comment },
     /// Its entry, of so many bytes, was executed, and answered otherwise.
-    Otherwise {
-        size: usize,
-        comment: Comment,
-    },
+    Otherwise { size: usize, comment: Comment },
     /// It is less than an entry.
     CutOff,
     /// It is damaged.

@@ -9,7 +9,6 @@ use crate::journal_file::JournalFile;
 use std::fs;
 use std::fs::File;
 use std::os::unix::fs::FileExt;
-use tpm_journal_text::HEAD_ROOM;
 
 /// Cycles the power of a device, and begins a new journal of it in place of any other. Where the new
 /// one cannot be written, the other one stays.
@@ -20,15 +19,11 @@ pub fn begin(
     now_ms: u64,
     force: Force,
 ) -> Result<JournalFile, KeptFault> {
-    let Ok(mut room) = vec![in rt.alloc(); 0u8; HEAD_ROOM] else {
+    let Ok(head) = device.begin(rt.alloc(), now_ms) else {
         return Err(Place::Journal.that(Said::WantsMemory));
     };
-    let size = device.begin(now_ms, &mut room);
-    let Some(head) = room.get(..size) else {
-        return Err(Place::Journal.that(Said::WantsMemory));
-    };
-    let opened = replace(rt, folder, head, force)?;
-    Ok(JournalFile::begun(device, opened, size as u64))
+    let opened = replace(rt, folder, head.as_slice(), force)?;
+    Ok(JournalFile::begun(device, opened, head.len() as u64))
 }
 
 /// Puts a head into a file of its own, which takes the journal's place.
@@ -85,7 +80,11 @@ fn put_in_place(
         Ok(metadata) => identity_of(&metadata),
         Err(error) => return Err(fault_of(&error, Place::NewJournal, Said::CannotBeLookedAt)),
     };
-    match fs::rename(rt, folder.path(Place::NewJournal), folder.path(Place::Journal)) {
+    match fs::rename(
+        rt,
+        folder.path(Place::NewJournal),
+        folder.path(Place::Journal),
+    ) {
         Ok(()) => Ok(OpenedFile { file, identity }),
         Err(error) => Err(fault_of(&error, Place::NewJournal, Said::CannotTakeThePlace)),
     }

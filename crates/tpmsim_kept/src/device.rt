@@ -3,8 +3,8 @@
 use crate::fault::Said;
 use std::alloc::Global;
 use tpm_bytes::NoMemory;
-use tpm_journal::opening::open;
 use tpm_journal::Journal;
+use tpm_journal::opening::open;
 use tpm_journal_text::ENTRY_ROOM;
 use tpm_machine::Machine;
 use tpm_record::SlotKeep;
@@ -57,9 +57,19 @@ impl Device {
         }
     }
 
-    /// Cycles the power, and writes the head of the new journal to the front of a room. Gives how
-    /// many bytes it has.
-    pub fn begin(&mut self, now_ms: u64, room: &mut [u8]) -> usize {
+    /// Cycles the power, and gives the head of the new journal. Where memory is refused nothing is done.
+    pub fn begin(&mut self, alloc: Global, now_ms: u64) -> Result<Vec<u8>, NoMemory> {
+        let size = self.put_head(now_ms, &mut []);
+        let Ok(mut head) = vec![in alloc; 0u8; size] else {
+            return Err(NoMemory);
+        };
+        self.put_head(now_ms, &mut head);
+        Ok(head)
+    }
+
+    /// Cycles the power, and writes the head of the new journal to the front of a room, if the head
+    /// has room there. Gives how many bytes it has.
+    fn put_head(&mut self, now_ms: u64, room: &mut [u8]) -> usize {
         self.journal
             .begin(&mut self.machine, now_ms, &mut self.outcome, room)
     }

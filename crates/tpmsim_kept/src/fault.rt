@@ -124,10 +124,7 @@ impl Said {
     pub fn is_of_contents(self) -> bool {
         matches!(
             self,
-            Said::IsNoJournal
-                | Said::HoldsNoImage
-                | Said::IsDamaged
-                | Said::WasAnsweredOtherwise
+            Said::IsNoJournal | Said::HoldsNoImage | Said::IsDamaged | Said::WasAnsweredOtherwise
         )
     }
 }

@@ -24,10 +24,12 @@ pub mod moment;
 pub mod playing;
 pub mod serving;
 pub mod standing;
+pub mod stop;
 
 pub use fault::{KeptFault, Place, Said};
 pub use force::Force;
 pub use kept::Kept;
 pub use moment::Moment;
-pub use playing::{PlayFault, play};
+pub use playing::play;
 pub use serving::serve;
+pub use stop::PlayFault;

@@ -1,64 +1,21 @@
 //! A script that is played on a kept device. Its lines set what the device is given; between two of
 //! its commands other processes may have theirs.
 
-use crate::fault::KeptFault;
 use crate::kept::Kept;
 use crate::moment::Moment;
-use std::alloc::{AllocError, Global};
+use crate::stop::{PlayFault, Stop};
+use std::alloc::Global;
 use std::io::{Read, Write};
 use tpm_bytes::Tap;
 use tpm_step::{Event, Outcome};
 use tpm_text::trace_text;
-use tpmsim_script::{BadLine, ScriptFault};
+use tpmsim_script::ScriptFault;
 use tpmsim_script::answers::Answers;
 use tpmsim_script::line::Line;
 use tpmsim_script::lines::{Lines, Next};
 use tpmsim_script::room::Room;
 use tpmsim_script::run::SCRIPT_LINES;
 use tpmsim_script::script::Script;
-
-/// Why a script was not played to its end.
-#[derive(Clone, Copy, Debug, PartialEq, Eq)]
-pub enum PlayFault {
-    Script(ScriptFault),
-    Kept(KeptFault),
-}
-
-/// Why a line was not performed.
-enum Stop {
-    Bad,
-    Write,
-    Kept(KeptFault),
-}
-
-impl Stop {
-    /// The fault of a script that stops at the line of this number.
-    fn at(self, number: u32) -> PlayFault {
-        match self {
-            Stop::Bad => PlayFault::Script(ScriptFault::Line(number)),
-            Stop::Write => PlayFault::Script(ScriptFault::Write),
-            Stop::Kept(fault) => PlayFault::Kept(fault),
-        }
-    }
-}
-
-impl From<BadLine> for Stop {
-    fn from(_bad: BadLine) -> Stop {
-        Stop::Bad
-    }
-}
-
-impl From<KeptFault> for Stop {
-    fn from(fault: KeptFault) -> Stop {
-        Stop::Kept(fault)
-    }
-}
-
-impl From<AllocError> for PlayFault {
-    fn from(_error: AllocError) -> PlayFault {
-        PlayFault::Script(ScriptFault::NoMemory)
-    }
-}
 
 /// A script on its way, and what was printed of it and not written yet.
 #[derive(Drop)]
