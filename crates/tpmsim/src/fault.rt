@@ -10,6 +10,7 @@ use tpm_image::ImageFault;
 use tpm_line::SpellFault;
 use tpm_text::AsmFault;
 use tpmsim_arguments::ArgumentFault;
+use tpmsim_kept::{KeptFault, PlayFault};
 use tpmsim_script::ScriptFault;
 
 /// Why the program failed. The fault prints as the line on standard error says it.
@@ -32,6 +33,8 @@ pub enum Fault {
     /// The file of random bytes could not be opened, or has too few bytes left.
     Entropy,
     Memory,
+    /// The device in a folder did not do what was asked for.
+    Kept(KeptFault),
 }
 
 impl Fault {
@@ -57,6 +60,7 @@ impl Fault {
             Fault::Usage | Fault::ScriptLine(_) | Fault::Asm(_) | Fault::NoLine => 2,
             Fault::File | Fault::Socket | Fault::Entropy | Fault::Memory => 3,
             Fault::Image(_) => 4,
+            Fault::Kept(fault) => kept_status(fault),
         }
     }
 }
@@ -89,6 +93,7 @@ impl fmt::Display for Fault {
             Fault::Socket => write!(f, "socket"),
             Fault::Entropy => write!(f, "entropy"),
             Fault::Memory => write!(f, "memory"),
+            Fault::Kept(fault) => write!(f, "state: {fault}"),
         }
     }
 }
@@ -178,6 +183,26 @@ impl From<ArgumentFault> for Fault {
         match fault {
             ArgumentFault::Usage => Fault::Usage,
             ArgumentFault::NoMemory => Fault::Memory,
+        }
+    }
+}
+
+/// The exit status of a fault of a kept device: 4 where its journal is none that the program takes.
+fn kept_status(fault: KeptFault) -> u8 {
+    if fault.said.is_of_contents() { 4 } else { 3 }
+}
+
+impl From<KeptFault> for Fault {
+    fn from(fault: KeptFault) -> Fault {
+        Fault::Kept(fault)
+    }
+}
+
+impl From<PlayFault> for Fault {
+    fn from(fault: PlayFault) -> Fault {
+        match fault {
+            PlayFault::Script(fault) => Fault::from(fault),
+            PlayFault::Kept(fault) => Fault::Kept(fault),
         }
     }
 }

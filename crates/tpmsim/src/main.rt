@@ -16,12 +16,16 @@
 //! the crates below.
 
 mod checking;
+mod command_witness;
 mod entropy;
 mod fault;
 mod folder;
 mod image_file;
 mod image_lock;
 mod image_saver;
+mod kept;
+mod kept_serving;
+mod log_file;
 mod running;
 mod serving;
 mod socket;
@@ -32,6 +36,8 @@ mod telling;
 use checking::check_script;
 use fault::Fault;
 use hex::FromHexError;
+use kept::{cycle_power, play_script, print_script};
+use kept_serving::serve_kept;
 use running::{run_alone, run_kept};
 use serving::serve_device;
 use std::env;
@@ -39,7 +45,7 @@ use std::process::ExitCode;
 use telling::{print_code, print_forms};
 use tpm_line::line_of;
 use tpm_text::assemble;
-use tpmsim_arguments::Arguments;
+use tpmsim_arguments::{Arguments, Place, Service, Storage};
 
 fn main(rt: HostRuntime) -> ExitCode {
     match try_main(&rt) {
@@ -65,7 +71,7 @@ fn try_main(rt: &HostRuntime) -> Result<(), Fault> {
             script,
             trace,
             storage: Some(storage),
-        } => run_kept(rt, script, trace, &storage),
+        } => run_in_place(rt, script, trace, &storage),
         Arguments::Assemble { line } => {
             let text = hex::encode(rt.alloc(), assemble(rt.alloc(), line)?)?;
             println!(rt; "{text}").map_err(|error| Fault::of_io(error, Fault::File))
@@ -76,14 +82,34 @@ fn try_main(rt: &HostRuntime) -> Result<(), Fault> {
         }
         Arguments::Forms { name } => print_forms(rt, name),
         Arguments::Code { digits } => print_code(rt, digits),
-        Arguments::Serve(service) => serve_device(rt, &service),
+        Arguments::Serve(service) => serve_in_place(rt, &service),
+        Arguments::Power { state } => cycle_power(rt, state),
+        Arguments::Retell { state } => print_script(rt, state),
         Arguments::Check { script } => check_script(rt, script),
-        Arguments::Power { .. } | Arguments::Retell { .. } => {
-            Err(Fault::Usage)
-        }
         Arguments::Tell(text) => {
             print!(rt; "{text}").map_err(|error| Fault::of_io(error, Fault::File))
         }
+    }
+}
+
+/// Runs a script on the device that is kept in a place.
+fn run_in_place(
+    rt: &HostRuntime,
+    script: &str,
+    trace: bool,
+    storage: &Storage,
+) -> Result<(), Fault> {
+    match storage.place {
+        Place::Image(_) => run_kept(rt, script, trace, storage),
+        Place::State(folder) => play_script(rt, script, trace, folder, storage.entropy),
+    }
+}
+
+/// Serves the device that is kept in a place.
+fn serve_in_place(rt: &HostRuntime, service: &Service) -> Result<(), Fault> {
+    match service.place {
+        Place::Image(_) => serve_device(rt, service),
+        Place::State(folder) => serve_kept(rt, service, folder),
     }
 }
 
