@@ -52,7 +52,7 @@ reading_checked p true (Err bad) = refl
 reading_checked p true (Ok said) = said_checked p said
 
 pub line_checked : (p : Playing) (line : List ℕ) → result_ok (line_check p.waited line) ≡ option_map waited_after (perform_line p line)
-unfolding (line_check, perform_line)
+unfolding line_check perform_line
 line_checked p line = reading_checked p (nat_le (length line) 65536) (line_reading line)
 
 some_is : (x y : ℕ) → Some x ≡ Some y → x ≡ y
