@@ -32,4 +32,4 @@ pub use bad_line::{BadLine, Wanted};
 pub use checker::{Checker, check_laws};
 pub use fault::ScriptFault;
 pub use line::Line;
-pub use run::{SCRIPT_LINES, new_machine, run_device, run_script, script_random};
+pub use run::{SCRIPT_LINES, new_machine, run_device, run_script, first_bytes};
