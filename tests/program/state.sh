@@ -14,7 +14,8 @@ wait 1500
 loc 3
 do PCR_Extend 00000014 pw:- sha256:0000000000000000000000000000000000000000000000000000000000000002
 do ReadClock' >second.tpm
-echo 'do GetRandom 8' | tr -d '\r' >third.tpm
+echo 'do GetRandom 8' >third.tpm
+(echo 'do Startup 0'; cat second.tpm) >fourth.tpm
 
 # play LABEL WORDS..: a run whose responses are also kept, for the replay.
 play() {
@@ -49,7 +50,7 @@ stat -c '%n %a' state state/* | LC_ALL=C sort
 
 # A power cycle ends what is volatile.
 run 'a power cycle' power state
-play 'behind it' run --state state second.tpm
+play 'behind it' run --state state fourth.tpm
 replay 'behind the power cycle'
 printf 'do Startup 0\npower\ndo Startup 0\ndo GetCapability 1 02000000 8\n' >cycles.tpm
 run 'power cycles in a script' run --trace --state state cycles.tpm

@@ -42,19 +42,6 @@ run 'a link to the folder' run --state link one
 run 'a link to the folder, with a slash' run --state link/ one
 run 'a file in the place of the folder' run --state script one
 run 'a folder above that is not there' run --state none/state one
-if [ "$(id -u)" = 0 ]; then
-    rm -rf state && cp -R kept state && chown 1 state/journal
-    run 'a journal of another user' run --state state one
-    rm -rf state && cp -R kept state && chown 1 state
-    run 'a folder of another user' run --state state one
-else
-    for what in 'a journal' 'a folder'; do
-        echo "$what of another user: status 3, output empty, error \"tpmsim: state: $(
-            [ "$what" = 'a journal' ] && echo journal || echo 'the folder'
-        ) belongs to another user\""
-    done
-fi
-
 # damage LABEL CODE: changes the journal's bytes by a line of Python, and says whether the file stays.
 damage() {
     rm -rf state && cp -R kept state

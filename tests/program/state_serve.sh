@@ -7,9 +7,16 @@ tests=$(cd "$(dirname "$0")/.." && pwd -P)
 begin() {
     count=$1
     shift
-    rm -f "$room/output" "$room/error"
     timeout 60 "$program" serve --socket socket --state state --entropy /dev/urandom \
-        --locality 0 --connections "$count" "$@" >"$room/output" 2>"$room/error" &
+        --locality 0 --connections "$count" "$@" >"$room/served" 2>&1 &
+}
+
+# ended LABEL: how the program ended that serves the device.
+ended() {
+    status=0
+    wait "$!" || status=$?
+    echo "$1: status $status, $(told "$room/served")"
+    [ ! -e socket ] || echo '    the socket is still there'
 }
 
 extend=$(words "PCR_Extend 00000010 pw:- sha256:$(printf '%064d' 1)")

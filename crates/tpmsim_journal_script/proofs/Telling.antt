@@ -1,5 +1,5 @@
 -- Entries that are executed again one after another, and told.
-use Rattle.std.proofs.Common.{◌≡◌, ℕ, ◌+◌, ◌≤◌, ◌<◌, Bool, List, [], ◌∷◌, ◌++◌, length, map, take, drop, Option, Some, None, refl, ap, sym, subst, ◌∙◌, append_assoc, append-nil, arith, length-drop}
+use Rattle.std.proofs.Common.{◌≡◌, ◌≢◌, ℕ, ◌+◌, ◌≤◌, ◌<◌, Bool, List, [], ◌∷◌, ◌++◌, length, map, take, drop, Option, Some, None, refl, ap, sym, subst, ◌∙◌, append_assoc, append-nil, arith, length-drop}
 use Rattle.std.specs.Prelude.{codes, flat_map}
 use Rattle.std.specs.List.{AllByRecursion}
 use Rattle.std.specs.Io.KnownBytes.{Appends}
@@ -8,7 +8,7 @@ use Rattle.std.proofs.lemmas.List.{drop-take, length-take-le, map-append, take-a
 use Rattle.std.proofs.lemmas.Grind.{flat_map-append}
 use Rattle.tpm_record.specs.Record.{Record}
 use Rattle.tpm_journal_text.specs.Entry.{IsEntry, PlainEntry, entry_text, executing_lines, mark_line, mark_of, setting_lines}
-use Rattle.tpm_journal_text.specs.Journal.{entries_text}
+use Rattle.tpm_journal_text.specs.Journal.{IsCutOff, IsDamaged, entries_text}
 use Rattle.tpm_journal_text.proofs.Standing.{mark_line_many, mark_many}
 use Rattle.tpm_journal.specs.Command.{IsPerformed}
 use Rattle.tpm_journal.specs.Replay.{AnswersAre, LeadsBy, Performance, Performs, Repeats, answer_said, entry_in, response_sum}
@@ -146,3 +146,60 @@ told_none can before old text held = record {
   };
   told = Appends-nil held;
 }
+
+-- ---- the end
+
+pub told_otherwise : (can : Bool) (before : Journal) (old : Record) (text : List ℕ) (taken : ℕ) (mid : Journal) (here : Record)
+    (size : ℕ) (words : List ℕ) (after : Journal) (new : Record) (held at holds : Option (List ℕ))
+    → Retells can before old text held at taken None mid here
+    → PerformsSo can mid here (drop taken text) size words after new (λ sum said. sum ≢ said)
+    → Appends at holds (codes "# " ++ words ++ 10 ∷ [] ++ drop 72 (take size (drop taken text)))
+    → RetellsEntries can before old text held holds (record { taken = taken + size; fault = Some Otherwise }) after new
+unfolding one
+told_otherwise can before old text taken mid here size words after new held at holds r p written = record {
+  replays = record {
+    repeats = joined can before old text taken mid here size words after new _ held at holds r p written (Some Otherwise) (
+      map answer_said r.repeats.performances,
+      response_sum (one can before old text taken mid here size words after new _ held at holds r p written),
+      p.performs.entry.answered,
+      sums_are can before old text taken mid here size words after new _ held at holds r p written,
+      said_are can before old text taken mid here size words after new _ held at holds r p written,
+      p.performs.answer,
+    );
+    ends = tt;
+  };
+  told = told_so can before old text taken mid here size words after new _ held at holds r p written;
+}
+
+pub told_cut : (can : Bool) (before : Journal) (old : Record) (text : List ℕ) (taken : ℕ) (mid : Journal) (here : Record)
+    (after : Journal) (new : Record) (held holds : Option (List ℕ)) → Retells can before old text held holds taken None mid here
+    → IsCutOff mid.sum (drop taken text) × (after ≡ mid) × (new ≡ here)
+    → RetellsEntries can before old text held holds (record { taken = taken; fault = None }) after new
+told_cut can before old text taken mid here after new held holds r end =
+    rw (end.1, end.2) (record { replays = record { repeats = r.repeats; ends = end.0 }; told = r.told })
+
+told_damaged_here : (can : Bool) (before : Journal) (old : Record) (text : List ℕ) (taken : ℕ) (mid : Journal) (here : Record)
+    (held holds : Option (List ℕ)) → Retells can before old text held holds taken None mid here
+    → IsDamaged mid.sum (drop taken text)
+    → RetellsEntries can before old text held holds (record { taken = taken; fault = Some Damaged }) mid here
+told_damaged_here can before old text taken mid here held holds r end = record {
+  replays = record {
+    repeats = record {
+      performances = r.repeats.performances;
+      are = r.repeats.are;
+      within = r.repeats.within;
+      front = r.repeats.front;
+      leads = r.repeats.leads;
+      answers = r.repeats.answers;
+    };
+    ends = end;
+  };
+  told = r.told;
+}
+
+pub told_damaged : (can : Bool) (before : Journal) (old : Record) (text : List ℕ) (taken : ℕ) (mid : Journal) (here : Record)
+    (after : Journal) (new : Record) (held holds : Option (List ℕ)) → Retells can before old text held holds taken None mid here
+    → IsDamaged mid.sum (drop taken text) × (after ≡ mid) × (new ≡ here)
+    → RetellsEntries can before old text held holds (record { taken = taken; fault = Some Damaged }) after new
+told_damaged can before old text taken mid here after new held holds r end =
+    rw (end.1, end.2) (told_damaged_here can before old text taken mid here held holds r end.0)
