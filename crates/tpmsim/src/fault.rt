@@ -1,6 +1,7 @@
 //! Why the program fails: what it says on standard error, and its exit status.
 
-ghost use Rattle.std.specs.Prelude.{◌≡◌};
+ghost use Rattle.std.specs.Prelude.{◌≡◌, if◌then◌else◌};
+ghost use Rattle.tpmsim_kept.specs.Fault.{is_of_contents};
 
 use std::alloc::AllocError;
 use std::io::ErrorKind;
@@ -52,7 +53,7 @@ impl Fault {
     }
 
     /// The exit status: 2 where what was asked for makes no sense, 3 where a file, a socket, a
-    /// stream or memory refused it, 4 where a file that should be an image is not.
+    /// stream or memory refused it, 4 where a file that should be an image or a journal is not.
     pub fn status(self) -> u8
         ensures { result ≡ status_of self }
     {
@@ -93,7 +94,7 @@ impl fmt::Display for Fault {
             Fault::Socket => write!(f, "socket"),
             Fault::Entropy => write!(f, "entropy"),
             Fault::Memory => write!(f, "memory"),
-            Fault::Kept(fault) => write!(f, "state: {fault}"),
+            Fault::Kept(fault) => write!(f, "{fault}"),
         }
     }
 }
@@ -188,17 +189,27 @@ impl From<ArgumentFault> for Fault {
 }
 
 /// The exit status of a fault of a kept device: 4 where its journal is none that the program takes.
-fn kept_status(fault: KeptFault) -> u8 {
+fn kept_status(fault: KeptFault) -> u8
+    ensures { result ≡ (if is_of_contents fault.said then 4 else 3) }
+{
     if fault.said.is_of_contents() { 4 } else { 3 }
 }
 
 impl From<KeptFault> for Fault {
+    ghost use Rattle.tpmsim.specs.declared.fault.Fault.TheVariants.{Kept};
+
+    ghost from_gives = { λ kept_fault fault. fault ≡ Kept kept_fault };
+
     fn from(fault: KeptFault) -> Fault {
         Fault::Kept(fault)
     }
 }
 
 impl From<PlayFault> for Fault {
+    ghost use Rattle.tpmsim.specs.Fault.{fault_of_play};
+
+    ghost from_gives = { λ play_fault fault. fault ≡ fault_of_play play_fault };
+
     fn from(fault: PlayFault) -> Fault {
         match fault {
             PlayFault::Script(fault) => Fault::from(fault),

@@ -9,7 +9,7 @@ use tpm_record::SlotKeep;
 use tpm_step::Outcome;
 use tpmsim_journal_script::{RetellFault, retell};
 use tpmsim_kept::{Force, Kept, Place, Said, play};
-use tpmsim_script::script_random;
+use tpmsim_script::first_bytes;
 
 /// Takes power away from the device in a folder, and gives it back.
 pub fn cycle_power(rt: &HostRuntime, folder: &str) -> Result<(), Fault> {
@@ -73,7 +73,7 @@ fn open_there<'a>(rt: &'a HostRuntime, folder: &str) -> Result<Kept<'a>, Fault> 
 /// The random bytes of a new device.
 fn random_of(rt: &HostRuntime, entropy: Option<&str>) -> Result<[u8; 256], Fault> {
     let Some(path) = entropy else {
-        return Ok(script_random());
+        return Ok(first_bytes());
     };
     let mut entropy = Entropy::open(rt, path)?;
     entropy

@@ -44,7 +44,7 @@ comment_of one =
 -- the lines of a script that tell an entry: a comment with these words, and the lines that execute
 -- its command
 abbrev pub lines_with : (words : List ℕ) → PlainEntry → List ℕ
-lines_with words e = codes "# " ++ words ++ 10 ∷ [] ++ setting_lines e ++ executing_lines e
+lines_with words e = codes "# " ++ words ++ 10 ∷ [] ++ (setting_lines e ++ executing_lines e)
 
 -- an entry that was performed, told
 abbrev pub retold : Performance → List ℕ

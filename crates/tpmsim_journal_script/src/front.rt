@@ -32,6 +32,7 @@ pub enum Front {
 
 /// Executes the entry at the front of a text. Its bytes go to the first room, and its text is written
 /// to the second, to be compared.
+#[tactic(auto, using(crate::proofs::Words::can_be_told))]
 pub fn execute_front<K: Keep>(
     journal: &mut Journal,
     machine: &mut Machine<K>,
@@ -60,6 +61,7 @@ pub fn execute_front<K: Keep>(
 }
 
 /// Writes a comment, and the lines of an entry's text that execute its command.
+#[tactic(auto, using(crate::proofs::Words::put_together))]
 pub fn put_entry<W: Write>(
     writer: &mut Tap<W>,
     comment: &Comment,

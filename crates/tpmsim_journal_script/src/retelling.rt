@@ -1,6 +1,8 @@
 //! A journal is told as a script.
 
-ghost use Rattle.std.specs.Prelude.{◌≡◌, OnErr, OnOk, false, replicate, true};
+ghost use Rattle.std.specs.Prelude.{◌≡◌, ◌≤◌, ◌++◌, ◌∷◌, [], OnErr, OnOk, codes, drop, false, length};
+ghost use Rattle.std.specs.Prelude.{replicate, take, true};
+ghost use Rattle.std.specs.Io.KnownBytes.{Appends};
 ghost use Rattle.tpm_bytes.specs.Tap.{device_of, marks_of};
 ghost use Rattle.tpm_machine.specs.State.{state_of};
 ghost use Rattle.tpm_record.specs.Record.{manufactured};
@@ -93,7 +95,9 @@ pub fn retell_entries<K: Keep, W: Write>(
     }
 }
 
-fn ended(taken: usize, fault: Option<FollowFault>) -> Followed {
+fn ended(taken: usize, fault: Option<FollowFault>) -> Followed
+    ensures { result ≡ record { taken = taken; fault = fault } }
+{
     Followed { taken, fault }
 }
 
@@ -103,7 +107,14 @@ fn put_front<W: Write>(
     comment: &Comment,
     text: &[u8],
     size: usize,
-) -> Result<(), Failed> {
+) -> Result<(), Failed>
+    requires entry { 72 ≤ size }
+    requires within { size ≤ length text.now }
+    ensures written { OnOk result (Appends (W.contents (device_of writer.old))
+        (W.contents (device_of writer.new))
+        (codes "# " ++ comment.now.bytes ++ 10 ∷ [] ++ drop 72 (take size text.now))) }
+    ensures failed { OnErr result ((marks_of writer.new).failed ≡ true) }
+{
     let (entry, _) = text.split_at(size);
     put_entry(writer, comment, entry)
 }

@@ -1,5 +1,9 @@
 //! What a fault of a kept device says, and of what.
 
+ghost use Rattle.std.specs.Prelude.{◌≡◌};
+ghost use Rattle.tpmsim_kept.specs.Fault.{is_of_contents, place_text, said_of_following};
+ghost use Rattle.tpmsim_kept.specs.Fault.{said_of_opening, said_text};
+
 use std::fmt;
 use tpm_journal::{FollowFault, OpenFault};
 
@@ -53,25 +57,31 @@ pub struct KeptFault {
 }
 
 impl Place {
-    /// The name of the place.
-    pub fn name(self) -> &'static str {
+    /// The name of the place, as of a folder that is called `state`.
+    pub fn name(self) -> &'static str
+        ensures { result.now ≡ place_text self }
+    {
         match self {
-            Place::Folder => "the folder",
-            Place::Journal => "journal",
-            Place::NewJournal => "journal.new",
-            Place::Lock => "lock",
+            Place::Folder => "state",
+            Place::Journal => "state/journal",
+            Place::NewJournal => "state/journal.new",
+            Place::Lock => "state/lock",
         }
     }
 
     /// A fault of this place.
-    pub fn that(self, said: Said) -> KeptFault {
+    pub fn that(self, said: Said) -> KeptFault
+        ensures { result ≡ record { place = self; said = said } }
+    {
         KeptFault { place: self, said }
     }
 }
 
 impl Said {
     /// What is said of a journal that was not opened.
-    pub fn of(fault: OpenFault) -> Said {
+    pub fn of(fault: OpenFault) -> Said
+        ensures { result ≡ said_of_opening fault }
+    {
         match fault {
             OpenFault::NoJournal => Said::IsNoJournal,
             OpenFault::Image(_) => Said::HoldsNoImage,
@@ -80,7 +90,9 @@ impl Said {
     }
 
     /// What is said of a journal that was not followed.
-    pub fn of_following(fault: FollowFault) -> Said {
+    pub fn of_following(fault: FollowFault) -> Said
+        ensures { result ≡ said_of_following fault }
+    {
         match fault {
             FollowFault::Damaged => Said::IsDamaged,
             FollowFault::Otherwise => Said::WasAnsweredOtherwise,
@@ -88,7 +100,9 @@ impl Said {
     }
 
     /// The words for it.
-    pub fn words(self) -> &'static str {
+    pub fn words(self) -> &'static str
+        ensures { result.now ≡ said_text self }
+    {
         match self {
             Said::IsLink => "is a link, which is not followed",
             Said::IsNoFile => "is no regular file",
@@ -115,13 +129,15 @@ impl Said {
             Said::HoldsNoImage => "holds an image that this program does not open",
             Said::IsDamaged => "is damaged, and stays as it is",
             Said::WasAnsweredOtherwise => {
-                "was written by a library that answers otherwise than this one, and stays as it is"
+                "was written by a program that answers otherwise than this one, and stays as it is"
             }
         }
     }
 
     /// Whether the journal is none that this program takes, whatever the system does.
-    pub fn is_of_contents(self) -> bool {
+    pub fn is_of_contents(self) -> bool
+        ensures { result ≡ is_of_contents self }
+    {
         matches!(
             self,
             Said::IsNoJournal | Said::HoldsNoImage | Said::IsDamaged | Said::WasAnsweredOtherwise
@@ -130,6 +146,11 @@ impl Said {
 }
 
 impl fmt::Display for KeptFault {
+    ghost use Rattle.std.specs.Prelude.{Some};
+    ghost use Rattle.tpmsim_kept.specs.Fault.{kept_fault_text};
+
+    ghost output = { λ fault. Some (kept_fault_text fault) };
+
     fn fmt<W: fmt::Write>(&self, f: &mut fmt::Formatter<W>) -> fmt::Result {
         let place = self.place.name();
         let words = self.said.words();

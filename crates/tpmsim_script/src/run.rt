@@ -60,11 +60,11 @@ pub fn new_machine<K: Keep>(alloc: Global) -> Result<Machine<K>, NoMemory>
     ensures refused { OnErr result (K.empty_can_refuse ≡ true) }
     ensures state { IfOk result (λ machine. state_of K.record_of machine ≡ new_device) }
 {
-    Machine::manufacture(alloc, &script_random())
+    Machine::manufacture(alloc, &first_bytes())
 }
 
 /// The bytes 00 to ff, with which a new device of scripts is manufactured.
-pub fn script_random() -> [u8; 256]
+pub fn first_bytes() -> [u8; 256]
     ensures { result ≡ script_bytes }
 {
     array::from_fn(|place| place as u8)
