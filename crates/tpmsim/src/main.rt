@@ -18,7 +18,7 @@
 //! clocks is here or in tpmsim_kept; what the device answers is proved in the crates below.
 
 mod checking;
-mod command_witness;
+mod command_saver;
 mod entropy;
 mod fault;
 mod folder;
