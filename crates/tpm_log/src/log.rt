@@ -12,11 +12,14 @@ use std::io::Write;
 use tpm_bytes::Tap;
 use tpm_image::laws::image_laws;
 use tpm_image::save_into;
-use tpm_journal_text::{ENTRY_ROOM, HEAD_ROOM, IMAGE_ROOM, head_size, write_head};
+use tpm_journal_text::{ENTRY_ROOM, IMAGE_ROOM, head_size, write_head};
 use tpm_machine::Machine;
 use tpm_record::Keep;
 use tpm_saver::{Unsaved, Witness};
 use tpm_step::{Event, Outcome};
+
+/// Enough for a head.
+const HEAD_ROOM: usize = 57_472;
 
 /// A log, to which nothing is added once a write has failed.
 #[derive(Drop)]

@@ -13,13 +13,13 @@
 //! `specs/Stream` says, whatever the pieces in which it comes, and that each buffer is executed
 //! once and in its order, whatever the order of the calls ([`schedule`]).
 
-mod connection;
+pub mod connection;
 pub mod fault;
-mod front;
+pub mod front;
 pub mod host;
 pub mod mux;
 pub mod number;
-mod reading;
+pub mod reading;
 pub mod schedule;
 pub mod serving;
 pub mod turn;

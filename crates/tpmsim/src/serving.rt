@@ -18,14 +18,11 @@ use tpm_machine::Machine;
 use tpm_record::Keep;
 use tpm_saver::Saver;
 use tpm_wire::{HostFault, Mux, ServeFault, serve_saving};
-use tpmsim_arguments::{Place, Service};
+use tpmsim_arguments::Service;
 
 /// Serves a device on a socket: the one whose image is in the file, or a new one where there is no
 /// file.
-pub fn serve_device(rt: &HostRuntime, service: &Service) -> Result<(), Fault> {
-    let Place::Image(image) = service.place else {
-        return Err(Fault::Usage);
-    };
+pub fn serve_device(rt: &HostRuntime, service: &Service, image: &str) -> Result<(), Fault> {
     let file = ImageFile::take(rt, image)?;
     let opened = file.open(rt)?;
     let mut entropy = Entropy::open(rt, service.entropy)?;
