@@ -1,2 +1,3 @@
 pub mod ResponseCode
 pub mod Form
+pub mod Wanted

@@ -1,15 +1,18 @@
 #![tactic(auto)]
 
 //! What the writer of a script is told: how a command is said in words ([`form`]), an example of each
-//! ([`example`]), and what a response code says ([`response_code`]).
+//! ([`example`]), what is wanted where words are at fault ([`wanted`]), and what a response code
+//! says ([`response_code`]).
 //!
-//! The crate uses `tpm_types_command` for the shapes of commands. Each call equals its definition in
+//! The crate uses `tpm_types_command` for the shapes of commands, and `tpm_text` for faults. Each call equals its definition in
 //! `specs/`. Of the examples nothing is said here but that a test has each of them assembled.
 
 pub mod example;
 pub mod form;
 pub mod response_code;
+pub mod wanted;
 
 pub use example::example_of;
 pub use form::form_of;
 pub use response_code::{CodeMeaning, hex_number, meaning_of};
+pub use wanted::word_at;

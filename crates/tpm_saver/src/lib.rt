@@ -1,18 +1,24 @@
 #![tactic(auto)]
 
-//! What saves a device while it is used: a [`Saver`] is told the device, and [`SavesNothing`] is
-//! the saver of a device that nobody keeps.
+//! What saves a device while it is used: a [`Saver`] is told the device, a [`Witness`] each event
+//! that the device executed, and [`SavesNothing`] is the saver and the witness of a device that
+//! nobody keeps.
 //!
-//! A script or a server that uses a device tells a saver the device at each change and at the end.
-//! Contracts see what each call told: that of a saver's user says which devices the saver was told,
-//! in which order, and each saver says what it makes of them. The crate uses `tpm_machine`.
+//! A script that uses a device tells a saver the device at each change and at the end; a server
+//! tells a witness each command before its response goes out. Contracts see what each call told:
+//! that of a saver's user says which devices the saver was told, in which order, and each saver
+//! says what it makes of them; alike for witnesses. The crate uses `tpm_machine`.
 
 ghost use Rattle.std.specs.Prelude.{◌≡◌, Bool, OnErr, OnOk, false, true};
-ghost use Rattle.tpm_machine.specs.State.{state_of};
+ghost use Rattle.tpm_history.specs.Executions.{Execution};
+ghost use Rattle.tpm_machine.specs.State.{latest_drawn, state_of};
 ghost use Rattle.tpm_record.specs.Record.{Record};
+ghost use Rattle.tpm_saver.specs.Latest.{IsLatest};
+ghost use Rattle.tpm_step.specs.Events.{plain_event};
 
 use tpm_machine::Machine;
 use tpm_record::Keep;
+use tpm_step::{Event, Outcome};
 
 /// The fault that the device was not saved.
 #[derive(Clone, Copy, Debug, PartialEq, Eq)]
@@ -45,6 +51,29 @@ pub trait Saver {
         ensures stays { has_failed self.old ≡ true → has_failed self.new ≡ true };
 }
 
+/// What is told each event that a device executed, before the response goes out. Contracts see each
+/// call that succeeds as a relation of the witness before, the execution, and the witness after.
+pub trait Witness {
+    /// The witness was told an execution.
+    ghost notes: { Self → Execution → Self → Type 0 };
+
+    /// Whether a note has failed, which stays so.
+    ghost note_failed: { Self → Bool };
+
+    /// Notes the event that a machine executed last, with its outcome.
+    fn note<K: Keep>(
+        &mut self,
+        machine: &Machine<K>,
+        event: &Event,
+        outcome: &Outcome,
+    ) -> Result<(), Unsaved>
+        ensures told { (one : Execution) → IsLatest (state_of K.record_of machine.now)
+            (latest_drawn machine.now) (plain_event event.now) outcome.now one
+            → OnOk result (notes self.old one self.new) }
+        ensures failed { OnErr result (note_failed self.new ≡ true) }
+        ensures stays { note_failed self.old ≡ true → note_failed self.new ≡ true };
+}
+
 /// A saver that saves nothing, since nobody wants the device any more.
 #[derive(Clone, Copy, Debug, PartialEq, Eq)]
 pub struct SavesNothing;
@@ -61,6 +90,21 @@ impl Saver for SavesNothing {
     }
 
     fn save<K: Keep>(&mut self, _machine: &Machine<K>) -> Result<(), Unsaved> {
+        Ok(())
+    }
+}
+
+impl Witness for SavesNothing {
+    ghost notes = { λ old _ new. new ≡ old };
+
+    ghost note_failed = { λ _. false };
+
+    fn note<K: Keep>(
+        &mut self,
+        _machine: &Machine<K>,
+        _event: &Event,
+        _outcome: &Outcome,
+    ) -> Result<(), Unsaved> {
         Ok(())
     }
 }

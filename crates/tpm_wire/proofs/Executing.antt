@@ -14,9 +14,9 @@ use Rattle.tpm_step.specs.Step.{outcome_step}
 use Rattle.tpm_step.specs.declared.event.Outcome.{Outcome}
 use Rattle.tpm_history.specs.Executions.{Execution, Leads}
 use Rattle.tpm_history.proofs.PowerCycles.{leads_on}
-use Rattle.tpm_wire.specs.Serve.{AreFewer, AreFirst, Asking, Asks, AsksForEach, AsksInVain, Delivers, Ends, Finishes, HoldsLastBack, LosesLast, Saves, SavesEach, buffer_in, buffers_of, responses_of}
+use Rattle.tpm_wire.specs.Serve.{AreFewer, AreFirst, Asking, Asks, AsksForEach, AsksInVain, Delivers, Ends, Finishes, HoldsLastBack, LosesLast, Notes, NotesEach, buffer_in, buffers_of, responses_of}
 use Rattle.tpm_wire.specs.Stream.{Cut, Cutting, CutsTo, Stream, cut_of, cut_with, fed, next_of, uncut}
-use Rattle.tpm_wire.specs.Wire.{given}
+use Rattle.tpm_wire.specs.Wire.{execution_of, given}
 use Rattle.tpm_wire.specs.declared.fault.ServeFault.{ServeFault}
 use Rattle.tpm_wire.specs.declared.fault.ServeFault.TheVariants as fault
 use Rattle.tpm_wire.specs.declared.host.Host.{Host}
@@ -45,11 +45,6 @@ cut_more read bytes first more s t u is same to =
     ∙ ap (λ (done : List (List ℕ)). cut_with done u) (sym (buffers_more first more))
 
 -- ---- one execution more
-
--- the execution of a buffer with what the host said
-abbrev pub execution_of : Record → List ℕ → Host → Record → Outcome → Execution
-execution_of old buffer host new outcome =
-    record { before = old; event = given buffer host; seen = outcome_step new outcome }
 
 pub leads_one : (can : Bool) (old r new : Record) (executions : List Execution) (buffer : List ℕ) (host : Host) (outcome : Outcome) → Leads can old executions r → Executes can r (given buffer host) (outcome_step new outcome) → Leads can old (executions ++ execution_of r buffer host new outcome ∷ []) new
 leads_one can old r new executions buffer host outcome leads executes =
@@ -124,45 +119,43 @@ ends_so g held mid holds before after reader cut asked at first more asking left
 ends_so g held mid holds before after reader cut asked at first more asking left fault.Full is asks written f = absurd f
 ends_so g held mid holds before after reader cut asked at first more asking left fault.Read is asks written f = absurd f
 
--- ---- how a device is saved
+-- ---- what a witness is told
 
-pub saves_one : {S : Type 0} (saves : S → Record → S → Type 0) (old mid new : S) (executions : List Execution) (r after : Record) (buffer : List ℕ) (host : Host) (outcome : Outcome) → SavesEach saves old executions mid → saves mid after new → SavesEach saves old (executions ++ execution_of r buffer host after outcome ∷ []) new
-saves_one {S} saves old mid new executions r after buffer host outcome saved also =
-    FoldsTo-push (λ (p : S) (one : Execution) (q : S). saves p one.seen.after q) old executions mid (execution_of r buffer host after outcome) new saved also
+pub notes_one : {S : Type 0} (notes : S → Execution → S → Type 0) (old mid new : S) (executions : List Execution) (one : Execution) → NotesEach notes old executions mid → notes mid one new → NotesEach notes old (executions ++ one ∷ []) new
+notes_one notes old mid new executions one told also = FoldsTo-push notes old executions mid one new told also
 
-pub saves_more : {S : Type 0} (saves : S → Record → S → Type 0) (old mid new : S) (first more : List Execution) → SavesEach saves old first mid → SavesEach saves mid more new → SavesEach saves old (first ++ more) new
-saves_more {S} saves old mid new first more saved also =
-    folds_on (λ (p : S) (one : Execution) (q : S). saves p one.seen.after q) old mid new first more saved also
+pub notes_more : {S : Type 0} (notes : S → Execution → S → Type 0) (old mid new : S) (first more : List Execution) → NotesEach notes old first mid → NotesEach notes mid more new → NotesEach notes old (first ++ more) new
+notes_more notes old mid new first more told also = folds_on notes old mid new first more told also
 
 -- Serving finished so, where the response of one execution more was not delivered.
-pub unanswered : {F S : Type 0} (g : Asking F) (saves : S → Record → S → Type 0) (failed : S → Bool) (held mid holds : Option (List ℕ)) (before at after : Marks) (asked asking : F) (saver told new : S) (executions : List Execution) (r left : Record) (buffer : List ℕ) (host : Host) (outcome : Outcome) (stream : Stream) (e : ServeFault) → AsksForEach g asked (executions ++ execution_of r buffer host left outcome ∷ []) asking → Appends held mid (responses_of executions) → SavesEach saves saver executions told → Delivers saves failed mid holds at after left outcome.response.items told (Err e) new → Finishes g held holds before after asked (executions ++ execution_of r buffer host left outcome ∷ []) asking stream (Err e) × Saves saves failed saver (executions ++ execution_of r buffer host left outcome ∷ []) new (Err e)
-unanswered g saves failed held mid holds before at after asked asking saver told new executions r left buffer host outcome stream fault.Write asks written saved delivers =
-    ((asks, delivers.2, lost_last held mid holds executions r left buffer host outcome written delivers.1), saves_one saves saver told new executions r left buffer host outcome saved delivers.0)
-unanswered g saves failed held mid holds before at after asked asking saver told new executions r left buffer host outcome stream fault.Save asks written saved delivers =
+pub unanswered : {F S : Type 0} (g : Asking F) (notes : S → Execution → S → Type 0) (failed : S → Bool) (held mid holds : Option (List ℕ)) (before at after : Marks) (asked asking : F) (witness told new : S) (executions : List Execution) (r left : Record) (buffer : List ℕ) (host : Host) (outcome : Outcome) (stream : Stream) (e : ServeFault) → AsksForEach g asked (executions ++ execution_of r buffer host left outcome ∷ []) asking → Appends held mid (responses_of executions) → NotesEach notes witness executions told → Delivers notes failed mid holds at after (execution_of r buffer host left outcome) told (Err e) new → Finishes g held holds before after asked (executions ++ execution_of r buffer host left outcome ∷ []) asking stream (Err e) × Notes notes failed witness (executions ++ execution_of r buffer host left outcome ∷ []) new (Err e)
+unanswered g notes failed held mid holds before at after asked asking witness told new executions r left buffer host outcome stream fault.Write asks written noted delivers =
+    ((asks, delivers.2, lost_last held mid holds executions r left buffer host outcome written delivers.1), notes_one notes witness told new executions (execution_of r buffer host left outcome) noted delivers.0)
+unanswered g notes failed held mid holds before at after asked asking witness told new executions r left buffer host outcome stream fault.Save asks written noted delivers =
     let one = execution_of r buffer host left outcome in
     let same : Appends held holds (responses_of executions) = subst (λ (o : Option (List ℕ)). Appends held o (responses_of executions)) (sym delivers.1) written in
-    ((asks, (executions, one, refl, same)), (executions, one, refl, told, saved, delivers.0))
-unanswered g saves failed held mid holds before at after asked asking saver told new executions r left buffer host outcome stream fault.Full asks written saved delivers = absurd delivers
-unanswered g saves failed held mid holds before at after asked asking saver told new executions r left buffer host outcome stream fault.Read asks written saved delivers = absurd delivers
-unanswered g saves failed held mid holds before at after asked asking saver told new executions r left buffer host outcome stream fault.Host asks written saved delivers = absurd delivers
+    ((asks, (executions, one, refl, same)), (executions, one, refl, told, noted, delivers.0))
+unanswered g notes failed held mid holds before at after asked asking witness told new executions r left buffer host outcome stream fault.Full asks written noted delivers = absurd delivers
+unanswered g notes failed held mid holds before at after asked asking witness told new executions r left buffer host outcome stream fault.Read asks written noted delivers = absurd delivers
+unanswered g notes failed held mid holds before at after asked asking witness told new executions r left buffer host outcome stream fault.Host asks written noted delivers = absurd delivers
 
--- Where the saves of a part ended so, those of the whole did.
-pub saves_so : {S : Type 0} (saves : S → Record → S → Type 0) (failed : S → Bool) (old mid new : S) (first more : List Execution) (e : ServeFault) → SavesEach saves old first mid → Saves saves failed mid more new (Err e) → Saves saves failed old (first ++ more) new (Err e)
-saves_so saves failed old mid new first more fault.Save saved (others, last, are, at, also, fails) =
-    (first ++ others, last, ap (λ (l : List Execution). first ++ l) are ∙ sym (append_assoc first others (last ∷ [])), at, saves_more saves old mid at first others saved also, fails)
-saves_so saves failed old mid new first more fault.Full saved also = saves_more saves old mid new first more saved also
-saves_so saves failed old mid new first more fault.Read saved also = saves_more saves old mid new first more saved also
-saves_so saves failed old mid new first more fault.Write saved also = saves_more saves old mid new first more saved also
-saves_so saves failed old mid new first more fault.Host saved also = saves_more saves old mid new first more saved also
+-- Where the notes of a part ended so, those of the whole did.
+pub notes_so : {S : Type 0} (notes : S → Execution → S → Type 0) (failed : S → Bool) (old mid new : S) (first more : List Execution) (e : ServeFault) → NotesEach notes old first mid → Notes notes failed mid more new (Err e) → Notes notes failed old (first ++ more) new (Err e)
+notes_so notes failed old mid new first more fault.Save told (others, last, are, at, also, fails) =
+    (first ++ others, last, ap (λ (l : List Execution). first ++ l) are ∙ sym (append_assoc first others (last ∷ [])), at, notes_more notes old mid at first others told also, fails)
+notes_so notes failed old mid new first more fault.Full told also = notes_more notes old mid new first more told also
+notes_so notes failed old mid new first more fault.Read told also = notes_more notes old mid new first more told also
+notes_so notes failed old mid new first more fault.Write told also = notes_more notes old mid new first more told also
+notes_so notes failed old mid new first more fault.Host told also = notes_more notes old mid new first more told also
 
--- Where no save can fail, serving never ends since one did.
-pub never_unsaved : {S : Type 0} (saves : S → Record → S → Type 0) (old new : S) (executions : List Execution) (result : Result ℕ ServeFault) → Saves saves (λ _. false) old executions new result → result ≢ Err fault.Save
-never_unsaved saves old new executions (Ok count) saved = λ is. cc
-never_unsaved saves old new executions (Err fault.Save) (others, last, are, at, also, fails) = λ is. false≢true fails
-never_unsaved saves old new executions (Err fault.Full) saved = λ is. cc
-never_unsaved saves old new executions (Err fault.Read) saved = λ is. cc
-never_unsaved saves old new executions (Err fault.Write) saved = λ is. cc
-never_unsaved saves old new executions (Err fault.Host) saved = λ is. cc
+-- Where no note can fail, serving never ends since one did.
+pub never_unsaved : {S : Type 0} (notes : S → Execution → S → Type 0) (old new : S) (executions : List Execution) (result : Result ℕ ServeFault) → Notes notes (λ _. false) old executions new result → result ≢ Err fault.Save
+never_unsaved notes old new executions (Ok count) told = λ is. cc
+never_unsaved notes old new executions (Err fault.Save) (others, last, are, at, also, fails) = λ is. false≢true fails
+never_unsaved notes old new executions (Err fault.Full) told = λ is. cc
+never_unsaved notes old new executions (Err fault.Read) told = λ is. cc
+never_unsaved notes old new executions (Err fault.Write) told = λ is. cc
+never_unsaved notes old new executions (Err fault.Host) told = λ is. cc
 
 pub unsaved_where : (free : Option ℕ) (result : Result ℕ ServeFault) → (free ≡ None → result ≡ Err fault.Full) → (free ≢ None → result ≢ Err fault.Save) → result ≢ Err fault.Save
 unsaved_where None result full served = let is = full refl in λ also. cc

@@ -68,19 +68,19 @@ Fills had has before after old (Ok count) new =
     × (length new.taken ≤ buffer_limit)
     × (after ≡ after_read {E = Failed} before (Ok count) (buffer_limit - length old.taken))
 
--- One response was delivered: a saver was told the device, and then the response was written whole.
--- Where the device was not saved, nothing was written; where the writer failed, a part of the
+-- One response was delivered: a witness was told the execution, and then the response was written
+-- whole. Where the witness failed, nothing was written; where the writer failed, a part of the
 -- response from its front.
-abbrev pub Delivers : {S : Type 0} → (S → Record → S → Type 0) → (S → Bool)
+abbrev pub Delivers : {S : Type 0} → (S → Execution → S → Type 0) → (S → Bool)
     → Option (List ℕ) → Option (List ℕ) → Marks → Marks
-    → Record → List ℕ → S → Result (Unit {0}) ServeFault → S → Type 0
-Delivers saves failed held holds before after r response old (Ok done) new =
-    saves old r new × Appends held holds response × (after ≡ before)
-Delivers saves failed held holds before after r response old (Err fault.Save) new =
+    → Execution → S → Result (Unit {0}) ServeFault → S → Type 0
+Delivers notes failed held holds before after one old (Ok done) new =
+    notes old one new × Appends held holds one.seen.response × (after ≡ before)
+Delivers notes failed held holds before after one old (Err fault.Save) new =
     (failed new ≡ true) × (holds ≡ held)
-Delivers saves failed held holds before after r response old (Err fault.Write) new =
-    saves old r new × AppendsFront held holds response × (after.failed ≡ true)
-Delivers saves failed held holds before after r response old (Err e) new = ⊥
+Delivers notes failed held holds before after one old (Err fault.Write) new =
+    notes old one new × AppendsFront held holds one.seen.response × (after.failed ≡ true)
+Delivers notes failed held holds before after one old (Err e) new = ⊥
 
 -- The writer failed at the response of the last execution: all responses before were written whole,
 -- and of the last a part from its front, perhaps none of it.
@@ -152,8 +152,8 @@ ReadsNoMore reader cut =
 -- How serving ended. At the end of what the reader gives, or of the stream itself: all buffers were
 -- executed and all responses written. Where the reader failed, or gave bytes in as many reads as
 -- one connection may have: all buffers were executed and all responses written, too. Where the
--- writer failed: some buffers were executed, the last without its whole response. Where the device
--- was not saved: some were executed, the last without its response. Where the host answered a
+-- writer failed: some buffers were executed, the last without its whole response. Where the
+-- witness failed: some were executed, the last without its response. Where the host answered a
 -- fault: those before the next buffer, which is whole, with their responses.
 abbrev pub Ends : {F : Type 0} → Asking F → Option (List ℕ) → Option (List ℕ)
     → Marks → Marks → Cutting → F → List Execution → F → Result ℕ ServeFault → Type 0
@@ -195,18 +195,17 @@ pub record Serves {F : Type 0} (g : Asking F) (can : Bool) (had has held holds :
         → StretchFollows can old executions new history
     pub ends : Ends g held holds reader writer (cut_of read) asked executions asking result
 
--- ---- what is saved
+-- ---- what a witness is told
 
--- A saver was told the device as each of these executions left it, in order.
-abbrev pub SavesEach : {S : Type 0} → (S → Record → S → Type 0) → S → List Execution → S → Type 0
-SavesEach saves old executions new =
-    FoldsTo (λ before (one : Execution) after. saves before one.seen.after after) old executions new
+-- A witness was told each of these executions, in order.
+abbrev pub NotesEach : {S : Type 0} → (S → Execution → S → Type 0) → S → List Execution → S → Type 0
+NotesEach notes old executions new = FoldsTo notes old executions new
 
--- A saver was told the device as each of these executions left it. Where serving ended since the
--- device was not saved, the saver was told so of all but the last, and failed.
-abbrev pub Saves : {S : Type 0} → (S → Record → S → Type 0) → (S → Bool)
+-- A witness was told each of these executions, in order. Where serving ended since the witness
+-- failed, it was told all but the last, and failed.
+abbrev pub Notes : {S : Type 0} → (S → Execution → S → Type 0) → (S → Bool)
     → S → List Execution → S → Result ℕ ServeFault → Type 0
-Saves {S} saves failed old executions new (Err fault.Save) =
-    (saved : List Execution) × (last : Execution) × (executions ≡ saved ++ last ∷ [])
-    × (mid : S) × SavesEach saves old saved mid × (failed new ≡ true)
-Saves saves failed old executions new result = SavesEach saves old executions new
+Notes {S} notes failed old executions new (Err fault.Save) =
+    (told : List Execution) × (last : Execution) × (executions ≡ told ++ last ∷ [])
+    × (mid : S) × NotesEach notes old told mid × (failed new ≡ true)
+Notes notes failed old executions new result = NotesEach notes old executions new

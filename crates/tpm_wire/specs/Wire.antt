@@ -7,6 +7,8 @@ use Rattle.tpm_record.specs.Record.{Record}
 use Rattle.tpm_step.specs.Events.{PlainEvent, Given}
 use Rattle.tpm_step.specs.Execution.{Executes}
 use Rattle.tpm_step.specs.Step.{outcome_step}
+use Rattle.tpm_step.specs.declared.event.Outcome.{Outcome}
+use Rattle.tpm_history.specs.Executions.{Execution}
 use Rattle.tpm_machine.specs.State.{state_of}
 use Rattle.tpm_wire.specs.Number.{number_of}
 use Rattle.tpm_wire.specs.Stream.{Cut, Stream, fed, fitting, next_of, opened}
@@ -66,6 +68,11 @@ Feeds old number piece result new =
 -- the event of a buffer, with what the host says of it
 abbrev pub given : List ℕ → Host → PlainEvent
 given buffer host = Given buffer (locality_number host.locality) host.elapsed_ms host.random
+
+-- the execution of a buffer with what the host says, from one record to another
+abbrev pub execution_of : Record → List ℕ → Host → Record → Outcome → Execution
+execution_of old buffer host new outcome =
+    record { before = old; event = given buffer host; seen = outcome_step new outcome }
 
 -- No buffer of the stream is whole, and nothing changed.
 abbrev pub Waits : Stream → Wire → Result Turn NoConnection → Wire → Type 0

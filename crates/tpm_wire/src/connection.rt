@@ -15,7 +15,7 @@ use tpm_types::BUFFER_LIMIT;
 /// The bytes that a connection has taken and that were not yet executed, and whether no buffer
 /// comes any more.
 #[derive(Drop)]
-pub(crate) struct Connection {
+pub struct Connection {
     taken: ArrayVec<u8, BUFFER_LIMIT>,
     ended: bool,
 }
@@ -30,7 +30,7 @@ impl Model for Connection {
 
 impl Connection {
     /// A new connection, which has taken no bytes.
-    pub(crate) fn new() -> Connection
+    pub fn new() -> Connection
         ensures { result ≡ opened }
     {
         Connection {
@@ -40,21 +40,21 @@ impl Connection {
     }
 
     /// Whether no buffer comes any more.
-    pub(crate) fn has_ended(&self) -> bool
+    pub fn has_ended(&self) -> bool
         ensures { result ≡ self.now.ended }
     {
         self.ended
     }
 
     /// How many bytes more the connection can take.
-    pub(crate) fn room(&self) -> usize
+    pub fn room(&self) -> usize
         ensures { result + length self.now.taken ≡ buffer_limit }
     {
         self.taken.remaining_capacity()
     }
 
     /// Takes as many bytes of the piece as fit, and says how many.
-    pub(crate) fn feed(&mut self, piece: &[u8]) -> usize
+    pub fn feed(&mut self, piece: &[u8]) -> usize
         ensures count { result ≡ fitting self.old (length piece.now) }
         ensures after { self.new
             ≡ fed self.old (take (fitting self.old (length piece.now)) piece.now) }
@@ -65,7 +65,7 @@ impl Connection {
     }
 
     /// The front of the next buffer, if the buffer is whole.
-    pub(crate) fn front(&self) -> Option<Front>
+    pub fn front(&self) -> Option<Front>
         ensures { IsFront self.now result }
     {
         if self.ended {
@@ -75,14 +75,14 @@ impl Connection {
     }
 
     /// The bytes that were not yet executed.
-    pub(crate) fn bytes(&self) -> &[u8]
+    pub fn bytes(&self) -> &[u8]
         ensures { result.now ≡ self.now.taken }
     {
         self.taken.as_slice()
     }
 
     /// Drops the buffer in front, and moves the bytes after it up.
-    pub(crate) fn pass(&mut self, front: Front)
+    pub fn pass(&mut self, front: Front)
         requires { front.size ≤ length self.old.taken }
         ensures { self.new ≡ (cut_at front.size front.last self.old.taken).after }
     {

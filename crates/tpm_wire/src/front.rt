@@ -14,14 +14,14 @@ const SIZE_END: usize = 6;
 /// How many bytes in front of a connection are its next buffer, and whether no buffer comes after
 /// it.
 #[derive(Clone, Copy)]
-pub(crate) struct Front {
+pub struct Front {
     pub size: usize,
     pub last: bool,
 }
 
 /// The front of these bytes, if they hold a whole buffer.
 #[tactic(auto, unfolding(crate::specs::Stream::command_size))]
-pub(crate) fn front_of(bytes: &[u8]) -> Option<Front>
+pub fn front_of(bytes: &[u8]) -> Option<Front>
     ensures { IsFront (record { taken = bytes.now; ended = false }) result }
 {
     let [_, _, a, b, c, d, ..] = bytes else {

@@ -5,21 +5,21 @@
 //!
 //! [`mux::Mux`] is a machine and up to eight connections, which take turns as their caller wants;
 //! [`serving::serve`] serves one connection to its end over any reader and writer, and
-//! [`serving::serve_saving`] has the device saved before each response. [`connection`] has what a
+//! [`serving::serve_saving`] tells a witness each command before its response. [`connection`] has what a
 //! connection holds, and [`front`] where its next buffer ends.
 //!
-//! The crate uses the machine and its savers, and knows nothing of sockets, of images, or of where
+//! The crate uses the machine and its witnesses, and knows nothing of sockets, of images, or of where
 //! the host's time and random bytes come from. Its contracts say that a stream is cut as
 //! `specs/Stream` says, whatever the pieces in which it comes, and that each buffer is executed
 //! once and in its order, whatever the order of the calls ([`schedule`]).
 
-mod connection;
+pub mod connection;
 pub mod fault;
-mod front;
+pub mod front;
 pub mod host;
 pub mod mux;
 pub mod number;
-mod reading;
+pub mod reading;
 pub mod schedule;
 pub mod serving;
 pub mod turn;

@@ -1,6 +1,6 @@
 //! A machine with up to eight connections, which take turns as the caller wants.
 
-ghost use Rattle.std.specs.Prelude.{◌≡◌, ◌<◌, ◌≤◌, ◌∷◌, IfSome, None, if◌then◌else◌, length, take};
+ghost use Rattle.std.specs.Prelude.{◌≡◌, ◌<◌, ◌≤◌, ◌∷◌, IfSome, None, OnErr, OnOk, if◌then◌else◌, length, take, true};
 ghost use Rattle.tpm_machine.specs.State.{state_of};
 ghost use Rattle.tpm_step.specs.Execution.{Executes};
 ghost use Rattle.tpm_step.specs.Step.{outcome_step};
@@ -11,7 +11,7 @@ ghost use Rattle.tpm_history.specs.History.{History, PowerCycled};
 ghost use Rattle.tpm_wire.specs.History.{turn_history};
 ghost use Rattle.tpm_wire.specs.Number.{number_of};
 ghost use Rattle.tpm_wire.specs.Stream.{cut_at};
-ghost use Rattle.tpm_wire.specs.Wire.{Closes, Feeds, Opens, Turns, given, new_wire, wire_of};
+ghost use Rattle.tpm_wire.specs.Wire.{Closes, Feeds, Opens, Turns, execution_of, given, new_wire, wire_of};
 ghost use Rattle.tpm_wire.specs.declared.turn.Turn.TheVariants.{Ended, Wants};
 
 use crate::connection::Connection;
@@ -22,6 +22,7 @@ use crate::number::ConnectionNumber;
 use crate::turn::Turn;
 use tpm_machine::Machine;
 use tpm_record::Keep;
+use tpm_saver::{SavesNothing, Unsaved, Witness};
 use tpm_step::{Event, Outcome};
 
 /// How many connections can be open.
@@ -120,7 +121,15 @@ impl<K: Keep> Mux<K> {
             None => Err(NoConnection),
             Some(connection) => {
                 let mut outcome = Outcome::empty();
-                execute_front(&mut self.machine, connection, front, host, &mut outcome);
+                let machine = &mut self.machine;
+                let _ = execute_front(
+                    machine,
+                    connection,
+                    front,
+                    host,
+                    &mut SavesNothing,
+                    &mut outcome,
+                );
                 Ok(Turn::Answer(outcome))
             }
         }
@@ -172,22 +181,29 @@ fn waiting(connection: &Connection) -> Turn
     }
 }
 
-/// Executes the buffer in front of a connection in its place, and drops it.
-pub(crate) fn execute_front<K: Keep>(
+/// Executes the buffer in front of a connection in its place, tells a witness, and drops the buffer.
+pub(crate) fn execute_front<K: Keep, S: Witness>(
     machine: &mut Machine<K>,
     connection: &mut Connection,
     front: Front,
     host: Host,
+    witness: &mut S,
     outcome: &mut Outcome,
-)
+) -> Result<(), Unsaved>
     requires { front.size ≤ length connection.old.taken }
     ensures executes { Executes K.can_refuse (state_of K.record_of machine.old)
         (given (take front.size connection.old.taken) host)
         (outcome_step (state_of K.record_of machine.new) outcome.new) }
     ensures after { connection.new ≡ (cut_at front.size front.last connection.old.taken).after }
+    ensures told { OnOk result (S.notes witness.old
+        (execution_of (state_of K.record_of machine.old) (take front.size connection.old.taken)
+        host (state_of K.record_of machine.new) outcome.new) witness.new) }
+    ensures failed { OnErr result (S.note_failed witness.new ≡ true) }
 {
     let buffer = &connection.bytes()[..front.size];
     let event = Event::of_command(buffer, host.locality, host.elapsed_ms, host.random);
     machine.execute_into(&event, outcome);
+    let noted = witness.note(machine, &event, outcome);
     connection.pass(front);
+    noted
 }

@@ -11,7 +11,7 @@ use tpm_types::BUFFER_LIMIT;
 
 /// Reads once, at most as many bytes as the connection has room for, and says how many bytes were
 /// read. They pass through `piece`, which a caller makes once for all reads.
-pub(crate) fn fill<R: Read>(
+pub fn fill<R: Read>(
     reader: &mut Tap<R>,
     connection: &mut Connection,
     piece: &mut [u8; BUFFER_LIMIT],

@@ -2,18 +2,21 @@
 //! executed, and their responses written.
 
 ghost use Rattle.tpm_types.specs.Limits.{buffer_limit};
-ghost use Rattle.std.specs.Prelude.{◌≡◌, ◌≢◌, ◌+◌, ◌≤◌, Err, IfOk, List, None, OnOk, length};
+ghost use Rattle.std.specs.Prelude.{◌≡◌, ◌≢◌, ◌+◌, ◌≤◌, Err, IfOk, List, None, OnOk, length, take};
 ghost use Rattle.tpm_bytes.specs.Tap.{device_of, marks_of, unmarked};
 ghost use Rattle.tpm_machine.specs.State.{state_of};
 ghost use Rattle.tpm_history.specs.Executions.{Execution, Leads};
+ghost use Rattle.tpm_step.specs.Execution.{Executes};
+ghost use Rattle.tpm_step.specs.Step.{outcome_step};
 ghost use Rattle.tpm_containers.specs.Slots.{lowest_free};
-ghost use Rattle.tpm_wire.specs.Serve.{Delivers, Finishes, Saves, Serves, buffers_of};
-ghost use Rattle.tpm_wire.specs.Stream.{CutsTo};
-ghost use Rattle.tpm_wire.specs.Wire.{wire_of};
+ghost use Rattle.tpm_wire.specs.Serve.{Delivers, Finishes, Notes, Serves, buffers_of};
+ghost use Rattle.tpm_wire.specs.Stream.{CutsTo, cut_at};
+ghost use Rattle.tpm_wire.specs.Wire.{execution_of, given, wire_of};
 ghost use Rattle.tpm_wire.specs.declared.fault.ServeFault.TheVariants.{Full, Save};
 
 use crate::connection::Connection;
 use crate::fault::{HostFault, ServeFault};
+use crate::front::Front;
 use crate::host::Host;
 use crate::mux::{Mux, execute_front, free_place};
 use crate::reading::fill;
@@ -21,7 +24,7 @@ use std::io::{Read, Write};
 use tpm_bytes::Tap;
 use tpm_machine::Machine;
 use tpm_record::Keep;
-use tpm_saver::{Saver, SavesNothing};
+use tpm_saver::{SavesNothing, Witness};
 use tpm_step::Outcome;
 use tpm_types::BUFFER_LIMIT;
 
@@ -56,15 +59,14 @@ pub fn serve<K: Keep, R: Read, W: Write, H: FnMut() -> Result<Host, HostFault>>(
     serve_saving(mux, reader, writer, host, &mut SavesNothing)
 }
 
-/// Serves one connection as [`serve`] does, where a saver is told of the device before the response
-/// of each command is written. Where the device cannot be saved, nothing of that response is
-/// written.
-pub fn serve_saving<K: Keep, R: Read, W: Write, H: FnMut() -> Result<Host, HostFault>, S: Saver>(
+/// Serves one connection as [`serve`] does, where a witness is told each command before its response
+/// is written. Where the witness fails, nothing of that response is written.
+pub fn serve_saving<K: Keep, R: Read, W: Write, H: FnMut() -> Result<Host, HostFault>, S: Witness>(
     mux: &mut Mux<K>,
     reader: &mut Tap<R>,
     writer: &mut Tap<W>,
     host: &mut H,
-    saver: &mut S,
+    witness: &mut S,
 ) -> Result<u64, ServeFault>
     requires callable { H.IsAlwaysCallable host.old }
     requires unread { marks_of reader.old ≡ unmarked }
@@ -72,7 +74,7 @@ pub fn serve_saving<K: Keep, R: Read, W: Write, H: FnMut() -> Result<Host, HostF
     ensures closed { (wire_of K.record_of mux.new).streams ≡ (wire_of K.record_of mux.old).streams }
     ensures full { lowest_free (wire_of K.record_of mux.old).streams ≡ None
         → (result ≡ Err Full) × (mux.new ≡ mux.old) × (reader.new ≡ reader.old)
-        × (writer.new ≡ writer.old) × (host.new ≡ host.old) × (saver.new ≡ saver.old) }
+        × (writer.new ≡ writer.old) × (host.new ≡ host.old) × (witness.new ≡ witness.old) }
     ensures served { lowest_free (wire_of K.record_of mux.old).streams ≢ None
         → ((served : Serves H.FnMut K.can_refuse
         (R.remaining (device_of reader.old)) (R.remaining (device_of reader.new))
@@ -80,21 +82,21 @@ pub fn serve_saving<K: Keep, R: Read, W: Write, H: FnMut() -> Result<Host, HostF
         (marks_of reader.new) (marks_of writer.new)
         (wire_of K.record_of mux.old).machine host.old
         result (wire_of K.record_of mux.new).machine host.new)
-        × Saves S.saves_change S.has_failed saver.old served.executions saver.new result) }
+        × Notes S.notes S.note_failed witness.old served.executions witness.new result) }
 {
     if free_place(&mux.connections).is_none() {
         return Err(ServeFault::Full);
     }
-    serve_connection(&mut mux.machine, reader, writer, host, saver)
+    serve_connection(&mut mux.machine, reader, writer, host, witness)
 }
 
 /// Serves a connection to the machine.
-fn serve_connection<K: Keep, R: Read, W: Write, H: FnMut() -> Result<Host, HostFault>, S: Saver>(
+fn serve_connection<K: Keep, R: Read, W: Write, H: FnMut() -> Result<Host, HostFault>, S: Witness>(
     machine: &mut Machine<K>,
     reader: &mut Tap<R>,
     writer: &mut Tap<W>,
     host: &mut H,
-    saver: &mut S,
+    witness: &mut S,
 ) -> Result<u64, ServeFault>
     requires callable { H.IsAlwaysCallable host.old }
     requires unread { marks_of reader.old ≡ unmarked }
@@ -104,7 +106,7 @@ fn serve_connection<K: Keep, R: Read, W: Write, H: FnMut() -> Result<Host, HostF
         (marks_of reader.new) (marks_of writer.new)
         (state_of K.record_of machine.old) host.old
         result (state_of K.record_of machine.new) host.new)
-        × Saves S.saves_change S.has_failed saver.old served.executions saver.new result }
+        × Notes S.notes S.note_failed witness.old served.executions witness.new result }
 {
     let mut connection = Connection::new();
     let mut piece = [0; BUFFER_LIMIT];
@@ -118,7 +120,14 @@ fn serve_connection<K: Keep, R: Read, W: Write, H: FnMut() -> Result<Host, HostF
         if count == 0 {
             return Ok(answered);
         }
-        match answer_whole(machine, &mut connection, writer, host, saver, &mut outcome) {
+        match answer_whole(
+            machine,
+            &mut connection,
+            writer,
+            host,
+            witness,
+            &mut outcome,
+        ) {
             Ok(count) => answered += count,
             Err(fault) => return Err(fault),
         }
@@ -129,14 +138,14 @@ fn serve_connection<K: Keep, R: Read, W: Write, H: FnMut() -> Result<Host, HostF
     Err(ServeFault::Read)
 }
 
-/// Executes all buffers that a connection holds whole, has the device saved after each, writes
-/// their responses, and says how many there were. All of them use one outcome in turn.
-fn answer_whole<K: Keep, W: Write, H: FnMut() -> Result<Host, HostFault>, S: Saver>(
+/// Executes all buffers that a connection holds whole, tells a witness each, writes their
+/// responses, and says how many there were. All of them use one outcome in turn.
+fn answer_whole<K: Keep, W: Write, H: FnMut() -> Result<Host, HostFault>, S: Witness>(
     machine: &mut Machine<K>,
     connection: &mut Connection,
     writer: &mut Tap<W>,
     host: &mut H,
-    saver: &mut S,
+    witness: &mut S,
     outcome: &mut Outcome,
 ) -> Result<u64, ServeFault>
     requires callable { H.IsAlwaysCallable host.old }
@@ -152,7 +161,7 @@ fn answer_whole<K: Keep, W: Write, H: FnMut() -> Result<Host, HostFault>, S: Sav
         (W.contents (device_of writer.old)) (W.contents (device_of writer.new))
         (marks_of writer.old) (marks_of writer.new)
         host.old executions host.new connection.new result
-        × Saves S.saves_change S.has_failed saver.old executions saver.new result }
+        × Notes S.notes S.note_failed witness.old executions witness.new result }
 {
     let mut answered = 0;
     while let Some(front) = connection.front() {
@@ -160,8 +169,7 @@ fn answer_whole<K: Keep, W: Write, H: FnMut() -> Result<Host, HostFault>, S: Sav
             Ok(said) => said,
             Err(_) => return Err(ServeFault::Host),
         };
-        execute_front(machine, connection, front, said, outcome);
-        match deliver(machine, outcome.response.as_slice(), writer, saver) {
+        match answer_front(machine, connection, front, said, writer, witness, outcome) {
             Ok(()) => answered += 1,
             Err(unsent) => return Err(unsent),
         }
@@ -169,22 +177,31 @@ fn answer_whole<K: Keep, W: Write, H: FnMut() -> Result<Host, HostFault>, S: Sav
     Ok(answered)
 }
 
-/// Has the device saved, and then writes the response.
-fn deliver<K: Keep, W: Write, S: Saver>(
-    machine: &Machine<K>,
-    response: &[u8],
+/// Executes the buffer in front of a connection, tells a witness, and then writes the response.
+fn answer_front<K: Keep, W: Write, S: Witness>(
+    machine: &mut Machine<K>,
+    connection: &mut Connection,
+    front: Front,
+    host: Host,
     writer: &mut Tap<W>,
-    saver: &mut S,
+    witness: &mut S,
+    outcome: &mut Outcome,
 ) -> Result<(), ServeFault>
-    ensures { Delivers S.saves_change S.has_failed
+    requires { front.size ≤ length connection.old.taken }
+    ensures executes { Executes K.can_refuse (state_of K.record_of machine.old)
+        (given (take front.size connection.old.taken) host)
+        (outcome_step (state_of K.record_of machine.new) outcome.new) }
+    ensures after { connection.new ≡ (cut_at front.size front.last connection.old.taken).after }
+    ensures delivers { Delivers S.notes S.note_failed
         (W.contents (device_of writer.old)) (W.contents (device_of writer.new))
         (marks_of writer.old) (marks_of writer.new)
-        (state_of K.record_of machine.now) response.now saver.old result saver.new }
+        (execution_of (state_of K.record_of machine.old) (take front.size connection.old.taken)
+        host (state_of K.record_of machine.new) outcome.new) witness.old result witness.new }
 {
-    let Ok(()) = saver.save_change(machine) else {
+    let Ok(()) = execute_front(machine, connection, front, host, witness, outcome) else {
         return Err(ServeFault::Save);
     };
-    match writer.write_all(response) {
+    match writer.write_all(outcome.response.as_slice()) {
         Ok(()) => Ok(()),
         Err(_) => Err(ServeFault::Write),
     }

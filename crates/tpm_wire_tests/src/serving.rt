@@ -1,5 +1,5 @@
 //! Connections that are not served to their end: one beside eight others, one without end, and one
-//! to a device that can no longer be saved.
+//! whose witness fails.
 
 use super::comparison::check;
 use super::device::{host, mux};
@@ -12,7 +12,8 @@ use std::test::Fail;
 use tpm_bytes::Tap;
 use tpm_machine::Machine;
 use tpm_record::Keep;
-use tpm_saver::{Saver, Unsaved};
+use tpm_saver::{Unsaved, Witness};
+use tpm_step::{Event, Outcome};
 use tpm_wire::{Mux, ServeFault, serve, serve_saving};
 
 /// A reader of TPM2_SelfTest(YES) without end, one byte at each read.
@@ -118,25 +119,24 @@ fn a_client_without_end_is_cut_off(rt: HostRuntime) -> Result<(), Fail> {
     run_over_both::<WithoutEnd, HostRuntime>(&rt, rt.alloc())
 }
 
-/// A saver that saves as often as it may, and then fails.
+/// A witness that notes as often as it may, and then fails.
 #[derive(Drop)]
-struct Saves {
+struct Notes {
     left: u64,
     failed: bool,
 }
 
-impl Saver for Saves {
-    ghost saves = { λ _ _ _. Unit {0} };
+impl Witness for Notes {
+    ghost notes = { λ _ _ _. Unit {0} };
 
-    ghost saves_change = { λ _ _ _. Unit {0} };
+    ghost note_failed = { λ self. self.failed };
 
-    ghost has_failed = { λ self. self.failed };
-
-    fn save_change<K: Keep>(&mut self, machine: &Machine<K>) -> Result<(), Unsaved> {
-        self.save(machine)
-    }
-
-    fn save<K: Keep>(&mut self, _machine: &Machine<K>) -> Result<(), Unsaved> {
+    fn note<K: Keep>(
+        &mut self,
+        _machine: &Machine<K>,
+        _event: &Event,
+        _outcome: &Outcome,
+    ) -> Result<(), Unsaved> {
         let Some(left) = self.left.checked_sub(1) else {
             self.failed = true;
             return Err(Unsaved);
@@ -146,19 +146,19 @@ impl Saver for Saves {
     }
 }
 
-struct ThreeSaves;
+struct ThreeNotes;
 
-impl Trial for ThreeSaves {
+impl Trial for ThreeNotes {
     fn run<K: Keep, R: Abort>(rt: &R, alloc: Global) -> Result<(), Fail> {
         let mut mux: Mux<K> = mux(alloc)?;
         let mut reader = Tap::new(Repeated { next: 0 });
         let mut writer = Tap::new(Counted { bytes: 0 });
         let mut ask = || Ok(host());
-        let mut saves = Saves {
+        let mut notes = Notes {
             left: 3,
             failed: false,
         };
-        let outcome = serve_saving(&mut mux, &mut reader, &mut writer, &mut ask, &mut saves);
+        let outcome = serve_saving(&mut mux, &mut reader, &mut writer, &mut ask, &mut notes);
         check(rt, outcome, Err(ServeFault::Save));
         // The fourth command was executed, and has no response: each command has eleven bytes, one
         // at each read.
@@ -169,6 +169,6 @@ impl Trial for ThreeSaves {
 }
 
 #[test]
-fn no_response_goes_out_unsaved(rt: HostRuntime) -> Result<(), Fail> {
-    run_over_both::<ThreeSaves, HostRuntime>(&rt, rt.alloc())
+fn no_response_goes_out_untold(rt: HostRuntime) -> Result<(), Fail> {
+    run_over_both::<ThreeNotes, HostRuntime>(&rt, rt.alloc())
 }

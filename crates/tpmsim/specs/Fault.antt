@@ -1,10 +1,10 @@
 -- How the program ends where it fails.
-use Rattle.std.specs.Prelude.{ℕ, List, ◌++◌, codes}
+use Rattle.std.specs.Prelude.{ℕ, List, ◌++◌, codes, if◌then◌else◌}
 use Rattle.std.specs.Fmt.{decimal}
 use Rattle.std.specs.declared.io.ErrorKind.{ErrorKind}
 use Rattle.std.specs.declared.io.ErrorKind.TheVariants.{OutOfMemory}
 use Rattle.tpmsim.specs.declared.fault.Fault.{Fault}
-use Rattle.tpmsim.specs.declared.fault.Fault.TheVariants.{Usage, ScriptLine, Asm, NoLine, Image, File, Socket, Entropy, Memory}
+use Rattle.tpmsim.specs.declared.fault.Fault.TheVariants.{Usage, ScriptLine, Asm, NoLine, Image, File, Socket, Entropy, Memory, Kept}
 use Rattle.tpm_image.specs.declared.fault.ImageFault.{ImageFault}
 use Rattle.tpm_image.specs.declared.fault.ImageFault.TheVariants as image
 use Rattle.tpm_line.specs.declared.fault.SpellFault.{SpellFault}
@@ -13,6 +13,9 @@ use Rattle.tpm_text.specs.declared.fault.AsmFault.{AsmFault}
 use Rattle.tpm_text.specs.declared.fault.AsmFault.TheVariants as line
 use Rattle.tpmsim_arguments.specs.declared.fault.ArgumentFault.{ArgumentFault}
 use Rattle.tpmsim_arguments.specs.declared.fault.ArgumentFault.TheVariants as words
+use Rattle.tpmsim_kept.specs.Fault.{is_of_contents, kept_fault_text}
+use Rattle.tpmsim_kept.specs.declared.stop.PlayFault.{PlayFault}
+use Rattle.tpmsim_kept.specs.declared.stop.PlayFault.TheVariants as play
 use Rattle.tpmsim_script.specs.declared.fault.ScriptFault.{ScriptFault}
 use Rattle.tpmsim_script.specs.declared.fault.ScriptFault.TheVariants.{Line, Read, TooManyLines, Write, Save, NoMemory}
 
@@ -49,8 +52,13 @@ abbrev pub fault_of_image : ImageFault → Fault
 fault_of_image image.NoMemory = Memory
 fault_of_image fault = Image fault
 
+-- the fault of a script that was not played on a kept device
+abbrev pub fault_of_play : PlayFault → Fault
+fault_of_play (play.Script fault) = fault_of fault
+fault_of_play (play.Kept fault) = Kept fault
+
 -- the exit status: 2 where what was asked for makes no sense, 3 where a file, a socket, a stream or
--- memory refused it, 4 where a file that should be an image is not
+-- memory refused it, 4 where a file that should be an image or a journal is not
 abbrev pub status_of : Fault → ℕ
 status_of Usage = 2
 status_of (ScriptLine number) = 2
@@ -61,6 +69,7 @@ status_of File = 3
 status_of Socket = 3
 status_of Entropy = 3
 status_of Memory = 3
+status_of (Kept fault) = if is_of_contents fault.said then 4 else 3
 
 -- the name of a line's fault, with the column of the token at fault
 abbrev pub asm_text : AsmFault → List ℕ
@@ -92,3 +101,4 @@ fault_text File = codes "file"
 fault_text Socket = codes "socket"
 fault_text Entropy = codes "entropy"
 fault_text Memory = codes "memory"
+fault_text (Kept fault) = kept_fault_text fault

@@ -1,6 +1,7 @@
 //! Why the program fails: what it says on standard error, and its exit status.
 
-ghost use Rattle.std.specs.Prelude.{◌≡◌};
+ghost use Rattle.std.specs.Prelude.{◌≡◌, if◌then◌else◌};
+ghost use Rattle.tpmsim_kept.specs.Fault.{is_of_contents};
 
 use std::alloc::AllocError;
 use std::io::ErrorKind;
@@ -10,6 +11,7 @@ use tpm_image::ImageFault;
 use tpm_line::SpellFault;
 use tpm_text::AsmFault;
 use tpmsim_arguments::ArgumentFault;
+use tpmsim_kept::{KeptFault, PlayFault};
 use tpmsim_script::ScriptFault;
 
 /// Why the program failed. The fault prints as the line on standard error says it.
@@ -32,6 +34,8 @@ pub enum Fault {
     /// The file of random bytes could not be opened, or has too few bytes left.
     Entropy,
     Memory,
+    /// The device in a folder did not do what was asked for.
+    Kept(KeptFault),
 }
 
 impl Fault {
@@ -49,7 +53,7 @@ impl Fault {
     }
 
     /// The exit status: 2 where what was asked for makes no sense, 3 where a file, a socket, a
-    /// stream or memory refused it, 4 where a file that should be an image is not.
+    /// stream or memory refused it, 4 where a file that should be an image or a journal is not.
     pub fn status(self) -> u8
         ensures { result ≡ status_of self }
     {
@@ -57,6 +61,7 @@ impl Fault {
             Fault::Usage | Fault::ScriptLine(_) | Fault::Asm(_) | Fault::NoLine => 2,
             Fault::File | Fault::Socket | Fault::Entropy | Fault::Memory => 3,
             Fault::Image(_) => 4,
+            Fault::Kept(fault) => kept_status(fault),
         }
     }
 }
@@ -89,6 +94,7 @@ impl fmt::Display for Fault {
             Fault::Socket => write!(f, "socket"),
             Fault::Entropy => write!(f, "entropy"),
             Fault::Memory => write!(f, "memory"),
+            Fault::Kept(fault) => write!(f, "{fault}"),
         }
     }
 }
@@ -178,6 +184,36 @@ impl From<ArgumentFault> for Fault {
         match fault {
             ArgumentFault::Usage => Fault::Usage,
             ArgumentFault::NoMemory => Fault::Memory,
+        }
+    }
+}
+
+/// The exit status of a fault of a kept device: 4 where its journal is none that the program takes.
+fn kept_status(fault: KeptFault) -> u8
+    ensures { result ≡ (if is_of_contents fault.said then 4 else 3) }
+{
+    if fault.said.is_of_contents() { 4 } else { 3 }
+}
+
+impl From<KeptFault> for Fault {
+    ghost use Rattle.tpmsim.specs.declared.fault.Fault.TheVariants.{Kept};
+
+    ghost from_gives = { λ kept_fault fault. fault ≡ Kept kept_fault };
+
+    fn from(fault: KeptFault) -> Fault {
+        Fault::Kept(fault)
+    }
+}
+
+impl From<PlayFault> for Fault {
+    ghost use Rattle.tpmsim.specs.Fault.{fault_of_play};
+
+    ghost from_gives = { λ play_fault fault. fault ≡ fault_of_play play_fault };
+
+    fn from(fault: PlayFault) -> Fault {
+        match fault {
+            PlayFault::Script(fault) => Fault::from(fault),
+            PlayFault::Kept(fault) => Fault::Kept(fault),
         }
     }
 }

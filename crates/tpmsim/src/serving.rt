@@ -1,24 +1,29 @@
 //! How the program serves a device on a socket, one connection after another, with its image saved
-//! after each connection, and where that is asked for before each response too.
+//! after each connection, and where that is asked for before each response too, and with a log of
+//! its commands where one is asked for.
 
+use crate::command_saver::CommandSaver;
 use crate::entropy::Entropy;
 use crate::fault::Fault;
 use crate::image_file::ImageFile;
 use crate::image_saver::ImageSaver;
+use crate::log_file::begin_log;
 use crate::socket::{Socket, bind};
 use crate::source::Source;
+use std::fs::File;
 use std::os::unix::net::UnixStream;
 use tpm_bytes::Tap;
+use tpm_log::Logged;
 use tpm_machine::Machine;
 use tpm_record::Keep;
 use tpm_saver::Saver;
-use tpm_wire::{HostFault, Mux, ServeFault, serve, serve_saving};
+use tpm_wire::{HostFault, Mux, ServeFault, serve_saving};
 use tpmsim_arguments::Service;
 
 /// Serves a device on a socket: the one whose image is in the file, or a new one where there is no
 /// file.
-pub fn serve_device(rt: &HostRuntime, service: &Service) -> Result<(), Fault> {
-    let file = ImageFile::take(rt, service.image)?;
+pub fn serve_device(rt: &HostRuntime, service: &Service, image: &str) -> Result<(), Fault> {
+    let file = ImageFile::take(rt, image)?;
     let opened = file.open(rt)?;
     let mut entropy = Entropy::open(rt, service.entropy)?;
     let mut saver = ImageSaver::new(rt, file);
@@ -30,7 +35,14 @@ pub fn serve_device(rt: &HostRuntime, service: &Service) -> Result<(), Fault> {
         None => entropy.manufacture(rt)?,
     };
     let mut source = Source::new(entropy, service.locality);
-    serve_machine(rt, service, machine, &mut source, &mut saver)
+    let mut witness = Logged {
+        log: None,
+        next: CommandSaver {
+            image: saver,
+            saves_each: service.saves_each,
+        },
+    };
+    serve_machine(rt, service, machine, &mut source, &mut witness)
 }
 
 /// Serves a machine on the socket. Removes the socket's file in the end, if it is still at its
@@ -40,75 +52,77 @@ fn serve_machine<K: Keep>(
     service: &Service,
     machine: Machine<K>,
     source: &mut Source,
-    saver: &mut ImageSaver<'_>,
+    witness: &mut Logged<File, CommandSaver<'_>>,
 ) -> Result<(), Fault> {
     let socket = bind(rt, service.socket)?;
     let mut mux = Mux::new(machine);
-    let served = serve_connections(rt, service, &socket, &mut mux, source, saver);
+    let served = serve_socket(rt, service, &socket, &mut mux, source, witness);
     socket.remove(rt, service.socket);
     served
 }
 
-/// Serves as many connections as are asked for, one after another.
-fn serve_connections<K: Keep>(
+/// Begins the log, if there is to be one, and serves the connections.
+fn serve_socket<K: Keep>(
     rt: &HostRuntime,
     service: &Service,
     socket: &Socket,
     mux: &mut Mux<K>,
     source: &mut Source,
-    saver: &mut ImageSaver<'_>,
+    witness: &mut Logged<File, CommandSaver<'_>>,
 ) -> Result<(), Fault> {
-    for _ in 0..service.connections {
+    if let Some(path) = service.log {
+        witness.log = Some(begin_log(rt, path, mux.machine())?);
+    }
+    serve_connections(rt, service.connections, socket, mux, source, witness)
+}
+
+/// Serves so many connections, one after another.
+fn serve_connections<K: Keep>(
+    rt: &HostRuntime,
+    connections: u32,
+    socket: &Socket,
+    mux: &mut Mux<K>,
+    source: &mut Source,
+    witness: &mut Logged<File, CommandSaver<'_>>,
+) -> Result<(), Fault> {
+    for _ in 0..connections {
         let stream = socket
             .accept()
             .map_err(|error| Fault::of_io(error, Fault::Socket))?;
-        let served = if service.saves_each {
-            exchange_saving(rt, &stream, mux, source, saver)
-        } else {
-            exchange(rt, &stream, mux, source)
-        };
-        save_behind(served, mux, saver)?;
+        let served = exchange(rt, &stream, mux, source, witness);
+        save_behind(served, mux, &mut witness.next)?;
     }
     Ok(())
 }
 
 /// Saves the device after a connection, its clock too, and says why the program ends, if it does. A
-/// device that could not be saved before a response is not saved again: all that was answered is in
-/// the image.
+/// device that is saved before each response is not saved again where a command was not answered
+/// since the log or the image was not written: all that was answered is in the image.
 fn save_behind<K: Keep>(
     served: Result<u64, ServeFault>,
     mux: &Mux<K>,
-    saver: &mut ImageSaver<'_>,
+    saver: &mut CommandSaver<'_>,
 ) -> Result<(), Fault> {
-    if served != Err(ServeFault::Save) {
-        let _ = saver.save(mux.machine());
+    if !saver.saves_each || served != Err(ServeFault::Save) {
+        let _ = saver.image.save(mux.machine());
     }
-    match saver.fault() {
-        Some(fault) => Err(fault),
-        None if served == Err(ServeFault::Host) => Err(Fault::Entropy),
-        None => Ok(()),
+    if let Some(fault) = saver.image.fault() {
+        return Err(fault);
+    }
+    match served {
+        Err(ServeFault::Save) => Err(Fault::File),
+        Err(ServeFault::Host) => Err(Fault::Entropy),
+        _ => Ok(()),
     }
 }
 
-/// Executes the commands of a connection, and answers them.
+/// Executes the commands of a connection, and answers each when the witness was told it.
 fn exchange<K: Keep>(
     rt: &HostRuntime,
     stream: &UnixStream,
     mux: &mut Mux<K>,
     source: &mut Source,
-) -> Result<u64, ServeFault> {
-    let mut host = || source.host(rt).map_err(|_| HostFault);
-    serve(mux, &mut Tap::new(stream), &mut Tap::new(stream), &mut host)
-}
-
-/// Executes the commands of a connection, and answers them, with the device saved before each
-/// response that tells of a change.
-fn exchange_saving<K: Keep>(
-    rt: &HostRuntime,
-    stream: &UnixStream,
-    mux: &mut Mux<K>,
-    source: &mut Source,
-    saver: &mut ImageSaver<'_>,
+    witness: &mut Logged<File, CommandSaver<'_>>,
 ) -> Result<u64, ServeFault> {
     let mut host = || source.host(rt).map_err(|_| HostFault);
     serve_saving(
@@ -116,6 +130,6 @@ fn exchange_saving<K: Keep>(
         &mut Tap::new(stream),
         &mut Tap::new(stream),
         &mut host,
-        saver,
+        witness,
     )
 }

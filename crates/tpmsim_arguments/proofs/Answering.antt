@@ -7,7 +7,7 @@ use Rattle.clap.specs.declared.error.kind.ErrorKind.TheVariants.{ArgumentConflic
 use Rattle.clap.proofs.OnLiterals.{clap_on_literals}
 use Rattle.tpm_bytes.specs.Reading.{Gives}
 use Rattle.tpmsim_arguments.specs.Answers.{Answers, AreTaken, IsTold}
-use Rattle.tpmsim_arguments.specs.Invocation.{Invocation, Served, Stored, asked, asked_by, asked_in, is_set, run_in, service_in, storage_in, run, assemble, spell, forms, name_code, serve, tell}
+use Rattle.tpmsim_arguments.specs.Invocation.{Invocation, Served, Stored, asked, asked_by, asked_in, is_set, script_in, service_in, storage_in, run, check, assemble, spell, forms, name_code, serve, cycle_power, retell, tell}
 use Rattle.tpmsim_arguments.specs.CommandLine.{program}
 use Rattle.tpmsim_arguments.specs.Fault.{fault_of_words}
 use Rattle.tpmsim_arguments.specs.declared.arguments.Arguments.{Arguments}
@@ -39,41 +39,72 @@ no_run kind trace None storage e = cc
 no_run kind trace (Some s) None e = cc
 no_run kind trace (Some s) (Some kept) e = cc
 
-no_text : (kind : ErrorKind) (a b l f n d : Bool) (ran : Option Invocation) (line digits name number : Option Text) (service : Option Served)
-    → (ran ≡ Some (tell kind) → ⊥)
-    → (if a then ran else (if b then option_map assemble line else (if l then option_map spell digits
-    else (if f then Some (forms name) else (if n then option_map name_code number
-    else (if d then option_map serve service else None)))))) ≡ Some (tell kind)
-    → ⊥
-no_text kind true b l f n d ran line digits name number service never e = never e
-no_text kind false true l f n d ran None digits name number service never e = cc
-no_text kind false true l f n d ran (Some text) digits name number service never e = cc
-no_text kind false false true f n d ran line None name number service never e = cc
-no_text kind false false true f n d ran line (Some text) name number service never e = cc
-no_text kind false false false true n d ran line digits name number service never e = cc
-no_text kind false false false false true d ran line digits name None service never e = cc
-no_text kind false false false false true d ran line digits name (Some text) service never e = cc
-no_text kind false false false false false true ran line digits name number None never e = cc
-no_text kind false false false false false true ran line digits name number (Some s) never e = cc
-no_text kind false false false false false false ran line digits name number service never e = cc
+-- nor does one of a few commands, if none of them does
+otherwise : {A : Type 0} (wish : A) (here : Bool) (this other : Option A) → (this ≡ Some wish → ⊥) → (other ≡ Some wish → ⊥)
+    → (if here then this else other) ≡ Some wish → ⊥
+otherwise wish true this other one two e = one e
+otherwise wish false this other one two e = two e
+
+no_check : (kind : ErrorKind) (script : Option Text) → option_map check script ≡ Some (tell kind) → ⊥
+no_check kind None e = cc
+no_check kind (Some text) e = cc
+
+no_line : (kind : ErrorKind) (line : Option Text) → option_map assemble line ≡ Some (tell kind) → ⊥
+no_line kind None e = cc
+no_line kind (Some text) e = cc
+
+no_digits : (kind : ErrorKind) (digits : Option Text) → option_map spell digits ≡ Some (tell kind) → ⊥
+no_digits kind None e = cc
+no_digits kind (Some text) e = cc
+
+no_forms : (kind : ErrorKind) (name : Option Text) → Some (forms name) ≡ Some (tell kind) → ⊥
+no_forms kind name e = cc
+
+no_code : (kind : ErrorKind) (number : Option Text) → option_map name_code number ≡ Some (tell kind) → ⊥
+no_code kind None e = cc
+no_code kind (Some text) e = cc
+
+no_service : (kind : ErrorKind) (service : Option Served) → option_map serve service ≡ Some (tell kind) → ⊥
+no_service kind None e = cc
+no_service kind (Some s) e = cc
+
+no_power : (kind : ErrorKind) (state : Option Text) → option_map cycle_power state ≡ Some (tell kind) → ⊥
+no_power kind None e = cc
+no_power kind (Some text) e = cc
+
+no_script : (kind : ErrorKind) (state : Option Text) → option_map retell state ≡ Some (tell kind) → ⊥
+no_script kind None e = cc
+no_script kind (Some text) e = cc
+
+unknown : (kind : ErrorKind) → (let none : Option Invocation = None in none ≡ Some (tell kind)) → ⊥
+unknown kind e = cc
 
 none_tells : (kind : ErrorKind) (command : Option (Text × List Row)) → asked_in command ≡ Some (tell kind) → ⊥
 none_tells kind None e = cc
 none_tells kind (Some command) e =
     let rows = command.1 in
-    no_text kind (bytes_eq command.0 (codes "run")) (bytes_eq command.0 (codes "asm")) (bytes_eq command.0 (codes "line")) (bytes_eq command.0 (codes "lines")) (bytes_eq command.0 (codes "code")) (bytes_eq command.0 (codes "serve"))
-    (run_in rows) (first_of (codes "line") rows) (first_of (codes "hex") rows) (first_of (codes "name") rows) (first_of (codes "number") rows) (service_in rows)
-    (no_run kind (is_set (codes "trace") rows) (first_of (codes "script") rows) (storage_in rows)) e
+    otherwise (tell kind) (bytes_eq command.0 (codes "run")) _ _ (no_run kind (is_set (codes "trace") rows) (script_in rows) (storage_in rows))
+    (otherwise (tell kind) (bytes_eq command.0 (codes "check")) _ _ (no_check kind (first_of (codes "script") rows))
+    (otherwise (tell kind) (bytes_eq command.0 (codes "asm")) _ _ (no_line kind (first_of (codes "line") rows))
+    (otherwise (tell kind) (bytes_eq command.0 (codes "line")) _ _ (no_digits kind (first_of (codes "hex") rows))
+    (otherwise (tell kind) (bytes_eq command.0 (codes "lines")) _ _ (no_forms kind (first_of (codes "name") rows))
+    (otherwise (tell kind) (bytes_eq command.0 (codes "code")) _ _ (no_code kind (first_of (codes "number") rows))
+    (otherwise (tell kind) (bytes_eq command.0 (codes "serve")) _ _ (no_service kind (service_in rows))
+    (otherwise (tell kind) (bytes_eq command.0 (codes "power")) _ _ (no_power kind (first_of (codes "state") rows))
+    (otherwise (tell kind) (bytes_eq command.0 (codes "script")) _ _ (no_script kind (first_of (codes "state") rows)) (unknown kind))))))))) e
 
 -- the answer where clap takes the words, and its matches are read
 pub taken : (words : List Text) (r : Result Arguments ArgumentFault) → AreTaken words
     → Gives asked (ok_or (asked_by words) Usage) r → Answers words r
 taken words (Ok (arguments.Run script trace storage)) right e = (right, found_is _ _ e)
+taken words (Ok (arguments.Check script)) right e = (right, found_is _ _ e)
 taken words (Ok (arguments.Assemble line)) right e = (right, found_is _ _ e)
 taken words (Ok (arguments.Spell digits)) right e = (right, found_is _ _ e)
 taken words (Ok (arguments.Forms name)) right e = (right, found_is _ _ e)
 taken words (Ok (arguments.Code digits)) right e = (right, found_is _ _ e)
 taken words (Ok (arguments.Serve service)) right e = (right, found_is _ _ e)
+taken words (Ok (arguments.Power state)) right e = (right, found_is _ _ e)
+taken words (Ok (arguments.Retell state)) right e = (right, found_is _ _ e)
 taken words (Ok (arguments.Tell error)) right e = absurd (none_tells _ (subcommand_of program words) (found_is _ _ e))
 taken words (Err Usage) right e = inr (right, not_found _ e)
 taken words (Err NoMemory) right e = tt

@@ -1,5 +1,5 @@
 -- Command lines as people write them.
-use Rattle.std.proofs.Common.{◌≡◌, Bool, List, ◌∙◌, ℕ, ◌≤◌, refl, inl, inr, true, false, [], ◌∷◌, Some, None, Option, ap₂, option_map, option_and_then}
+use Rattle.std.proofs.Common.{◌≡◌, Bool, List, ◌∙◌, ℕ, ◌≤◌, refl, inl, inr, true, false, [], ◌∷◌, Some, None, Option, ap₂, codes, option_map, option_and_then}
 use Rattle.std.proofs.lemmas.Bool.{le-leb}
 use Rattle.std.specs.Str.{bytes_eq}
 use Rattle.clap.specs.Lexer.{long_of, short_of, strip_byte}
@@ -7,8 +7,8 @@ use Rattle.clap.specs.Words.{Text}
 use Rattle.clap.proofs.OnLiterals.{clap_on_literals}
 use Rattle.tpm_text.specs.Number.{decimal_of, locality_of}
 use Rattle.tpmsim_arguments.specs.Answers.{AreTaken}
-use Rattle.tpmsim_arguments.specs.Invocation.{Invocation, asked_by, assemble, forms, name_code, run, serve, spell}
-use Rattle.tpmsim_arguments.specs.Lines.{AskFor, AskForDevice, AskForSavedDevice, AskForService, IsScript, asm_line, begins_with_hyphen, code_line, form_line, forms_line, kept_line, line_line, run_line, joined_line, saving_line, trace_line}
+use Rattle.tpmsim_arguments.specs.Invocation.{Invocation, Kept, asked_by, assemble, check, cycle_power, forms, in_image, in_state, name_code, retell, run, serve, spell}
+use Rattle.tpmsim_arguments.specs.Lines.{AskFor, AskForDevice, AskForSavedDevice, AskForService, IsScript, asm_line, begins_with_hyphen, check_line, code_line, form_line, forms_line, kept_line, line_line, logging_line, played_line, power_line, run_line, joined_line, saving_line, script_line, state_line, trace_line}
 
 -- a word that begins with no hyphen is not the name of an argument
 no_hyphen : (word : Text) → begins_with_hyphen word ≡ false → strip_byte 45 word ≡ None
@@ -55,8 +55,25 @@ unfolding clap_on_literals
 script_is_traced name script (inl e) = rw (no_end script e, no_long script e, no_short script e) (refl, refl)
 script_is_traced name script (inr e) = rw e (refl, refl)
 
+pub script_is_checked : (name script : Text) → IsScript script → AskFor (check_line name script) (check script)
+unfolding clap_on_literals
+script_is_checked name script (inl e) = rw (no_end script e, no_long script e, no_short script e) (refl, refl)
+script_is_checked name script (inr e) = rw e (refl, refl)
+
+pub power_is_cycled : (name state : Text) → begins_with_hyphen state ≡ false → AskFor (power_line name state) (cycle_power state)
+unfolding clap_on_literals
+power_is_cycled name state e = rw (no_end state e, no_long state e, no_short state e) (refl, refl)
+
+pub script_is_retold : (name state : Text) → begins_with_hyphen state ≡ false → AskFor (script_line name state) (retell state)
+unfolding clap_on_literals
+script_is_retold name state e = rw (no_end state e, no_long state e, no_short state e) (refl, refl)
+
+pub state_is_played : (name state : Text) → AskFor (played_line name state) (run (codes "-") false (Some (record { place = in_state state; entropy = None })))
+unfolding clap_on_literals
+state_is_played name state = (refl, refl)
+
 pub device_is_kept : (name image entropy script : Text) → IsScript script
-    → AskFor (kept_line name image entropy script) (run script true (Some (record { image = image; entropy = Some entropy })))
+    → AskFor (kept_line name image entropy script) (run script true (Some (record { place = in_image image; entropy = Some entropy })))
 unfolding clap_on_literals
 device_is_kept name image entropy script (inl e) = rw (no_end script e, no_long script e, no_short script e) (refl, refl)
 device_is_kept name image entropy script (inr e) = rw e (refl, refl)
@@ -65,25 +82,25 @@ locality_is : (number : ℕ) → number ≤ 4 → locality_of number ≡ Some nu
 locality_is number small = rw (le-leb number 4 small) refl
 
 -- what a service with these numbers is asked for by, if both are numbers
-abbrev pub with_numbers : (socket image entropy : Text) → Option ℕ → Option ℕ → Bool → Option Invocation
-with_numbers socket image entropy locality connections saves = option_map serve (option_and_then (λ l. option_and_then (λ c.
-    Some (record { socket = socket; image = image; entropy = entropy; locality = l; connections = c; saves_each = saves })) connections)
+abbrev pub with_numbers : (socket : Text) → Kept → (log : Option Text) → (entropy : Text) → Option ℕ → Option ℕ → Bool → Option Invocation
+with_numbers socket place log entropy locality connections saves = option_map serve (option_and_then (λ l. option_and_then (λ c.
+    Some (record { socket = socket; place = place; log = log; entropy = entropy; locality = l; connections = c; saves_each = saves })) connections)
     (option_and_then locality_of locality))
 
-pub device_is_asked_for : (words : List Text) (socket image entropy locality connections : Text) (saves : Bool) → AreTaken words
-    → asked_by words ≡ with_numbers socket image entropy (decimal_of locality) (decimal_of connections) saves
-    → AskForService words socket image entropy locality connections saves
-device_is_asked_for words socket image entropy locality connections saves right e = λ l c is_l small is_c.
-    (right, e ∙ ap₂ (λ l c. with_numbers socket image entropy l c saves) is_l is_c ∙ given l c (locality_is l small))
+pub device_is_asked_for : (words : List Text) (socket : Text) (place : Kept) (log : Option Text) (entropy locality connections : Text) (saves : Bool) → AreTaken words
+    → asked_by words ≡ with_numbers socket place log entropy (decimal_of locality) (decimal_of connections) saves
+    → AskForService words socket place log entropy locality connections saves
+device_is_asked_for words socket place log entropy locality connections saves right e = λ l c is_l small is_c.
+    (right, e ∙ ap₂ (λ l c. with_numbers socket place log entropy l c saves) is_l is_c ∙ given l c (locality_is l small))
   where
-    given : (l c : ℕ) → locality_of l ≡ Some l → with_numbers socket image entropy (Some l) (Some c) saves
-        ≡ Some (serve (record { socket = socket; image = image; entropy = entropy; locality = l; connections = c; saves_each = saves }))
+    given : (l c : ℕ) → locality_of l ≡ Some l → with_numbers socket place log entropy (Some l) (Some c) saves
+        ≡ Some (serve (record { socket = socket; place = place; log = log; entropy = entropy; locality = l; connections = c; saves_each = saves }))
     given l c e = rw e refl
 
 joined_is_read : (name socket image entropy locality connections : Text)
     → AreTaken (joined_line name socket image entropy locality connections)
     × (asked_by (joined_line name socket image entropy locality connections)
-    ≡ with_numbers socket image entropy (decimal_of locality) (decimal_of connections) false)
+    ≡ with_numbers socket (in_image image) None entropy (decimal_of locality) (decimal_of connections) false)
 unfolding clap_on_literals
 joined_is_read name socket image entropy locality connections = (refl, refl)
 
@@ -91,12 +108,12 @@ pub joined_is_served : (name socket image entropy locality connections : Text)
     → AskForDevice (joined_line name socket image entropy locality connections) socket image entropy locality connections
 joined_is_served name socket image entropy locality connections =
     let read = joined_is_read name socket image entropy locality connections in
-    device_is_asked_for (joined_line name socket image entropy locality connections) socket image entropy locality connections false read.0 read.1
+    device_is_asked_for (joined_line name socket image entropy locality connections) socket (in_image image) None entropy locality connections false read.0 read.1
 
 saving_is_read : (name socket image entropy locality connections : Text)
     → AreTaken (saving_line name socket image entropy locality connections)
     × (asked_by (saving_line name socket image entropy locality connections)
-    ≡ with_numbers socket image entropy (decimal_of locality) (decimal_of connections) true)
+    ≡ with_numbers socket (in_image image) None entropy (decimal_of locality) (decimal_of connections) true)
 unfolding clap_on_literals
 saving_is_read name socket image entropy locality connections = (refl, refl)
 
@@ -104,4 +121,30 @@ pub saving_is_served : (name socket image entropy locality connections : Text)
     → AskForSavedDevice (saving_line name socket image entropy locality connections) socket image entropy locality connections
 saving_is_served name socket image entropy locality connections =
     let read = saving_is_read name socket image entropy locality connections in
-    device_is_asked_for (saving_line name socket image entropy locality connections) socket image entropy locality connections true read.0 read.1
+    device_is_asked_for (saving_line name socket image entropy locality connections) socket (in_image image) None entropy locality connections true read.0 read.1
+
+logging_is_read : (name socket image log entropy locality connections : Text)
+    → AreTaken (logging_line name socket image log entropy locality connections)
+    × (asked_by (logging_line name socket image log entropy locality connections)
+    ≡ with_numbers socket (in_image image) (Some log) entropy (decimal_of locality) (decimal_of connections) false)
+unfolding clap_on_literals
+logging_is_read name socket image log entropy locality connections = (refl, refl)
+
+pub logging_is_served : (name socket image log entropy locality connections : Text)
+    → AskForService (logging_line name socket image log entropy locality connections) socket (in_image image) (Some log) entropy locality connections false
+logging_is_served name socket image log entropy locality connections =
+    let read = logging_is_read name socket image log entropy locality connections in
+    device_is_asked_for (logging_line name socket image log entropy locality connections) socket (in_image image) (Some log) entropy locality connections false read.0 read.1
+
+state_is_read : (name socket state entropy locality connections : Text)
+    → AreTaken (state_line name socket state entropy locality connections)
+    × (asked_by (state_line name socket state entropy locality connections)
+    ≡ with_numbers socket (in_state state) None entropy (decimal_of locality) (decimal_of connections) false)
+unfolding clap_on_literals
+state_is_read name socket state entropy locality connections = (refl, refl)
+
+pub state_is_served : (name socket state entropy locality connections : Text)
+    → AskForService (state_line name socket state entropy locality connections) socket (in_state state) None entropy locality connections false
+state_is_served name socket state entropy locality connections =
+    let read = state_is_read name socket state entropy locality connections in
+    device_is_asked_for (state_line name socket state entropy locality connections) socket (in_state state) None entropy locality connections false read.0 read.1

@@ -9,7 +9,7 @@ use Rattle.clap.specs.declared.builder.value_parser.Reading.TheVariants.{AsWritt
 use Rattle.clap.specs.declared.parser.matches.ValueSource.TheVariants.{CommandLine}
 use Rattle.clap.proofs.OnLiterals.{clap_on_literals}
 use Rattle.tpm_text.specs.Number.{decimal_of}
-use Rattle.tpmsim_arguments.specs.Invocation.{asked_in, asked_of}
+use Rattle.tpmsim_arguments.specs.Invocation.{asked_in, asked_of, in_image}
 use Rattle.tpmsim_arguments.specs.CommandLine.{program}
 use Rattle.tpmsim_arguments.specs.Lines.{AskForDevice, NoneBeginsWithHyphen, begins_with_hyphen, serve_line}
 use Rattle.tpmsim_arguments.proofs.Lines.{device_is_asked_for, no_end, no_long, no_short, with_numbers}
@@ -244,7 +244,7 @@ taken s i e l n p =
 
 asked_is : (s i e l n : Text) → Plain s i e l n
     → asked_in (entered (built program) (walk top.rules top_names nothing_held (codes "serve" ∷ words s i e l n)).stopped)
-    ≡ with_numbers s i e (decimal_of l) (decimal_of n) false
+    ≡ with_numbers s (in_image i) None e (decimal_of l) (decimal_of n) false
 asked_is s i e l n p =
     ap (λ (w : Walk). asked_in (entered (built program) w.stopped)) (top_walk (words s i e l n))
     ∙ ap (λ (w : Walk). asked_of (codes "serve") (finished serve_shape.rules w.held)) (walk_is s i e l n p)
@@ -253,4 +253,4 @@ pub device_is_served : (name s i e l n : Text) → NoneBeginsWithHyphen (s ∷ i
     → AskForDevice (serve_line name s i e l n) s i e l n
 device_is_served name s i e l n p =
     let plain : Plain s i e l n = (p.0, p.1.0, p.1.1.0, p.1.1.1.0, p.1.1.1.1.0) in
-    device_is_asked_for (serve_line name s i e l n) s i e l n false (taken s i e l n plain) (asked_is s i e l n plain)
+    device_is_asked_for (serve_line name s i e l n) s (in_image i) None e l n false (taken s i e l n plain) (asked_is s i e l n plain)

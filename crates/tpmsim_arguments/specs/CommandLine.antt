@@ -1,5 +1,5 @@
 -- The program's command line, in the words of clap.
-use Rattle.std.specs.Prelude.{List, [], ◌∷◌, Some, false, true, codes}
+use Rattle.std.specs.Prelude.{List, [], ◌∷◌, Some, false, true, codes, fold}
 use Rattle.clap.specs.Words.{App, Rule, Shape, Text, new_rule, with_subcommand}
 use Rattle.clap.specs.Simple.{new_shape}
 use Rattle.clap.specs.declared.builder.action.ArgAction.TheVariants.{Set, SetTrue}
@@ -28,10 +28,18 @@ choice name = record (setting name) { required = false }
 abbrev pub with_arguments : Text → List Rule → Shape
 with_arguments name rules = record (new_shape name) { rules = rules }
 
--- the command run [--trace] [--image FILE] [--entropy FILE] SCRIPT
+-- the rule of a value in its place, which may be left out
+abbrev pub optional_operand : Text → Rule
+optional_operand name = record (operand name) { required = false }
+
+-- the command run [--trace] [--image FILE] [--state DIR] [--entropy FILE] [SCRIPT]
 abbrev pub run_command : Shape
 run_command = with_arguments (codes "run") (flag (codes "trace") ∷ choice (codes "image")
-    ∷ choice (codes "entropy") ∷ operand (codes "script") ∷ [])
+    ∷ choice (codes "state") ∷ choice (codes "entropy") ∷ optional_operand (codes "script") ∷ [])
+
+-- the command check SCRIPT
+abbrev pub check_command : Shape
+check_command = with_arguments (codes "check") (operand (codes "script") ∷ [])
 
 -- the command asm LINE
 abbrev pub asm_command : Shape
@@ -43,18 +51,27 @@ line_command = with_arguments (codes "line") (operand (codes "hex") ∷ [])
 
 -- the command lines [NAME]
 abbrev pub lines_command : Shape
-lines_command = with_arguments (codes "lines") (record (operand (codes "name")) { required = false } ∷ [])
+lines_command = with_arguments (codes "lines") (optional_operand (codes "name") ∷ [])
 
 -- the command code HEX
 abbrev pub code_command : Shape
 code_command = with_arguments (codes "code") (operand (codes "number") ∷ [])
 
--- the command serve --socket PATH --image FILE --entropy FILE --locality NUMBER --connections
--- NUMBER [--save-each]
+-- the command serve --socket PATH [--image FILE] [--log FILE] [--state DIR] --entropy FILE
+-- --locality NUMBER --connections NUMBER [--save-each]
 abbrev pub serve_command : Shape
 serve_command = with_arguments (codes "serve") (setting (codes "socket")
-    ∷ setting (codes "image") ∷ setting (codes "entropy") ∷ setting (codes "locality")
-    ∷ setting (codes "connections") ∷ flag (codes "save-each") ∷ [])
+    ∷ choice (codes "image") ∷ choice (codes "log") ∷ choice (codes "state")
+    ∷ setting (codes "entropy") ∷ setting (codes "locality") ∷ setting (codes "connections")
+    ∷ flag (codes "save-each") ∷ [])
+
+-- the command power DIR
+abbrev pub power_command : Shape
+power_command = with_arguments (codes "power") (operand (codes "state") ∷ [])
+
+-- the command script DIR
+abbrev pub script_command : Shape
+script_command = with_arguments (codes "script") (operand (codes "state") ∷ [])
 
 -- the program, which has a version, and wants one of its commands
 abbrev pub bare_program : App
@@ -63,7 +80,10 @@ bare_program = record {
   subs = [];
 }
 
+-- the commands, in the order in which the help lists them
+abbrev pub commands : List Shape
+commands = run_command ∷ check_command ∷ asm_command ∷ line_command ∷ lines_command ∷ code_command
+    ∷ serve_command ∷ power_command ∷ script_command ∷ []
+
 abbrev pub program : App
-program = with_subcommand (with_subcommand (with_subcommand (with_subcommand (with_subcommand
-    (with_subcommand bare_program run_command) asm_command) line_command) lines_command)
-    code_command) serve_command
+program = fold with_subcommand bare_program commands

@@ -10,35 +10,48 @@ use Rattle.tpm_text.specs.Number.{decimal_of, locality_of}
 use Rattle.tpmsim_arguments.specs.CommandLine.{program}
 use Rattle.tpmsim_arguments.specs.declared.arguments.Arguments.{Arguments}
 use Rattle.tpmsim_arguments.specs.declared.arguments.Arguments.TheVariants as arguments
+use Rattle.tpmsim_arguments.specs.declared.place.Place.{Place}
+use Rattle.tpmsim_arguments.specs.declared.place.Place.TheVariants as place
 use Rattle.tpmsim_arguments.specs.declared.service.Service.{Service}
 use Rattle.tpmsim_arguments.specs.declared.storage.Storage.{Storage}
+
+-- where a device is kept: in the file of its image, or in a folder with its state
+pub data Kept : Type 0 where
+  in_image : Text → Kept
+  in_state : Text → Kept
 
 -- the paths and numbers with which a device is served
 pub record Served : Type 0 where
   pub socket : Text
-  pub image : Text
+  pub place : Kept
+  pub log : Option Text
   pub entropy : Text
   pub locality : ℕ
   pub connections : ℕ
   pub saves_each : Bool
 
--- the files of a device that a script is played on: that of its image, and that of the random bytes
--- that a new one is made of
+-- the files of a device that a script is played on: where it is kept, and the file of the random
+-- bytes that a new one is made of
 pub record Stored : Type 0 where
-  pub image : Text
+  pub place : Kept
   pub entropy : Option Text
 
 -- what a command line asks for: to run a script, with its trace or without, on a device that is
--- kept or on one that is not; to print the buffer of a line; to print the line of a buffer; to
--- print how the command of a name is said in words, or how each command is; to print what a
--- response code says; to serve a device; to tell a text of clap's, its help or the version
+-- kept or on one that is not; to check the lines of a script; to print the buffer of a line; to
+-- print the line of a buffer; to print how the command of a name is said in words, or how each
+-- command is; to print what a response code says; to serve a device; to cycle the power of the
+-- device in a folder; to print what happened to it as a script; to tell a text of clap's, its help
+-- or the version
 pub data Invocation : Type 0 where
   run : Text → Bool → Option Stored → Invocation
+  check : Text → Invocation
   assemble : Text → Invocation
   spell : Text → Invocation
   forms : Option Text → Invocation
   name_code : Text → Invocation
   serve : Served → Invocation
+  cycle_power : Text → Invocation
+  retell : Text → Invocation
   tell : ErrorKind → Invocation
 
 -- ---- what words ask for
@@ -56,46 +69,79 @@ infixl 10 ◌>>=◌
 abbrev pub ◌>>=◌ : {A B : Type 0} → Option A → (A → Option B) → Option B
 found >>= next = option_and_then next found
 
+-- where a device is kept; of an image and a folder one is given, and not both
+abbrev pub place_by : (image state : Option Text) → Option Kept
+place_by (Some image) None = Some (in_image image)
+place_by (Some image) (Some state) = None
+place_by None (Some state) = Some (in_state state)
+place_by None None = None
+
+abbrev pub place_in : List Row → Option Kept
+place_in rows = place_by (first_of (codes "image") rows) (first_of (codes "state") rows)
+
+-- the log of a device that is kept in this place, which is written beside an image alone
+abbrev pub log_by : Kept → (log : Option Text) → Option (Option Text)
+log_by place None = Some None
+log_by (in_image image) (Some log) = Some (Some log)
+log_by (in_state state) (Some log) = None
+
 abbrev pub service_in : List Row → Option Served
 service_in rows = do
   socket ← first_of (codes "socket") rows
-  image ← first_of (codes "image") rows
+  place ← place_in rows
+  log ← log_by place (first_of (codes "log") rows)
   entropy ← first_of (codes "entropy") rows
   locality ← number_in (codes "locality") rows >>= locality_of
   connections ← number_in (codes "connections") rows
   Some (record {
     socket = socket;
-    image = image;
+    place = place;
+    log = log;
     entropy = entropy;
     locality = locality;
     connections = connections;
     saves_each = is_set (codes "save-each") rows;
   })
 
--- the files of a device that is kept, or none where it is not kept; a file of random bytes without
--- an image is refused
-abbrev pub stored_by : (image entropy : Option Text) → Option (Option Stored)
-stored_by (Some image) entropy = Some (Some (record { image = image; entropy = entropy }))
-stored_by None (Some entropy) = None
-stored_by None None = Some None
+-- the files of a device that is kept, or none where it is not kept; a file of random bytes is
+-- refused without a place
+abbrev pub stored_by : (image state entropy : Option Text) → Option (Option Stored)
+stored_by None None None = Some None
+stored_by image state entropy =
+    option_map (λ place. Some (record { place = place; entropy = entropy })) (place_by image state)
 
 abbrev pub storage_in : List Row → Option (Option Stored)
-storage_in rows = stored_by (first_of (codes "image") rows) (first_of (codes "entropy") rows)
+storage_in rows = stored_by (first_of (codes "image") rows) (first_of (codes "state") rows)
+    (first_of (codes "entropy") rows)
+
+-- the script that is given, or standard input on a device with its state in a folder
+abbrev pub script_by : (script state : Option Text) → Option Text
+script_by (Some script) state = Some script
+script_by None (Some state) = Some (codes "-")
+script_by None None = None
+
+abbrev pub script_in : List Row → Option Text
+script_in rows = script_by (first_of (codes "script") rows) (first_of (codes "state") rows)
 
 abbrev pub run_in : List Row → Option Invocation
 run_in rows = do
-  script ← first_of (codes "script") rows
+  script ← script_in rows
   storage ← storage_in rows
   Some (run script (is_set (codes "trace") rows) storage)
 
 -- what a command of this name asks for, with these matches of clap's
 abbrev pub asked_of : Text → List Row → Option Invocation
 asked_of name rows = if bytes_eq name (codes "run") then run_in rows
+    else (if bytes_eq name (codes "check") then option_map check (first_of (codes "script") rows)
     else (if bytes_eq name (codes "asm") then option_map assemble (first_of (codes "line") rows)
     else (if bytes_eq name (codes "line") then option_map spell (first_of (codes "hex") rows)
     else (if bytes_eq name (codes "lines") then Some (forms (first_of (codes "name") rows))
     else (if bytes_eq name (codes "code") then option_map name_code (first_of (codes "number") rows)
-    else (if bytes_eq name (codes "serve") then option_map serve (service_in rows) else None)))))
+    else (if bytes_eq name (codes "serve") then option_map serve (service_in rows)
+    else (if bytes_eq name (codes "power")
+    then option_map cycle_power (first_of (codes "state") rows)
+    else (if bytes_eq name (codes "script")
+    then option_map retell (first_of (codes "state") rows) else None))))))))
 
 abbrev pub asked_in : Option (Text × List Row) → Option Invocation
 asked_in = option_and_then (λ command. asked_of command.0 command.1)
@@ -106,10 +152,15 @@ asked_by words = asked_in (subcommand_of program words)
 
 -- ---- what the code gives for words
 
+abbrev pub kept : Place → Kept
+kept (place.Image path) = in_image path.now
+kept (place.State path) = in_state path.now
+
 abbrev pub served : Service → Served
 served service = record {
   socket = service.socket.now;
-  image = service.image.now;
+  place = kept service.place;
+  log = option_map (λ path. path.now) service.log;
   entropy = service.entropy.now;
   locality = locality_number service.locality;
   connections = service.connections;
@@ -118,15 +169,18 @@ served service = record {
 
 abbrev pub stored : Storage → Stored
 stored storage = record {
-  image = storage.image.now;
+  place = kept storage.place;
   entropy = option_map (λ path. path.now) storage.entropy;
 }
 
 abbrev pub asked : Arguments → Invocation
 asked (arguments.Run script trace storage) = run script.now trace (option_map stored storage)
+asked (arguments.Check script) = check script.now
 asked (arguments.Assemble line) = assemble line.now
 asked (arguments.Spell digits) = spell digits.now
 asked (arguments.Forms name) = forms (option_map (λ name. name.now) name)
 asked (arguments.Code digits) = name_code digits.now
 asked (arguments.Serve service) = serve (served service)
+asked (arguments.Power state) = cycle_power state.now
+asked (arguments.Retell state) = retell state.now
 asked (arguments.Tell error) = tell (kind_of error)

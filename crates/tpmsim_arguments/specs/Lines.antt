@@ -1,10 +1,11 @@
 -- Command lines as people write them.
-use Rattle.std.specs.Prelude.{◌≡◌, ◌≤◌, ◌⊎◌, ◌==◌, ◌++◌, ℕ, Bool, false, true, List, [], ◌∷◌, Some, codes}
+use Rattle.std.specs.Prelude.{◌≡◌, ◌≤◌, ◌⊎◌, ◌==◌, ◌++◌, ℕ, Bool, false, true, List, [], ◌∷◌}
+use Rattle.std.specs.Prelude.{Option, Some, None, codes}
 use Rattle.std.specs.List.{AllByRecursion}
 use Rattle.clap.specs.Words.{Text}
 use Rattle.tpm_text.specs.Number.{decimal_of}
 use Rattle.tpmsim_arguments.specs.Answers.{AreTaken}
-use Rattle.tpmsim_arguments.specs.Invocation.{Invocation, asked_by, serve}
+use Rattle.tpmsim_arguments.specs.Invocation.{Invocation, Kept, asked_by, in_image, serve}
 
 -- clap takes these words, and this is what they ask for.
 abbrev pub AskFor : List Text → Invocation → Type 0
@@ -35,6 +36,18 @@ run_line name script = name ∷ codes "run" ∷ script ∷ []
 abbrev pub trace_line : (name script : Text) → List Text
 trace_line name script = name ∷ codes "run" ∷ codes "--trace" ∷ script ∷ []
 
+-- the command line NAME check SCRIPT
+abbrev pub check_line : (name script : Text) → List Text
+check_line name script = name ∷ codes "check" ∷ script ∷ []
+
+-- the command line NAME power DIR
+abbrev pub power_line : (name state : Text) → List Text
+power_line name state = name ∷ codes "power" ∷ state ∷ []
+
+-- the command line NAME script DIR
+abbrev pub script_line : (name state : Text) → List Text
+script_line name state = name ∷ codes "script" ∷ state ∷ []
+
 -- the command line NAME line HEX
 abbrev pub line_line : (name digits : Text) → List Text
 line_line name digits = name ∷ codes "line" ∷ digits ∷ []
@@ -55,6 +68,10 @@ code_line name digits = name ∷ codes "code" ∷ digits ∷ []
 abbrev pub kept_line : (name image entropy script : Text) → List Text
 kept_line name image entropy script = name ∷ codes "run" ∷ codes "--trace"
     ∷ (codes "--image=" ++ image) ∷ (codes "--entropy=" ++ entropy) ∷ script ∷ []
+
+-- the command line NAME run --state=STATE
+abbrev pub played_line : (name state : Text) → List Text
+played_line name state = name ∷ codes "run" ∷ (codes "--state=" ++ state) ∷ []
 
 -- the command line NAME serve --socket SOCKET --image IMAGE --entropy ENTROPY --locality LOCALITY
 -- --connections CONNECTIONS
@@ -77,29 +94,44 @@ saving_line name socket image entropy locality connections = name ∷ codes "ser
     ∷ (codes "--entropy=" ++ entropy) ∷ (codes "--locality=" ++ locality)
     ∷ (codes "--connections=" ++ connections) ∷ []
 
--- These words ask for a device with these paths, and with these numbers where the words are
--- numbers, which is saved before each response or not.
-abbrev pub AskForService : (words : List Text)
-    (socket image entropy locality connections : Text) (saves_each : Bool) → Type 0
-AskForService words socket image entropy locality connections saves_each = (place count : ℕ)
-    → decimal_of locality ≡ Some place → place ≤ 4 → decimal_of connections ≡ Some count
+-- the command line of serve with --log=LOG behind the image
+abbrev pub logging_line : (name socket image log entropy locality connections : Text) → List Text
+logging_line name socket image log entropy locality connections = name ∷ codes "serve"
+    ∷ (codes "--socket=" ++ socket) ∷ (codes "--image=" ++ image) ∷ (codes "--log=" ++ log)
+    ∷ (codes "--entropy=" ++ entropy) ∷ (codes "--locality=" ++ locality)
+    ∷ (codes "--connections=" ++ connections) ∷ []
+
+-- the command line of serve with --state=STATE in place of the image
+abbrev pub state_line : (name socket state entropy locality connections : Text) → List Text
+state_line name socket state entropy locality connections = name ∷ codes "serve"
+    ∷ (codes "--socket=" ++ socket) ∷ (codes "--state=" ++ state)
+    ∷ (codes "--entropy=" ++ entropy) ∷ (codes "--locality=" ++ locality)
+    ∷ (codes "--connections=" ++ connections) ∷ []
+
+-- These words ask for a device that is kept in this place, with these paths, and with these numbers
+-- where the words are numbers, which is saved before each response or not.
+abbrev pub AskForService : (words : List Text) (socket : Text) (place : Kept) (log : Option Text)
+    (entropy locality connections : Text) (saves_each : Bool) → Type 0
+AskForService words socket place log entropy locality connections saves_each = (number count : ℕ)
+    → decimal_of locality ≡ Some number → number ≤ 4 → decimal_of connections ≡ Some count
     → AskFor words (serve (record {
       socket = socket;
-      image = image;
+      place = place;
+      log = log;
       entropy = entropy;
-      locality = place;
+      locality = number;
       connections = count;
       saves_each = saves_each;
     }))
 
--- These words ask for a device that is not saved before each response.
+-- These words ask for a device with an image, which is not saved before each response.
 abbrev pub AskForDevice : (words : List Text) (socket image entropy locality connections : Text)
     → Type 0
 AskForDevice words socket image entropy locality connections =
-    AskForService words socket image entropy locality connections false
+    AskForService words socket (in_image image) None entropy locality connections false
 
--- These words ask for a device that is saved before each response.
+-- These words ask for a device with an image, which is saved before each response.
 abbrev pub AskForSavedDevice : (words : List Text)
     (socket image entropy locality connections : Text) → Type 0
 AskForSavedDevice words socket image entropy locality connections =
-    AskForService words socket image entropy locality connections true
+    AskForService words socket (in_image image) None entropy locality connections true

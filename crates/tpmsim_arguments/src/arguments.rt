@@ -1,23 +1,21 @@
-//! The command line: its subcommands and their settings, and what its words ask for.
+//! What the words of a command line ask for.
 
-ghost use Rattle.std.specs.Prelude.{◌≡◌, codes, false, map, ok_or, option_map, IfOk};
-ghost use Rattle.clap.specs.Words.{app_of, new_app, first_of, found_of, rows_of, rule_of, shape_of};
-ghost use Rattle.clap.specs.Words.{subcommand_rows_of};
+ghost use Rattle.std.specs.Prelude.{◌≡◌, codes, map, ok_or, option_map};
+ghost use Rattle.clap.specs.Words.{first_of, found_of, rows_of, subcommand_rows_of};
 ghost use Rattle.tpm_bytes.specs.Reading.{Gives};
 ghost use Rattle.tpmsim_arguments.specs.Answers.{Answers};
 ghost use Rattle.tpmsim_arguments.specs.Invocation.{asked, asked_in, asked_of, is_set, run_in};
+ghost use Rattle.tpmsim_arguments.specs.Invocation.{kept, log_by, place_by, place_in, script_in};
 ghost use Rattle.tpmsim_arguments.specs.Invocation.{served, service_in, storage_in, stored};
-ghost use Rattle.tpmsim_arguments.specs.CommandLine.{asm_command, bare_program, choice, code_command, flag};
-ghost use Rattle.tpmsim_arguments.specs.CommandLine.{line_command, lines_command};
-ghost use Rattle.tpmsim_arguments.specs.CommandLine.{operand, program, run_command};
-ghost use Rattle.tpmsim_arguments.specs.CommandLine.{serve_command, setting};
 ghost use Rattle.tpmsim_arguments.specs.declared.fault.ArgumentFault.TheVariants.{Usage};
 
+use crate::command_line::command;
 use crate::fault::ArgumentFault;
+use crate::place::Place;
 use crate::service::Service;
 use crate::storage::Storage;
-use clap::{Arg, ArgAction, ArgMatches, Command};
-use std::alloc::{AllocError, Global};
+use clap::ArgMatches;
+use std::alloc::Global;
 use std::convert::AsStr;
 use tpm_text::{decimal, locality};
 
@@ -30,6 +28,11 @@ pub enum Arguments<'a> {
         script: &'a str,
         trace: bool,
         storage: Option<Storage<'a>>,
+    },
+    /// To print what is wrong with the lines of the script in this file, or on standard input
+    /// where the word is `-`.
+    Check {
+        script: &'a str,
     },
     /// To print the buffer of the command that this line spells.
     Assemble {
@@ -49,6 +52,14 @@ pub enum Arguments<'a> {
     },
     /// To serve a device on a socket, with these settings.
     Serve(Service<'a>),
+    /// To cycle the power of the device whose state is in this folder.
+    Power {
+        state: &'a str,
+    },
+    /// To print what happened to the device whose state is in this folder, as a script.
+    Retell {
+        state: &'a str,
+    },
     /// To print the program's help or its version, which clap tells in place of matches.
     Tell(clap::Error),
 }
@@ -81,6 +92,9 @@ impl<'a> Arguments<'a> {
     {
         match name {
             "run" => run_of(options),
+            "check" => Some(Arguments::Check {
+                script: value(options, "script")?,
+            }),
             "asm" => Some(Arguments::Assemble {
                 line: value(options, "line")?,
             }),
@@ -94,6 +108,12 @@ impl<'a> Arguments<'a> {
                 digits: value(options, "number")?,
             }),
             "serve" => Some(Arguments::Serve(service_of(options)?)),
+            "power" => Some(Arguments::Power {
+                state: value(options, "state")?,
+            }),
+            "script" => Some(Arguments::Retell {
+                state: value(options, "state")?,
+            }),
             _ => None,
         }
     }
@@ -131,21 +151,68 @@ fn run_of<'a>(options: &ArgMatches<'a>) -> Option<Arguments<'a>>
     ensures { option_map asked result ≡ run_in (rows_of (found_of options.now)) }
 {
     Some(Arguments::Run {
-        script: value(options, "script")?,
+        script: script_of(options)?,
         trace: is_set(options, "trace"),
         storage: storage_of(options)?,
     })
 }
 
+/// The script that the matches of `run` name. A device with its state in a folder plays standard
+/// input where they name none.
+fn script_of<'a>(options: &ArgMatches<'a>) -> Option<&'a str>
+    ensures { option_map (λ text. text.now) result ≡ script_in (rows_of (found_of options.now)) }
+{
+    match (value(options, "script"), value(options, "state")) {
+        (Some(script), _) => Some(script),
+        (None, Some(_)) => Some("-"),
+        (None, None) => None,
+    }
+}
+
 /// Where the matches of `run` want the device kept, which may be nowhere. A file of random bytes
-/// without an image cannot be asked for.
+/// cannot be asked for without a place.
 fn storage_of<'a>(options: &ArgMatches<'a>) -> Option<Option<Storage<'a>>>
     ensures { option_map (option_map stored) result ≡ storage_in (rows_of (found_of options.now)) }
 {
-    match (value(options, "image"), value(options, "entropy")) {
-        (Some(image), entropy) => Some(Some(Storage { image, entropy })),
-        (None, None) => Some(None),
-        (None, Some(_)) => None,
+    let entropy = value(options, "entropy");
+    match (value(options, "image"), value(options, "state"), entropy) {
+        (None, None, None) => Some(None),
+        (image, state, entropy) => Some(Some(Storage {
+            place: place_by(image, state)?,
+            entropy,
+        })),
+    }
+}
+
+/// The place that is given as an image or as the folder of a state, and not as both.
+fn place_by<'a>(image: Option<&'a str>, state: Option<&'a str>) -> Option<Place<'a>>
+    ensures { option_map kept result
+        ≡ place_by (option_map (λ text. text.now) image.entry)
+        (option_map (λ text. text.now) state.entry) }
+{
+    match (image, state) {
+        (Some(image), None) => Some(Place::Image(image)),
+        (None, Some(state)) => Some(Place::State(state)),
+        (Some(_), Some(_)) | (None, None) => None,
+    }
+}
+
+/// The place that the matches of `serve` want the device kept in.
+fn place_of<'a>(options: &ArgMatches<'a>) -> Option<Place<'a>>
+    ensures { option_map kept result ≡ place_in (rows_of (found_of options.now)) }
+{
+    place_by(value(options, "image"), value(options, "state"))
+}
+
+/// The log of a device in this place, if one is asked for. It is written beside an image alone.
+fn log_by<'a>(place: Place<'_>, log: Option<&'a str>) -> Option<Option<&'a str>>
+    ensures { option_map (option_map (λ text. text.now)) result
+        ≡ log_by (kept place.entry) (option_map (λ text. text.now) log.entry) }
+{
+    match (place, log) {
+        (_, None) => Some(None),
+        (Place::Image(_), Some(log)) => Some(Some(log)),
+        (Place::State(_), Some(_)) => None,
     }
 }
 
@@ -153,213 +220,15 @@ fn storage_of<'a>(options: &ArgMatches<'a>) -> Option<Option<Storage<'a>>>
 fn service_of<'a>(options: &ArgMatches<'a>) -> Option<Service<'a>>
     ensures { option_map served result ≡ service_in (rows_of (found_of options.now)) }
 {
+    let socket = value(options, "socket")?;
+    let place = place_of(options)?;
     Some(Service {
-        socket: value(options, "socket")?,
-        image: value(options, "image")?,
+        socket,
+        place,
+        log: log_by(place, value(options, "log"))?,
         entropy: value(options, "entropy")?,
         locality: locality(value(options, "locality")?.as_bytes())?,
         connections: decimal(value(options, "connections")?.as_bytes())?,
         saves_each: is_set(options, "save-each"),
     })
-}
-
-/// The program, without its commands.
-fn program_without_commands<'a>(alloc: Global) -> Command<'a>
-    ensures { app_of result ≡ bare_program }
-{
-    Command::new(alloc, "tpmsim")
-        .about("A TPM 2.0 in software: serves a device, and runs scripts of commands")
-        .version("0.1.0")
-        .subcommand_required(true)
-}
-
-fn command<'a>(alloc: Global) -> Result<Command<'a>, AllocError>
-    ensures { IfOk result (λ command. app_of command ≡ program) }
-{
-    program_without_commands(alloc)
-        .subcommand(run_command(alloc)?)?
-        .subcommand(asm_command(alloc)?)?
-        .subcommand(line_command(alloc)?)?
-        .subcommand(lines_command(alloc)?)?
-        .subcommand(code_command(alloc)?)?
-        .subcommand(serve_command(alloc)?)
-}
-
-fn run_command<'a>(alloc: Global) -> Result<Command<'a>, AllocError>
-    ensures { IfOk result (λ command. shape_of command ≡ run_command) }
-{
-    Command::new(alloc, "run")
-        .about("Runs a script, and prints the responses in hex, one a line")
-        .after_help("Example: tpmsim run --trace examples/measured_boot.tpm")
-        .arg(flag(
-            alloc,
-            "trace",
-            "Prints before each response which row of the table the command took",
-        ))?
-        .arg(run_option(
-            alloc,
-            "image",
-            "What the device keeps without power; a new device where there is no such file",
-        ))?
-        .arg(run_option(
-            alloc,
-            "entropy",
-            "The random bytes of a new device, its first 256; 00 to ff without this",
-        ))?
-        .arg(script_operand(alloc))
-}
-
-/// An option that has no value, and may be left out.
-fn flag<'a>(alloc: Global, name: &'a str, help: &'a str) -> Arg<'a>
-    ensures rule { rule_of result ≡ flag name.entry.now }
-    ensures local { result.global ≡ false }
-{
-    Arg::new(alloc, name)
-        .long(name)
-        .action(ArgAction::SetTrue)
-        .help(help)
-}
-
-fn script_operand<'a>(alloc: Global) -> Arg<'a>
-    ensures rule { rule_of result ≡ operand (codes "script") }
-    ensures local { result.global ≡ false }
-{
-    Arg::new(alloc, "script")
-        .value_name("SCRIPT")
-        .required(true)
-        .action(ArgAction::Set)
-        .help("The file of the script, or - for standard input")
-}
-
-/// An option of `run` that has a file, and may be left out.
-fn run_option<'a>(alloc: Global, name: &'a str, help: &'a str) -> Arg<'a>
-    ensures rule { rule_of result ≡ choice name.entry.now }
-    ensures local { result.global ≡ false }
-{
-    Arg::new(alloc, name)
-        .long(name)
-        .value_name("FILE")
-        .action(ArgAction::Set)
-        .help(help)
-}
-
-fn asm_command<'a>(alloc: Global) -> Result<Command<'a>, AllocError>
-    ensures { IfOk result (λ command. shape_of command ≡ asm_command) }
-{
-    let line = Arg::new(alloc, "line")
-        .value_name("LINE")
-        .required(true)
-        .action(ArgAction::Set)
-        .help("The command in words, as it stands behind `do ` in a script");
-    Command::new(alloc, "asm")
-        .about("Prints the buffer of a command in hex")
-        .after_help("Example: tpmsim asm 'PCR_Read sha256:0,4'")
-        .arg(line)
-}
-
-fn line_command<'a>(alloc: Global) -> Result<Command<'a>, AllocError>
-    ensures { IfOk result (λ command. shape_of command ≡ line_command) }
-{
-    let digits = Arg::new(alloc, "hex")
-        .value_name("HEX")
-        .required(true)
-        .action(ArgAction::Set)
-        .help("The buffer of the command in hex, as it stands behind `cmd ` in a script");
-    Command::new(alloc, "line")
-        .about("Prints the line in words that spells the buffer of a command")
-        .after_help("Example: tpmsim line 80010000000c0000017b0020")
-        .arg(digits)
-}
-
-fn lines_command<'a>(alloc: Global) -> Result<Command<'a>, AllocError>
-    ensures { IfOk result (λ command. shape_of command ≡ lines_command) }
-{
-    let name = Arg::new(alloc, "name")
-        .value_name("NAME")
-        .action(ArgAction::Set)
-        .help("The command, by the standard's name without TPM2_; all commands without this");
-    Command::new(alloc, "lines")
-        .about("Prints how a command is said in words, and an example of it")
-        .after_help("Example: tpmsim lines NV_Write")
-        .arg(name)
-}
-
-fn code_command<'a>(alloc: Global) -> Result<Command<'a>, AllocError>
-    ensures { IfOk result (λ command. shape_of command ≡ code_command) }
-{
-    let number = Arg::new(alloc, "number")
-        .value_name("HEX")
-        .required(true)
-        .action(ArgAction::Set)
-        .help("The response code in hex, of at most eight digits");
-    Command::new(alloc, "code")
-        .about("Prints the name of a response code, and the place of the fault that it tells of")
-        .after_help("Example: tpmsim code 98e")
-        .arg(number)
-}
-
-/// The command `serve`, with its help around its options, and without the options.
-fn serve_without_options<'a>(alloc: Global) -> Command<'a>
-    ensures { app_of result ≡ new_app (codes "serve") }
-{
-    Command::new(alloc, "serve")
-        .about("Serves a device on a Unix socket, and keeps its state in an image")
-        .after_help(
-            "Example: tpmsim serve --socket tpm.sock --image tpm.image --entropy /dev/urandom \
-             --locality 0 --connections 1",
-        )
-}
-
-fn serve_command<'a>(alloc: Global) -> Result<Command<'a>, AllocError>
-    ensures { IfOk result (λ command. shape_of command ≡ serve_command) }
-{
-    serve_without_options(alloc)
-        .arg(service_option(
-            alloc,
-            "socket",
-            "PATH",
-            "The socket, which is made; one that was left there is replaced",
-        ))?
-        .arg(service_option(
-            alloc,
-            "image",
-            "FILE",
-            "What the device keeps without power; a new device where there is no such file",
-        ))?
-        .arg(service_option(
-            alloc,
-            "entropy",
-            "FILE",
-            "The random bytes, 256 for each command",
-        ))?
-        .arg(service_option(
-            alloc,
-            "locality",
-            "NUMBER",
-            "The locality of all commands, 0 to 4",
-        ))?
-        .arg(service_option(
-            alloc,
-            "connections",
-            "NUMBER",
-            "How many connections are served, one after another",
-        ))?
-        .arg(flag(
-            alloc,
-            "save-each",
-            "Saves before each response that tells of a change, not after a connection alone",
-        ))
-}
-
-/// An option of `serve` that has to be given.
-fn service_option<'a>(alloc: Global, name: &'a str, value: &'a str, help: &'a str) -> Arg<'a>
-    ensures rule { rule_of result ≡ setting name.entry.now }
-    ensures local { result.global ≡ false }
-{
-    Arg::new(alloc, name)
-        .long(name)
-        .value_name(value)
-        .required(true)
-        .action(ArgAction::Set)
-        .help(help)
 }

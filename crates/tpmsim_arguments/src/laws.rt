@@ -1,12 +1,15 @@
 //! The law that usual command lines ask for what they say.
 
-ghost use Rattle.std.specs.Prelude.{◌≡◌, ◌∷◌, List, [], None, Some, ℕ, false, true};
-ghost use Rattle.tpmsim_arguments.specs.Invocation.{assemble, forms, name_code, run, spell};
-ghost use Rattle.tpmsim_arguments.specs.Lines.{AskFor, AskForDevice, AskForSavedDevice, IsScript};
-ghost use Rattle.tpmsim_arguments.specs.Lines.{NoneBeginsWithHyphen, asm_line, code_line, form_line, forms_line};
-ghost use Rattle.tpmsim_arguments.specs.Lines.{begins_with_hyphen, joined_line, kept_line};
-ghost use Rattle.tpmsim_arguments.specs.Lines.{line_line, run_line, saving_line};
-ghost use Rattle.tpmsim_arguments.specs.Lines.{serve_line, trace_line};
+ghost use Rattle.std.specs.Prelude.{◌≡◌, ◌∷◌, List, [], None, Some, ℕ, codes, false, true};
+ghost use Rattle.tpmsim_arguments.specs.Invocation.{assemble, check, cycle_power, forms, in_image};
+ghost use Rattle.tpmsim_arguments.specs.Invocation.{in_state, name_code, retell, run, spell};
+ghost use Rattle.tpmsim_arguments.specs.Lines.{AskFor, AskForDevice, AskForSavedDevice};
+ghost use Rattle.tpmsim_arguments.specs.Lines.{AskForService, IsScript, NoneBeginsWithHyphen};
+ghost use Rattle.tpmsim_arguments.specs.Lines.{asm_line, begins_with_hyphen, check_line, code_line};
+ghost use Rattle.tpmsim_arguments.specs.Lines.{form_line, forms_line, joined_line, kept_line};
+ghost use Rattle.tpmsim_arguments.specs.Lines.{line_line, logging_line, played_line, power_line};
+ghost use Rattle.tpmsim_arguments.specs.Lines.{run_line, saving_line, script_line, serve_line};
+ghost use Rattle.tpmsim_arguments.specs.Lines.{state_line, trace_line};
 
 /// Usual command lines ask for what they say, where no word but the names of settings begins with a
 /// hyphen; a script may be one hyphen. A value that is joined to its name may be any text.
@@ -25,9 +28,17 @@ pub fn usual_line_laws()
         → AskFor (run_line name script) (run script false None) }
     ensures trace { (name script : List ℕ) → IsScript script
         → AskFor (trace_line name script) (run script true None) }
+    ensures check { (name script : List ℕ) → IsScript script
+        → AskFor (check_line name script) (check script) }
+    ensures power { (name state : List ℕ) → begins_with_hyphen state ≡ false
+        → AskFor (power_line name state) (cycle_power state) }
+    ensures script { (name state : List ℕ) → begins_with_hyphen state ≡ false
+        → AskFor (script_line name state) (retell state) }
     ensures kept { (name image entropy script : List ℕ) → IsScript script
         → AskFor (kept_line name image entropy script)
-        (run script true (Some (record { image = image; entropy = Some entropy }))) }
+        (run script true (Some (record { place = in_image image; entropy = Some entropy }))) }
+    ensures played { (name state : List ℕ) → AskFor (played_line name state)
+        (run (codes "-") false (Some (record { place = in_state state; entropy = None }))) }
     ensures serve { (name socket image entropy locality connections : List ℕ)
         → NoneBeginsWithHyphen (socket ∷ image ∷ entropy ∷ locality ∷ connections ∷ [])
         → AskForDevice (serve_line name socket image entropy locality connections) socket image
@@ -38,4 +49,10 @@ pub fn usual_line_laws()
     ensures saving { (name socket image entropy locality connections : List ℕ)
         → AskForSavedDevice (saving_line name socket image entropy locality connections) socket
         image entropy locality connections }
+    ensures logging { (name socket image log entropy locality connections : List ℕ)
+        → AskForService (logging_line name socket image log entropy locality connections) socket
+        (in_image image) (Some log) entropy locality connections false }
+    ensures state { (name socket state entropy locality connections : List ℕ)
+        → AskForService (state_line name socket state entropy locality connections) socket
+        (in_state state) None entropy locality connections false }
 {}

@@ -1,11 +1,10 @@
 -- A line that is not empty and no comment says what its words say.
-use Rattle.std.proofs.Common.{◌≡◌, ℕ, ◌==◌, List, [], ◌∷◌, length, get_or, refl, cond, ap}
+use Rattle.std.proofs.Common.{◌≡◌, ℕ, ◌==◌, List, [], ◌∷◌, length, get_or, refl, cond, ap, Ok}
 use Rattle.std.specs.List.{position}
 use Rattle.std.proofs.lemmas.Bool.{ne_eqb}
-use Rattle.tpmsim_script.specs.Line.{DoesNothing, line_meaning, meaning_by}
-use Rattle.std.proofs.Common.{Some}
+use Rattle.tpmsim_script.specs.Line.{DoesNothing, line_reading, reading_by}
 
-pub said_by_words : (text : List ℕ) → (length text ≡ 0 → ⊥) → (get_or text 0 0 ≡ 35 → ⊥) → line_meaning text ≡ meaning_by (position (λ byte. byte == 32) text) text
-unfolding line_meaning
-said_by_words [] some plain = absurd (some refl)
-said_by_words (first ∷ text) some plain = ap (λ b. cond b (Some DoesNothing) (meaning_by (position (λ byte. byte == 32) (first ∷ text)) (first ∷ text))) (ne_eqb first 35 plain)
+pub read_by_words : (text : List ℕ) → (length text ≡ 0 → ⊥) → (get_or text 0 0 ≡ 35 → ⊥) → line_reading text ≡ reading_by (position (λ byte. byte == 32) text) text
+unfolding line_reading
+read_by_words [] some plain = absurd (some refl)
+read_by_words (first ∷ text) some plain = ap (λ b. cond b (Ok DoesNothing) (reading_by (position (λ byte. byte == 32) (first ∷ text)) (first ∷ text))) (ne_eqb first 35 plain)

@@ -1,4 +1,5 @@
 pub mod LineFault
+pub mod BadLine
 pub mod Line
 pub mod Lines
 pub mod Answers
@@ -6,3 +7,5 @@ pub mod Script
 pub mod Player
 pub mod Run
 pub mod Keeping
+pub mod Checking
+pub mod Checker

@@ -1,12 +1,15 @@
 -- The meaning of a script's line, and how a text is cut into lines.
 use Rattle.std.specs.Prelude.{◌≡◌, ℕ, ◌+◌, ◌==◌, if◌then◌else◌}
-use Rattle.std.specs.Prelude.{List, [], ◌∷◌, take, drop, codes, Result, Ok, Err}
+use Rattle.std.specs.Prelude.{List, [], ◌∷◌, take, drop, codes, Result, Ok, Err, ok_or}
 use Rattle.std.specs.Prelude.{Option, Some, None, option_map, option_and_then}
 use Rattle.std.specs.List.{onto_first, position}
 use Rattle.std.specs.Result.{result_ok}
 use Rattle.hex.specs.Hex.{decode_of}
 use Rattle.tpm_types.specs.Locality.{locality_number}
 use Rattle.tpm_text.specs.Number.{decimal_of, is_word, locality_of}
+use Rattle.tpmsim_script.specs.BadLine.{missing, misplaced, number_fault, unknown_word}
+use Rattle.tpmsim_script.specs.declared.bad_line.BadLine.{BadLine}
+use Rattle.tpmsim_script.specs.declared.bad_line.Wanted.TheVariants as wanted
 use Rattle.tpmsim_script.specs.declared.line.Line as declared
 use Rattle.tpmsim_script.specs.declared.line.Line.TheVariants as code
 
@@ -32,36 +35,55 @@ pub data Meaning : Type 0 where
 abbrev pub bytes_of : List ℕ → Option (List ℕ)
 bytes_of digits = result_ok (decode_of digits)
 
--- what a line of one word says
-unfoldable pub meaning_alone : List ℕ → Option Meaning
-meaning_alone word =
-    if is_word (codes "cmd") word then Some (Executes [])
-    else if is_word (codes "power") word then Some CyclesPower
-    else None
+-- what a line of one word says, or why it is bad
+unfoldable pub reading_alone : List ℕ → Result Meaning BadLine
+reading_alone word =
+    if is_word (codes "cmd") word then Ok (Executes [])
+    else if is_word (codes "power") word then Ok CyclesPower
+    else if is_word (codes "do") word then Err (missing wanted.Command)
+    else if is_word (codes "loc") word then Err (missing wanted.Locality)
+    else if is_word (codes "wait") word then Err (missing wanted.Milliseconds)
+    else if is_word (codes "entropy") word then Err (missing wanted.Entropy)
+    else Err unknown_word
 
--- what a line says that is a word, a space and an argument
-unfoldable pub meaning_with : List ℕ → List ℕ → Option Meaning
-meaning_with word argument =
-    if is_word (codes "cmd") word then Some (Executes argument)
-    else if is_word (codes "do") word then Some (ExecutesWords argument)
-    else if is_word (codes "loc") word
-    then option_map SetsLocality (option_and_then locality_of (decimal_of argument))
-    else if is_word (codes "wait") word then option_map Waits (decimal_of argument)
-    else if is_word (codes "entropy") word then Some (SetsEntropy argument)
-    else None
+-- what stands behind loc and a space
+abbrev pub locality_reading : List ℕ → Result Meaning BadLine
+locality_reading argument =
+    ok_or (option_map SetsLocality (option_and_then locality_of (decimal_of argument)))
+    (number_fault argument wanted.Locality)
+
+-- what stands behind wait and a space
+abbrev pub wait_reading : List ℕ → Result Meaning BadLine
+wait_reading argument = ok_or (option_map Waits (decimal_of argument))
+    (number_fault argument wanted.Milliseconds)
+
+-- what a line says that is a word, a space and an argument, or why it is bad
+unfoldable pub reading_with : List ℕ → List ℕ → Result Meaning BadLine
+reading_with word argument =
+    if is_word (codes "cmd") word then Ok (Executes argument)
+    else if is_word (codes "do") word then Ok (ExecutesWords argument)
+    else if is_word (codes "loc") word then locality_reading argument
+    else if is_word (codes "wait") word then wait_reading argument
+    else if is_word (codes "entropy") word then Ok (SetsEntropy argument)
+    else if is_word (codes "power") word then Err (misplaced wanted.End)
+    else Err unknown_word
 
 -- what a text says whose first space, if it has one, stands at this place and ends the first word
-abbrev pub meaning_by : Option ℕ → List ℕ → Option Meaning
-meaning_by None text = meaning_alone text
-meaning_by (Some space) text = meaning_with (take space text) (drop (space + 1) text)
+abbrev pub reading_by : Option ℕ → List ℕ → Result Meaning BadLine
+reading_by None text = reading_alone text
+reading_by (Some space) text = reading_with (take space text) (drop (space + 1) text)
 
--- what a line says; None where the line is bad. An empty line, and one that begins with #, is good
--- and does nothing
-unfoldable pub line_meaning : List ℕ → Option Meaning
-line_meaning [] = Some DoesNothing
-line_meaning (first ∷ text) =
-    if first == 35 then Some DoesNothing
-    else meaning_by (position (λ byte. byte == 32) (first ∷ text)) (first ∷ text)
+-- what a line says, or why it is bad. An empty line, and one that begins with #, is good and does
+-- nothing
+unfoldable pub line_reading : List ℕ → Result Meaning BadLine
+line_reading [] = Ok DoesNothing
+line_reading (first ∷ text) =
+    if first == 35 then Ok DoesNothing
+    else reading_by (position (λ byte. byte == 32) (first ∷ text)) (first ∷ text)
+
+-- what a line says; None where the line is bad
+abbrev pub line_meaning : List ℕ → Option Meaning
+line_meaning line = result_ok (line_reading line)
 
 -- what the code's reading of a line means
 abbrev pub meaning_of : declared.Line → Meaning

@@ -1,7 +1,8 @@
 #![tactic(auto)]
 
 //! Scripts of commands: [`run::run_device`] plays a script on a device and writes what the device
-//! answers, and [`run::run_script`] on a new device.
+//! answers, and [`run::run_script`] on a new device; [`checker::Checker`] reads the lines and runs
+//! none.
 //!
 //! A script is a text whose lines are read one after another ([`lines`], [`line`]), set what the
 //! next command is given ([`script`]) and are performed on the device ([`player`]), a command in
@@ -15,15 +16,22 @@
 //! the fault, the lines before it were run, and the saver was told the device at each of them.
 //! Memory is taken only at the start, but for that of the device itself.
 
-mod answers;
+pub mod answers;
+pub mod bad_line;
+pub mod checker;
 pub mod fault;
-mod line;
+pub mod laws;
+pub mod line;
 mod line_fault;
-mod lines;
+pub mod lines;
 mod player;
-mod room;
+pub mod room;
 pub mod run;
-mod script;
+pub mod script;
 
+pub use bad_line::{BadLine, Wanted};
+pub use checker::Checker;
 pub use fault::ScriptFault;
-pub use run::{new_machine, run_device, run_script};
+pub use laws::check_laws;
+pub use line::Line;
+pub use run::{SCRIPT_LINES, new_machine, run_device, run_script, first_bytes};

@@ -2,8 +2,10 @@
 
 ghost use Rattle.std.specs.Prelude.{◌≡◌};
 
+use crate::bad_line::BadLine;
 use crate::fault::ScriptFault;
-use crate::line::BadLine;
+use crate::line::Unfit;
+use tpm_text::AsmFault;
 
 /// The reason why a script is stopped at a line.
 #[derive(Clone, Copy, Debug, PartialEq, Eq)]
@@ -37,6 +39,26 @@ impl From<BadLine> for LineFault {
     ghost from_gives = { λ _ fault. fault ≡ Bad };
 
     fn from(_error: BadLine) -> LineFault {
+        LineFault::Bad
+    }
+}
+
+impl From<Unfit> for LineFault {
+    ghost use Rattle.tpmsim_script.specs.declared.line_fault.LineFault.TheVariants.{Bad};
+
+    ghost from_gives = { λ _ fault. fault ≡ Bad };
+
+    fn from(_error: Unfit) -> LineFault {
+        LineFault::Bad
+    }
+}
+
+impl From<AsmFault> for LineFault {
+    ghost use Rattle.tpmsim_script.specs.declared.line_fault.LineFault.TheVariants.{Bad};
+
+    ghost from_gives = { λ _ fault. fault ≡ Bad };
+
+    fn from(_error: AsmFault) -> LineFault {
         LineFault::Bad
     }
 }

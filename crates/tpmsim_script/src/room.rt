@@ -3,13 +3,14 @@
 
 ghost use Rattle.std.specs.Prelude.{◌≡◌, ◌≤◌, length, vec_len};
 ghost use Rattle.std.specs.Result.{result_ok};
+ghost use Rattle.tpm_bytes.specs.Reading.{Gives};
 ghost use Rattle.tpm_text.specs.Line.{assembled};
 ghost use Rattle.tpmsim_script.specs.Line.{Tells, bytes_of};
 ghost use Rattle.tpmsim_script.specs.declared.room.TheConstants.{DECODED_LIMIT};
 
-use crate::line::{BadLine, decode};
+use crate::line::{Unfit, decode};
 use std::alloc::{AllocError, Global};
-use tpm_text::{Draft, assemble_in};
+use tpm_text::{AsmFault, Draft, assemble_in};
 
 /// How many bytes the hex of a line can write.
 const DECODED_LIMIT: usize = 32_768;
@@ -33,17 +34,18 @@ impl Room {
 
     /// The bytes that hex digits of either case write. Other digits, and an odd number of them, are
     /// refused.
-    pub fn decode(&mut self, digits: &[u8]) -> Result<&[u8], BadLine>
+    pub fn decode(&mut self, digits: &[u8]) -> Result<&[u8], Unfit>
         requires { length digits.now ≤ 65536 }
         ensures { Tells (λ bytes. bytes.now) result (bytes_of digits.now) }
     {
         decode(digits, &mut self.decoded)
     }
 
-    /// The command that words spell. Words that spell no command are refused.
-    pub fn assemble(&mut self, words: &[u8]) -> Result<&[u8], BadLine>
-        ensures { Tells (λ bytes. bytes.now) result (result_ok (assembled words.now)) }
+    /// The command that words spell, or their first fault from the left.
+    pub fn assemble(&mut self, words: &[u8]) -> Result<&[u8], AsmFault>
+        ensures value { Gives (λ bytes. bytes.now) (assembled words.now) result }
+        ensures told { Tells (λ bytes. bytes.now) result (result_ok (assembled words.now)) }
     {
-        assemble_in(words, &mut self.draft).map_err(|_| BadLine)
+        assemble_in(words, &mut self.draft)
     }
 }

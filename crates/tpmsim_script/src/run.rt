@@ -64,7 +64,7 @@ pub fn new_machine<K: Keep>(alloc: Global) -> Result<Machine<K>, NoMemory>
 }
 
 /// The bytes 00 to ff, with which a new device of scripts is manufactured.
-fn first_bytes() -> [u8; 256]
+pub fn first_bytes() -> [u8; 256]
     ensures { result ≡ script_bytes }
 {
     array::from_fn(|place| place as u8)

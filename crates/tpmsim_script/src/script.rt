@@ -6,7 +6,7 @@ ghost use Rattle.std.specs.Prelude.{IsOk, OnOk, OnErr};
 ghost use Rattle.tpm_types.specs.Locality.{locality_number};
 ghost use Rattle.tpmsim_script.specs.Script.{repeated};
 
-use crate::line::BadLine;
+use crate::line::Unfit;
 use std::mem;
 use tpm_step::Event;
 use tpm_types::Locality;
@@ -44,25 +44,25 @@ impl Script {
     }
 
     /// Lets time pass, in all up to 2^32 - 1 milliseconds between two commands.
-    pub fn wait(&mut self, milliseconds: u32) -> Result<(), BadLine>
+    pub fn wait(&mut self, milliseconds: u32) -> Result<(), Unfit>
         ensures fits { IsOk result ↔ (self.old.waited + milliseconds < 2 ^ 32) }
         ensures ok { OnOk result
             (self.new ≡ record self.old { waited = self.old.waited + milliseconds }) }
         ensures err { OnErr result (self.new ≡ self.old) }
     {
-        self.waited = self.waited.checked_add(milliseconds).ok_or(BadLine)?;
+        self.waited = self.waited.checked_add(milliseconds).ok_or(Unfit)?;
         Ok(())
     }
 
     /// Sets the bytes, 1 to 256 of them, that the random bytes repeat.
-    pub fn set_entropy(&mut self, entropy: &[u8]) -> Result<(), BadLine>
+    pub fn set_entropy(&mut self, entropy: &[u8]) -> Result<(), Unfit>
         ensures fits { IsOk result
             ↔ ((0 < length entropy.now) × (length entropy.now ≤ RANDOM_BYTES)) }
         ensures ok { OnOk result (self.new ≡ record self.old { random = repeated entropy.now }) }
         ensures err { OnErr result (self.new ≡ self.old) }
     {
         if entropy.is_empty() || entropy.len() > RANDOM_BYTES {
-            return Err(BadLine);
+            return Err(Unfit);
         }
         self.random = repeated(entropy);
         Ok(())

@@ -4,7 +4,7 @@ use Rattle.std.specs.Io.KnownBytes.{Appends}
 use Rattle.tpm_bytes.specs.Tap.{device_of, marks_of}
 use Rattle.tpm_machine.specs.State.{state_of}
 use Rattle.tpm_history.specs.Executions.{Execution, Leads}
-use Rattle.tpm_wire.specs.Serve.{AsksForEach, SavesEach, buffers_of, responses_of}
+use Rattle.tpm_wire.specs.Serve.{AsksForEach, NotesEach, buffers_of, responses_of}
 use Rattle.tpm_wire.specs.Stream.{CutsTo}
 use Rattle.tpm_wire.proofs.serving.answer_whole.Given as goal
 
@@ -21,7 +21,7 @@ invariant-loop-front g l =
           × (l.answered ≡ length executions)
           × Appends (g.W.Write.contents (device_of l.fn.writer)) (g.W.Write.contents (device_of l.writer)) (responses_of executions)
           × (marks_of l.writer ≡ marks_of l.fn.writer)
-          × SavesEach g.S.Saver.saves_change l.fn.saver executions l.saver;
+          × NotesEach g.S.Witness.notes l.fn.witness executions l.witness;
     }
 
 abbrev pub decreases-loop-front : goal.decreases-loop-front

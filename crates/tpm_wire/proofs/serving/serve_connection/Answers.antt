@@ -7,7 +7,7 @@ use Rattle.tpm_history.proofs.PowerCycles.{leads_on}
 use Rattle.tpm_wire.specs.Serve.{buffers_of, room_left}
 use Rattle.tpm_wire.specs.Stream.{Cutting, Stream, cut_with, next_of}
 use Rattle.tpm_wire.proofs.Cutting.{cut_last, next_opened, next_room}
-use Rattle.tpm_wire.proofs.Executing.{asks_more, cut_more, ends_so, saves_more, saves_so, written_more}
+use Rattle.tpm_wire.proofs.Executing.{asks_more, cut_more, ends_so, notes_more, notes_so, written_more}
 use Rattle.tpm_wire.proofs.Filling.{counted_read, ended_read, nothing_read}
 use Rattle.tpm_wire.proofs.Pieces.{piece_more, pieces_fit}
 use Rattle.tpm_wire.proofs.serving.serve_connection.Goals as goal
@@ -91,7 +91,7 @@ returns-in-Err-answer_whole g c =
         ends = ends_so g.H.FnMut (contents (device_of c.args.writer.now)) (contents (device_of c.loop.writer)) (contents (device_of c.answer_whole.new.writer)) (marks_of c.loop.writer) (marks_of c.answer_whole.new.writer) (marks_of c.fill.new.reader) _ c.args.host.now c.loop.host i.2 j.0 c.answer_whole.new.host c.answer_whole.new.connection c.in-Err-answer_whole.fault
             (cut_more i.1 f.0 i.2 j.0 s c.fill.new.connection c.answer_whole.new.connection i.8 f.2 j.2) i.7 i.10 j.3;
       },
-      saves_so g.S.Saver.saves_change g.S.Saver.has_failed c.args.saver.now c.loop.saver c.answer_whole.new.saver i.2 j.0 c.in-Err-answer_whole.fault i.11 j.4,
+      notes_so g.S.Witness.notes g.S.Witness.note_failed c.args.witness.now c.loop.witness c.answer_whole.new.witness i.2 j.0 c.in-Err-answer_whole.fault i.11 j.4,
     )
 
 pub returns-then-has_ended : goal.returns-then-has_ended
@@ -122,7 +122,7 @@ returns-then-has_ended g c =
           written_more _ _ _ i.2 j.0 i.10 j.3.3,
         );
       },
-      saves_more g.S.Saver.saves_change c.args.saver.now c.loop.saver c.answer_whole.new.saver i.2 j.0 i.11 j.4,
+      notes_more g.S.Witness.notes c.args.witness.now c.loop.witness c.answer_whole.new.witness i.2 j.0 i.11 j.4,
     )
 
 pub loop-preserved : goal.loop-preserved
@@ -151,7 +151,7 @@ loop-preserved g c =
         cut_more i.1 f.0 i.2 j.0 s c.fill.new.connection c.answer_whole.new.connection i.8 f.2 j.2,
         omega (arith, i.9, j.3.2, length-append i.2 j.0),
         written_more _ _ _ i.2 j.0 i.10 j.3.3,
-        saves_more g.S.Saver.saves_change c.args.saver.now c.loop.saver c.answer_whole.new.saver i.2 j.0 i.11 j.4,
+        notes_more g.S.Witness.notes c.args.witness.now c.loop.witness c.answer_whole.new.witness i.2 j.0 i.11 j.4,
       );
     }
 

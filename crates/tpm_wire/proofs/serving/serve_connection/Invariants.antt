@@ -6,7 +6,7 @@ use Rattle.std.specs.List.{FoldsTo}
 use Rattle.tpm_bytes.specs.Tap.{device_of, marks_of}
 use Rattle.tpm_machine.specs.State.{state_of}
 use Rattle.tpm_history.specs.Executions.{Execution, Leads}
-use Rattle.tpm_wire.specs.Serve.{AsksForEach, ReadsPiece, SavesEach, buffers_of, responses_of}
+use Rattle.tpm_wire.specs.Serve.{AsksForEach, ReadsPiece, NotesEach, buffers_of, responses_of}
 use Rattle.tpm_wire.specs.Stream.{cut_of, cut_with, next_of}
 use Rattle.tpm_wire.proofs.serving.serve_connection.Given as goal
 
@@ -27,5 +27,5 @@ invariant-loop g l =
           × (cut_of read ≡ cut_with (buffers_of executions) l.connection)
           × (l.answered ≡ length executions)
           × Appends (g.W.Write.contents (device_of l.fn.writer)) (g.W.Write.contents (device_of l.writer)) (responses_of executions)
-          × SavesEach g.S.Saver.saves_change l.fn.saver executions l.saver;
+          × NotesEach g.S.Witness.notes l.fn.witness executions l.witness;
     }

@@ -1,4 +1,4 @@
-use Rattle.tpmsim_arguments.proofs.Lines.{code_is_named, device_is_kept, digits_are_spelled, form_is_told, forms_are_told, joined_is_served, line_is_assembled, saving_is_served, script_is_run, script_is_traced}
+use Rattle.tpmsim_arguments.proofs.Lines.{code_is_named, device_is_kept, digits_are_spelled, form_is_told, forms_are_told, joined_is_served, line_is_assembled, logging_is_served, power_is_cycled, saving_is_served, script_is_checked, script_is_retold, script_is_run, script_is_traced, state_is_played, state_is_served}
 use Rattle.tpmsim_arguments.proofs.Settings.{device_is_served}
 use Rattle.tpmsim_arguments.proofs.laws.usual_line_laws.Goals as goal
 
@@ -11,8 +11,14 @@ returns c = record {
   code = code_is_named;
   run = script_is_run;
   trace = script_is_traced;
+  check = script_is_checked;
+  power = power_is_cycled;
+  script = script_is_retold;
   kept = device_is_kept;
+  played = state_is_played;
   serve = device_is_served;
   joined = joined_is_served;
   saving = saving_is_served;
+  logging = logging_is_served;
+  state = state_is_served;
 }

@@ -1,0 +1,68 @@
+-- The text of a log: a head, and the entries of what was executed since.
+use Rattle.std.specs.Prelude.{◌≡◌, ℕ, Bool, false, List, map, Option, Some, None}
+use Rattle.std.specs.Io.KnownBytes.{Appends}
+use Rattle.std.specs.List.{AllByRecursion, FoldsTo}
+use Rattle.tpm_bytes.specs.Tap.{device_of}
+use Rattle.tpm_history.specs.Executions.{Execution}
+use Rattle.tpm_journal_text.specs.Entry.{IsEntry, PlainEntry, entry_text, sum_after}
+use Rattle.tpm_journal_text.specs.Head.{head_sum, head_text}
+use Rattle.tpm_journal_text.specs.Journal.{entries_text, sum_after_all}
+use Rattle.tpm_log.specs.Executed.{entry_in}
+use Rattle.tpm_log.specs.declared.log.Log.{Log}
+
+-- what a log has come to: its text, where that is known, and the sum of it
+pub record Written : Type 0 where
+  pub text : Option (List ℕ)
+  pub sum : ℕ
+
+-- what a log has come to, by a function that gives the text of its writer
+abbrev pub written_of : {W : Type 0} → (W → Option (List ℕ)) → Log W → Written
+written_of contents log = record { text = contents (device_of log.writer); sum = log.sum }
+
+-- The head of this clock and this image was written behind what there was.
+pub record Begins (clock : ℕ) (image : List ℕ) (before : Option (List ℕ)) (now : Written) : Type 0
+  where
+    pub text : Appends before now.text (head_text clock image)
+    pub sum : now.sum ≡ head_sum clock image
+
+-- An entry was written behind a log.
+pub record AddsEntry (old : Written) (e : PlainEntry) (new : Written) : Type 0 where
+  pub is : IsEntry e
+  pub text : Appends old.text new.text (entry_text old.sum e)
+  pub sum : new.sum ≡ sum_after old.sum e
+
+-- An execution has an entry, which was written behind a log.
+abbrev pub AddsSome : Written → Option PlainEntry → Written → Type 0
+AddsSome old None new = ⊥
+AddsSome old (Some e) new = AddsEntry old e new
+
+abbrev pub Adds : Written → Execution → Written → Type 0
+Adds old one new = AddsSome old (entry_in one) new
+
+-- The text of exactly these executions was written behind a log, in order.
+pub record AddsAll (old : Written) (executions : List Execution) (new : Written) : Type 0 where
+  pub entries : List PlainEntry
+  pub are : map entry_in executions ≡ map Some entries
+  pub entry : AllByRecursion IsEntry entries
+  pub text : Appends old.text new.text (entries_text old.sum entries)
+  pub sum : new.sum ≡ sum_after_all old.sum entries
+
+-- A log that was told executions one after another has the text of exactly these, in order.
+abbrev pub LogsTellAll : Type 0
+LogsTellAll = (old : Written) (executions : List Execution) (new : Written)
+    → FoldsTo Adds old executions new → AddsAll old executions new
+
+-- ---- a log that may be kept
+
+-- An execution was written behind a log, where one is kept.
+abbrev pub AddsWhereKept : {W : Type 0} → (W → Option (List ℕ)) → Option (Log W) → Execution
+    → Option (Log W) → Type 0
+AddsWhereKept contents None one new = new ≡ None
+AddsWhereKept contents (Some old) one (Some new) =
+    Adds (written_of contents old) one (written_of contents new)
+AddsWhereKept contents (Some old) one None = ⊥
+
+-- whether a write to a log failed, where one is kept
+abbrev pub log_failed : {W : Type 0} → Option (Log W) → Bool
+log_failed None = false
+log_failed (Some log) = log.failed

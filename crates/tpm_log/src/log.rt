@@ -1,0 +1,108 @@
+//! A log, which is written to a writer: its head, and an entry for each command.
+
+ghost use Rattle.std.specs.Prelude.{◌≡◌, ◌≤◌, IfOk, length, take, true};
+ghost use Rattle.tpm_image.specs.Image.{image_text};
+ghost use Rattle.tpm_image.specs.NonVolatile.{kept_of};
+ghost use Rattle.tpm_image.specs.declared.version.Version.TheVariants.{Two};
+ghost use Rattle.tpm_journal_text.specs.Head.{image_limit};
+ghost use Rattle.tpm_machine.specs.State.{state_of};
+
+use crate::entry::entry_of;
+use std::io::Write;
+use tpm_bytes::Tap;
+use tpm_image::laws::image_laws;
+use tpm_image::save_into;
+use tpm_journal_text::{ENTRY_ROOM, IMAGE_ROOM, head_size, write_head};
+use tpm_machine::Machine;
+use tpm_record::Keep;
+use tpm_saver::{Unsaved, Witness};
+use tpm_step::{Event, Outcome};
+
+/// Enough for a head.
+const HEAD_ROOM: usize = 57_472;
+
+/// A log, to which nothing is added once a write has failed.
+#[derive(Drop)]
+pub struct Log<W> {
+    pub(crate) writer: Tap<W>,
+    /// The sum of the text so far.
+    pub(crate) sum: u64,
+    pub(crate) failed: bool,
+    /// The text of an entry is written here, and then to the writer at once.
+    pub(crate) room: [u8; ENTRY_ROOM],
+}
+
+impl<W: Write + Drop> Log<W> {
+    ghost use Rattle.tpm_log.specs.Log.{Begins, written_of};
+
+    /// Begins the log of a device as power came on, at this time of the host's clock in milliseconds.
+    pub fn begin<K: Keep>(writer: W, machine: &Machine<K>, now_ms: u64) -> Result<Log<W>, Unsaved>
+        ensures { IfOk result (λ log. Begins now_ms
+            (image_text Two (kept_of (state_of K.record_of machine.now)))
+            (W.contents writer) (written_of W.contents log)) }
+    {
+        let mut image = [0; IMAGE_ROOM];
+        let count = save(machine, &mut image);
+        let (image, _) = image.split_at(count);
+        let mut head = [0; HEAD_ROOM];
+        let (head, _) = head.split_at_mut(head_size(count));
+        let sum = write_head(now_ms, image, head);
+        let mut writer = Tap::new(writer);
+        let Ok(()) = writer.write_all(head) else {
+            return Err(Unsaved);
+        };
+        let room = [0; ENTRY_ROOM];
+        Ok(Log {
+            writer,
+            sum,
+            failed: false,
+            room,
+        })
+    }
+}
+
+/// Writes the image of a device to the front of a room, and gives how many bytes it has.
+fn save<K: Keep>(machine: &Machine<K>, room: &mut [u8; IMAGE_ROOM]) -> usize
+    ensures size { result
+        ≡ length (image_text Two (kept_of (state_of K.record_of machine.now))) }
+    ensures small { result ≤ image_limit }
+    ensures image { take result room.new
+        ≡ image_text Two (kept_of (state_of K.record_of machine.now)) }
+{
+    image_laws();
+    machine.keep();
+    save_into(machine, room)
+}
+
+impl<W: Write> Witness for Log<W> {
+    ghost use Rattle.tpm_log.specs.Log.{Adds, written_of};
+
+    ghost notes = { λ old one new. Adds (written_of W.contents old) one (written_of W.contents new) };
+
+    ghost note_failed = { λ log. log.failed };
+
+    #[tactic(auto, using(crate::proofs::Noting::adds_latest))]
+    fn note<K: Keep>(
+        &mut self,
+        machine: &Machine<K>,
+        event: &Event,
+        outcome: &Outcome,
+    ) -> Result<(), Unsaved> {
+        if self.failed {
+            return Err(Unsaved);
+        }
+        let Some(entry) = entry_of(event, machine.drawn(), outcome.response.as_slice()) else {
+            self.failed = true;
+            return Err(Unsaved);
+        };
+        let size = entry.write(&mut self.sum, &mut self.room);
+        let (text, _) = self.room.split_at(size);
+        match self.writer.write_all(text) {
+            Ok(()) => Ok(()),
+            Err(_) => {
+                self.failed = true;
+                Err(Unsaved)
+            }
+        }
+    }
+}

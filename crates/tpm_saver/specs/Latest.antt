@@ -1,0 +1,20 @@
+-- The latest execution of a machine, as the machine and its outcome show it.
+use Rattle.std.specs.Prelude.{◌≡◌, ℕ, Bool}
+use Rattle.tpm_record.specs.Record.{Record}
+use Rattle.tpm_step.specs.Events.{PlainEvent}
+use Rattle.tpm_step.specs.Execution.{Executes}
+use Rattle.tpm_step.specs.Step.{outcome_step}
+use Rattle.tpm_step.specs.declared.event.Outcome.{Outcome}
+use Rattle.tpm_history.specs.Executions.{Execution}
+use Rattle.tpm_machine.specs.Drawn.{drawn_by}
+
+-- An execution is the latest of a machine, which stands at this record now: this event was executed,
+-- with this outcome, and so many of its random bytes were drawn.
+pub record IsLatest (now : Record) (drawn : ℕ) (event : PlainEvent) (outcome : Outcome)
+    (one : Execution) : Type 0
+  where
+    pub can : Bool
+    pub executes : Executes can one.before one.event one.seen
+    pub event_is : one.event ≡ event
+    pub seen_is : one.seen ≡ outcome_step now outcome
+    pub drawn_is : drawn ≡ drawn_by one.before one.event one.seen.row.check

@@ -1,0 +1,2 @@
+pub mod Latest
+pub use Rattle.tpm_history.specs.Executions

@@ -1,0 +1,27 @@
+//! How the program checks a script, which it reads and does not run.
+
+use crate::fault::Fault;
+use std::io::Read;
+use std::{fs, io};
+use tpmsim_check::report_of;
+
+/// Prints what is wrong with each bad line of a script, from a file or from standard input, and
+/// ends as a run of the script would.
+pub fn check_script(rt: &HostRuntime, script: &str) -> Result<(), Fault> {
+    let text = read(rt, script).map_err(|error| Fault::of_io(error, Fault::File))?;
+    let report = report_of(rt.alloc(), text.as_slice())?;
+    let told = report.text.as_str();
+    print!(rt; "{told}").map_err(|error| Fault::of_io(error, Fault::File))?;
+    Ok(report.end?)
+}
+
+/// The bytes of a script.
+fn read(rt: &HostRuntime, script: &str) -> io::Result<Vec<u8>> {
+    if script == "-" {
+        let mut text = Vec::new(rt.alloc());
+        rt.stdin().read_to_end(&mut text)?;
+        Ok(text)
+    } else {
+        fs::read(rt, script)
+    }
+}

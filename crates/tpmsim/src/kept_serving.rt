@@ -1,0 +1,69 @@
+//! How the program serves a device that is kept in a folder, one connection after another. Between two
+//! commands of a connection other processes may have theirs.
+
+use crate::entropy::Entropy;
+use crate::fault::Fault;
+use crate::socket::{Socket, bind};
+use tpm_bytes::Tap;
+use tpmsim_arguments::Service;
+use tpmsim_kept::serving::{RandomBytes, ServeFault};
+use tpmsim_kept::{Force, Kept, serve};
+
+impl RandomBytes for Entropy {
+    fn next(&mut self) -> Option<[u8; 256]> {
+        match self.random() {
+            Ok(random) => Some(random),
+            Err(_) => None,
+        }
+    }
+}
+
+/// Serves the device in a folder on a socket; a new one where none is there. Removes the socket's file
+/// in the end, if it is still at its path.
+pub fn serve_kept(rt: &HostRuntime, service: &Service, folder: &str) -> Result<(), Fault> {
+    let mut kept = Kept::at(rt, folder, true, force_of(service))?;
+    let mut entropy = Entropy::open(rt, service.entropy)?;
+    if !kept.is_there()? {
+        let random = entropy
+            .random()
+            .map_err(|error| Fault::of_io(error, Fault::Entropy))?;
+        kept.manufacture(&random)?;
+    }
+    kept.open()?;
+    let socket = bind(rt, service.socket)?;
+    let served = serve_connections(service, &socket, &mut kept, &mut entropy);
+    socket.remove(rt, service.socket);
+    served
+}
+
+/// When the disk is forced: before each response too, where the device is to be saved then.
+fn force_of(service: &Service) -> Force {
+    if service.saves_each {
+        Force::Always
+    } else {
+        Force::Power
+    }
+}
+
+/// Serves as many connections as are asked for, one after another. A client that fails ends its own
+/// connection alone.
+fn serve_connections(
+    service: &Service,
+    socket: &Socket,
+    kept: &mut Kept<'_>,
+    entropy: &mut Entropy,
+) -> Result<(), Fault> {
+    for _ in 0..service.connections {
+        let stream = socket
+            .accept()
+            .map_err(|error| Fault::of_io(error, Fault::Socket))?;
+        let reader = &mut Tap::new(&stream);
+        let writer = &mut Tap::new(&stream);
+        match serve(kept, service.locality, entropy, reader, writer) {
+            Ok(()) | Err(ServeFault::Client) => {}
+            Err(ServeFault::Random) => return Err(Fault::Entropy),
+            Err(ServeFault::Kept(fault)) => return Err(Fault::Kept(fault)),
+        }
+    }
+    Ok(())
+}

@@ -1,0 +1,279 @@
+//! The command line in the words of clap: the program's subcommands, with their options and helps.
+
+ghost use Rattle.std.specs.Prelude.{◌≡◌, codes, false, IfOk};
+ghost use Rattle.clap.specs.Words.{app_of, new_app, rule_of, shape_of};
+ghost use Rattle.tpmsim_arguments.specs.CommandLine.{asm_command, bare_program, check_command};
+ghost use Rattle.tpmsim_arguments.specs.CommandLine.{choice, code_command, flag, line_command};
+ghost use Rattle.tpmsim_arguments.specs.CommandLine.{lines_command, optional_operand, power_command};
+ghost use Rattle.tpmsim_arguments.specs.CommandLine.{program, run_command, script_command};
+ghost use Rattle.tpmsim_arguments.specs.CommandLine.{serve_command, setting};
+
+use clap::{Arg, ArgAction, Command};
+use std::alloc::{AllocError, Global};
+
+/// The program, without its commands.
+fn program_without_commands<'a>(alloc: Global) -> Command<'a>
+    ensures { app_of result ≡ bare_program }
+{
+    Command::new(alloc, "tpmsim")
+        .about("A TPM 2.0 in software: serves a device, and runs scripts of commands")
+        .version("0.1.0")
+        .subcommand_required(true)
+}
+
+/// The program, with its commands in the order in which the help lists them.
+pub fn command<'a>(alloc: Global) -> Result<Command<'a>, AllocError>
+    ensures { IfOk result (λ command. app_of command ≡ program) }
+{
+    program_without_commands(alloc)
+        .subcommand(run_command(alloc)?)?
+        .subcommand(check_command(alloc)?)?
+        .subcommand(asm_command(alloc)?)?
+        .subcommand(line_command(alloc)?)?
+        .subcommand(lines_command(alloc)?)?
+        .subcommand(code_command(alloc)?)?
+        .subcommand(serve_command(alloc)?)?
+        .subcommand(power_command(alloc)?)?
+        .subcommand(script_command(alloc)?)
+}
+
+fn run_command<'a>(alloc: Global) -> Result<Command<'a>, AllocError>
+    ensures { IfOk result (λ command. shape_of command ≡ run_command) }
+{
+    Command::new(alloc, "run")
+        .about("Runs a script, and prints the responses in hex, one a line")
+        .after_help("Example: tpmsim run --trace examples/measured_boot.tpm")
+        .arg(flag(
+            alloc,
+            "trace",
+            "Prints before each response which row of the table the command took",
+        ))?
+        .arg(choice(
+            alloc,
+            "image",
+            "FILE",
+            "What the device keeps without power; a new device where there is no such file",
+        ))?
+        .arg(choice(
+            alloc,
+            "state",
+            "DIR",
+            "The device's state, in place of --image; a new device where there is no such folder",
+        ))?
+        .arg(choice(
+            alloc,
+            "entropy",
+            "FILE",
+            "The random bytes of a new device, its first 256; 00 to ff without this",
+        ))?
+        .arg(optional_script(alloc))
+}
+
+/// An option that has no value, and may be left out.
+fn flag<'a>(alloc: Global, name: &'a str, help: &'a str) -> Arg<'a>
+    ensures rule { rule_of result ≡ flag name.entry.now }
+    ensures local { result.global ≡ false }
+{
+    Arg::new(alloc, name)
+        .long(name)
+        .action(ArgAction::SetTrue)
+        .help(help)
+}
+
+fn optional_script<'a>(alloc: Global) -> Arg<'a>
+    ensures rule { rule_of result ≡ optional_operand (codes "script") }
+    ensures local { result.global ≡ false }
+{
+    Arg::new(alloc, "script")
+        .value_name("SCRIPT")
+        .action(ArgAction::Set)
+        .help("The file of the script, or - for standard input; with --state, - may be left out")
+}
+
+/// An option that has a value, and may be left out.
+fn choice<'a>(alloc: Global, name: &'a str, value: &'a str, help: &'a str) -> Arg<'a>
+    ensures rule { rule_of result ≡ choice name.entry.now }
+    ensures local { result.global ≡ false }
+{
+    Arg::new(alloc, name)
+        .long(name)
+        .value_name(value)
+        .action(ArgAction::Set)
+        .help(help)
+}
+
+fn check_command<'a>(alloc: Global) -> Result<Command<'a>, AllocError>
+    ensures { IfOk result (λ command. shape_of command ≡ check_command) }
+{
+    let script = Arg::new(alloc, "script")
+        .value_name("SCRIPT")
+        .required(true)
+        .action(ArgAction::Set)
+        .help("The file of the script, or - for standard input");
+    Command::new(alloc, "check")
+        .about("Reads a script without running it, and prints what is wrong with each bad line")
+        .after_help("Example: tpmsim check examples/measured_boot.tpm")
+        .arg(script)
+}
+
+fn asm_command<'a>(alloc: Global) -> Result<Command<'a>, AllocError>
+    ensures { IfOk result (λ command. shape_of command ≡ asm_command) }
+{
+    let line = Arg::new(alloc, "line")
+        .value_name("LINE")
+        .required(true)
+        .action(ArgAction::Set)
+        .help("The command in words, as it stands behind `do ` in a script");
+    Command::new(alloc, "asm")
+        .about("Prints the buffer of a command in hex")
+        .after_help("Example: tpmsim asm 'PCR_Read sha256:0,4'")
+        .arg(line)
+}
+
+fn line_command<'a>(alloc: Global) -> Result<Command<'a>, AllocError>
+    ensures { IfOk result (λ command. shape_of command ≡ line_command) }
+{
+    let digits = Arg::new(alloc, "hex")
+        .value_name("HEX")
+        .required(true)
+        .action(ArgAction::Set)
+        .help("The buffer of the command in hex, as it stands behind `cmd ` in a script");
+    Command::new(alloc, "line")
+        .about("Prints the line in words that spells the buffer of a command")
+        .after_help("Example: tpmsim line 80010000000c0000017b0020")
+        .arg(digits)
+}
+
+fn lines_command<'a>(alloc: Global) -> Result<Command<'a>, AllocError>
+    ensures { IfOk result (λ command. shape_of command ≡ lines_command) }
+{
+    let name = Arg::new(alloc, "name")
+        .value_name("NAME")
+        .action(ArgAction::Set)
+        .help("The command, by the standard's name without TPM2_; all commands without this");
+    Command::new(alloc, "lines")
+        .about("Prints how a command is said in words, and an example of it")
+        .after_help("Example: tpmsim lines NV_Write")
+        .arg(name)
+}
+
+fn code_command<'a>(alloc: Global) -> Result<Command<'a>, AllocError>
+    ensures { IfOk result (λ command. shape_of command ≡ code_command) }
+{
+    let number = Arg::new(alloc, "number")
+        .value_name("HEX")
+        .required(true)
+        .action(ArgAction::Set)
+        .help("The response code in hex, of at most eight digits");
+    Command::new(alloc, "code")
+        .about("Prints the name of a response code, and the place of the fault that it tells of")
+        .after_help("Example: tpmsim code 98e")
+        .arg(number)
+}
+
+/// The command `serve`, with its help around its options, and without the options.
+fn serve_without_options<'a>(alloc: Global) -> Command<'a>
+    ensures { app_of result ≡ new_app (codes "serve") }
+{
+    Command::new(alloc, "serve")
+        .about("Serves a device on a Unix socket, and keeps its state in an image")
+        .after_help(
+            "Example: tpmsim serve --socket tpm.sock --image tpm.image --entropy /dev/urandom \
+             --locality 0 --connections 1",
+        )
+}
+
+fn serve_command<'a>(alloc: Global) -> Result<Command<'a>, AllocError>
+    ensures { IfOk result (λ command. shape_of command ≡ serve_command) }
+{
+    serve_without_options(alloc)
+        .arg(setting(
+            alloc,
+            "socket",
+            "PATH",
+            "The socket, which is made; one that was left there is replaced",
+        ))?
+        .arg(choice(
+            alloc,
+            "image",
+            "FILE",
+            "What the device keeps without power; a new device where there is no such file. This or \
+             --state has to be given",
+        ))?
+        .arg(choice(
+            alloc,
+            "log",
+            "FILE",
+            "Writes each command that was answered there, as a script that plays the device again",
+        ))?
+        .arg(choice(
+            alloc,
+            "state",
+            "DIR",
+            "The device's state, in place of --image; a new device where there is no such folder",
+        ))?
+        .arg(setting(
+            alloc,
+            "entropy",
+            "FILE",
+            "The random bytes, 256 for each command",
+        ))?
+        .arg(setting(
+            alloc,
+            "locality",
+            "NUMBER",
+            "The locality of all commands, 0 to 4",
+        ))?
+        .arg(setting(
+            alloc,
+            "connections",
+            "NUMBER",
+            "How many connections are served, one after another",
+        ))?
+        .arg(flag(
+            alloc,
+            "save-each",
+            "Saves before each response that tells of a change, not after a connection alone",
+        ))
+}
+
+/// An option that has a value, and has to be given.
+fn setting<'a>(alloc: Global, name: &'a str, value: &'a str, help: &'a str) -> Arg<'a>
+    ensures rule { rule_of result ≡ setting name.entry.now }
+    ensures local { result.global ≡ false }
+{
+    Arg::new(alloc, name)
+        .long(name)
+        .value_name(value)
+        .required(true)
+        .action(ArgAction::Set)
+        .help(help)
+}
+
+fn power_command<'a>(alloc: Global) -> Result<Command<'a>, AllocError>
+    ensures { IfOk result (λ command. shape_of command ≡ power_command) }
+{
+    let state = Arg::new(alloc, "state")
+        .value_name("DIR")
+        .required(true)
+        .action(ArgAction::Set)
+        .help("The folder of the device's state");
+    Command::new(alloc, "power")
+        .about("Cycles the power of a device whose state is in a folder")
+        .after_help("Example: tpmsim power tpm")
+        .arg(state)
+}
+
+fn script_command<'a>(alloc: Global) -> Result<Command<'a>, AllocError>
+    ensures { IfOk result (λ command. shape_of command ≡ script_command) }
+{
+    let state = Arg::new(alloc, "state")
+        .value_name("DIR")
+        .required(true)
+        .action(ArgAction::Set)
+        .help("The folder of the device's state");
+    Command::new(alloc, "script")
+        .about("Prints what happened to a device since its power came on, as a script")
+        .after_help("Example: tpmsim script tpm")
+        .arg(state)
+}

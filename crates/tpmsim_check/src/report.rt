@@ -1,0 +1,45 @@
+//! The report of a script.
+
+ghost use Rattle.std.specs.Prelude.{◌≡◌, IfOk};
+ghost use Rattle.tpmsim_check.specs.Report.{end_of, report_end, report_text};
+
+use crate::findings::Findings;
+use std::alloc::{AllocError, Global};
+use tpmsim_script::{Checker, ScriptFault};
+
+/// What is wrong with the lines of a script.
+#[derive(Drop)]
+pub struct Report {
+    /// A line of text for each bad line.
+    pub text: String,
+    /// How the script ends where it is run: well, at its first bad line, or since it has more lines
+    /// than a script may have.
+    pub end: Result<(), ScriptFault>,
+}
+
+/// The report of the script that a text is.
+pub fn report_of(alloc: Global, text: &[u8]) -> Result<Report, AllocError>
+    ensures text { IfOk result (λ report. report.text.bytes.items ≡ report_text text.now) }
+    ensures end { IfOk result (λ report. report.end ≡ report_end text.now) }
+{
+    let mut checker = Checker::new(alloc)?;
+    let mut findings = Findings::new(alloc);
+    let rest = findings.check_lines(text, &mut checker)?;
+    let end = end_of(findings.first, !rest.is_empty());
+    Ok(Report {
+        text: findings.text,
+        end,
+    })
+}
+
+/// How a script ends that has this first bad line, if it has one, and perhaps more lines than a
+/// script may have.
+fn end_of(first: Option<u32>, more: bool) -> Result<(), ScriptFault>
+    ensures { result ≡ end_of first more }
+{
+    match first {
+        Some(number) => Err(ScriptFault::Line(number)),
+        None if more => Err(ScriptFault::TooManyLines),
+        None => Ok(()),
+    }
+}

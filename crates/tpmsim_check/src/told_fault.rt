@@ -1,0 +1,75 @@
+//! What is told of a bad line.
+
+ghost use Rattle.std.specs.Prelude.{◌≡◌, drop};
+ghost use Rattle.tpmsim_check.specs.Report.{wanted_text};
+
+use std::fmt;
+use tpm_help::word_at;
+use tpm_text::AsmFault;
+use tpmsim_script::{BadLine, Wanted};
+
+/// A bad line: its number and what is wrong with it, and what is wanted there.
+#[derive(Clone, Copy)]
+pub struct ToldFault {
+    pub number: u32,
+    pub fault: AsmFault,
+    pub wanted: &'static str,
+}
+
+impl ToldFault {
+    /// What is told of the line of this number, which is bad.
+    pub fn new(number: u32, line: &[u8], bad: BadLine) -> ToldFault
+        ensures number { result.number ≡ number }
+        ensures fault { result.fault ≡ bad.fault }
+        ensures wanted { result.wanted.now ≡ wanted_text bad.wanted line.now bad.fault }
+    {
+        ToldFault {
+            number,
+            fault: bad.fault,
+            wanted: wanted_text(bad, line),
+        }
+    }
+}
+
+impl fmt::Display for ToldFault {
+    ghost use Rattle.std.specs.Prelude.{Some};
+    ghost use Rattle.tpmsim_check.specs.Report.{fault_text};
+
+    ghost output = { λ told. Some (fault_text told.number told.fault told.wanted.now) };
+
+    fn fmt<W: fmt::Write>(&self, f: &mut fmt::Formatter<W>) -> fmt::Result {
+        let number = self.number;
+        let wanted = self.wanted;
+        match self.fault {
+            AsmFault::BadName => write!(f, "line {number}: BadName: {wanted}"),
+            AsmFault::BadField { column } => write!(f, "line {number}: BadField {column}: {wanted}"),
+            AsmFault::Missing => write!(f, "line {number}: Missing: {wanted}"),
+            AsmFault::Range { column } => write!(f, "line {number}: Range {column}: {wanted}"),
+            AsmFault::TooLong => write!(f, "line {number}: TooLong: {wanted}"),
+            AsmFault::NoMemory => write!(f, "line {number}: NoMemory: {wanted}"),
+        }
+    }
+}
+
+/// What is wanted where a line is bad.
+fn wanted_text(bad: BadLine, line: &[u8]) -> &'static str
+    ensures { result.now ≡ wanted_text bad.wanted line.now bad.fault }
+{
+    match bad.wanted {
+        Wanted::Word => "do, cmd, loc, wait, entropy or power",
+        Wanted::Command => word_at(words_of(line), bad.fault),
+        Wanted::Hex => "hex",
+        Wanted::Locality => "0 to 4",
+        Wanted::Milliseconds => "u32",
+        Wanted::Entropy => "1 to 256 bytes of hex",
+        Wanted::End => "end of line",
+        Wanted::ShortLine => "at most 65536 bytes",
+    }
+}
+
+/// What stands behind the word `do` and its space.
+fn words_of(line: &[u8]) -> &[u8]
+    ensures { result.now ≡ drop 3 line.now }
+{
+    if line.len() < 3 { &[] } else { &line[3..] }
+}

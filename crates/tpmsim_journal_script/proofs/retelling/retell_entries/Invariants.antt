@@ -1,0 +1,15 @@
+use Rattle.std.proofs.Common.{◌-◌, length, None}
+use Rattle.tpm_bytes.specs.Tap.{device_of}
+use Rattle.tpm_machine.specs.State.{state_of}
+use Rattle.tpmsim_journal_script.specs.Retelling.{Retells}
+use Rattle.tpmsim_journal_script.proofs.retelling.retell_entries.Given as goal
+
+-- The entries so far were executed and told.
+abbrev pub invariant-loop-size : goal.invariant-loop-size
+invariant-loop-size g l =
+    let record_of = g.K.Keep.record_of in
+    Retells g.K.Keep.can_refuse l.fn.journal (state_of record_of l.fn.machine) l.text
+    (g.W.Write.contents (device_of l.fn.writer)) (g.W.Write.contents (device_of l.writer)) l.taken None l.journal (state_of record_of l.machine)
+
+abbrev pub decreases-loop-size : goal.decreases-loop-size
+decreases-loop-size g l = length l.text - l.taken

@@ -1,0 +1,120 @@
+//! A journal is told as a script.
+
+ghost use Rattle.std.specs.Prelude.{◌≡◌, ◌≤◌, ◌++◌, ◌∷◌, [], OnErr, OnOk, codes, drop, false, length};
+ghost use Rattle.std.specs.Prelude.{replicate, take, true};
+ghost use Rattle.std.specs.Io.KnownBytes.{Appends};
+ghost use Rattle.tpm_bytes.specs.Tap.{device_of, marks_of};
+ghost use Rattle.tpm_machine.specs.State.{state_of};
+ghost use Rattle.tpm_record.specs.Record.{manufactured};
+ghost use Rattle.tpmsim_journal_script.specs.Retelling.{RetellsEntries, RetellsJournal};
+
+use crate::comment::Comment;
+use crate::front::{Front, execute_front, put_entry};
+use std::io::Write;
+use tpm_bytes::{Failed, Tap};
+use tpm_image::open_into;
+use tpm_journal::{FollowFault, Followed, Journal, OpenFault};
+use tpm_journal_text::{BYTES_ROOM, ENTRY_ROOM, IMAGE_ROOM, read_head};
+use tpm_machine::Machine;
+use tpm_record::Keep;
+use tpm_step::Outcome;
+
+/// Why a journal was not told to its end.
+#[derive(Clone, Copy, Debug, PartialEq, Eq)]
+pub enum RetellFault {
+    /// It was not opened. What stands before the fault was told.
+    Open(OpenFault),
+    /// The script could not be written.
+    Write,
+}
+
+/// Tells a journal as a script: opens the device of its head where a new machine of zeros lies, and
+/// executes its entries again. What is behind the last whole entry was not answered, and is not told.
+pub fn retell<K: Keep, W: Write>(
+    machine: &mut Machine<K>,
+    text: &[u8],
+    outcome: &mut Outcome,
+    writer: &mut Tap<W>,
+) -> Result<(), RetellFault>
+    requires new { state_of K.record_of machine.old ≡ manufactured (replicate 256 0) }
+    requires never_refused { K.can_refuse ≡ false }
+    ensures { RetellsJournal text.now (W.contents (device_of writer.old))
+        (W.contents (device_of writer.new)) (marks_of writer.new) result }
+{
+    let mut image = [0; IMAGE_ROOM];
+    let Some(head) = read_head(text, &mut image) else {
+        return Err(RetellFault::Open(OpenFault::NoJournal));
+    };
+    if let Err(fault) = open_into(machine, head.image) {
+        return Err(RetellFault::Open(OpenFault::Image(fault)));
+    }
+    let mut journal = Journal::begun(head.sum, head.clock);
+    let (front, rest) = text.split_at(head.size);
+    let Ok(()) = writer.write_all(front) else {
+        return Err(RetellFault::Write);
+    };
+    let Ok(followed) = retell_entries(&mut journal, machine, rest, outcome, writer) else {
+        return Err(RetellFault::Write);
+    };
+    match followed.fault {
+        None => Ok(()),
+        Some(fault) => Err(RetellFault::Open(OpenFault::Follow(fault))),
+    }
+}
+
+/// Executes the entries of a text behind a journal, and tells each.
+pub fn retell_entries<K: Keep, W: Write>(
+    journal: &mut Journal,
+    machine: &mut Machine<K>,
+    text: &[u8],
+    outcome: &mut Outcome,
+    writer: &mut Tap<W>,
+) -> Result<Followed, Failed>
+    ensures told { OnOk result (λ followed. RetellsEntries K.can_refuse journal.old
+        (state_of K.record_of machine.old) text.now (W.contents (device_of writer.old))
+        (W.contents (device_of writer.new)) followed journal.new (state_of K.record_of machine.new)) }
+    ensures failed { OnErr result ((marks_of writer.new).failed ≡ true) }
+{
+    let mut bytes = [0; BYTES_ROOM];
+    let mut room = [0; ENTRY_ROOM];
+    let mut taken = 0;
+    loop {
+        let (_, left) = text.split_at(taken);
+        match execute_front(journal, machine, left, &mut bytes, &mut room, outcome) {
+            Front::Executed { size, comment } => {
+                put_front(writer, &comment, left, size)?;
+                taken += size;
+            }
+            Front::Otherwise { size, comment } => {
+                put_front(writer, &comment, left, size)?;
+                return Ok(ended(taken + size, Some(FollowFault::Otherwise)));
+            }
+            Front::CutOff => return Ok(ended(taken, None)),
+            Front::Damaged => return Ok(ended(taken, Some(FollowFault::Damaged))),
+        }
+    }
+}
+
+fn ended(taken: usize, fault: Option<FollowFault>) -> Followed
+    ensures { result ≡ record { taken = taken; fault = fault } }
+{
+    Followed { taken, fault }
+}
+
+/// Tells the entry whose text has so many bytes at the front of a text.
+fn put_front<W: Write>(
+    writer: &mut Tap<W>,
+    comment: &Comment,
+    text: &[u8],
+    size: usize,
+) -> Result<(), Failed>
+    requires entry { 72 ≤ size }
+    requires within { size ≤ length text.now }
+    ensures written { OnOk result (Appends (W.contents (device_of writer.old))
+        (W.contents (device_of writer.new))
+        (codes "# " ++ comment.now.bytes ++ 10 ∷ [] ++ drop 72 (take size text.now))) }
+    ensures failed { OnErr result ((marks_of writer.new).failed ≡ true) }
+{
+    let (entry, _) = text.split_at(size);
+    put_entry(writer, comment, entry)
+}

@@ -1,0 +1,84 @@
+-- What a device in memory does by its journal.
+use Rattle.std.specs.Prelude.{◌≡◌, ℕ, false, ◌⊎◌, List, Option, Some, None, Result, Ok, Err}
+use Rattle.tpm_completion.specs.Execution.{Seen, seen_of}
+use Rattle.tpm_history.specs.Follows.{After, Follows}
+use Rattle.tpm_image.specs.Image.{image_text}
+use Rattle.tpm_image.specs.NonVolatile.{kept_of}
+use Rattle.tpm_image.specs.declared.version.Version.TheVariants.{Two}
+use Rattle.tpm_journal.specs.Command.{Command, Executed, command_at, elapsed_of, entry_of}
+use Rattle.tpm_journal.specs.Opening.{IsJournal, OpensJournal}
+use Rattle.tpm_journal.specs.Replay.{Replays}
+use Rattle.tpm_journal.specs.State.{journal_after, journal_begun}
+use Rattle.tpm_journal.specs.declared.following.FollowFault.{FollowFault}
+use Rattle.tpm_journal.specs.declared.opening.OpenFault.{OpenFault}
+use Rattle.tpm_journal_text.specs.Entry.{entry_text}
+use Rattle.tpm_journal_text.specs.Head.{head_text}
+use Rattle.tpm_record.specs.Cycle.{cycled}
+use Rattle.tpm_record.specs.Kept.{kept_record}
+use Rattle.tpm_record.specs.Record.{Record}
+use Rattle.tpm_step.specs.Events.{Cycled}
+use Rattle.tpm_step.specs.Execution.{Executes}
+use Rattle.tpm_step.specs.Step.{outcome_step}
+use Rattle.tpmsim_kept.specs.Fault.{said_of_following, said_of_opening}
+use Rattle.tpmsim_kept.specs.declared.device.Device.{Device}
+use Rattle.tpmsim_kept.specs.declared.fault.Said.{Said}
+use Rattle.tpmsim_kept.specs.declared.fault.Said.TheVariants.{WantsMemory}
+
+-- the record of a device, by its keep, whose containers are seen as what they hold
+abbrev pub record_of : Device → Record
+record_of device = kept_record (λ s. s) (λ o. o) (λ p. p) (λ n. n) device.machine.keep
+
+-- what is seen of the latest event of a device
+abbrev pub seen_by : Device → Seen
+seen_by device = record {
+  step = outcome_step (record_of device) device.outcome;
+  layer = device.journal.layer;
+  drawn = device.machine.drawn;
+}
+
+-- the image that a device has as power comes on
+abbrev pub image_at_power : Device → List ℕ
+image_at_power device = image_text Two (kept_of (cycled (record_of device)))
+
+-- The power of a device was cycled, and its new journal begun by this clock.
+pub record BeginsJournal (before : Device) (now : ℕ) (after : Device) : Type 0 where
+  pub executes : Executes false (record_of before) Cycled (outcome_step (record_of after) after.outcome)
+  pub history : After Follows (record_of before) Cycled (outcome_step (record_of after) after.outcome)
+  pub journal : after.journal ≡ journal_begun now (image_at_power before)
+
+-- A device is that of a journal, whose head and entries have so many bytes.
+abbrev pub IsOfJournal : List ℕ → (taken : ℕ) → Device → Type 0
+IsOfJournal text taken device =
+    IsJournal text (record { journal = device.journal; taken = taken }) (record_of device)
+
+-- A text is not opened as a journal by this fault.
+abbrev pub HasFault : List ℕ → OpenFault → Type 0
+HasFault text fault = (new : Record) × OpensJournal text (Err fault) new
+
+-- This is said of a text that is no journal, or where there is no memory.
+abbrev pub IsSaidOf : List ℕ → Said → Type 0
+IsSaidOf text said =
+    ((fault : OpenFault) × (said ≡ said_of_opening fault) × HasFault text fault) ⊎ (said ≡ WantsMemory)
+
+-- A device executed the entries of a text, of which so many bytes were taken; or it did so to a fault,
+-- and this is said of it.
+abbrev pub FollowsText : (before : Device) → List ℕ → Result ℕ Said → (after : Device) → Type 0
+FollowsText before text (Ok taken) after =
+    Replays false before.journal (record_of before) text (record { taken = taken; fault = None })
+    after.journal (record_of after)
+FollowsText before text (Err said) after =
+    (fault : FollowFault) × (said ≡ said_of_following fault) × (taken : ℕ)
+    × Replays false before.journal (record_of before) text
+    (record { taken = taken; fault = Some fault }) after.journal (record_of after)
+
+-- the command of a buffer that a device is given by this clock, without the completing layer
+abbrev pub command_by : Device → (buffer : List ℕ) → (locality now : ℕ) → (random : List ℕ) → Command
+command_by device buffer locality now random =
+    command_at buffer locality (elapsed_of now device.journal.time) false random
+
+-- A device executed a command, and its entry was written.
+pub record Records (before : Device) (c : Command) (entry : List ℕ) (after : Device) : Type 0 where
+  pub executes : Executed false before.journal.layer (record_of before) c (seen_by after)
+  pub written : entry ≡ entry_text before.journal.sum (entry_of c (seen_by after))
+  pub journal : after.journal
+      ≡ journal_after before.journal (entry_of c (seen_by after)) after.journal.layer

@@ -1,0 +1,13 @@
+-- Why a script that is played on a kept device ends where it stops at a line.
+use Rattle.std.specs.Prelude.{ℕ}
+use Rattle.tpmsim_kept.specs.declared.stop.PlayFault.{PlayFault}
+use Rattle.tpmsim_kept.specs.declared.stop.PlayFault.TheVariants.{Script, Kept}
+use Rattle.tpmsim_kept.specs.declared.stop.Stop.{Stop}
+use Rattle.tpmsim_kept.specs.declared.stop.Stop.TheVariants as stop
+use Rattle.tpmsim_script.specs.declared.fault.ScriptFault.TheVariants.{Line, Write}
+
+-- the fault of a script that stops at the line of this number
+abbrev pub fault_at : (number : ℕ) → Stop → PlayFault
+fault_at number stop.Bad = Script (Line number)
+fault_at number stop.Write = Script Write
+fault_at number (stop.Kept fault) = Kept fault

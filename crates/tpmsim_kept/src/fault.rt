@@ -1,0 +1,159 @@
+//! What a fault of a kept device says, and of what.
+
+ghost use Rattle.std.specs.Prelude.{◌≡◌};
+ghost use Rattle.tpmsim_kept.specs.Fault.{is_of_contents, place_text, said_of_following};
+ghost use Rattle.tpmsim_kept.specs.Fault.{said_of_opening, said_text};
+
+use std::fmt;
+use tpm_journal::{FollowFault, OpenFault};
+
+/// What a fault is about.
+#[derive(Clone, Copy, Debug, PartialEq, Eq)]
+pub enum Place {
+    Folder,
+    Journal,
+    /// The journal that is to take the other one's place.
+    NewJournal,
+    Lock,
+}
+
+/// What is said of it.
+#[derive(Clone, Copy, Debug, PartialEq, Eq)]
+pub enum Said {
+    IsLink,
+    IsNoFile,
+    IsNoFolder,
+    IsOfAnother,
+    IsNotThere,
+    IsGone,
+    CannotBeMade,
+    CannotBeGivenItsMode,
+    CannotBeLookedAt,
+    CannotBeOpened,
+    CannotBeLocked,
+    CannotBeRead,
+    CannotBeWritten,
+    CannotBeCut,
+    CannotBeForced,
+    CannotTakeThePlace,
+    WasShortened,
+    WasShortenedMeanwhile,
+    IsReplaced,
+    WantsClock,
+    WantsMemory,
+    /// No head stands at the front of it.
+    IsNoJournal,
+    /// The head's image is none of this version of the program.
+    HoldsNoImage,
+    IsDamaged,
+    WasAnsweredOtherwise,
+}
+
+/// Why a kept device did not do what was asked for.
+#[derive(Clone, Copy, Debug, PartialEq, Eq)]
+pub struct KeptFault {
+    pub place: Place,
+    pub said: Said,
+}
+
+impl Place {
+    /// The name of the place, as of a folder that is called `state`.
+    pub fn name(self) -> &'static str
+        ensures { result.now ≡ place_text self }
+    {
+        match self {
+            Place::Folder => "state",
+            Place::Journal => "state/journal",
+            Place::NewJournal => "state/journal.new",
+            Place::Lock => "state/lock",
+        }
+    }
+
+    /// A fault of this place.
+    pub fn that(self, said: Said) -> KeptFault
+        ensures { result ≡ record { place = self; said = said } }
+    {
+        KeptFault { place: self, said }
+    }
+}
+
+impl Said {
+    /// What is said of a journal that was not opened.
+    pub fn of(fault: OpenFault) -> Said
+        ensures { result ≡ said_of_opening fault }
+    {
+        match fault {
+            OpenFault::NoJournal => Said::IsNoJournal,
+            OpenFault::Image(_) => Said::HoldsNoImage,
+            OpenFault::Follow(fault) => Said::of_following(fault),
+        }
+    }
+
+    /// What is said of a journal that was not followed.
+    pub fn of_following(fault: FollowFault) -> Said
+        ensures { result ≡ said_of_following fault }
+    {
+        match fault {
+            FollowFault::Damaged => Said::IsDamaged,
+            FollowFault::Otherwise => Said::WasAnsweredOtherwise,
+        }
+    }
+
+    /// The words for it.
+    pub fn words(self) -> &'static str
+        ensures { result.now ≡ said_text self }
+    {
+        match self {
+            Said::IsLink => "is a link, which is not followed",
+            Said::IsNoFile => "is no regular file",
+            Said::IsNoFolder => "is no folder",
+            Said::IsOfAnother => "belongs to another user",
+            Said::IsNotThere => "is not there",
+            Said::IsGone => "is gone",
+            Said::CannotBeMade => "cannot be made",
+            Said::CannotBeGivenItsMode => "cannot be given its mode",
+            Said::CannotBeLookedAt => "cannot be looked at",
+            Said::CannotBeOpened => "cannot be opened",
+            Said::CannotBeLocked => "cannot be locked",
+            Said::CannotBeRead => "cannot be read",
+            Said::CannotBeWritten => "cannot be written",
+            Said::CannotBeCut => "cannot be cut to whole records",
+            Said::CannotBeForced => "cannot be forced to the disk",
+            Said::CannotTakeThePlace => "cannot take the journal's place",
+            Said::WasShortened => "was shortened by something else",
+            Said::WasShortenedMeanwhile => "was shortened while it was read",
+            Said::IsReplaced => "is replaced again and again",
+            Said::WantsClock => "needs the host's clock, which cannot be read or is before 1970",
+            Said::WantsMemory => "wants memory that is not there",
+            Said::IsNoJournal => "is no journal of a device",
+            Said::HoldsNoImage => "holds an image that this program does not open",
+            Said::IsDamaged => "is damaged, and stays as it is",
+            Said::WasAnsweredOtherwise => {
+                "was written by a program that answers otherwise than this one, and stays as it is"
+            }
+        }
+    }
+
+    /// Whether the journal is none that this program takes, whatever the system does.
+    pub fn is_of_contents(self) -> bool
+        ensures { result ≡ is_of_contents self }
+    {
+        matches!(
+            self,
+            Said::IsNoJournal | Said::HoldsNoImage | Said::IsDamaged | Said::WasAnsweredOtherwise
+        )
+    }
+}
+
+impl fmt::Display for KeptFault {
+    ghost use Rattle.std.specs.Prelude.{Some};
+    ghost use Rattle.tpmsim_kept.specs.Fault.{kept_fault_text};
+
+    ghost output = { λ fault. Some (kept_fault_text fault) };
+
+    fn fmt<W: fmt::Write>(&self, f: &mut fmt::Formatter<W>) -> fmt::Result {
+        let place = self.place.name();
+        let words = self.said.words();
+        write!(f, "{place} {words}")
+    }
+}

@@ -1,0 +1,213 @@
+//! The folder of a kept device, and what may stand in it. Only what belongs to the user who runs the
+//! process is opened, and no link is followed.
+
+use crate::fault::{KeptFault, Place, Said};
+use crate::standing::{file_fault, folder_fault, kind_of};
+use std::fs::{DirBuilder, File, Metadata, OpenOptions, Permissions};
+use std::io::ErrorKind;
+use std::os::unix::fs::{DirBuilderExt, MetadataExt, OpenOptionsExt, PermissionsExt};
+use std::{fs, io};
+
+/// The permissions of a file that is made here, whatever the umask is.
+const FILE_MODE: u32 = 0o600;
+
+/// The permissions of a folder that is made here.
+const FOLDER_MODE: u32 = 0o700;
+
+/// What tells a file from all others: its device and its inode.
+#[derive(Clone, Copy, Debug, PartialEq, Eq)]
+pub struct Identity {
+    device: u64,
+    inode: u64,
+}
+
+/// The identity of what has this metadata.
+pub fn identity_of(metadata: &Metadata) -> Identity {
+    Identity {
+        device: metadata.dev(),
+        inode: metadata.ino(),
+    }
+}
+
+/// A file that was opened, and which one it is.
+#[derive(Drop)]
+pub struct OpenedFile {
+    pub file: File,
+    pub identity: Identity,
+}
+
+/// A folder, and the paths in it.
+#[derive(Drop)]
+pub struct Folder {
+    path: String,
+    journal: String,
+    new_journal: String,
+    lock: String,
+    /// The user who runs the process.
+    user: u32,
+    pub was_made: bool,
+}
+
+impl Folder {
+    /// The folder at a path, which is made where it is not there and `makes` says so.
+    pub fn open(rt: &HostRuntime, path: &str, makes: bool) -> Result<Folder, KeptFault> {
+        let user = user_of(rt)?;
+        let was_made = makes && make(rt, without_slashes(path))?;
+        let folder = match paths_of(rt, without_slashes(path), user, was_made) {
+            Ok(folder) => folder,
+            Err(error) => return Err(fault_of(&error, Place::Folder, Said::CannotBeOpened)),
+        };
+        match fs::symlink_metadata(rt, folder.path.as_str()) {
+            Ok(metadata) => match folder_fault(kind_of(&metadata), metadata.uid(), user) {
+                Some(said) => Err(Place::Folder.that(said)),
+                None => Ok(folder),
+            },
+            Err(error) if error.kind() == ErrorKind::NotFound => {
+                Err(Place::Folder.that(Said::IsNotThere))
+            }
+            Err(error) => Err(fault_of(&error, Place::Folder, Said::CannotBeLookedAt)),
+        }
+    }
+
+    /// The path of a place.
+    pub fn path(&self, place: Place) -> &str {
+        match place {
+            Place::Folder => self.path.as_str(),
+            Place::Journal => self.journal.as_str(),
+            Place::NewJournal => self.new_journal.as_str(),
+            Place::Lock => self.lock.as_str(),
+        }
+    }
+
+    /// The metadata of a regular file of the user at a place; none where nothing stands there.
+    pub fn look(&self, rt: &HostRuntime, place: Place) -> Result<Option<Metadata>, KeptFault> {
+        match fs::symlink_metadata(rt, self.path(place)) {
+            Ok(metadata) => match self.fault_at(place, &metadata) {
+                Some(fault) => Err(fault),
+                None => Ok(Some(metadata)),
+            },
+            Err(error) if error.kind() == ErrorKind::NotFound => Ok(None),
+            Err(error) => Err(fault_of(&error, place, Said::CannotBeLookedAt)),
+        }
+    }
+
+    /// Why what stands at a place is no file of the user, if it is none.
+    fn fault_at(&self, place: Place, metadata: &Metadata) -> Option<KeptFault> {
+        match file_fault(kind_of(metadata), metadata.uid(), self.user) {
+            Some(said) => Some(place.that(said)),
+            None => None,
+        }
+    }
+
+    /// Opens a file that is there, to be read and written. Where another one was put there meanwhile,
+    /// which may be a link, the file is not used.
+    pub fn open_file(&self, rt: &HostRuntime, place: Place) -> Result<OpenedFile, KeptFault> {
+        let Some(looked) = self.look(rt, place)? else {
+            return Err(place.that(Said::IsNotThere));
+        };
+        let file = match open_both_ways(rt, self.path(place)) {
+            Ok(file) => file,
+            Err(error) => return Err(fault_of(&error, place, Said::CannotBeOpened)),
+        };
+        match file.metadata() {
+            Ok(metadata) if identity_of(&metadata) == identity_of(&looked) => Ok(OpenedFile {
+                file,
+                identity: identity_of(&metadata),
+            }),
+            Ok(_) => Err(place.that(Said::CannotBeOpened)),
+            Err(error) => Err(fault_of(&error, place, Said::CannotBeLookedAt)),
+        }
+    }
+
+    /// Makes a file that is not there, which only its owner may use.
+    pub fn make_file(&self, rt: &HostRuntime, place: Place) -> Result<File, KeptFault> {
+        let file = match create(rt, self.path(place)) {
+            Ok(file) => file,
+            Err(error) => return Err(fault_of(&error, place, Said::CannotBeMade)),
+        };
+        match file.set_permissions(Permissions::from_mode(FILE_MODE)) {
+            Ok(()) => Ok(file),
+            Err(error) => Err(fault_of(&error, place, Said::CannotBeGivenItsMode)),
+        }
+    }
+
+    /// Forces what stands in the folder to the disk; where it was made here, its own name too.
+    pub fn force(&mut self, rt: &HostRuntime) -> Result<(), KeptFault> {
+        let forced = force_folders(rt, self.path.as_str(), self.was_made);
+        self.was_made = self.was_made && forced.is_err();
+        match forced {
+            Ok(()) => Ok(()),
+            Err(error) => Err(fault_of(&error, Place::Folder, Said::CannotBeForced)),
+        }
+    }
+}
+
+/// The fault of an error: memory ran out, or what is said of the place.
+pub fn fault_of(error: &io::Error, place: Place, said: Said) -> KeptFault {
+    match error.kind() {
+        ErrorKind::OutOfMemory => place.that(Said::WantsMemory),
+        _ => place.that(said),
+    }
+}
+
+/// A path without the slashes at its end, behind which a link would be followed.
+fn without_slashes(path: &str) -> &str {
+    let front = path.trim_end_matches('/');
+    if front.is_empty() { path } else { front }
+}
+
+/// The user who runs the process, to whom Linux gives the process's own folder of /proc.
+fn user_of(rt: &HostRuntime) -> Result<u32, KeptFault> {
+    match fs::metadata(rt, "/proc/self") {
+        Ok(metadata) => Ok(metadata.uid()),
+        Err(error) => Err(fault_of(&error, Place::Folder, Said::CannotBeLookedAt)),
+    }
+}
+
+/// Makes the folder where it is not there, and says whether it did. The umask may have taken bits that
+/// its user needs.
+fn make(rt: &HostRuntime, path: &str) -> Result<bool, KeptFault> {
+    match DirBuilder::new().mode(FOLDER_MODE).create(rt, path) {
+        Ok(()) => match fs::set_permissions(rt, path, Permissions::from_mode(FOLDER_MODE)) {
+            Ok(()) => Ok(true),
+            Err(error) => Err(fault_of(&error, Place::Folder, Said::CannotBeGivenItsMode)),
+        },
+        Err(error) if error.kind() == ErrorKind::AlreadyExists => Ok(false),
+        Err(error) => Err(fault_of(&error, Place::Folder, Said::CannotBeMade)),
+    }
+}
+
+/// The paths of a folder.
+fn paths_of(rt: &HostRuntime, path: &str, user: u32, was_made: bool) -> io::Result<Folder> {
+    Ok(Folder {
+        path: String::from_str(rt.alloc(), path)?,
+        journal: format!(in rt.alloc(); "{path}/journal")?,
+        new_journal: format!(in rt.alloc(); "{path}/journal.new")?,
+        lock: format!(in rt.alloc(); "{path}/lock")?,
+        user,
+        was_made,
+    })
+}
+
+fn open_both_ways(rt: &HostRuntime, path: &str) -> io::Result<File> {
+    OpenOptions::new().read(true).write(true).open(rt, path)
+}
+
+fn create(rt: &HostRuntime, path: &str) -> io::Result<File> {
+    OpenOptions::new()
+        .read(true)
+        .write(true)
+        .create_new(true)
+        .mode(FILE_MODE)
+        .open(rt, path)
+}
+
+/// Forces a folder to the disk, and where that is asked for the folder above it.
+fn force_folders(rt: &HostRuntime, path: &str, above: bool) -> io::Result<()> {
+    fs::open(rt, path)?.sync_all()?;
+    if above {
+        let above = format!(in rt.alloc(); "{path}/..")?;
+        fs::open(rt, above.as_str())?.sync_all()?;
+    }
+    Ok(())
+}

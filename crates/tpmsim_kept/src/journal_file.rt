@@ -1,0 +1,176 @@
+//! The file of a journal, and the device that executed it.
+
+use crate::device::Device;
+use crate::fault::{KeptFault, Place, Said};
+use crate::folder::{Folder, Identity, OpenedFile, fault_of};
+use crate::force::Force;
+use std::fs::File;
+use std::io;
+use std::io::ErrorKind;
+use std::os::unix::fs::FileExt;
+
+/// A journal is read in parts of so many bytes. The head fits into one, and each entry does.
+const PART: u64 = 262_144;
+
+/// A journal's file, and the device that executed it up to a place. What stands behind that is the
+/// rest of an entry whose writer was ended before it answered.
+#[derive(Drop)]
+pub struct JournalFile {
+    pub device: Box<Device>,
+    file: File,
+    pub identity: Identity,
+    /// How many bytes the file has.
+    size: u64,
+    /// How many of them the device has executed.
+    executed: u64,
+}
+
+impl JournalFile {
+    /// A journal that a device has begun: its head alone is in the file.
+    pub fn begun(device: Box<Device>, opened: OpenedFile, size: u64) -> JournalFile {
+        JournalFile {
+            device,
+            file: opened.file,
+            identity: opened.identity,
+            size,
+            executed: size,
+        }
+    }
+
+    /// Opens the journal that stands in the folder, and executes it.
+    pub fn open(rt: &HostRuntime, folder: &Folder) -> Result<JournalFile, KeptFault> {
+        let OpenedFile { file, identity } = folder.open_file(rt, Place::Journal)?;
+        let size = size_of(&file)?;
+        let part = read_part(rt, &file, 0, size.min(PART))?;
+        let (device, taken) = match Device::open(rt.alloc(), part.as_slice()) {
+            Ok(opened) => opened,
+            Err(said) => return Err(Place::Journal.that(said)),
+        };
+        let Ok(device) = Box::new(rt.alloc(), device) else {
+            return Err(Place::Journal.that(Said::WantsMemory));
+        };
+        let mut journal = JournalFile {
+            device,
+            file,
+            identity,
+            size,
+            executed: taken as u64,
+        };
+        journal.follow(rt)?;
+        Ok(journal)
+    }
+
+    /// The device alone; the file is closed.
+    pub fn into_device(self) -> Box<Device> {
+        self.device
+    }
+
+    /// Executes what stands in the file behind what was executed.
+    pub fn catch_up(&mut self, rt: &HostRuntime) -> Result<(), KeptFault> {
+        self.size = size_of(&self.file)?;
+        if self.size < self.executed {
+            return Err(Place::Journal.that(Said::WasShortened));
+        }
+        self.follow(rt)
+    }
+
+    /// Executes the entries up to the end of the file, part by part.
+    fn follow(&mut self, rt: &HostRuntime) -> Result<(), KeptFault> {
+        for _ in 0..u64::MAX {
+            let left = self.size.saturating_sub(self.executed);
+            if left == 0 {
+                return Ok(());
+            }
+            let taken = self.follow_part(rt, left.min(PART))?;
+            if left <= PART {
+                return Ok(());
+            }
+            if taken == 0 {
+                return Err(Place::Journal.that(Said::IsDamaged));
+            }
+        }
+        Err(Place::Journal.that(Said::CannotBeRead))
+    }
+
+    /// Executes the whole entries of the next bytes, and says how many bytes these are.
+    fn follow_part(&mut self, rt: &HostRuntime, count: u64) -> Result<usize, KeptFault> {
+        let part = read_part(rt, &self.file, self.executed, count)?;
+        match self.device.follow(part.as_slice()) {
+            Ok(taken) => {
+                self.executed = self.executed.saturating_add(taken as u64);
+                Ok(taken)
+            }
+            Err(said) => Err(Place::Journal.that(said)),
+        }
+    }
+
+    /// Adds an entry behind what was executed. Where that fails the file is cut to what it was.
+    pub fn add(&mut self, entry: &[u8], force: Force) -> Result<(), KeptFault> {
+        if self.size > self.executed {
+            self.cut()?;
+        }
+        if let Err(fault) = self.write(entry, force) {
+            let _ = self.cut();
+            return Err(fault);
+        }
+        self.executed = self.executed.saturating_add(entry.len() as u64);
+        self.size = self.executed;
+        Ok(())
+    }
+
+    fn write(&self, entry: &[u8], force: Force) -> Result<(), KeptFault> {
+        if let Err(error) = self.file.write_all_at(entry, self.executed) {
+            return Err(fault_of(&error, Place::Journal, Said::CannotBeWritten));
+        }
+        if force != Force::Always {
+            return Ok(());
+        }
+        match self.file.sync_data() {
+            Ok(()) => Ok(()),
+            Err(error) => Err(fault_of(&error, Place::Journal, Said::CannotBeForced)),
+        }
+    }
+
+    /// Cuts the file to what was executed.
+    fn cut(&mut self) -> Result<(), KeptFault> {
+        match self.file.set_len(self.executed) {
+            Ok(()) => {
+                self.size = self.executed;
+                Ok(())
+            }
+            Err(error) => Err(fault_of(&error, Place::Journal, Said::CannotBeCut)),
+        }
+    }
+}
+
+/// All bytes of the journal in a folder.
+pub fn read_whole(rt: &HostRuntime, folder: &Folder) -> Result<Vec<u8>, KeptFault> {
+    let opened = folder.open_file(rt, Place::Journal)?;
+    let size = size_of(&opened.file)?;
+    read_part(rt, &opened.file, 0, size)
+}
+
+/// How many bytes a file has.
+fn size_of(file: &File) -> Result<u64, KeptFault> {
+    match file.metadata() {
+        Ok(metadata) => Ok(metadata.len()),
+        Err(error) => Err(fault_of(&error, Place::Journal, Said::CannotBeLookedAt)),
+    }
+}
+
+/// So many bytes of a file, from this place on.
+fn read_part(rt: &HostRuntime, file: &File, place: u64, count: u64) -> Result<Vec<u8>, KeptFault> {
+    match read_exactly(rt, file, place, count) {
+        Ok(part) => Ok(part),
+        Err(error) if error.kind() == ErrorKind::UnexpectedEof => {
+            Err(Place::Journal.that(Said::WasShortenedMeanwhile))
+        }
+        Err(error) => Err(fault_of(&error, Place::Journal, Said::CannotBeRead)),
+    }
+}
+
+fn read_exactly(rt: &HostRuntime, file: &File, place: u64, count: u64) -> io::Result<Vec<u8>> {
+    let mut part = vec![in rt.alloc(); 0u8; count as usize]?;
+    file.read_exact_at(&mut part, place)?;
+    Ok(part)
+}

@@ -1,0 +1,185 @@
+//! A device that is kept in a folder.
+
+use crate::beginning::begin;
+use crate::device::Device;
+use crate::fault::{KeptFault, Place, Said};
+use crate::folder::{Folder, identity_of};
+use crate::force::Force;
+use crate::journal_file::{JournalFile, read_whole};
+use crate::lock::Lock;
+use crate::moment::Moment;
+use std::time::{Clock, SystemTime};
+use tpm_journal_text::ENTRY_ROOM;
+use tpm_step::Outcome;
+use tpm_types::Locality;
+
+/// A device that is kept in a folder. A call that fails had nothing answered, and the next one begins
+/// with what the journal has.
+#[derive(Drop)]
+pub struct Kept<'a> {
+    rt: &'a HostRuntime,
+    folder: Folder,
+    lock: Lock,
+    force: Force,
+    /// The journal and its device, where they are open.
+    journal: Option<JournalFile>,
+}
+
+impl<'a> Kept<'a> {
+    /// The device in this folder, which is made where it is not there and `makes` says so. Nothing of
+    /// the device is read yet.
+    pub fn at(
+        rt: &'a HostRuntime,
+        path: &str,
+        makes: bool,
+        force: Force,
+    ) -> Result<Kept<'a>, KeptFault> {
+        Ok(Kept {
+            rt,
+            folder: Folder::open(rt, path, makes)?,
+            lock: Lock::new(),
+            force,
+            journal: None,
+        })
+    }
+
+    /// Whether a device is in the folder.
+    pub fn is_there(&self) -> Result<bool, KeptFault> {
+        Ok(self.folder.look(self.rt, Place::Journal)?.is_some())
+    }
+
+    /// Begins a new device, whose secrets are these random bytes, where none is in the folder.
+    pub fn manufacture(&mut self, random: &[u8; 256]) -> Result<(), KeptFault> {
+        self.lock.take(self.rt, &self.folder)?;
+        let made = self.manufacture_locked(random);
+        self.lock.give();
+        made
+    }
+
+    fn manufacture_locked(&mut self, random: &[u8; 256]) -> Result<(), KeptFault> {
+        if self.is_there()? {
+            return Ok(());
+        }
+        let alloc = self.rt.alloc();
+        let Ok(device) = Device::manufacture(alloc, random) else {
+            return Err(Place::Journal.that(Said::WantsMemory));
+        };
+        let Ok(device) = Box::new(self.rt.alloc(), device) else {
+            return Err(Place::Journal.that(Said::WantsMemory));
+        };
+        self.begin(device)
+    }
+
+    /// Opens the device that is in the folder.
+    pub fn open(&mut self) -> Result<(), KeptFault> {
+        self.lock.take(self.rt, &self.folder)?;
+        let opened = self.caught_up();
+        self.lock.give();
+        self.journal = Some(opened?);
+        Ok(())
+    }
+
+    /// Executes a command, and adds its entry to the journal. The outcome is told by
+    /// [`Kept::outcome`] then.
+    pub fn execute(
+        &mut self,
+        buffer: &[u8],
+        locality: Locality,
+        moment: Moment,
+        random: &[u8; 256],
+    ) -> Result<(), KeptFault> {
+        self.lock.take(self.rt, &self.folder)?;
+        let done = self.execute_locked(buffer, locality, moment, random);
+        self.lock.give();
+        done
+    }
+
+    fn execute_locked(
+        &mut self,
+        buffer: &[u8],
+        locality: Locality,
+        moment: Moment,
+        random: &[u8; 256],
+    ) -> Result<(), KeptFault> {
+        let mut journal = self.caught_up()?;
+        let now_ms = match moment {
+            Moment::Now => now_of(self.rt)?,
+            Moment::Behind(elapsed_ms) => {
+                let time = journal.device.journal.time;
+                time.saturating_add(u64::from(elapsed_ms))
+            }
+        };
+        let mut entry = [0; ENTRY_ROOM];
+        let size = journal
+            .device
+            .execute(buffer, locality, now_ms, random, &mut entry);
+        let (entry, _) = entry.split_at(size);
+        journal.add(entry, self.force)?;
+        self.journal = Some(journal);
+        Ok(())
+    }
+
+    /// The outcome of the latest command, where it was executed.
+    pub fn outcome(&self) -> Option<&Outcome> {
+        match &self.journal {
+            Some(journal) => Some(&journal.device.outcome),
+            None => None,
+        }
+    }
+
+    /// Takes power away from the device and gives it back, for every process that holds it.
+    pub fn cycle_power(&mut self) -> Result<(), KeptFault> {
+        self.lock.take(self.rt, &self.folder)?;
+        let done = self.cycle_power_locked();
+        self.lock.give();
+        done
+    }
+
+    fn cycle_power_locked(&mut self) -> Result<(), KeptFault> {
+        let journal = self.caught_up()?;
+        self.begin(journal.into_device())
+    }
+
+    /// The text of the journal.
+    pub fn text(&mut self) -> Result<Vec<u8>, KeptFault> {
+        self.lock.take(self.rt, &self.folder)?;
+        let text = read_whole(self.rt, &self.folder);
+        self.lock.give();
+        text
+    }
+
+    /// Begins the journal of a device, by the host's clock.
+    fn begin(&mut self, device: Box<Device>) -> Result<(), KeptFault> {
+        let now_ms = now_of(self.rt)?;
+        let begun = begin(self.rt, &mut self.folder, device, now_ms, self.force)?;
+        self.journal = Some(begun);
+        Ok(())
+    }
+
+    /// The journal that stands in the folder, and its device, which has executed all of it. It is
+    /// taken out, so that it is opened anew where what is done with it fails.
+    fn caught_up(&mut self) -> Result<JournalFile, KeptFault> {
+        let held = self.journal.take();
+        let Some(metadata) = self.folder.look(self.rt, Place::Journal)? else {
+            return Err(Place::Journal.that(Said::IsGone));
+        };
+        match held {
+            Some(mut journal) if journal.identity == identity_of(&metadata) => {
+                journal.catch_up(self.rt)?;
+                Ok(journal)
+            }
+            _ => JournalFile::open(self.rt, &self.folder),
+        }
+    }
+}
+
+/// The host's clock, in milliseconds.
+fn now_of(clock: &impl Clock) -> Result<u64, KeptFault> {
+    let Ok(now) = SystemTime::now(clock) else {
+        return Err(Place::Journal.that(Said::WantsClock));
+    };
+    let Ok(since) = now.duration_since(SystemTime::UNIX_EPOCH) else {
+        return Err(Place::Journal.that(Said::WantsClock));
+    };
+    u64::try_from(since.as_millis()).map_err(|_| Place::Journal.that(Said::WantsClock))
+}

@@ -1,0 +1,35 @@
+#![tactic(auto)]
+
+//! A device that is kept in a folder: its journal has the device as its power came on, and each
+//! command that was answered since. To open the device is to execute the journal again, and a
+//! command's entry is in the file before its response goes out, so that nothing that was answered is
+//! lost with a process.
+//!
+//! [`Kept`] is a kept device. Several processes may hold one at once: each locks the folder for a
+//! command, executes what the others added, and then its own. [`playing`] plays a script on it, and
+//! [`serving`] serves it on a connection. The parts below are a device with its journal in memory
+//! ([`device`]), of which contracts say what tpm_journal says; what may stand at a path
+//! ([`standing`]); and the folder, its lock and the journal's file ([`folder`], [`lock`],
+//! [`journal_file`], [`beginning`]). What a file has no contract can say.
+
+mod beginning;
+pub mod device;
+pub mod fault;
+mod folder;
+pub mod force;
+mod journal_file;
+pub mod kept;
+mod lock;
+pub mod moment;
+pub mod playing;
+pub mod serving;
+pub mod standing;
+pub mod stop;
+
+pub use fault::{KeptFault, Place, Said};
+pub use force::Force;
+pub use kept::Kept;
+pub use moment::Moment;
+pub use playing::play;
+pub use serving::serve;
+pub use stop::PlayFault;

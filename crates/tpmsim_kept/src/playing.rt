@@ -1,0 +1,186 @@
+//! A script that is played on a kept device. Its lines set what the device is given; between two of
+//! its commands other processes may have theirs.
+
+use crate::kept::Kept;
+use crate::moment::Moment;
+use crate::stop::{PlayFault, Stop};
+use std::alloc::Global;
+use std::io::{Read, Write};
+use tpm_bytes::Tap;
+use tpm_step::{Event, Outcome};
+use tpm_text::trace_text;
+use tpmsim_script::ScriptFault;
+use tpmsim_script::answers::Answers;
+use tpmsim_script::line::Line;
+use tpmsim_script::lines::{Lines, Next};
+use tpmsim_script::room::Room;
+use tpmsim_script::run::SCRIPT_LINES;
+use tpmsim_script::script::Script;
+
+/// A script on its way, and what was printed of it and not written yet.
+#[derive(Drop)]
+struct Player {
+    traced: bool,
+    script: Script,
+    answers: Answers,
+}
+
+/// Plays a script on a kept device, and writes its responses; where that is asked for, the trace of
+/// each event before them. The lines before a fault were played.
+pub fn play<R: Read, W: Write>(
+    alloc: Global,
+    kept: &mut Kept<'_>,
+    reader: &mut Tap<R>,
+    writer: &mut Tap<W>,
+    traced: bool,
+) -> Result<(), PlayFault> {
+    let mut lines = Lines::new(alloc)?;
+    let mut room = Room::new(alloc)?;
+    let mut player = Player {
+        traced,
+        script: Script::new(),
+        answers: Answers::new(alloc)?,
+    };
+    let played = player.lines(kept, &mut lines, &mut room, reader, writer);
+    let flushed = player.flush(writer);
+    played?;
+    flushed
+}
+
+impl Player {
+    fn lines<R: Read, W: Write>(
+        &mut self,
+        kept: &mut Kept<'_>,
+        lines: &mut Lines,
+        room: &mut Room,
+        reader: &mut Tap<R>,
+        writer: &mut Tap<W>,
+    ) -> Result<(), PlayFault> {
+        for number in 1..SCRIPT_LINES + 1 {
+            if !self.next_line(lines, reader, writer, number)? {
+                return Ok(());
+            }
+            if let Err(stop) = self.line(kept, lines.line(), room, writer) {
+                return Err(stop.at(number));
+            }
+        }
+        if self.next_line(lines, reader, writer, SCRIPT_LINES)? {
+            return Err(PlayFault::Script(ScriptFault::TooManyLines));
+        }
+        Ok(())
+    }
+
+    /// Goes to the next line, of this number, and tells whether there is one. What was printed is
+    /// written before more of the script is read.
+    fn next_line<R: Read, W: Write>(
+        &mut self,
+        lines: &mut Lines,
+        reader: &mut Tap<R>,
+        writer: &mut Tap<W>,
+        number: u32,
+    ) -> Result<bool, PlayFault> {
+        lines.next();
+        loop {
+            match lines.find() {
+                Next::Line => return Ok(true),
+                Next::End => return Ok(false),
+                Next::TooLong => return Err(PlayFault::Script(ScriptFault::Line(number))),
+                Next::Incomplete => {
+                    self.flush(writer)?;
+                    if lines.fill(reader).is_err() {
+                        return Err(PlayFault::Script(ScriptFault::Read));
+                    }
+                }
+            }
+        }
+    }
+
+    /// Does what a line says.
+    fn line<W: Write>(
+        &mut self,
+        kept: &mut Kept<'_>,
+        line: &[u8],
+        room: &mut Room,
+        writer: &mut Tap<W>,
+    ) -> Result<(), Stop> {
+        match Line::parse(line)? {
+            Line::Command(digits) => self.execute(kept, room.decode(digits)?, writer)?,
+            Line::Words(words) => self.execute(kept, room.assemble(words)?, writer)?,
+            Line::Locality(locality) => self.script.set_locality(locality),
+            Line::Wait(milliseconds) => self.script.wait(milliseconds)?,
+            Line::Entropy(digits) => self.script.set_entropy(room.decode(digits)?)?,
+            Line::PowerCycle => self.cycle_power(kept, writer)?,
+            Line::Nothing => {}
+        }
+        Ok(())
+    }
+
+    /// Executes a command, and prints its response.
+    fn execute<W: Write>(
+        &mut self,
+        kept: &mut Kept<'_>,
+        buffer: &[u8],
+        writer: &mut Tap<W>,
+    ) -> Result<(), Stop> {
+        let event = self.script.command(buffer);
+        if let Event::Command {
+            locality,
+            elapsed_ms,
+            random,
+            ..
+        } = &event
+        {
+            kept.execute(buffer, *locality, Moment::Behind(*elapsed_ms), random)?;
+        }
+        match kept.outcome() {
+            Some(outcome) => self.print(&event, outcome, writer),
+            None => Ok(()),
+        }
+    }
+
+    /// Prints a response, after the trace where that is asked for.
+    fn print<W: Write>(
+        &mut self,
+        event: &Event,
+        outcome: &Outcome,
+        writer: &mut Tap<W>,
+    ) -> Result<(), Stop> {
+        let response = outcome.response.as_slice();
+        if self.traced {
+            let trace = trace_text(event, outcome.row, response);
+            self.put_text(writer, trace.as_str().as_bytes())?;
+        }
+        match self.answers.put(writer, response) {
+            Ok(()) => Ok(()),
+            Err(_) => Err(Stop::Write),
+        }
+    }
+
+    /// Cycles the device's power, and prints the trace of that where it is asked for.
+    fn cycle_power<W: Write>(
+        &mut self,
+        kept: &mut Kept<'_>,
+        writer: &mut Tap<W>,
+    ) -> Result<(), Stop> {
+        kept.cycle_power()?;
+        if self.traced {
+            self.put_text(writer, b"power")?;
+        }
+        Ok(())
+    }
+
+    fn put_text<W: Write>(&mut self, writer: &mut Tap<W>, text: &[u8]) -> Result<(), Stop> {
+        match self.answers.put_text(writer, text) {
+            Ok(()) => Ok(()),
+            Err(_) => Err(Stop::Write),
+        }
+    }
+
+    /// Writes all lines so far.
+    fn flush<W: Write>(&mut self, writer: &mut Tap<W>) -> Result<(), PlayFault> {
+        match self.answers.flush(writer) {
+            Ok(()) => Ok(()),
+            Err(_) => Err(PlayFault::Script(ScriptFault::Write)),
+        }
+    }
+}

@@ -1,0 +1,88 @@
+//! A kept device that is served on a connection. Between two of its commands other processes may have
+//! theirs.
+
+use crate::fault::KeptFault;
+use crate::kept::Kept;
+use crate::moment::Moment;
+use std::io::{Read, Write};
+use tpm_bytes::Tap;
+use tpm_types::{BUFFER_LIMIT, Locality};
+use tpm_wire::connection::Connection;
+use tpm_wire::reading::fill;
+
+/// The most reads in which one connection may give bytes.
+const READS: u32 = 1_048_576;
+
+/// Why a connection was not served to its end.
+#[derive(Clone, Copy, Debug, PartialEq, Eq)]
+pub enum ServeFault {
+    /// The client did not read or write any more.
+    Client,
+    /// There are no random bytes for a command, which has not been executed.
+    Random,
+    /// The device did not do what was asked for.
+    Kept(KeptFault),
+}
+
+/// What gives each command its random bytes.
+pub trait RandomBytes {
+    /// The next 256 random bytes; none where there are none.
+    fn next(&mut self) -> Option<[u8; 256]>;
+}
+
+/// Serves a connection: executes the buffers that it gives, each by the host's clock, from this
+/// locality and with random bytes of its own, and writes their responses.
+pub fn serve<R: Read, W: Write, B: RandomBytes>(
+    kept: &mut Kept<'_>,
+    locality: Locality,
+    random: &mut B,
+    reader: &mut Tap<R>,
+    writer: &mut Tap<W>,
+) -> Result<(), ServeFault> {
+    let mut connection = Connection::new();
+    let mut piece = [0; BUFFER_LIMIT];
+    for _ in 0..READS {
+        match fill(reader, &mut connection, &mut piece) {
+            Ok(0) => return Ok(()),
+            Ok(_) => answer_whole(kept, locality, random, &mut connection, writer)?,
+            Err(_) => return Err(ServeFault::Client),
+        }
+        if connection.has_ended() {
+            return Ok(());
+        }
+    }
+    Err(ServeFault::Client)
+}
+
+/// Executes the buffers that a connection holds whole, and writes their responses.
+fn answer_whole<W: Write, B: RandomBytes>(
+    kept: &mut Kept<'_>,
+    locality: Locality,
+    random: &mut B,
+    connection: &mut Connection,
+    writer: &mut Tap<W>,
+) -> Result<(), ServeFault> {
+    while let Some(front) = connection.front() {
+        let Some(bytes) = random.next() else {
+            return Err(ServeFault::Random);
+        };
+        let buffer = &connection.bytes()[..front.size];
+        if let Err(fault) = kept.execute(buffer, locality, Moment::Now, &bytes) {
+            return Err(ServeFault::Kept(fault));
+        }
+        connection.pass(front);
+        answer(kept, writer)?;
+    }
+    Ok(())
+}
+
+/// Writes the response to the latest command.
+fn answer<W: Write>(kept: &Kept<'_>, writer: &mut Tap<W>) -> Result<(), ServeFault> {
+    let Some(outcome) = kept.outcome() else {
+        return Ok(());
+    };
+    match writer.write_all(outcome.response.as_slice()) {
+        Ok(()) => Ok(()),
+        Err(_) => Err(ServeFault::Client),
+    }
+}

@@ -1,0 +1,93 @@
+//! Why a script that is played on a kept device stops.
+
+ghost use Rattle.std.specs.Prelude.{◌≡◌};
+
+use crate::fault::KeptFault;
+use std::alloc::AllocError;
+use tpm_text::AsmFault;
+use tpmsim_script::line::Unfit;
+use tpmsim_script::{BadLine, ScriptFault};
+
+/// Why a script was not played to its end.
+#[derive(Clone, Copy, Debug, PartialEq, Eq)]
+pub enum PlayFault {
+    Script(ScriptFault),
+    Kept(KeptFault),
+}
+
+/// Why a line was not performed.
+#[derive(Clone, Copy, Debug, PartialEq, Eq)]
+pub enum Stop {
+    /// The line is not one that a script may have.
+    Bad,
+    /// What it prints could not be written.
+    Write,
+    /// The device did not do what it asks for.
+    Kept(KeptFault),
+}
+
+impl Stop {
+    ghost use Rattle.tpmsim_kept.specs.Stop.{fault_at};
+
+    /// The fault of a script that stops at the line of this number.
+    pub fn at(self, number: u32) -> PlayFault
+        ensures { result ≡ fault_at number self }
+    {
+        match self {
+            Stop::Bad => PlayFault::Script(ScriptFault::Line(number)),
+            Stop::Write => PlayFault::Script(ScriptFault::Write),
+            Stop::Kept(fault) => PlayFault::Kept(fault),
+        }
+    }
+}
+
+impl From<BadLine> for Stop {
+    ghost use Rattle.tpmsim_kept.specs.declared.stop.Stop.TheVariants.{Bad};
+
+    ghost from_gives = { λ _ stop. stop ≡ Bad };
+
+    fn from(_bad: BadLine) -> Stop {
+        Stop::Bad
+    }
+}
+
+impl From<Unfit> for Stop {
+    ghost use Rattle.tpmsim_kept.specs.declared.stop.Stop.TheVariants.{Bad};
+
+    ghost from_gives = { λ _ stop. stop ≡ Bad };
+
+    fn from(_unfit: Unfit) -> Stop {
+        Stop::Bad
+    }
+}
+
+impl From<AsmFault> for Stop {
+    ghost use Rattle.tpmsim_kept.specs.declared.stop.Stop.TheVariants.{Bad};
+
+    ghost from_gives = { λ _ stop. stop ≡ Bad };
+
+    fn from(_fault: AsmFault) -> Stop {
+        Stop::Bad
+    }
+}
+
+impl From<KeptFault> for Stop {
+    ghost use Rattle.tpmsim_kept.specs.declared.stop.Stop.TheVariants.{Kept};
+
+    ghost from_gives = { λ fault stop. stop ≡ Kept fault };
+
+    fn from(fault: KeptFault) -> Stop {
+        Stop::Kept(fault)
+    }
+}
+
+impl From<AllocError> for PlayFault {
+    ghost use Rattle.tpmsim_kept.specs.declared.stop.PlayFault.TheVariants.{Script};
+    ghost use Rattle.tpmsim_script.specs.declared.fault.ScriptFault.TheVariants.{NoMemory};
+
+    ghost from_gives = { λ _ fault. fault ≡ Script NoMemory };
+
+    fn from(_error: AllocError) -> PlayFault {
+        PlayFault::Script(ScriptFault::NoMemory)
+    }
+}

@@ -1,0 +1,88 @@
+"""Runs of one kept device, several at once and some of them killed:
+
+    python3 state_processes.py PROGRAM
+
+Each command extends PCR 16. What was answered is in the journal: its value is that of so many extends,
+at least as many as were answered, and at most one more for each process that was killed.
+"""
+
+import hashlib
+import random
+import subprocess
+import sys
+import time
+
+DIGEST = "5a" * 32
+EXTEND = f"do PCR_Extend 00000010 pw:- sha256:{DIGEST}\n"
+READ = "do PCR_Read sha256:16\n"
+SUCCESS = "80020000001300000000000000000000010000"
+
+
+def begun(program: str, script: str) -> "subprocess.Popen[str]":
+    """A run that reads its script from a pipe, and is on its way."""
+    words = [program, "run", "--state", "state", "-"]
+    run = subprocess.Popen(words, text=True, stdin=subprocess.PIPE, stdout=subprocess.PIPE)
+    assert run.stdin is not None
+    run.stdin.write(script)
+    run.stdin.close()
+    return run
+
+
+def answers(run: "subprocess.Popen[str]") -> list[str]:
+    """What a run answered, up to its end."""
+    assert run.stdout is not None
+    lines = run.stdout.read().splitlines()
+    run.wait()
+    return lines
+
+
+def extends(program: str) -> int:
+    """How many extends PCR 16 has had."""
+    (line,) = answers(begun(program, READ))
+    value = bytes.fromhex(line)[-32:]
+    count = 0
+    hashed = bytes(32)
+    while hashed != value:
+        hashed = hashlib.sha256(hashed + bytes.fromhex(DIGEST)).digest()
+        count += 1
+        if count > 100000:
+            sys.exit("WRONG: the PCR has a value of no number of extends")
+    return count
+
+
+def together(program: str, processes: int, each: int) -> None:
+    """So many processes at once, each with so many extends."""
+    before = extends(program)
+    runs = [begun(program, EXTEND * each) for _ in range(processes)]
+    said = [line for run in runs for line in answers(run)]
+    after = extends(program)
+    fine = said == [SUCCESS] * (processes * each) and after - before == processes * each
+    print(f"{processes} processes at once: {'all' if fine else 'NOT ALL'} answered and kept")
+
+
+def killed(program: str, times: int) -> None:
+    """Processes that are killed at random moments, and others that go on."""
+    rolls = random.Random(57)
+    lost = 0
+    for _ in range(times):
+        before = extends(program)
+        run, other = begun(program, EXTEND * 400), begun(program, EXTEND * 3)
+        time.sleep(rolls.uniform(0.0, 0.08))
+        run.kill()
+        said = sum(line == SUCCESS for line in answers(run) + answers(other))
+        lost += not said <= extends(program) - before <= 403
+    print(f"{times} processes killed: {lost} of them lost an answer")
+
+
+def main() -> None:
+    """Plays all of it in the working folder."""
+    (program,) = sys.argv[1:]
+    print(answers(begun(program, "do Startup 0\n"))[0])
+    together(program, 4, 25)
+    killed(program, 12)
+    power = subprocess.run([program, "power", "state"], check=False)
+    print(f"a power cycle: status {power.returncode}")
+
+
+if __name__ == "__main__":
+    main()
