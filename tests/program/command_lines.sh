@@ -1,6 +1,7 @@
 # Which words make a command line: `run [--trace] SCRIPT`, where `-` is standard input, `asm LINE`,
-# whose line is one word, and `line HEX`. kept_scripts.sh has those of `run --image`. Help and the version are told on standard output. All others are
-# refused, though the files that they name are there and hold scripts.
+# whose line is one word, and `line HEX`. kept_scripts.sh has those of `run --image`, and check.sh
+# those of `check`. Help and the version are told on standard output. All others are refused, though
+# the files that they name are there and hold scripts.
 . "$(dirname "$0")/../common/cases.sh"
 
 # Each of the three scripts is answered in its own way.
@@ -41,6 +42,30 @@ words run --trace -
 # It alone, and before the command.
 words run --trace
 words --trace run a
+
+# A device that is kept: in an image or in a folder, and not in both; random bytes for it alone.
+words run --image image
+words run --image image --state state a
+words run --state state --image image --entropy a -
+words run --entropy a a
+words run --state
+
+# A device that is served: in an image or in a folder, and not in both; a log beside an image alone.
+served() {
+    words serve --socket socket --entropy /dev/zero --locality 0 --connections 1 "$@"
+}
+served
+served --image image --state state
+served --state state --log log
+served --image image --state state --log log
+served --log log
+
+# A state, which stands in one folder.
+words power
+words power a b
+words script
+words script a b
+words script --state a
 
 # A command in words; assemble.sh has more of them.
 run "tpmsim asm 'Startup 0'" asm 'Startup 0'

@@ -1,5 +1,5 @@
 -- The text of a log: a head, and the entries of what was executed since.
-use Rattle.std.specs.Prelude.{◌≡◌, ℕ, List, map, Option, Some, None}
+use Rattle.std.specs.Prelude.{◌≡◌, ℕ, Bool, false, List, map, Option, Some, None}
 use Rattle.std.specs.Io.KnownBytes.{Appends}
 use Rattle.std.specs.List.{AllByRecursion, FoldsTo}
 use Rattle.tpm_bytes.specs.Tap.{device_of}
@@ -52,3 +52,18 @@ abbrev pub LogsTellAll : Type 1
 LogsTellAll = {S : Type 0} (view : S → Written) (old : S) (executions : List Execution) (new : S)
     → FoldsTo (λ (p : S) (one : Execution) (q : S). Adds (view p) one (view q)) old executions new
     → AddsAll (view old) executions (view new)
+
+-- ---- a log that may be kept
+
+-- An execution was written behind a log, where one is kept.
+abbrev pub AddsWhereKept : {W : Type 0} → (W → Option (List ℕ)) → Option (Log W) → Execution
+    → Option (Log W) → Type 0
+AddsWhereKept contents None one new = new ≡ None
+AddsWhereKept contents (Some old) one (Some new) =
+    Adds (written_of contents old) one (written_of contents new)
+AddsWhereKept contents (Some old) one None = ⊥
+
+-- whether a write to a log failed, where one is kept
+abbrev pub log_failed : {W : Type 0} → Option (Log W) → Bool
+log_failed None = false
+log_failed (Some log) = log.failed

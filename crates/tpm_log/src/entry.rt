@@ -20,7 +20,8 @@ pub(crate) fn entry_of<'a>(event: &'a Event, drawn: usize, response: &[u8]) -> O
         locality,
         elapsed_ms,
         random,
-    } = event else {
+    } = event
+    else {
         return None;
     };
     if buffer.len() > ENTRY_LIMIT || drawn > random.len() {

@@ -11,5 +11,7 @@
 mod entry;
 pub mod laws;
 pub mod log;
+pub mod logged;
 
 pub use log::Log;
+pub use logged::Logged;

@@ -36,11 +36,7 @@ impl<W: Write + Drop> Log<W> {
     ghost use Rattle.tpm_log.specs.Log.{Begins, written_of};
 
     /// Begins the log of a device as power came on, at this time of the host's clock in milliseconds.
-    pub fn begin<K: Keep>(
-        writer: W,
-        machine: &Machine<K>,
-        now_ms: u64,
-    ) -> Result<Log<W>, Unsaved>
+    pub fn begin<K: Keep>(writer: W, machine: &Machine<K>, now_ms: u64) -> Result<Log<W>, Unsaved>
         ensures { IfOk result (λ log. Begins now_ms
             (image_text Two (kept_of (state_of K.record_of machine.now)))
             (W.contents writer) (written_of W.contents log)) }

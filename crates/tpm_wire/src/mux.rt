@@ -123,7 +123,12 @@ impl<K: Keep> Mux<K> {
                 let mut outcome = Outcome::empty();
                 let machine = &mut self.machine;
                 let _ = execute_front(
-                    machine, connection, front, host, &mut SavesNothing, &mut outcome,
+                    machine,
+                    connection,
+                    front,
+                    host,
+                    &mut SavesNothing,
+                    &mut outcome,
                 );
                 Ok(Turn::Answer(outcome))
             }

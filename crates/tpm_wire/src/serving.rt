@@ -120,7 +120,14 @@ fn serve_connection<K: Keep, R: Read, W: Write, H: FnMut() -> Result<Host, HostF
         if count == 0 {
             return Ok(answered);
         }
-        match answer_whole(machine, &mut connection, writer, host, witness, &mut outcome) {
+        match answer_whole(
+            machine,
+            &mut connection,
+            writer,
+            host,
+            witness,
+            &mut outcome,
+        ) {
             Ok(count) => answered += count,
             Err(fault) => return Err(fault),
         }

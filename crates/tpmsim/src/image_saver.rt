@@ -85,16 +85,13 @@ impl<'a> ImageSaver<'a> {
 }
 
 impl Saver for ImageSaver<'_> {
-    ghost use Rattle.std.specs.Prelude.{Some, if◌then◌else◌};
-    ghost use Rattle.std.specs.Str.{bytes_eq};
+    ghost use Rattle.std.specs.Prelude.{Some};
+    ghost use Rattle.tpmsim.specs.Saving.{changed};
 
     ghost saves = { λ old r new. new
         ≡ record old { kept = kept_text r; clock = Some r.fixed.clock } };
 
-    ghost saves_change = { λ old r new. new ≡ record old {
-      kept = kept_text r;
-      clock = (if bytes_eq old.kept (kept_text r) then old.clock else Some r.fixed.clock);
-    } };
+    ghost saves_change = { λ old r new. new ≡ changed old r };
 
     ghost has_failed = { λ saver. is_some saver.fault };
 

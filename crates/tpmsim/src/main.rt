@@ -1,22 +1,24 @@
 #![tactic(auto)]
 
-//! A TPM 2.0 simulator that runs scripts of commands, `tpmsim run SCRIPT`, assembles commands from
-//! words, `tpmsim asm LINE`, finds the words of a command, `tpmsim line HEX`, tells how commands are
-//! said in words, `tpmsim lines`, and what a response code says, `tpmsim code HEX`, and serves a
-//! device on a socket, `tpmsim serve`.
+//! A TPM 2.0 simulator: it runs scripts of commands, `tpmsim run`, and checks them, `check`;
+//! assembles commands from words, `asm`, and finds the words of a command, `line`; tells how commands
+//! are said in words, `lines`, and what a response code says, `code`; and serves a device on a
+//! socket, `serve`. A device is kept in an image, or in a folder with its state, whose power `power`
+//! cycles, and of which `script` tells what happened.
 //!
-//! On standard output, `run` prints each response in hex on a line of its own, and with `--trace` a
-//! line before it that traces the command; with `--image` its device is kept in a file. `asm`
-//! prints the command in hex, `line` the line, and `--help` a help. A run that fails says why in
-//! one line on standard error, and its exit status says of what kind that is ([`fault`]).
+//! On standard output stands what was asked for: of `run` each response in hex on a line of its own,
+//! with `--trace` behind a line that traces the command; of `check` a line for each bad line. A run
+//! that fails says why in one line on standard error, and its exit status says of what kind that is
+//! ([`fault`]).
 //!
-//! The program uses tpmsim_arguments for its words, tpmsim_script for scripts, `tpm_text` and
-//! `tpm_line` for lines, `tpm_help` for what it tells of these, `tpm_image` for a device that is kept, and `tpm_wire` for one that is
-//! served. All that touches files, sockets and clocks is here; what the device answers is proved in
-//! the crates below.
+//! The program uses tpmsim_arguments for its words, tpmsim_script for scripts and tpmsim_check for
+//! their check, `tpm_text` and `tpm_line` for lines, `tpm_help` for what it tells of these,
+//! `tpm_image` and tpmsim_kept for a device that is kept, tpmsim_journal_script for what happened to
+//! it, and `tpm_wire` and `tpm_log` for one that is served. All that touches files, sockets and
+//! clocks is here or in tpmsim_kept; what the device answers is proved in the crates below.
 
 mod checking;
-mod command_witness;
+mod command_saver;
 mod entropy;
 mod fault;
 mod folder;
@@ -72,6 +74,7 @@ fn try_main(rt: &HostRuntime) -> Result<(), Fault> {
             trace,
             storage: Some(storage),
         } => run_in_place(rt, script, trace, &storage),
+        Arguments::Check { script } => check_script(rt, script),
         Arguments::Assemble { line } => {
             let text = hex::encode(rt.alloc(), assemble(rt.alloc(), line)?)?;
             println!(rt; "{text}").map_err(|error| Fault::of_io(error, Fault::File))
@@ -85,7 +88,6 @@ fn try_main(rt: &HostRuntime) -> Result<(), Fault> {
         Arguments::Serve(service) => serve_in_place(rt, &service),
         Arguments::Power { state } => cycle_power(rt, state),
         Arguments::Retell { state } => print_script(rt, state),
-        Arguments::Check { script } => check_script(rt, script),
         Arguments::Tell(text) => {
             print!(rt; "{text}").map_err(|error| Fault::of_io(error, Fault::File))
         }
@@ -100,7 +102,7 @@ fn run_in_place(
     storage: &Storage,
 ) -> Result<(), Fault> {
     match storage.place {
-        Place::Image(_) => run_kept(rt, script, trace, storage),
+        Place::Image(image) => run_kept(rt, script, trace, image, storage.entropy),
         Place::State(folder) => play_script(rt, script, trace, folder, storage.entropy),
     }
 }
@@ -108,7 +110,7 @@ fn run_in_place(
 /// Serves the device that is kept in a place.
 fn serve_in_place(rt: &HostRuntime, service: &Service) -> Result<(), Fault> {
     match service.place {
-        Place::Image(_) => serve_device(rt, service),
+        Place::Image(image) => serve_device(rt, service, image),
         Place::State(folder) => serve_kept(rt, service, folder),
     }
 }

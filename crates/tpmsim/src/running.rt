@@ -9,7 +9,6 @@ use tpm_bytes::Tap;
 use tpm_machine::Machine;
 use tpm_record::SlotKeep;
 use tpm_saver::Saver;
-use tpmsim_arguments::{Place, Storage};
 use tpmsim_script::{new_machine, run_device, run_script};
 
 /// Runs a script, from a file or from standard input, on a new device that nobody keeps.
@@ -30,14 +29,12 @@ pub fn run_kept(
     rt: &HostRuntime,
     script: &str,
     trace: bool,
-    storage: &Storage,
+    image: &str,
+    entropy: Option<&str>,
 ) -> Result<(), Fault> {
-    let Place::Image(image) = storage.place else {
-        return Err(Fault::Usage);
-    };
     let file = ImageFile::take(rt, image)?;
     let opened = file.open(rt)?;
-    let mut entropy = match storage.entropy {
+    let mut entropy = match entropy {
         Some(path) => Some(Entropy::open(rt, path)?),
         None => None,
     };

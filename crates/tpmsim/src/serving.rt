@@ -2,7 +2,7 @@
 //! after each connection, and where that is asked for before each response too, and with a log of
 //! its commands where one is asked for.
 
-use crate::command_witness::CommandWitness;
+use crate::command_saver::CommandSaver;
 use crate::entropy::Entropy;
 use crate::fault::Fault;
 use crate::image_file::ImageFile;
@@ -10,19 +10,19 @@ use crate::image_saver::ImageSaver;
 use crate::log_file::begin_log;
 use crate::socket::{Socket, bind};
 use crate::source::Source;
+use std::fs::File;
 use std::os::unix::net::UnixStream;
 use tpm_bytes::Tap;
+use tpm_log::Logged;
 use tpm_machine::Machine;
 use tpm_record::Keep;
+use tpm_saver::Saver;
 use tpm_wire::{HostFault, Mux, ServeFault, serve_saving};
-use tpmsim_arguments::{Place, Service};
+use tpmsim_arguments::Service;
 
 /// Serves a device on a socket: the one whose image is in the file, or a new one where there is no
 /// file.
-pub fn serve_device(rt: &HostRuntime, service: &Service) -> Result<(), Fault> {
-    let Place::Image(image) = service.place else {
-        return Err(Fault::Usage);
-    };
+pub fn serve_device(rt: &HostRuntime, service: &Service, image: &str) -> Result<(), Fault> {
     let file = ImageFile::take(rt, image)?;
     let opened = file.open(rt)?;
     let mut entropy = Entropy::open(rt, service.entropy)?;
@@ -35,7 +35,13 @@ pub fn serve_device(rt: &HostRuntime, service: &Service) -> Result<(), Fault> {
         None => entropy.manufacture(rt)?,
     };
     let mut source = Source::new(entropy, service.locality);
-    let mut witness = CommandWitness::new(saver, service.saves_each);
+    let mut witness = Logged {
+        log: None,
+        next: CommandSaver {
+            image: saver,
+            saves_each: service.saves_each,
+        },
+    };
     serve_machine(rt, service, machine, &mut source, &mut witness)
 }
 
@@ -46,7 +52,7 @@ fn serve_machine<K: Keep>(
     service: &Service,
     machine: Machine<K>,
     source: &mut Source,
-    witness: &mut CommandWitness<'_>,
+    witness: &mut Logged<File, CommandSaver<'_>>,
 ) -> Result<(), Fault> {
     let socket = bind(rt, service.socket)?;
     let mut mux = Mux::new(machine);
@@ -62,10 +68,10 @@ fn serve_socket<K: Keep>(
     socket: &Socket,
     mux: &mut Mux<K>,
     source: &mut Source,
-    witness: &mut CommandWitness<'_>,
+    witness: &mut Logged<File, CommandSaver<'_>>,
 ) -> Result<(), Fault> {
     if let Some(path) = service.log {
-        witness.set_log(begin_log(rt, path, mux.machine())?);
+        witness.log = Some(begin_log(rt, path, mux.machine())?);
     }
     serve_connections(rt, service.connections, socket, mux, source, witness)
 }
@@ -77,22 +83,37 @@ fn serve_connections<K: Keep>(
     socket: &Socket,
     mux: &mut Mux<K>,
     source: &mut Source,
-    witness: &mut CommandWitness<'_>,
+    witness: &mut Logged<File, CommandSaver<'_>>,
 ) -> Result<(), Fault> {
     for _ in 0..connections {
         let stream = socket
             .accept()
             .map_err(|error| Fault::of_io(error, Fault::Socket))?;
         let served = exchange(rt, &stream, mux, source, witness);
-        witness.save_behind(mux.machine());
-        if let Some(fault) = witness.fault() {
-            return Err(fault);
-        }
-        if served == Err(ServeFault::Host) {
-            return Err(Fault::Entropy);
-        }
+        save_behind(served, mux, &mut witness.next)?;
     }
     Ok(())
+}
+
+/// Saves the device after a connection, its clock too, and says why the program ends, if it does. A
+/// device that is saved before each response is not saved again where a command was not answered
+/// since the log or the image was not written: all that was answered is in the image.
+fn save_behind<K: Keep>(
+    served: Result<u64, ServeFault>,
+    mux: &Mux<K>,
+    saver: &mut CommandSaver<'_>,
+) -> Result<(), Fault> {
+    if !saver.saves_each || served != Err(ServeFault::Save) {
+        let _ = saver.image.save(mux.machine());
+    }
+    if let Some(fault) = saver.image.fault() {
+        return Err(fault);
+    }
+    match served {
+        Err(ServeFault::Save) => Err(Fault::File),
+        Err(ServeFault::Host) => Err(Fault::Entropy),
+        _ => Ok(()),
+    }
 }
 
 /// Executes the commands of a connection, and answers each when the witness was told it.
@@ -101,7 +122,7 @@ fn exchange<K: Keep>(
     stream: &UnixStream,
     mux: &mut Mux<K>,
     source: &mut Source,
-    witness: &mut CommandWitness<'_>,
+    witness: &mut Logged<File, CommandSaver<'_>>,
 ) -> Result<u64, ServeFault> {
     let mut host = || source.host(rt).map_err(|_| HostFault);
     serve_saving(

@@ -76,11 +76,13 @@ no_script : (kind : ErrorKind) (state : Option Text) → option_map retell state
 no_script kind None e = cc
 no_script kind (Some text) e = cc
 
+unknown : (kind : ErrorKind) → (let none : Option Invocation = None in none ≡ Some (tell kind)) → ⊥
+unknown kind e = cc
+
 none_tells : (kind : ErrorKind) (command : Option (Text × List Row)) → asked_in command ≡ Some (tell kind) → ⊥
 none_tells kind None e = cc
-none_tells kind (Some command) =
+none_tells kind (Some command) e =
     let rows = command.1 in
-    let unknown : None ≡ Some (tell kind) → ⊥ = λ e. cc in
     otherwise (tell kind) (bytes_eq command.0 (codes "run")) _ _ (no_run kind (is_set (codes "trace") rows) (script_in rows) (storage_in rows))
     (otherwise (tell kind) (bytes_eq command.0 (codes "check")) _ _ (no_check kind (first_of (codes "script") rows))
     (otherwise (tell kind) (bytes_eq command.0 (codes "asm")) _ _ (no_line kind (first_of (codes "line") rows))
@@ -89,7 +91,7 @@ none_tells kind (Some command) =
     (otherwise (tell kind) (bytes_eq command.0 (codes "code")) _ _ (no_code kind (first_of (codes "number") rows))
     (otherwise (tell kind) (bytes_eq command.0 (codes "serve")) _ _ (no_service kind (service_in rows))
     (otherwise (tell kind) (bytes_eq command.0 (codes "power")) _ _ (no_power kind (first_of (codes "state") rows))
-    (otherwise (tell kind) (bytes_eq command.0 (codes "script")) _ _ (no_script kind (first_of (codes "state") rows)) unknown))))))))
+    (otherwise (tell kind) (bytes_eq command.0 (codes "script")) _ _ (no_script kind (first_of (codes "state") rows)) (unknown kind))))))))) e
 
 -- the answer where clap takes the words, and its matches are read
 pub taken : (words : List Text) (r : Result Arguments ArgumentFault) → AreTaken words

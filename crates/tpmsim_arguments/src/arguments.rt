@@ -187,7 +187,8 @@ fn storage_of<'a>(options: &ArgMatches<'a>) -> Option<Option<Storage<'a>>>
 /// The place that is given as an image or as the folder of a state, and not as both.
 fn place_by<'a>(image: Option<&'a str>, state: Option<&'a str>) -> Option<Place<'a>>
     ensures { option_map kept result
-        ≡ place_by (option_map (λ text. text.now) image) (option_map (λ text. text.now) state) }
+        ≡ place_by (option_map (λ text. text.now) image.entry)
+        (option_map (λ text. text.now) state.entry) }
 {
     match (image, state) {
         (Some(image), None) => Some(Place::Image(image)),
@@ -206,7 +207,7 @@ fn place_of<'a>(options: &ArgMatches<'a>) -> Option<Place<'a>>
 /// The log of a device in this place, if one is asked for. It is written beside an image alone.
 fn log_by<'a>(place: Place<'_>, log: Option<&'a str>) -> Option<Option<&'a str>>
     ensures { option_map (option_map (λ text. text.now)) result
-        ≡ log_by (kept place) (option_map (λ text. text.now) log) }
+        ≡ log_by (kept place.entry) (option_map (λ text. text.now) log.entry) }
 {
     match (place, log) {
         (_, None) => Some(None),

@@ -87,7 +87,7 @@ fn optional_script<'a>(alloc: Global) -> Arg<'a>
     Arg::new(alloc, "script")
         .value_name("SCRIPT")
         .action(ArgAction::Set)
-        .help("The file of the script, or - for standard input, as without it behind --state")
+        .help("The file of the script, or - for standard input; with --state, - may be left out")
 }
 
 /// An option that has a value, and may be left out.
@@ -197,7 +197,8 @@ fn serve_command<'a>(alloc: Global) -> Result<Command<'a>, AllocError>
             alloc,
             "image",
             "FILE",
-            "What the device keeps without power; a new device where there is no such file",
+            "What the device keeps without power; a new device where there is no such file. This or \
+             --state has to be given",
         ))?
         .arg(choice(
             alloc,

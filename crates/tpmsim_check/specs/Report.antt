@@ -1,6 +1,6 @@
 -- The report of the bad lines of a script.
-use Rattle.std.specs.Prelude.{◌≡◌, ℕ, List, [], ◌∷◌, ◌++◌, length, take, drop, codes}
-use Rattle.std.specs.Prelude.{Option, Some, None, Result, Ok, Err, if◌then◌else◌, nat_lt}
+use Rattle.std.specs.Prelude.{ℕ, nat_lt, Bool, true, false, List, [], ◌∷◌, ◌++◌, length, take}
+use Rattle.std.specs.Prelude.{drop, codes, Option, Some, None, Result, Ok, Err}
 use Rattle.std.specs.Fmt.{decimal}
 use Rattle.std.specs.List.{flat_map}
 use Rattle.tpm_help.specs.Wanted.{word_at}
@@ -8,7 +8,6 @@ use Rattle.tpm_text.specs.declared.fault.AsmFault.{AsmFault}
 use Rattle.tpm_text.specs.declared.fault.AsmFault.TheVariants as fault
 use Rattle.tpmsim_script.specs.Checking.{Fault, faults_of, first_number}
 use Rattle.tpmsim_script.specs.Line.{lines_of}
-use Rattle.tpmsim_script.specs.declared.bad_line.BadLine.{BadLine}
 use Rattle.tpmsim_script.specs.declared.bad_line.Wanted.{Wanted}
 use Rattle.tpmsim_script.specs.declared.bad_line.Wanted.TheVariants as wanted
 use Rattle.tpmsim_script.specs.declared.fault.ScriptFault.{ScriptFault}
@@ -35,22 +34,29 @@ wanted_text wanted.End line fault = codes "end of line"
 wanted_text wanted.ShortLine line fault = codes "at most 65536 bytes"
 
 -- what is told of a bad line: its number, its fault, and what is wanted there
+abbrev pub fault_text : (number : ℕ) → AsmFault → (wanted : List ℕ) → List ℕ
+fault_text number fault wanted =
+    codes "line " ++ decimal number ++ codes ": " ++ fault_name fault ++ codes ": " ++ wanted
+
+-- the line of text that is told of a bad line
 abbrev pub told : Fault → List ℕ
-told f = codes "line " ++ decimal f.number ++ codes ": " ++ fault_name f.bad.fault
-    ++ codes ": " ++ wanted_text f.bad.wanted f.line f.bad.fault ++ 10 ∷ []
+told f = fault_text f.number f.bad.fault (wanted_text f.bad.wanted f.line f.bad.fault) ++ 10 ∷ []
 
 -- the bad lines among those that a script may have
 abbrev pub script_faults : List ℕ → List Fault
 script_faults text = faults_of 0 1 (take 1048576 (lines_of text))
 
--- how a script ends that is run up to its first bad line, if it has one
-abbrev pub end_of : (first : Option ℕ) → (lines : ℕ) → Result (Unit {0}) ScriptFault
-end_of (Some number) lines = Err (script.Line number)
-end_of None lines = if nat_lt 1048576 lines then Err script.TooManyLines else Ok tt
+-- how a script ends that is run up to its first bad line, if it has one, by whether it has more
+-- lines than a script may have
+abbrev pub end_of : (first : Option ℕ) → (more : Bool) → Result (Unit {0}) ScriptFault
+end_of (Some number) more = Err (script.Line number)
+end_of None true = Err script.TooManyLines
+end_of None false = Ok tt
 
 -- the report of a script: what is told of each bad line, in their order
 abbrev pub report_text : List ℕ → List ℕ
 report_text text = flat_map told (script_faults text)
 
 abbrev pub report_end : List ℕ → Result (Unit {0}) ScriptFault
-report_end text = end_of (first_number (script_faults text)) (length (lines_of text))
+report_end text =
+    end_of (first_number (script_faults text)) (nat_lt 1048576 (length (lines_of text)))

@@ -7,6 +7,7 @@
 //! what is wanted where a command in words is at fault. A report equals its definition in `specs/`,
 //! which maps the faults of the script's lines.
 
+mod findings;
 pub mod report;
 mod told_fault;
 

@@ -1,6 +1,6 @@
 //! What is told of a bad line.
 
-ghost use Rattle.std.specs.Prelude.{◌≡◌};
+ghost use Rattle.std.specs.Prelude.{◌≡◌, drop};
 ghost use Rattle.tpmsim_check.specs.Report.{wanted_text};
 
 use std::fmt;
@@ -31,6 +31,26 @@ impl ToldFault {
     }
 }
 
+impl fmt::Display for ToldFault {
+    ghost use Rattle.std.specs.Prelude.{Some};
+    ghost use Rattle.tpmsim_check.specs.Report.{fault_text};
+
+    ghost output = { λ told. Some (fault_text told.number told.fault told.wanted.now) };
+
+    fn fmt<W: fmt::Write>(&self, f: &mut fmt::Formatter<W>) -> fmt::Result {
+        let number = self.number;
+        let wanted = self.wanted;
+        match self.fault {
+            AsmFault::BadName => write!(f, "line {number}: BadName: {wanted}"),
+            AsmFault::BadField { column } => write!(f, "line {number}: BadField {column}: {wanted}"),
+            AsmFault::Missing => write!(f, "line {number}: Missing: {wanted}"),
+            AsmFault::Range { column } => write!(f, "line {number}: Range {column}: {wanted}"),
+            AsmFault::TooLong => write!(f, "line {number}: TooLong: {wanted}"),
+            AsmFault::NoMemory => write!(f, "line {number}: NoMemory: {wanted}"),
+        }
+    }
+}
+
 /// What is wanted where a line is bad.
 fn wanted_text(bad: BadLine, line: &[u8]) -> &'static str
     ensures { result.now ≡ wanted_text bad.wanted line.now bad.fault }
@@ -52,26 +72,4 @@ fn words_of(line: &[u8]) -> &[u8]
     ensures { result.now ≡ drop 3 line.now }
 {
     if line.len() < 3 { &[] } else { &line[3..] }
-}
-
-impl fmt::Display for ToldFault {
-    ghost use Rattle.std.specs.Prelude.{◌++◌, Some, codes};
-    ghost use Rattle.std.specs.Fmt.{decimal};
-    ghost use Rattle.tpmsim_check.specs.Report.{fault_name};
-
-    ghost output = { λ told. Some (codes "line " ++ decimal told.number ++ codes ": "
-        ++ fault_name told.fault ++ codes ": " ++ told.wanted.now) };
-
-    fn fmt<W: fmt::Write>(&self, f: &mut fmt::Formatter<W>) -> fmt::Result {
-        let number = self.number;
-        let wanted = self.wanted;
-        match self.fault {
-            AsmFault::BadName => write!(f, "line {number}: BadName: {wanted}"),
-            AsmFault::BadField { column } => write!(f, "line {number}: BadField {column}: {wanted}"),
-            AsmFault::Missing => write!(f, "line {number}: Missing: {wanted}"),
-            AsmFault::Range { column } => write!(f, "line {number}: Range {column}: {wanted}"),
-            AsmFault::TooLong => write!(f, "line {number}: TooLong: {wanted}"),
-            AsmFault::NoMemory => write!(f, "line {number}: NoMemory: {wanted}"),
-        }
-    }
 }

@@ -1,6 +1,6 @@
 -- What is wrong with the lines of a script, which are read and not run.
 use Rattle.std.specs.Prelude.{◌≡◌, ℕ, ◌+◌, ◌^◌, ◌&&◌, nat_le, nat_lt, not, if◌then◌else◌}
-use Rattle.std.specs.Prelude.{List, [], ◌∷◌, length, Option, Some, None, Result, Ok, Err, ok_or}
+use Rattle.std.specs.Prelude.{List, [], ◌∷◌, ◌++◌, length, Option, Some, None, Result, Ok, Err, ok_or}
 use Rattle.tpm_bytes.specs.Reading.{◌>>=◌, refused_if}
 use Rattle.tpm_text.specs.Line.{assembled}
 use Rattle.tpm_text.specs.declared.fault.AsmFault.{AsmFault}
@@ -62,19 +62,21 @@ pub record Fault : Type 0 where
   pub line : List ℕ
   pub bad : BadLine
 
--- the faults of a line, and of those behind it by the milliseconds that are told then
-abbrev pub faults_with : Result ℕ BadLine → (waited number : ℕ) → (line : List ℕ)
-    → (ℕ → List Fault) → List Fault
-faults_with (Ok next) waited number line others = others next
-faults_with (Err bad) waited number line others =
-    record { number = number; line = line; bad = bad } ∷ others waited
+-- the fault of a line that was checked, if it is bad
+abbrev pub fault_at : Result ℕ BadLine → (number : ℕ) → (line : List ℕ) → List Fault
+fault_at (Ok next) number line = []
+fault_at (Err bad) number line = record { number = number; line = line; bad = bad } ∷ []
+
+-- the milliseconds that are told behind a line that was checked; one that is bad adds none
+abbrev pub waited_behind : Result ℕ BadLine → (waited : ℕ) → ℕ
+waited_behind (Ok next) waited = next
+waited_behind (Err bad) waited = waited
 
 -- the faults of lines, of which the first has this number, in their order
 abbrev pub faults_of : (waited number : ℕ) → List (List ℕ) → List Fault
 faults_of waited number [] = []
-faults_of waited number (line ∷ lines) =
-    faults_with (line_check waited line) waited number line
-    (λ next. faults_of next (number + 1) lines)
+faults_of waited number (line ∷ lines) = fault_at (line_check waited line) number line
+    ++ faults_of (waited_behind (line_check waited line) waited) (number + 1) lines
 
 -- the number of the first bad line, if there is one
 abbrev pub first_number : List Fault → Option ℕ

@@ -8,3 +8,4 @@ pub mod Player
 pub mod Run
 pub mod Keeping
 pub mod Checking
+pub mod Checker

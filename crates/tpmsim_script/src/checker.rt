@@ -1,10 +1,8 @@
 //! The check of a script's lines, which are read and not run.
 
-ghost use Rattle.std.specs.Prelude.{◌≡◌, ◌≤◌, IfOk, length, ℕ, List, option_map};
-ghost use Rattle.std.specs.Result.{result_ok};
-ghost use Rattle.tpmsim_script.specs.Checking.{Checks, check, faults_of, first_number, line_check};
+ghost use Rattle.std.specs.Prelude.{◌≡◌, ◌≤◌, IfOk, length};
+ghost use Rattle.tpmsim_script.specs.Checking.{Checks, check, line_check};
 ghost use Rattle.tpmsim_script.specs.Line.{Executes, ExecutesWords, SetsEntropy, hex_of, meaning_of};
-ghost use Rattle.tpmsim_script.specs.Script.{Playing, perform_line, play};
 
 use crate::bad_line::{BadLine, Wanted};
 use crate::line::{Line, misplaced, too_large};
@@ -23,8 +21,10 @@ pub struct Checker {
 }
 
 impl Checker {
+    ghost use Rattle.tpmsim_script.specs.Checker.{waited_of};
+
     pub fn new(alloc: Global) -> Result<Checker, AllocError>
-        ensures { IfOk result (λ checker. checker.script.waited ≡ 0) }
+        ensures { IfOk result (λ checker. waited_of checker ≡ 0) }
     {
         Ok(Checker {
             script: Script::new(),
@@ -35,8 +35,8 @@ impl Checker {
     /// Checks the next line, given without its 0a. A bad line tells the next command nothing.
     #[tactic(auto, unfolding(crate::specs::Checking::line_check))]
     pub fn check(&mut self, line: &[u8]) -> Result<(), BadLine>
-        ensures { Checks (line_check self.old.script.waited line.now) self.old.script.waited result
-            self.new.script.waited }
+        ensures { Checks (line_check (waited_of self.old) line.now) (waited_of self.old) result
+            (waited_of self.new) }
     {
         if line.len() > LINE_LIMIT {
             return Err(LONG_LINE);
@@ -48,8 +48,8 @@ impl Checker {
     /// Checks what a line says.
     fn check_said(&mut self, said: Line) -> Result<(), BadLine>
         requires { length (hex_of (meaning_of said)) ≤ 65536 }
-        ensures { Checks (check self.old.script.waited (meaning_of said.entry))
-            self.old.script.waited result self.new.script.waited }
+        ensures { Checks (check (waited_of self.old) (meaning_of said.entry)) (waited_of self.old)
+            result (waited_of self.new) }
     {
         match said {
             Line::Command(digits) => self.check_hex(digits),
@@ -66,8 +66,8 @@ impl Checker {
     /// Checks a command in hex.
     fn check_hex(&mut self, digits: &[u8]) -> Result<(), BadLine>
         requires { length digits.now ≤ 65536 }
-        ensures { Checks (check self.old.script.waited (Executes digits.now))
-            self.old.script.waited result self.new.script.waited }
+        ensures { Checks (check (waited_of self.old) (Executes digits.now)) (waited_of self.old)
+            result (waited_of self.new) }
     {
         match self.room.decode(digits) {
             Ok(buffer) => {
@@ -80,8 +80,8 @@ impl Checker {
 
     /// Checks a command in words.
     fn check_words(&mut self, words: &[u8]) -> Result<(), BadLine>
-        ensures { Checks (check self.old.script.waited (ExecutesWords words.now))
-            self.old.script.waited result self.new.script.waited }
+        ensures { Checks (check (waited_of self.old) (ExecutesWords words.now)) (waited_of self.old)
+            result (waited_of self.new) }
     {
         match self.room.assemble(words) {
             Ok(buffer) => {
@@ -98,8 +98,8 @@ impl Checker {
     /// Checks random bytes in hex.
     fn check_entropy(&mut self, digits: &[u8]) -> Result<(), BadLine>
         requires { length digits.now ≤ 65536 }
-        ensures { Checks (check self.old.script.waited (SetsEntropy digits.now))
-            self.old.script.waited result self.new.script.waited }
+        ensures { Checks (check (waited_of self.old) (SetsEntropy digits.now)) (waited_of self.old)
+            result (waited_of self.new) }
     {
         let Ok(entropy) = self.room.decode(digits) else {
             return Err(misplaced(Wanted::Entropy));
@@ -116,14 +116,3 @@ const LONG_LINE: BadLine = BadLine {
     fault: AsmFault::TooLong,
     wanted: Wanted::ShortLine,
 };
-
-/// A line is bad where it cannot be performed, and the first bad line of a script is the one that
-/// ends a run.
-#[inline(always)]
-pub fn check_laws()
-    ensures line { (p : Playing) (line : List ℕ)
-        → result_ok (line_check p.waited line)
-        ≡ option_map (λ effect. effect.next.waited) (perform_line p line) }
-    ensures script { (p : Playing) (number : ℕ) (lines : List (List ℕ))
-        → first_number (faults_of p.waited number lines) ≡ (play p number lines).bad }
-{}

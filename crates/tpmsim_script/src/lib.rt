@@ -20,6 +20,7 @@ pub mod answers;
 pub mod bad_line;
 pub mod checker;
 pub mod fault;
+pub mod laws;
 pub mod line;
 mod line_fault;
 pub mod lines;
@@ -29,7 +30,8 @@ pub mod run;
 pub mod script;
 
 pub use bad_line::{BadLine, Wanted};
-pub use checker::{Checker, check_laws};
+pub use checker::Checker;
 pub use fault::ScriptFault;
+pub use laws::check_laws;
 pub use line::Line;
 pub use run::{SCRIPT_LINES, new_machine, run_device, run_script, first_bytes};

@@ -2,9 +2,9 @@
 //! power cycles and comments.
 
 ghost use Rattle.std.specs.Prelude.{◌≡◌, ◌+◌, ◌*◌, ◌==◌, ◌≤◌, [], IfOk, is_some, length};
-ghost use Rattle.std.specs.List.{position};
+ghost use Rattle.std.specs.List.{list_all, position};
 ghost use Rattle.tpm_bytes.specs.Reading.{Gives};
-ghost use Rattle.tpm_text.specs.Number.{numeral};
+ghost use Rattle.tpm_text.specs.Number.{is_digit, numeral};
 ghost use Rattle.tpmsim_script.specs.BadLine.{missing, misplaced, number_fault, too_large};
 ghost use Rattle.tpmsim_script.specs.Line.{Tells, bytes_of, hex_of, line_meaning, line_reading};
 ghost use Rattle.tpmsim_script.specs.Line.{locality_reading, meaning_of, reading_alone, reading_by};
@@ -185,7 +185,19 @@ fn number_fault(argument: &[u8], wanted: Wanted) -> BadLine
 fn is_decimal(text: &[u8]) -> bool
     ensures { result ≡ is_some (numeral 10 text.now) }
 {
-    !text.is_empty() && text.iter().all(|byte| char::from(*byte).is_digit(10))
+    !text.is_empty() && has_digits(text)
+}
+
+fn has_digits(text: &[u8]) -> bool
+    ensures { result ≡ list_all (is_digit 10) text.now }
+{
+    text.iter().all(|byte| is_digit(*byte))
+}
+
+fn is_digit(byte: u8) -> bool
+    ensures { result ≡ is_digit 10 byte }
+{
+    char::from(byte).is_digit(10)
 }
 
 /// Writes the bytes that hex digits of either case spell to a room that is large enough. Other

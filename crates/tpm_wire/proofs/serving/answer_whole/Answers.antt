@@ -76,7 +76,7 @@ loop-front-preserved g c =
         asks_one g.H.FnMut c.args.host.now c.loop-front.host c.host.new.self i.0 r new x.buffer c.in-Ok.said outcome i.2 c.in-Ok.ensures,
         cuts_more c.args.connection.now s c.answer_front.new.connection i.0 r new x c.in-Ok.said outcome i.3 c.in-Some.ensures.1 c.answer_front.ensures.after,
         omega (arith, i.4, length-append i.0 (one ∷ [])),
-        written_one (contents (device_of c.args.writer.now)) (contents (device_of c.loop-front.writer)) (contents (device_of c.answer_front.new.writer)) i.0 r new x.buffer c.in-Ok.said outcome i.5 delivers.1),
+        written_one (contents (device_of c.args.writer.now)) (contents (device_of c.loop-front.writer)) (contents (device_of c.answer_front.new.writer)) i.0 r new x.buffer c.in-Ok.said outcome i.5 delivers.1,
         delivers.2 ∙ i.6,
         notes_one g.S.Witness.notes c.args.witness.now c.loop-front.witness c.answer_front.new.witness i.0 one i.7 delivers.0,
       );

@@ -1,0 +1,102 @@
+//! What was found in the lines of a script so far.
+
+ghost use Rattle.std.specs.Prelude.{◌≡◌, ◌==◌, ◌++◌, ◌∷◌, ◌<◌, [], None, Some, length, nat_lt, not, IfOk, OnOk};
+ghost use Rattle.std.specs.List.{flat_map};
+ghost use Rattle.std.specs.Option.{option_or};
+ghost use Rattle.tpmsim_script.specs.Checker.{waited_of};
+ghost use Rattle.tpmsim_script.specs.Checking.{fault_at, first_number, line_check, waited_behind};
+ghost use Rattle.tpmsim_script.specs.Line.{lines_of};
+ghost use Rattle.tpmsim_check.specs.Report.{fault_text, report_text, script_faults, told};
+
+use crate::told_fault::ToldFault;
+use std::alloc::{AllocError, Global};
+use tpm_text::position_of;
+use tpmsim_script::{Checker, SCRIPT_LINES};
+
+/// The bad lines that were found in a script.
+#[derive(Drop)]
+pub struct Findings {
+    /// A line of text for each of them.
+    pub text: String,
+    /// The number of the first one.
+    pub first: Option<u32>,
+}
+
+impl Findings {
+    pub fn new(alloc: Global) -> Findings
+        ensures text { result.text.bytes.items ≡ [] }
+        ensures first { result.first ≡ None }
+    {
+        Findings {
+            text: String::new(alloc),
+            first: None,
+        }
+    }
+
+    /// Checks the lines of a text, as many as a script may have, and gives the text behind them.
+    pub fn check_lines<'t>(
+        &mut self,
+        text: &'t [u8],
+        checker: &mut Checker,
+    ) -> Result<&'t [u8], AllocError>
+        requires { waited_of checker.old ≡ 0 }
+        ensures text { OnOk result
+            (self.new.text.bytes.items ≡ self.old.text.bytes.items ++ report_text text.now) }
+        ensures first { OnOk result (self.new.first
+            ≡ option_or self.old.first (first_number (script_faults text.now))) }
+        ensures more { IfOk result (λ rest. nat_lt 1048576 (length (lines_of text.now))
+            ≡ not (length rest.now == 0)) }
+    {
+        let mut rest = text;
+        for number in 1..SCRIPT_LINES + 1 {
+            if rest.is_empty() {
+                return Ok(rest);
+            }
+            let (line, others) = first_line(rest);
+            self.check_line(checker, number, line)?;
+            rest = others;
+        }
+        Ok(rest)
+    }
+
+    /// Checks the line of this number.
+    fn check_line(
+        &mut self,
+        checker: &mut Checker,
+        number: u32,
+        line: &[u8],
+    ) -> Result<(), AllocError>
+        ensures text { OnOk result (self.new.text.bytes.items ≡ self.old.text.bytes.items
+            ++ flat_map told (fault_at (line_check (waited_of checker.old) line.now) number line.now)) }
+        ensures first { OnOk result (self.new.first ≡ option_or self.old.first
+            (first_number (fault_at (line_check (waited_of checker.old) line.now) number line.now))) }
+        ensures waited { OnOk result (waited_of checker.new
+            ≡ waited_behind (line_check (waited_of checker.old) line.now) (waited_of checker.old)) }
+    {
+        match checker.check(line) {
+            Ok(()) => Ok(()),
+            Err(bad) => self.put(ToldFault::new(number, line, bad)),
+        }
+    }
+
+    /// Adds what is told of a bad line.
+    fn put(&mut self, fault: ToldFault) -> Result<(), AllocError>
+        ensures text { OnOk result (self.new.text.bytes.items ≡ self.old.text.bytes.items
+            ++ (fault_text fault.entry.number fault.entry.fault fault.entry.wanted.now ++ 10 ∷ [])) }
+        ensures first { OnOk result
+            (self.new.first ≡ option_or self.old.first (Some fault.entry.number)) }
+    {
+        self.first = self.first.or(Some(fault.number));
+        writeln!(self.text, "{fault}")
+    }
+}
+
+/// The first line of a text that is not empty, without its 0a, and the text behind it.
+fn first_line(text: &[u8]) -> (&[u8], &[u8])
+    ensures { 0 < length text.now → lines_of text.now ≡ result.0.now ∷ lines_of result.1.now }
+{
+    match position_of(b'\n', text) {
+        Some(end) => (&text[..end], &text[end + 1..]),
+        None => (text, &[]),
+    }
+}

@@ -1,0 +1,7 @@
+-- The state of a checker.
+use Rattle.std.specs.Prelude.{ℕ}
+use Rattle.tpmsim_script.specs.declared.checker.Checker.{Checker}
+
+-- the milliseconds that a checker would tell the next command
+abbrev pub waited_of : Checker → ℕ
+waited_of checker = checker.script.waited

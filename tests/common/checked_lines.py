@@ -1,0 +1,105 @@
+"""Bent lines of commands, checked as one script, against lines.py of the device in Python:
+
+    tools/python.sh tests/common/checked_lines.py PROGRAM
+
+The script has each line of bent_lines.py once. For each fault there is a line of output: how many
+bad lines have it, and how many of these differ from what `tpmsim check` says. The last one has the
+lines that are good. Each difference has a line too, which begins with DIFFERS.
+"""
+
+import collections
+import functools
+import itertools
+import sys
+import tempfile
+
+import bent_lines
+from tpmsim.standard import lines
+from tpmsim.standard.commands import CC
+
+# How many entries a line may have.
+MOST_ENTRIES = 3
+
+WANTED_NAME, WANTED_ENTRY, WANTED_END = "command", "entry", "end of line"
+WANTED_LENGTH = "at most 4096 bytes"
+
+
+def place_of(tokens: list[bytes], fault: str) -> int:
+    """The place of the token at fault among the tokens: of one that is missing, behind the last."""
+    if fault == lines.MISSING:
+        return len(tokens)
+    column = int(fault.split(" ")[1])
+    starts = itertools.accumulate(tokens, lambda start, token: start + len(token) + 1, initial=1)
+    return list(starts).index(column)
+
+
+def words_wanted(code: CC, tokens: list[bytes]) -> list[str]:
+    """What is wanted in the places of a command's tokens, by its form and by its entries."""
+    name, *words = lines.form_of(code).replace("@", "").split(" ")
+    handles = len(code.handles)
+    front = tokens[1 + handles : 1 + handles + MOST_ENTRIES]
+    entries = len(list(itertools.takewhile(lines.is_entry, front)))
+    return [name, *words[:handles], *[WANTED_ENTRY] * entries, *words[handles:]]
+
+
+def wanted_word(line: bytes, fault: str) -> str:
+    if fault == lines.BAD_NAME:
+        return WANTED_NAME
+    if fault == lines.TOO_LONG:
+        return WANTED_LENGTH
+    tokens = line.split(b" ")
+    words = words_wanted(CC[tokens[0].decode("ascii")], tokens)
+    place = place_of(tokens, fault)
+    return words[place] if place < len(words) else WANTED_END
+
+
+def fault_of(line: bytes) -> str:
+    """The fault of a line, with its column; empty where the line is good."""
+    try:
+        lines.assemble(line)
+        return ""
+    except lines.Fault as fault:
+        return str(fault)
+
+
+def all_lines() -> list[bytes]:
+    first = bent_lines.first_lines()
+    nul = functools.partial(bent_lines.replaced, b"\0")
+    bends = [*bent_lines.BENDS.values(), nul]
+    return list(dict.fromkeys(line for bend in bends for line in bent_lines.bent(first, bend)))
+
+
+def checked(program: str, script: bytes) -> dict[int, str]:
+    """What the program says of the lines of a script, by their numbers."""
+    with tempfile.NamedTemporaryFile() as file:
+        file.write(script)
+        file.flush()
+        _, output, _ = bent_lines.given(program, "check", file.name)
+    told = {}
+    for line in output.splitlines():
+        number, _, fault = line.removeprefix("line ").partition(": ")
+        told[int(number)] = fault
+    return told
+
+
+def main(program: str) -> None:
+    bent = all_lines()
+    script = b"".join(b"do " + line + b"\n" for line in bent)
+    told = checked(program, script)
+    counts: collections.Counter[str] = collections.Counter()
+    differ: collections.Counter[str] = collections.Counter()
+    for number, line in enumerate(bent, 1):
+        fault = fault_of(line)
+        want = f"{fault}: {wanted_word(line, fault)}" if fault else ""
+        name = fault.split(" ")[0] or "good"
+        counts[name] += 1
+        if told.get(number, "") != want:
+            differ[name] += 1
+            give = told.get(number, "")
+            print(f"DIFFERS: {bent_lines.shown(line)}: wanted {want}, given {give}")
+    for name, count in sorted(counts.items()):
+        print(f"{name}: {count} lines; {differ[name]} differ")
+
+
+if __name__ == "__main__":
+    main(sys.argv[1])

@@ -1,0 +1,229 @@
+"""A device that is served with --log:
+
+    python3 logged.py PROGRAM COUNT
+    python3 logged.py PROGRAM --full FOLDER
+
+What a caller was answered is compared with what `tpmsim run` answers on the image of the start and
+the log: over sessions, indices, a lockout and starts anew, where the log is cut, and behind this
+many kills; or where the log is in a folder on a disk that gets full.
+"""
+
+import pathlib
+import random
+import shutil
+import subprocess
+import sys
+import threading
+
+from tpmsim.caller import BY_OWNER, BY_VALUE, Caller, HERE, Refused, area, counter, sealed
+from tpmsim.device import DeviceEnded, ServedDevice
+from tpmsim.standard import AES, RH_OWNER
+from tpmsim.standard.objects import Attribute
+from client import connected
+
+SERVE = "serve --socket socket --image image --entropy /dev/urandom --locality 0".split()
+MOST_CONNECTIONS = 4294967295
+LINES_OF_A_HEAD, LINES_OF_AN_ENTRY = 2, 5
+CUTS, SECONDS = 12, 60
+LEAST = 20
+LIVES = 0.005, 0.05
+INDEX, COUNTER = 0x0100_0001, 0x0100_0002
+
+
+def fail(words):
+    sys.exit(f"WRONG: {words}")
+
+
+class Run:
+    """A run of the program on the image that is there, with a log of its own."""
+
+    def __init__(self, program, name, connections, *options, folder=""):
+        self.program, self.log = program, pathlib.Path(folder, f"{name}.log")
+        self.start = pathlib.Path(f"{name}.start")
+        shutil.copy("image", self.start)
+        words = [*SERVE, "--connections", str(connections), "--log", str(self.log), *options]
+        self.process = subprocess.Popen(
+            [program, *words], stdout=subprocess.PIPE, stderr=subprocess.STDOUT
+        )
+
+    def check_end(self, *wanted):
+        output = self.process.communicate(timeout=SECONDS)[0]
+        if (self.process.returncode, output) != (wanted or (0, b"")):
+            fail(f"{self.log}: the run ended with {self.process.returncode}, {output}")
+
+    def played(self, log):
+        """The responses that `tpmsim run` prints on a copy of the image of the start."""
+        shutil.copy(self.start, "played")
+        words = [self.program, "run", "--image", "played", str(log)]
+        printed = subprocess.run(words, capture_output=True, timeout=SECONDS).stdout
+        return [bytes.fromhex(line) for line in printed.decode("ascii").split()]
+
+    def check(self, responses):
+        if self.played(self.log) != responses:
+            fail(f"{self.log} is played otherwise than it was answered")
+        if self.log.stat().st_mode & 0o7777 != 0o600:
+            fail(f"{self.log} is not its owner's alone")
+
+
+def responses_of(device):
+    return [event.response for event in device.events]
+
+
+def refused(code, tpm, prepared):
+    try:
+        tpm.send(prepared)
+    except Refused as refusal:
+        if refusal.name != code:
+            fail(f"{refusal}, and not {code}")
+    else:
+        fail(f"a command was not refused: {code}")
+
+
+def use_sessions(tpm):
+    tpm.start_up()
+    tpm.send(tpm.change_auth(RH_OWNER, b"owner", b""))
+    session = tpm.session(RH_OWNER, cipher=AES)
+    tpm.send(tpm.change_auth(RH_OWNER, b"other", session.decrypting))
+    tpm.call("GetRandom", uses=[session.encrypting], bytesRequested=9)
+    tpm.send(tpm.change_auth(RH_OWNER, b"", tpm.session()))
+
+
+def use_indices(tpm):
+    tpm.start_up()
+    tpm.define(area(INDEX, BY_VALUE | BY_OWNER), auth=b"value")
+    tpm.send(tpm.writing(INDEX, b"8 bytes.", tpm.session(INDEX)))
+    tpm.send(tpm.reading(INDEX, 8))
+    tpm.define(counter(COUNTER))
+    for _ in range(5):
+        tpm.send(tpm.incrementing(COUNTER))
+
+
+def use_lockout(tpm):
+    tpm.start_up()
+    template = sealed(attributes=HERE | Attribute.USER_WITH_AUTH)
+    handle = tpm.create_primary(template, data=b"x", user_auth=b"pin")
+    for _ in range(3):
+        refused("AUTH_FAIL", tpm, tpm.unsealing(handle, b""))
+    refused("LOCKOUT", tpm, tpm.unsealing(handle))
+
+
+def draw(tpm):
+    tpm.call("GetRandom", bytesRequested=20)
+
+
+def answered(*parts):
+    """What was answered over as many connections, one after another."""
+    responses = []
+    for part in parts:
+        connected("socket").close()
+        with ServedDevice("socket") as device:
+            part(Caller(device))
+            responses += responses_of(device)
+    return responses
+
+
+def check_uses(program, *options):
+    """A device that is used over three starts, each with its own log; gives the last run."""
+    for use in (use_sessions, use_indices, use_lockout):
+        run = Run(program, "_".join([use.__name__, *options]), 4, *options)
+        responses = answered(use, draw)
+        run.check_end()
+        run.check(responses)
+        pathlib.Path("socket").unlink(missing_ok=True)
+    return run, responses
+
+
+def check_cut(run, responses, chance):
+    """A log that is cut off anywhere is good up to there."""
+    text = run.log.read_bytes()
+    lines = text.splitlines(keepends=True)
+    ends = [
+        sum(map(len, lines[:count]))
+        for count in range(LINES_OF_A_HEAD + LINES_OF_AN_ENTRY, len(lines) + 1, LINES_OF_AN_ENTRY)
+    ]
+    if len(ends) != len(responses) or ends[-1] != len(text):
+        fail(f"{run.log} has {len(ends)} entries, and not {len(responses)}")
+    for _ in range(CUTS):
+        size = chance.randrange(len(text))
+        pathlib.Path("cut").write_bytes(text[:size])
+        whole = sum(end <= size for end in ends)
+        if run.played("cut")[:whole] != responses[:whole]:
+            fail(f"{run.log}, of which {size} bytes are left, is played otherwise")
+
+
+def check_killed(program, number, chance):
+    """Behind a kill each command that was answered is in the log, and at most one more."""
+    run = Run(program, f"killed_{number}", MOST_CONNECTIONS)
+    connected("socket").close()
+    timer = threading.Timer(chance.uniform(*LIVES), run.process.kill)
+    with ServedDevice("socket") as device:
+        timer.start()
+        try:
+            tpm = Caller(device)
+            tpm.start_up()
+            while True:
+                tpm.call("GetRandom", bytesRequested=9)
+                tpm.send(tpm.incrementing(COUNTER))
+        except DeviceEnded:
+            timer.join()
+    run.process.communicate(timeout=SECONDS)
+    responses = responses_of(device)
+    played = run.played(run.log)
+    if played[: len(responses)] != responses or len(played) > len(responses) + 1:
+        fail(f"{run.log}, whose device was killed, has not what was answered")
+
+
+def increments():
+    """What is answered to a start and to as many increments as the device answers."""
+    connected("socket").close()
+    with ServedDevice("socket") as device:
+        try:
+            tpm = Caller(device)
+            tpm.start_up()
+            while True:
+                tpm.send(tpm.incrementing(COUNTER))
+        except DeviceEnded:
+            pass  # the log cannot be written
+    return responses_of(device)
+
+
+def check_full(program, folder, *options):
+    """Where a disk gets full, the log has all that was answered, and the image too."""
+    run = Run(program, "_".join(["full", *options]), 2, *options, folder=folder)
+    responses = increments()
+    run.check_end(3, b"tpmsim: file\n")
+    if run.played(run.log)[: len(responses)] != responses or len(responses) < LEAST:
+        fail(f"{run.log}, whose disk is full, has not what was answered")
+    run.log.unlink()
+    again = Run(program, "_".join(["again", *options]), 2, folder=folder)
+    [*_, number] = answered(lambda tpm: (tpm.start_up(), tpm.send(tpm.reading(COUNTER, 8))))
+    again.check_end()
+    again.log.unlink()
+    # The start is one of the responses, and five increments were made before.
+    more = int.from_bytes(number[16:24], "big") - 5 - (len(responses) - 1)
+    label = " ".join(options) or "no option"
+    print(f"{label}: commands that are in the image and were not answered: {more}")
+
+
+def main():
+    program = sys.argv[1]
+    subprocess.run([program, "run", "--image", "image", "-"], input=b"", check=True)
+    if sys.argv[2] == "--full":
+        check_uses(program)
+        shutil.copy("use_lockout.start", "image")
+        check_full(program, sys.argv[3])
+        shutil.copy("use_lockout.start", "image")
+        check_full(program, sys.argv[3], "--save-each")
+        return
+    chance = random.Random(sys.argv[2])
+    check_uses(program, "--save-each")
+    shutil.copy("use_sessions_--save-each.start", "image")
+    check_cut(*check_uses(program), chance)
+    shutil.copy("use_lockout.start", "image")
+    for number in range(int(sys.argv[2])):
+        check_killed(program, number, chance)
+    print("all is in the log that was answered, and is played again")
+
+
+if __name__ == "__main__":
+    main()

@@ -1,0 +1,155 @@
+# What `tpmsim check` says of scripts: the number of each bad line, its fault with its column, and
+# what is wanted there (docs/SCRIPTS.md, docs/LINES.md). Each line stands between two good ones.
+# Lines are written and shown as printf takes them.
+. "$(dirname "$0")/../common/cases.sh"
+
+# second LINE [LABEL]: a script of which this is the second line.
+second() {
+    # shellcheck disable=SC2059 # a line has escapes of printf
+    printf "# the first\n$1\n$startup\n" >script
+    run "${2:-\"$1\"}" check script
+}
+
+# zeros BYTES: so many bytes 00 in hex.
+zeros() {
+    printf '%0*d' "$((2 * $1))" 0
+}
+
+# The word of a line.
+second 'random'
+second ' do GetRandom 4'
+second 'DO GetRandom 4'
+second 'cmd\t00'
+second ' '
+second '\377'
+
+# What stands alone, though a word wants something behind it.
+second 'do'
+second 'loc'
+second 'wait'
+second 'entropy'
+
+# What stands behind a word.
+second 'cmd 0'
+second 'cmd 0g'
+second 'cmd  00'
+second 'cmd 00\r'
+second 'loc '
+second 'loc x'
+second 'loc -1'
+second 'loc 5'
+second 'loc 1 2'
+second 'loc 18446744073709551616'
+second 'wait '
+second 'wait 1s'
+second 'wait 0x10'
+second 'wait 4294967296'
+second 'entropy '
+second 'entropy 0'
+second "entropy $(zeros 257)" 'entropy and 257 bytes'
+second 'power '
+second 'power 1'
+
+# The lines of docs/LINES.md that have faults.
+second 'do Bogus'
+second 'do GetRandom'
+second 'do GetRandom x'
+second 'do GetRandom 65536'
+second 'do PCR_Read sha1:24,x'
+second 'do PCR_Read sha1:x,24'
+second 'do PCR_Read sha1:24x'
+second 'do Startup  0'
+second 'do Startup 0 '
+second 'do '
+second 'do  Startup 0'
+second "do PCR_Event NULL pw:- $(zeros 4096)" 'do PCR_Event with 4096 bytes'
+
+# Each kind of word in a line: handles, entries, parameters, and what is one too many or missing.
+second 'do PCR_Reset 10 pw:-'
+second 'do NV_Write OWNER 0100000 pw:- 616263 0'
+second 'do NV_Write 4000000 01000000 pw:- 616263 0'
+second 'do Unseal key pw:-'
+second 'do PolicyPassword -'
+second 'do Clear lockout pw:-'
+second 'do PolicyNV OWNER 01000000 3000000 pw:- 00 0 0'
+second 'do NV_Write OWNER 01000000 pw:0 616263 0'
+second 'do NV_Write OWNER 01000000 s:02000000:-:01 616263 0'
+second 'do NV_Write OWNER 01000000 pw:- pw:- pw:- pw:- 616263 0'
+second 'do NV_Write OWNER 01000000 pw:- pw:-'
+second 'do NV_Write OWNER 01000000 616263'
+second 'do NV_Write OWNER 01000000'
+second 'do NV_Write OWNER'
+second 'do NV_Write'
+second 'do NV_Write OWNER 01000000 pw:- 616263 0 0'
+second 'do SelfTest 256'
+second 'do GetCapability 6 x 1'
+second 'do NV_SetBits OWNER 01000000 pw:- 0x'
+second 'do HMAC 80000000 pw:- 616263 SHA256'
+second 'do StartAuthSession NULL NULL 00 - 0 des sha256'
+second 'do PolicyPCR 03000000 - sha256'
+second 'do PCR_Extend 0000000a pw:- sha256:00'
+second 'do PolicyOR 03000000 00+'
+
+# Lines right beside these, which are a script's.
+second 'cmd'
+second 'cmd '
+second 'cmd 00'
+second 'do GetRandom 4'
+second 'loc 4'
+second 'wait 4294967295'
+second "entropy $(zeros 256)" 'entropy and 256 bytes'
+second 'power'
+second ''
+second '#\377'
+
+# What waits add up to for a command; one that is bad adds nothing, and a power cycle ends nothing.
+cat >script <<'END'
+wait 4294967295
+power
+wait 1
+wait 0
+cmd
+wait 4294967295
+cmd 0
+wait 1
+do GetRandom 4
+wait 1
+END
+run 'waits' check script
+
+# All bad lines, each under its number, behind lines that are too long too.
+{
+    printf 'bad\n%s\n' "$startup"
+    printf '#%065535d\n#%065536d\n' 0 0
+    printf 'worse\n\ndo GetRandom x'
+} >script
+run 'several' check script
+run 'several on standard input' check - <script
+run 'several, run' run script
+
+# No line, one without an end, and lines that a run refuses: those are the lines of a good script.
+: >script
+run 'an empty script' check script
+printf 'cmd' >script
+run 'a line without an end' check script
+printf 'do Unseal 80000000 pw:-\n' >script
+run 'a command that the device refuses' check script
+
+# As many lines as a script may have, and one more.
+yes '' 2>"$room/yes" | head -n 1048576 >script
+run '1,048,576 lines' check script
+echo >>script
+run 'a line more' check script
+echo bad >script
+yes '' 2>"$room/yes" | head -n 1048576 >>script
+run 'a line more, the first of which is bad' check script
+
+# No script, and words that are none.
+run 'no file' check missing
+run 'a folder' check .
+run 'no word' check
+run 'two words' check script script
+run 'an option' check --trace script
+printf 'bad\n' >./-
+run 'standard input, though there is a file' check - <script
+run 'that file' check ./-

@@ -1,0 +1,66 @@
+# The log of a device that is served with --log: what `tpmsim run` plays of it is what was answered,
+# as common/logged.py says over sessions, indices, a lockout, cuts and kills.
+tests=$(cd "$(dirname "$0")/.." && pwd -P)
+. "$tests/common/cases.sh"
+. "$tests/common/served.sh"
+
+startup=$(words 'Startup 0')
+random=$(words 'GetRandom 8')
+change=$(words 'HierarchyChangeAuth OWNER pw:- 6f776e')
+
+# A device of which there is no image yet. What has a part of a command only is in no log.
+umask 000
+options='--log log'
+begin 3
+talk 'a new device' 7 "$startup" "$random" "$change"
+talk 'a size that no command has, and more behind it' 4096 "$random" 800100000000 "$startup"
+talk 'a second connection' 4096 "$random" 8001
+ended 'three connections'
+stat -c 'the log: %A' log
+grep -v '^# ' log | sed 's/^wait .*/wait, which is the host'"'"'s/'
+run 'the log on a new device with these random bytes' run --image anew --entropy entropy log
+
+# A start on its image has a log of its own.
+cp image start
+cp image played
+cp image traced
+options='--log second'
+begin 1
+talk 'the device behind a power cycle' 4096 "$startup" "$change" "$random"
+ended 'one connection'
+run 'its log on the image of the start' run --image played second
+"$program" run --trace --image traced second >trace
+for reader in audit explain; do
+    python3 "$tests/../tools/$reader.py" second trace --image start >"$room/read"
+    echo "the log is read by $reader: status $?"
+done
+
+# What is at the path of a log stays as it was, and no device is served.
+options=''
+tried() {
+    run "$1" serve --socket socket --image image --entropy entropy --locality 0 --connections 1 \
+        --log "$2"
+    [ ! -e socket ] || echo '    the socket is still there'
+}
+cp image kept
+cp log kept_log
+ln -s log link
+ln -s nowhere dangling
+mkfifo pipe
+mkdir folder
+tried 'a log that is there' log
+tried 'a link to it' link
+tried 'a link to nowhere' dangling
+tried 'a pipe' pipe
+tried 'a folder' folder
+tried 'in no folder' nowhere/log
+tried 'in a folder that is a file' log/log
+tried 'the image' image
+tried 'the socket' socket
+tried 'a full device' /dev/full
+tried 'no name' ''
+cmp log kept_log && cmp image kept && echo 'the log and the image are as they were'
+[ ! -e nowhere ] || echo 'nowhere is there'
+
+rm -rf ./*
+python3 "$tests/common/logged.py" "$program" 12

@@ -1,0 +1,22 @@
+# The log of a served device on a disk that gets full: the command whose entry does not fit is not
+# answered, the program ends and says so, and the log and the image have all that was answered, as
+# common/logged.py says. The disk is one that is mounted for this test alone, by root or by a user who
+# may be root in a namespace.
+if [ -z "${own_mounts:-}" ]; then
+    for user in '' '--user --map-root-user'; do
+        # shellcheck disable=SC2086 # it is two words, or none
+        ! unshare $user --mount true 2>/dev/null ||
+            own_mounts=yes exec unshare $user --mount sh "$0" "$@"
+    done
+fi
+tests=$(cd "$(dirname "$0")/.." && pwd -P)
+. "$tests/common/cases.sh"
+. "$tests/common/served.sh"
+
+mkdir disk || exit 1
+if [ -z "${own_mounts:-}" ] || ! mount -t tmpfs -o size=16k none disk 2>"$room/error"; then
+    skip 'no disk can be mounted for this test alone'
+fi
+python3 "$tests/common/logged.py" "$program" --full disk
+ls -A disk
+umount disk
