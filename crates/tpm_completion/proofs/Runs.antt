@@ -13,7 +13,7 @@ after_is : (seen other : Seen) → seen ≡ other → seen.step.after ≡ other.
 after_is seen other is = ap (λ (s : Seen). s.step.after) is
 
 behind_leads : (can : Bool) (first : Seen) (buffer : List ℕ) (locality : ℕ) (random : List ℕ) (place : Option ℕ) (seen : Seen) (behind : Behind can first buffer locality random place seen) → Leads can first.step.after (run_behind can first buffer locality random place seen behind) seen.step.after
-behind_leads can first buffer locality random (Some place) seen (flush, flushes, again) = (refl, flushes.executes, refl, again.executes, refl)
+behind_leads can first buffer locality random (Some place) seen (flush, flushes, again) = (refl, flushes.executes, (refl, again.executes, refl))
 behind_leads can first buffer locality random None seen is = after_is seen _ is
 
 by_leads : (can : Bool) (c : Completion) (old : Record) (buffer : List ℕ) (locality elapsed : ℕ) (random : List ℕ) (place : Option ℕ) (seen : Seen) (by : CompletesBy can c old buffer locality elapsed random place seen) → Leads can old (run_by can c old buffer locality elapsed random place seen by) seen.step.after
