@@ -1,5 +1,5 @@
 -- A log that was told executions has their text.
-use Rattle.std.proofs.Common.{◌≡◌, ℕ, List, [], ◌∷◌, ◌++◌, map, Option, Some, None, refl, sym, ap, ◌∙◌, subst}
+use Rattle.std.proofs.Common.{◌≡◌, ℕ, List, [], ◌∷◌, map, Option, Some, None, refl, sym, ap, ◌∙◌, subst}
 use Rattle.std.proofs.KnownBytes.{Appends-nil, Appends-trans}
 use Rattle.std.specs.Io.KnownBytes.{Appends}
 use Rattle.std.specs.List.{FoldsTo}
@@ -21,14 +21,13 @@ behind_first old mid new one (Some e) executions is adds all = record {
   sum = all.sum ∙ ap (λ (sum : ℕ). sum_after_all sum all.entries) adds.sum;
 }
 
-pub tells_all : {S : Type 0} (view : S → Written) (old : S) (executions : List Execution) (new : S)
-    → FoldsTo (λ (p : S) (one : Execution) (q : S). Adds (view p) one (view q)) old executions new → AddsAll (view old) executions (view new)
-tells_all {S} view old [] new told = record {
+pub tells_all : (old : Written) (executions : List Execution) (new : Written) → FoldsTo Adds old executions new → AddsAll old executions new
+tells_all old [] new told = record {
   entries = [];
   are = refl;
   entry = tt;
-  text = subst (λ (s : S). Appends (view old).text (view s).text []) (sym told) (Appends-nil _);
-  sum = ap (λ (s : S). (view s).sum) told;
+  text = subst (λ (w : Written). Appends old.text w.text []) told (Appends-nil _);
+  sum = ap (λ (w : Written). w.sum) (sym told);
 }
-tells_all view old (one ∷ executions) new told =
-    behind_first (view old) (view told.0) (view new) one (entry_in one) executions refl told.1 (tells_all view told.0 executions new told.2)
+tells_all old (one ∷ executions) new told =
+    behind_first old told.0 new one (entry_in one) executions refl told.1 (tells_all told.0 executions new told.2)

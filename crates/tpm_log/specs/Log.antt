@@ -48,10 +48,9 @@ pub record AddsAll (old : Written) (executions : List Execution) (new : Written)
   pub sum : new.sum ≡ sum_after_all old.sum entries
 
 -- A log that was told executions one after another has the text of exactly these, in order.
-abbrev pub LogsTellAll : Type 1
-LogsTellAll = {S : Type 0} (view : S → Written) (old : S) (executions : List Execution) (new : S)
-    → FoldsTo (λ (p : S) (one : Execution) (q : S). Adds (view p) one (view q)) old executions new
-    → AddsAll (view old) executions (view new)
+abbrev pub LogsTellAll : Type 0
+LogsTellAll = (old : Written) (executions : List Execution) (new : Written)
+    → FoldsTo Adds old executions new → AddsAll old executions new
 
 -- ---- a log that may be kept
 

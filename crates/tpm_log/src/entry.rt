@@ -1,12 +1,14 @@
 //! The entry of a command that a device executed.
 
-ghost use Rattle.std.specs.Prelude.{◌≡◌, IfSome, Some};
+ghost use Rattle.std.specs.Prelude.{◌≡◌, IfSome, Some, false, take};
 ghost use Rattle.tpm_journal_text.specs.Entry.{IsEntry, plain_entry};
 ghost use Rattle.tpm_log.specs.Executed.{entry_by};
 ghost use Rattle.tpm_step.specs.Events.{plain_event};
+ghost use Rattle.tpm_types.specs.Locality.{locality_number};
 
 use tpm_journal_text::{ENTRY_LIMIT, Entry, sum_of};
 use tpm_step::Event;
+use tpm_types::Locality;
 
 /// The entry of an event that drew so many of its random bytes and was answered so. There is none
 /// of a power cycle, nor of a buffer that has more bytes than an entry's.
@@ -15,25 +17,49 @@ pub(crate) fn entry_of<'a>(event: &'a Event, drawn: usize, response: &[u8]) -> O
     ensures value { IfSome result (λ entry.
         entry_by (plain_event event.now) drawn response.now ≡ Some (plain_entry entry)) }
 {
-    let Event::Command {
-        buffer,
-        locality,
-        elapsed_ms,
-        random,
-    } = event
-    else {
-        return None;
-    };
+    match event {
+        Event::PowerCycle => None,
+        Event::Command {
+            buffer,
+            locality,
+            elapsed_ms,
+            random,
+        } => {
+            let answered = sum_of(response);
+            entry_of_command(buffer, *locality, *elapsed_ms, random, drawn, answered)
+        }
+    }
+}
+
+/// The entry of a command whose response has this sum.
+fn entry_of_command<'a>(
+    buffer: &'a [u8],
+    locality: Locality,
+    elapsed_ms: u32,
+    random: &'a [u8; 256],
+    drawn: usize,
+    answered: u64,
+) -> Option<Entry<'a>>
+    ensures is { IfSome result (λ entry. IsEntry (plain_entry entry)) }
+    ensures value { IfSome result (λ entry. plain_entry entry ≡ record {
+      elapsed = elapsed_ms;
+      locality = locality_number locality;
+      completes = false;
+      drawn = take drawn random.now;
+      buffer = buffer.now;
+      answered = answered;
+    }) }
+{
     if buffer.len() > ENTRY_LIMIT || drawn > random.len() {
         return None;
     }
     let (drawn, _) = random.split_at(drawn);
     Some(Entry {
-        elapsed_ms: *elapsed_ms,
+        elapsed_ms,
         locality: locality.number(),
         completes: false,
         drawn,
         buffer,
-        answered: sum_of(response),
+        answered,
     })
 }

@@ -81,6 +81,7 @@ impl<W: Write> Witness for Log<W> {
 
     ghost note_failed = { λ log. log.failed };
 
+    #[tactic(auto, using(crate::proofs::Noting::adds_latest))]
     fn note<K: Keep>(
         &mut self,
         machine: &Machine<K>,

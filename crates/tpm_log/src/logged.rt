@@ -1,6 +1,11 @@
 //! A witness that keeps a log, if there is one, and tells another witness behind it.
 
-ghost use Rattle.std.specs.Prelude.{◌≡◌, true};
+ghost use Rattle.std.specs.Prelude.{◌≡◌, OnErr, OnOk, true};
+ghost use Rattle.tpm_history.specs.Executions.{Execution};
+ghost use Rattle.tpm_log.specs.Log.{AddsWhereKept, log_failed};
+ghost use Rattle.tpm_machine.specs.State.{latest_drawn, state_of};
+ghost use Rattle.tpm_saver.specs.Latest.{IsLatest};
+ghost use Rattle.tpm_step.specs.Events.{plain_event};
 
 use crate::log::Log;
 use std::io::Write;
@@ -18,7 +23,6 @@ pub struct Logged<W, S> {
 
 impl<W: Write, S: Witness> Witness for Logged<W, S> {
     ghost use Rattle.std.specs.Prelude.{◌||◌};
-    ghost use Rattle.tpm_log.specs.Log.{AddsWhereKept, log_failed};
 
     ghost notes = { λ old one new. AddsWhereKept W.contents old.log one new.log
         × S.notes old.next one new.next };
@@ -31,9 +35,28 @@ impl<W: Write, S: Witness> Witness for Logged<W, S> {
         event: &Event,
         outcome: &Outcome,
     ) -> Result<(), Unsaved> {
-        if let Some(log) = &mut self.log {
-            log.note(machine, event, outcome)?;
+        match note_where_kept(&mut self.log, machine, event, outcome) {
+            Ok(()) => self.next.note(machine, event, outcome),
+            Err(unsaved) => Err(unsaved),
         }
-        self.next.note(machine, event, outcome)
+    }
+}
+
+/// Notes an event in a log, if there is one.
+fn note_where_kept<W: Write, K: Keep>(
+    log: &mut Option<Log<W>>,
+    machine: &Machine<K>,
+    event: &Event,
+    outcome: &Outcome,
+) -> Result<(), Unsaved>
+    ensures told { (one : Execution) → IsLatest (state_of K.record_of machine.now)
+        (latest_drawn machine.now) (plain_event event.now) outcome.now one
+        → OnOk result (AddsWhereKept W.contents log.old one log.new) }
+    ensures failed { OnErr result (log_failed log.new ≡ true) }
+    ensures stays { log_failed log.old ≡ true → log_failed log.new ≡ true }
+{
+    match log {
+        Some(log) => log.note(machine, event, outcome),
+        None => Ok(()),
     }
 }
