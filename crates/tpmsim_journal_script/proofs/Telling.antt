@@ -123,7 +123,7 @@ pub told_more : (can : Bool) (before : Journal) (old : Record) (text : List ℕ)
     → PerformsSo can mid here (drop taken text) size words after new (λ sum said. sum ≡ said)
     → Appends at holds (codes "# " ++ words ++ 10 ∷ [] ++ drop 72 (take size (drop taken text)))
     → Retells can before old text held holds (taken + size) None after new
-unfolding one
+unfolding one joined
 told_more can before old text taken mid here size words after new held at holds r p written = record {
   repeats = joined can before old text taken mid here size words after new _ held at holds r p written None
       (sums_are can before old text taken mid here size words after new _ held at holds r p written
@@ -154,7 +154,7 @@ pub told_otherwise : (can : Bool) (before : Journal) (old : Record) (text : List
     → PerformsSo can mid here (drop taken text) size words after new (λ sum said. sum ≢ said)
     → Appends at holds (codes "# " ++ words ++ 10 ∷ [] ++ drop 72 (take size (drop taken text)))
     → RetellsEntries can before old text held holds (record { taken = taken + size; fault = Some Otherwise }) after new
-unfolding one
+unfolding one joined
 told_otherwise can before old text taken mid here size words after new held at holds r p written = record {
   replays = record {
     repeats = joined can before old text taken mid here size words after new _ held at holds r p written (Some Otherwise) (
