@@ -61,6 +61,10 @@ printf 'do GetRandom 4\nwhat\ndo GetRandom 4\n' >bad.tpm
 run 'a bad line' run --state state bad.tpm
 grep -c '^cmd' state/journal
 
+# A script that is not there begins no device.
+run 'no script' run --state none none.tpm
+[ ! -e none ] || echo 'a folder was made'
+
 # A new device with random bytes of a file.
 head -c 256 /dev/zero | tr '\0' 7 >entropy
 run 'random bytes' run --state another --entropy entropy first.tpm

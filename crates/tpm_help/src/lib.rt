@@ -4,8 +4,9 @@
 //! ([`example`]), what is wanted where words are at fault ([`wanted`]), and what a response code
 //! says ([`response_code`]).
 //!
-//! The crate uses `tpm_types_command` for the shapes of commands, and `tpm_text` for faults. Each call equals its definition in
-//! `specs/`. Of the examples nothing is said here but that a test has each of them assembled.
+//! The crate uses `tpm_types_command` for the shapes of commands, and `tpm_text` for faults. Each
+//! call equals its definition in `specs/`. Of the examples nothing is said here but that a test has
+//! each of them assembled.
 
 pub mod example;
 pub mod form;

@@ -3,6 +3,7 @@
 use crate::entropy::Entropy;
 use crate::fault::Fault;
 use std::fs;
+use std::io::Read;
 use tpm_bytes::Tap;
 use tpm_machine::Machine;
 use tpm_record::SlotKeep;
@@ -30,12 +31,26 @@ pub fn print_script(rt: &HostRuntime, folder: &str) -> Result<(), Fault> {
     }
 }
 
-/// Plays a script, from a file or from standard input, on the device in a folder. Where none is there
-/// a new one begins, manufactured with the first random bytes of a file, or else with the bytes 00 to
-/// ff.
+/// Plays a script, from a file or from standard input, on the device in a folder.
 pub fn play_script(
     rt: &HostRuntime,
     script: &str,
+    trace: bool,
+    folder: &str,
+    entropy: Option<&str>,
+) -> Result<(), Fault> {
+    if script == "-" {
+        return play_text(rt, rt.stdin(), trace, folder, entropy);
+    }
+    let file = fs::open(rt, script).map_err(|error| Fault::of_io(error, Fault::File))?;
+    play_text(rt, file, trace, folder, entropy)
+}
+
+/// Plays the script that a reader gives on the device in a folder. Where none is there a new one
+/// begins, manufactured with the first random bytes of a file, or else with the bytes 00 to ff.
+fn play_text<R: Read + Drop>(
+    rt: &HostRuntime,
+    reader: R,
     trace: bool,
     folder: &str,
     entropy: Option<&str>,
@@ -44,19 +59,13 @@ pub fn play_script(
     if !kept.is_there()? {
         kept.manufacture(&random_of(rt, entropy)?)?;
     }
-    let output = &mut Tap::new(rt.stdout());
-    if script == "-" {
-        play(
-            rt.alloc(),
-            &mut kept,
-            &mut Tap::new(rt.stdin()),
-            output,
-            trace,
-        )?;
-    } else {
-        let file = fs::open(rt, script).map_err(|error| Fault::of_io(error, Fault::File))?;
-        play(rt.alloc(), &mut kept, &mut Tap::new(file), output, trace)?;
-    }
+    play(
+        rt.alloc(),
+        &mut kept,
+        &mut Tap::new(reader),
+        &mut Tap::new(rt.stdout()),
+        trace,
+    )?;
     Ok(())
 }
 

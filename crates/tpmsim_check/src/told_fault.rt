@@ -42,7 +42,10 @@ impl fmt::Display for ToldFault {
         let wanted = self.wanted;
         match self.fault {
             AsmFault::BadName => write!(f, "line {number}: BadName: {wanted}"),
-            AsmFault::BadField { column } => write!(f, "line {number}: BadField {column}: {wanted}"),
+            AsmFault::BadField { column } => write!(
+                f,
+                "line {number}: BadField {column}: {wanted}"
+            ),
             AsmFault::Missing => write!(f, "line {number}: Missing: {wanted}"),
             AsmFault::Range { column } => write!(f, "line {number}: Range {column}: {wanted}"),
             AsmFault::TooLong => write!(f, "line {number}: TooLong: {wanted}"),

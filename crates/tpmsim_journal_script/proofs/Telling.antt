@@ -53,8 +53,7 @@ leads_more : (can : Bool) (before : Journal) (old : Record) (performances : List
 leads_more can before old [] mid here one after new leads performed journal leaves = (
   subst (λ (j : Journal). IsPerformed can j.layer old one.entry one.seen) leads.0
       (subst (λ (r : Record). IsPerformed can mid.layer r one.entry one.seen) leads.1 performed),
-  journal ∙ ap (λ (j : Journal). journal_after j one.entry one.seen.layer) leads.0,
-  leaves,
+  (journal ∙ ap (λ (j : Journal). journal_after j one.entry one.seen.layer) leads.0, leaves),
 )
 leads_more can before old (first ∷ performances) mid here one after new leads performed journal leaves = (
   leads.0,
@@ -124,7 +123,7 @@ pub told_more : (can : Bool) (before : Journal) (old : Record) (text : List ℕ)
     → PerformsSo can mid here (drop taken text) size words after new (λ sum said. sum ≡ said)
     → Appends at holds (codes "# " ++ words ++ 10 ∷ [] ++ drop 72 (take size (drop taken text)))
     → Retells can before old text held holds (taken + size) None after new
-unfolding one
+unfolding one joined
 told_more can before old text taken mid here size words after new held at holds r p written = record {
   repeats = joined can before old text taken mid here size words after new _ held at holds r p written None
       (sums_are can before old text taken mid here size words after new _ held at holds r p written
@@ -155,7 +154,7 @@ pub told_otherwise : (can : Bool) (before : Journal) (old : Record) (text : List
     → PerformsSo can mid here (drop taken text) size words after new (λ sum said. sum ≢ said)
     → Appends at holds (codes "# " ++ words ++ 10 ∷ [] ++ drop 72 (take size (drop taken text)))
     → RetellsEntries can before old text held holds (record { taken = taken + size; fault = Some Otherwise }) after new
-unfolding one
+unfolding one joined
 told_otherwise can before old text taken mid here size words after new held at holds r p written = record {
   replays = record {
     repeats = joined can before old text taken mid here size words after new _ held at holds r p written (Some Otherwise) (

@@ -1,6 +1,6 @@
 -- What a device in memory does by its journal.
-use Rattle.std.specs.Prelude.{◌≡◌, ℕ, false, ◌⊎◌, List, Option, Some, None, Result, Ok, Err}
-use Rattle.tpm_completion.specs.Execution.{Seen, seen_of}
+use Rattle.std.specs.Prelude.{◌≡◌, ℕ, ◌≤◌, false, ◌⊎◌, length, List, Option, Some, None, Result, Ok, Err}
+use Rattle.tpm_completion.specs.Execution.{Seen}
 use Rattle.tpm_history.specs.Follows.{After, Follows}
 use Rattle.tpm_image.specs.Image.{image_text}
 use Rattle.tpm_image.specs.NonVolatile.{kept_of}
@@ -19,6 +19,8 @@ use Rattle.tpm_record.specs.Record.{Record}
 use Rattle.tpm_step.specs.Events.{Cycled}
 use Rattle.tpm_step.specs.Execution.{Executes}
 use Rattle.tpm_step.specs.Step.{outcome_step}
+use Rattle.tpm_step.specs.declared.event.Outcome.{Outcome}
+use Rattle.tpm_text.specs.Trace.{IsRow}
 use Rattle.tpmsim_kept.specs.Fault.{said_of_following, said_of_opening}
 use Rattle.tpmsim_kept.specs.declared.device.Device.{Device}
 use Rattle.tpmsim_kept.specs.declared.fault.Said.{Said}
@@ -28,22 +30,26 @@ use Rattle.tpmsim_kept.specs.declared.fault.Said.TheVariants.{WantsMemory}
 abbrev pub record_of : Device → Record
 record_of device = kept_record (λ s. s) (λ o. o) (λ p. p) (λ n. n) device.machine.keep
 
--- what is seen of the latest event of a device
-abbrev pub seen_by : Device → Seen
-seen_by device = record {
-  step = outcome_step (record_of device) device.outcome;
+-- what is seen of the latest event of a device, which has this outcome
+abbrev pub seen_by : Device → Outcome → Seen
+seen_by device outcome = record {
+  step = outcome_step (record_of device) outcome;
   layer = device.journal.layer;
   drawn = device.machine.drawn;
 }
+
+-- What a command is answered: by a row of the table, and with a header, which has ten bytes.
+abbrev pub IsAnswer : Outcome → Type 0
+IsAnswer outcome = IsRow outcome.row × (10 ≤ length outcome.response.items)
 
 -- the image that a device has as power comes on
 abbrev pub image_at_power : Device → List ℕ
 image_at_power device = image_text Two (kept_of (cycled (record_of device)))
 
 -- The power of a device was cycled, and its new journal begun by this clock.
-pub record BeginsJournal (before : Device) (now : ℕ) (after : Device) : Type 0 where
-  pub executes : Executes false (record_of before) Cycled (outcome_step (record_of after) after.outcome)
-  pub history : After Follows (record_of before) Cycled (outcome_step (record_of after) after.outcome)
+pub record BeginsJournal (before : Device) (now : ℕ) (outcome : Outcome) (after : Device) : Type 0 where
+  pub executes : Executes false (record_of before) Cycled (outcome_step (record_of after) outcome)
+  pub history : After Follows (record_of before) Cycled (outcome_step (record_of after) outcome)
   pub journal : after.journal ≡ journal_begun now (image_at_power before)
 
 -- A device is that of a journal, whose head and entries have so many bytes.
@@ -76,9 +82,11 @@ abbrev pub command_by : Device → (buffer : List ℕ) → (locality now : ℕ) 
 command_by device buffer locality now random =
     command_at buffer locality (elapsed_of now device.journal.time) false random
 
--- A device executed a command, and its entry was written.
-pub record Records (before : Device) (c : Command) (entry : List ℕ) (after : Device) : Type 0 where
-  pub executes : Executed false before.journal.layer (record_of before) c (seen_by after)
-  pub written : entry ≡ entry_text before.journal.sum (entry_of c (seen_by after))
-  pub journal : after.journal
-      ≡ journal_after before.journal (entry_of c (seen_by after)) after.journal.layer
+-- A device executed a command with this outcome, and its entry was written.
+pub record Records (before : Device) (c : Command) (outcome : Outcome) (entry : List ℕ)
+    (after : Device) : Type 0
+  where
+    pub executes : Executed false before.journal.layer (record_of before) c (seen_by after outcome)
+    pub written : entry ≡ entry_text before.journal.sum (entry_of c (seen_by after outcome))
+    pub journal : after.journal
+        ≡ journal_after before.journal (entry_of c (seen_by after outcome)) after.journal.layer

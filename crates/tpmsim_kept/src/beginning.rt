@@ -9,6 +9,7 @@ use crate::journal_file::JournalFile;
 use std::fs;
 use std::fs::File;
 use std::os::unix::fs::FileExt;
+use tpm_step::Outcome;
 
 /// Cycles the power of a device, and begins a new journal of it in place of any other. Where the new
 /// one cannot be written, the other one stays.
@@ -19,7 +20,7 @@ pub fn begin(
     now_ms: u64,
     force: Force,
 ) -> Result<JournalFile, KeptFault> {
-    let Ok(head) = device.begin(rt.alloc(), now_ms) else {
+    let Ok(head) = device.begin(rt.alloc(), now_ms, &mut Outcome::empty()) else {
         return Err(Place::Journal.that(Said::WantsMemory));
     };
     let opened = replace(rt, folder, head.as_slice(), force)?;

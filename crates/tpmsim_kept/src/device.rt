@@ -19,13 +19,12 @@ use tpm_record::SlotKeep;
 use tpm_step::Outcome;
 use tpm_types::Locality;
 
-/// A device, the outcome of its latest event, which the next one's is written over, and what its
-/// journal has beside the device.
+/// A device, and what its journal has beside the device. The outcome of an event is written over one
+/// that its caller lends.
 #[derive(Drop)]
 pub struct Device {
-    pub machine: Machine<SlotKeep>,
-    pub outcome: Outcome,
-    pub journal: Journal,
+    machine: Machine<SlotKeep>,
+    journal: Journal,
 }
 
 impl Device {
@@ -36,20 +35,26 @@ impl Device {
         let machine = Machine::manufacture(alloc, random)?;
         Ok(Device {
             machine,
-            outcome: Outcome::empty(),
             journal: Journal::begun(0, 0),
         })
     }
 
+    /// The time to which the journal has come, in milliseconds of the host's clock.
+    pub fn time(&self) -> u64
+        ensures { result ≡ self.now.journal.time }
+    {
+        self.journal.time
+    }
+
     /// The device of a journal, and how many bytes of the text are its head and its entries.
-    pub fn open(alloc: Global, text: &[u8]) -> Result<(Device, usize), Said>
+    pub fn open(alloc: Global, text: &[u8], outcome: &mut Outcome) -> Result<(Device, usize), Said>
         ensures opens { IfOk result (λ opened. IsOfJournal text.now opened.1 opened.0) }
         ensures fault { IfErr result (λ said. IsSaidOf text.now said) }
     {
         let Ok(mut device) = Device::manufacture(alloc, &[0; 256]) else {
             return Err(Said::WantsMemory);
         };
-        match device.open_in_place(text) {
+        match device.open_in_place(text, outcome) {
             Ok(taken) => Ok((device, taken)),
             Err(fault) => Err(Said::of(fault)),
         }
@@ -57,24 +62,22 @@ impl Device {
 
     /// Opens the device of a journal where a new device of zeros lies. After a fault nothing is said
     /// of the device.
-    fn open_in_place(&mut self, text: &[u8]) -> Result<usize, OpenFault>
+    fn open_in_place(&mut self, text: &[u8], outcome: &mut Outcome) -> Result<usize, OpenFault>
         requires { record_of self.old ≡ manufactured (replicate 256 0) }
         ensures opens { IfOk result (λ taken. IsOfJournal text.now taken self.new) }
         ensures fault { IfErr result (λ fault. HasFault text.now fault) }
     {
-        let opened = open(&mut self.machine, text, &mut self.outcome)?;
+        let opened = open(&mut self.machine, text, outcome)?;
         self.journal = opened.journal;
         Ok(opened.taken)
     }
 
     /// Executes the entries of a text that was added behind the journal. Gives how many bytes they
     /// have.
-    pub fn follow(&mut self, text: &[u8]) -> Result<usize, Said>
+    pub fn follow(&mut self, text: &[u8], outcome: &mut Outcome) -> Result<usize, Said>
         ensures { FollowsText self.old text.now result self.new }
     {
-        let followed = self
-            .journal
-            .follow(&mut self.machine, text, &mut self.outcome);
+        let followed = self.journal.follow(&mut self.machine, text, outcome);
         match followed.fault {
             None => Ok(followed.taken),
             Some(fault) => Err(Said::of_following(fault)),
@@ -83,30 +86,34 @@ impl Device {
 
     /// Cycles the power, and gives the head of the new journal. Where memory is refused nothing is
     /// done.
-    pub fn begin(&mut self, alloc: Global, now_ms: u64) -> Result<Vec<u8>, NoMemory>
+    pub fn begin(
+        &mut self,
+        alloc: Global,
+        now_ms: u64,
+        outcome: &mut Outcome,
+    ) -> Result<Vec<u8>, NoMemory>
         ensures head { IfOk result (λ head. head.items ≡ head_text now_ms (image_at_power self.old)) }
-        ensures begins { OnOk result (BeginsJournal self.old now_ms self.new) }
+        ensures begins { OnOk result (BeginsJournal self.old now_ms outcome.new self.new) }
         ensures nothing { OnErr result ((record_of self.new ≡ record_of self.old)
             × (self.new.journal ≡ self.old.journal)) }
     {
-        let size = self.put_head(now_ms, &mut []);
+        let size = self.put_head(now_ms, outcome, &mut []);
         let Ok(mut head) = vec![in alloc; 0u8; size] else {
             return Err(NoMemory);
         };
-        self.put_head(now_ms, &mut head);
+        self.put_head(now_ms, outcome, &mut head);
         Ok(head)
     }
 
     /// Cycles the power, and writes the head of the new journal to the front of a room, if the head
     /// has room there. Gives how many bytes it has.
-    fn put_head(&mut self, now_ms: u64, room: &mut [u8]) -> usize
+    fn put_head(&mut self, now_ms: u64, outcome: &mut Outcome, room: &mut [u8]) -> usize
         ensures head { PutsFront (head_text now_ms (image_at_power self.old)) room.old result room.new }
-        ensures begins { result ≤ length room.old → BeginsJournal self.old now_ms self.new }
+        ensures begins { result ≤ length room.old → BeginsJournal self.old now_ms outcome.new self.new }
         ensures nothing { length room.old < result → (record_of self.new ≡ record_of self.old)
             × (self.new.journal ≡ self.old.journal) }
     {
-        self.journal
-            .begin(&mut self.machine, now_ms, &mut self.outcome, room)
+        self.journal.begin(&mut self.machine, now_ms, outcome, room)
     }
 
     /// Executes a command, and writes its entry to the front of a room. Gives how many bytes it has.
@@ -116,11 +123,12 @@ impl Device {
         locality: Locality,
         now_ms: u64,
         random: &[u8; 256],
+        outcome: &mut Outcome,
         room: &mut [u8; ENTRY_ROOM],
     ) -> usize
         ensures records { Records self.old
             (command_by self.old buffer.now (locality_number locality) now_ms random.now)
-            (take result room.new) self.new }
+            outcome.new (take result room.new) self.new }
         ensures fits { result ≤ length room.new }
     {
         self.journal.execute(
@@ -130,7 +138,7 @@ impl Device {
             now_ms,
             false,
             random,
-            &mut self.outcome,
+            outcome,
             room,
         )
     }

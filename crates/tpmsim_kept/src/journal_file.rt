@@ -1,5 +1,8 @@
 //! The file of a journal, and the device that executed it.
 
+ghost use Rattle.std.specs.Prelude.{OnOk};
+ghost use Rattle.tpmsim_kept.specs.Device.{IsAnswer};
+
 use crate::device::Device;
 use crate::fault::{KeptFault, Place, Said};
 use crate::folder::{Folder, Identity, OpenedFile, fault_of};
@@ -8,6 +11,9 @@ use std::fs::File;
 use std::io;
 use std::io::ErrorKind;
 use std::os::unix::fs::FileExt;
+use tpm_journal_text::ENTRY_ROOM;
+use tpm_step::Outcome;
+use tpm_types::Locality;
 
 /// A journal is read in parts of so many bytes. The head fits into one, and each entry does.
 const PART: u64 = 262_144;
@@ -16,7 +22,7 @@ const PART: u64 = 262_144;
 /// rest of an entry whose writer was ended before it answered.
 #[derive(Drop)]
 pub struct JournalFile {
-    pub device: Box<Device>,
+    device: Box<Device>,
     file: File,
     pub identity: Identity,
     /// How many bytes the file has.
@@ -38,11 +44,15 @@ impl JournalFile {
     }
 
     /// Opens the journal that stands in the folder, and executes it.
-    pub fn open(rt: &HostRuntime, folder: &Folder) -> Result<JournalFile, KeptFault> {
+    pub fn open(
+        rt: &HostRuntime,
+        folder: &Folder,
+        outcome: &mut Outcome,
+    ) -> Result<JournalFile, KeptFault> {
         let OpenedFile { file, identity } = folder.open_file(rt, Place::Journal)?;
         let size = size_of(&file)?;
         let part = read_part(rt, &file, 0, size.min(PART))?;
-        let (device, taken) = match Device::open(rt.alloc(), part.as_slice()) {
+        let (device, taken) = match Device::open(rt.alloc(), part.as_slice(), outcome) {
             Ok(opened) => opened,
             Err(said) => return Err(Place::Journal.that(said)),
         };
@@ -56,7 +66,7 @@ impl JournalFile {
             size,
             executed: taken as u64,
         };
-        journal.follow(rt)?;
+        journal.follow(rt, outcome)?;
         Ok(journal)
     }
 
@@ -66,22 +76,22 @@ impl JournalFile {
     }
 
     /// Executes what stands in the file behind what was executed.
-    pub fn catch_up(&mut self, rt: &HostRuntime) -> Result<(), KeptFault> {
+    pub fn catch_up(&mut self, rt: &HostRuntime, outcome: &mut Outcome) -> Result<(), KeptFault> {
         self.size = size_of(&self.file)?;
         if self.size < self.executed {
             return Err(Place::Journal.that(Said::WasShortened));
         }
-        self.follow(rt)
+        self.follow(rt, outcome)
     }
 
     /// Executes the entries up to the end of the file, part by part.
-    fn follow(&mut self, rt: &HostRuntime) -> Result<(), KeptFault> {
+    fn follow(&mut self, rt: &HostRuntime, outcome: &mut Outcome) -> Result<(), KeptFault> {
         for _ in 0..u64::MAX {
             let left = self.size.saturating_sub(self.executed);
             if left == 0 {
                 return Ok(());
             }
-            let taken = self.follow_part(rt, left.min(PART))?;
+            let taken = self.follow_part(rt, left.min(PART), outcome)?;
             if left <= PART {
                 return Ok(());
             }
@@ -93,9 +103,14 @@ impl JournalFile {
     }
 
     /// Executes the whole entries of the next bytes, and says how many bytes these are.
-    fn follow_part(&mut self, rt: &HostRuntime, count: u64) -> Result<usize, KeptFault> {
+    fn follow_part(
+        &mut self,
+        rt: &HostRuntime,
+        count: u64,
+        outcome: &mut Outcome,
+    ) -> Result<usize, KeptFault> {
         let part = read_part(rt, &self.file, self.executed, count)?;
-        match self.device.follow(part.as_slice()) {
+        match self.device.follow(part.as_slice(), outcome) {
             Ok(taken) => {
                 self.executed = self.executed.saturating_add(taken as u64);
                 Ok(taken)
@@ -104,8 +119,33 @@ impl JournalFile {
         }
     }
 
+    /// Executes a command at this moment, and adds its entry.
+    #[tactic(auto, using(crate::proofs::Answering::is_answer))]
+    pub fn execute(
+        &mut self,
+        buffer: &[u8],
+        locality: Locality,
+        now_ms: u64,
+        random: &[u8; 256],
+        force: Force,
+        outcome: &mut Outcome,
+    ) -> Result<(), KeptFault>
+        ensures { OnOk result (IsAnswer outcome.new) }
+    {
+        let mut entry = [0; ENTRY_ROOM];
+        let device = &mut self.device;
+        let size = device.execute(buffer, locality, now_ms, random, outcome, &mut entry);
+        let (entry, _) = entry.split_at(size);
+        self.add(entry, force)
+    }
+
+    /// The time to which the journal has come, in milliseconds of the host's clock.
+    pub fn time(&self) -> u64 {
+        self.device.time()
+    }
+
     /// Adds an entry behind what was executed. Where that fails the file is cut to what it was.
-    pub fn add(&mut self, entry: &[u8], force: Force) -> Result<(), KeptFault> {
+    fn add(&mut self, entry: &[u8], force: Force) -> Result<(), KeptFault> {
         if self.size > self.executed {
             self.cut()?;
         }

@@ -1,5 +1,8 @@
 //! A device that is kept in a folder.
 
+ghost use Rattle.std.specs.Prelude.{OnOk};
+ghost use Rattle.tpmsim_kept.specs.Device.{IsAnswer};
+
 use crate::beginning::begin;
 use crate::device::Device;
 use crate::fault::{KeptFault, Place, Said};
@@ -7,9 +10,7 @@ use crate::folder::{Folder, identity_of};
 use crate::force::Force;
 use crate::journal_file::{JournalFile, read_whole};
 use crate::lock::Lock;
-use crate::moment::Moment;
-use std::time::{Clock, SystemTime};
-use tpm_journal_text::ENTRY_ROOM;
+use crate::moment::{Moment, clock_of};
 use tpm_step::Outcome;
 use tpm_types::Locality;
 
@@ -73,23 +74,25 @@ impl<'a> Kept<'a> {
     /// Opens the device that is in the folder.
     pub fn open(&mut self) -> Result<(), KeptFault> {
         self.lock.take(self.rt, &self.folder)?;
-        let opened = self.caught_up();
+        let opened = self.caught_up(&mut Outcome::empty());
         self.lock.give();
         self.journal = Some(opened?);
         Ok(())
     }
 
-    /// Executes a command, and adds its entry to the journal. The outcome is told by
-    /// [`Kept::outcome`] then.
+    /// Executes a command, and adds its entry to the journal.
     pub fn execute(
         &mut self,
         buffer: &[u8],
         locality: Locality,
         moment: Moment,
         random: &[u8; 256],
-    ) -> Result<(), KeptFault> {
+        outcome: &mut Outcome,
+    ) -> Result<(), KeptFault>
+        ensures { OnOk result (IsAnswer outcome.new) }
+    {
         self.lock.take(self.rt, &self.folder)?;
-        let done = self.execute_locked(buffer, locality, moment, random);
+        let done = self.execute_locked(buffer, locality, moment, random, outcome);
         self.lock.give();
         done
     }
@@ -100,31 +103,15 @@ impl<'a> Kept<'a> {
         locality: Locality,
         moment: Moment,
         random: &[u8; 256],
-    ) -> Result<(), KeptFault> {
-        let mut journal = self.caught_up()?;
-        let now_ms = match moment {
-            Moment::Now => now_of(self.rt)?,
-            Moment::Behind(elapsed_ms) => {
-                let time = journal.device.journal.time;
-                time.saturating_add(u64::from(elapsed_ms))
-            }
-        };
-        let mut entry = [0; ENTRY_ROOM];
-        let size = journal
-            .device
-            .execute(buffer, locality, now_ms, random, &mut entry);
-        let (entry, _) = entry.split_at(size);
-        journal.add(entry, self.force)?;
+        outcome: &mut Outcome,
+    ) -> Result<(), KeptFault>
+        ensures { OnOk result (IsAnswer outcome.new) }
+    {
+        let mut journal = self.caught_up(outcome)?;
+        let now_ms = moment.clock_ms(self.rt, journal.time())?;
+        journal.execute(buffer, locality, now_ms, random, self.force, outcome)?;
         self.journal = Some(journal);
         Ok(())
-    }
-
-    /// The outcome of the latest command, where it was executed.
-    pub fn outcome(&self) -> Option<&Outcome> {
-        match &self.journal {
-            Some(journal) => Some(&journal.device.outcome),
-            None => None,
-        }
     }
 
     /// Takes power away from the device and gives it back, for every process that holds it.
@@ -136,7 +123,7 @@ impl<'a> Kept<'a> {
     }
 
     fn cycle_power_locked(&mut self) -> Result<(), KeptFault> {
-        let journal = self.caught_up()?;
+        let journal = self.caught_up(&mut Outcome::empty())?;
         self.begin(journal.into_device())
     }
 
@@ -150,7 +137,7 @@ impl<'a> Kept<'a> {
 
     /// Begins the journal of a device, by the host's clock.
     fn begin(&mut self, device: Box<Device>) -> Result<(), KeptFault> {
-        let now_ms = now_of(self.rt)?;
+        let now_ms = clock_of(self.rt)?;
         let begun = begin(self.rt, &mut self.folder, device, now_ms, self.force)?;
         self.journal = Some(begun);
         Ok(())
@@ -158,28 +145,17 @@ impl<'a> Kept<'a> {
 
     /// The journal that stands in the folder, and its device, which has executed all of it. It is
     /// taken out, so that it is opened anew where what is done with it fails.
-    fn caught_up(&mut self) -> Result<JournalFile, KeptFault> {
+    fn caught_up(&mut self, outcome: &mut Outcome) -> Result<JournalFile, KeptFault> {
         let held = self.journal.take();
         let Some(metadata) = self.folder.look(self.rt, Place::Journal)? else {
             return Err(Place::Journal.that(Said::IsGone));
         };
         match held {
             Some(mut journal) if journal.identity == identity_of(&metadata) => {
-                journal.catch_up(self.rt)?;
+                journal.catch_up(self.rt, outcome)?;
                 Ok(journal)
             }
-            _ => JournalFile::open(self.rt, &self.folder),
+            _ => JournalFile::open(self.rt, &self.folder, outcome),
         }
     }
-}
-
-/// The host's clock, in milliseconds.
-fn now_of(clock: &impl Clock) -> Result<u64, KeptFault> {
-    let Ok(now) = SystemTime::now(clock) else {
-        return Err(Place::Journal.that(Said::WantsClock));
-    };
-    let Ok(since) = now.duration_since(SystemTime::UNIX_EPOCH) else {
-        return Err(Place::Journal.that(Said::WantsClock));
-    };
-    u64::try_from(since.as_millis()).map_err(|_| Place::Journal.that(Said::WantsClock))
 }

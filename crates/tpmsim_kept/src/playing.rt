@@ -1,6 +1,9 @@
 //! A script that is played on a kept device. Its lines set what the device is given; between two of
 //! its commands other processes may have theirs.
 
+ghost use Rattle.std.specs.Prelude.{◌≤◌, length};
+ghost use Rattle.tpmsim_kept.specs.Device.{IsAnswer};
+
 use crate::kept::Kept;
 use crate::moment::Moment;
 use crate::stop::{PlayFault, Stop};
@@ -22,6 +25,8 @@ use tpmsim_script::script::Script;
 struct Player {
     traced: bool,
     script: Script,
+    /// The outcome of the command before, which the next is written over.
+    outcome: Outcome,
     answers: Answers,
 }
 
@@ -39,6 +44,7 @@ pub fn play<R: Read, W: Write>(
     let mut player = Player {
         traced,
         script: Script::new(),
+        outcome: Outcome::empty(),
         answers: Answers::new(alloc)?,
     };
     let played = player.lines(kept, &mut lines, &mut room, reader, writer);
@@ -80,19 +86,18 @@ impl Player {
         number: u32,
     ) -> Result<bool, PlayFault> {
         lines.next();
-        loop {
+        for _ in 0..u64::MAX {
             match lines.find() {
                 Next::Line => return Ok(true),
                 Next::End => return Ok(false),
                 Next::TooLong => return Err(PlayFault::Script(ScriptFault::Line(number))),
-                Next::Incomplete => {
-                    self.flush(writer)?;
-                    if lines.fill(reader).is_err() {
-                        return Err(PlayFault::Script(ScriptFault::Read));
-                    }
-                }
+                Next::Incomplete => self.flush(writer)?,
             }
+            let Ok(()) = lines.fill(reader) else {
+                return Err(PlayFault::Script(ScriptFault::Read));
+            };
         }
+        Err(PlayFault::Script(ScriptFault::Read))
     }
 
     /// Does what a line says.
@@ -102,7 +107,9 @@ impl Player {
         line: &[u8],
         room: &mut Room,
         writer: &mut Tap<W>,
-    ) -> Result<(), Stop> {
+    ) -> Result<(), Stop>
+        requires { length line.now ≤ 65536 }
+    {
         match Line::parse(line)? {
             Line::Command(digits) => self.execute(kept, room.decode(digits)?, writer)?,
             Line::Words(words) => self.execute(kept, room.assemble(words)?, writer)?,
@@ -123,37 +130,33 @@ impl Player {
         writer: &mut Tap<W>,
     ) -> Result<(), Stop> {
         let event = self.script.command(buffer);
-        if let Event::Command {
+        let Event::Command {
             locality,
             elapsed_ms,
             random,
             ..
         } = &event
-        {
-            kept.execute(buffer, *locality, Moment::Behind(*elapsed_ms), random)?;
-        }
-        match kept.outcome() {
-            Some(outcome) => self.print(&event, outcome, writer),
-            None => Ok(()),
-        }
-    }
-
-    /// Prints a response, after the trace where that is asked for.
-    fn print<W: Write>(
-        &mut self,
-        event: &Event,
-        outcome: &Outcome,
-        writer: &mut Tap<W>,
-    ) -> Result<(), Stop> {
-        let response = outcome.response.as_slice();
-        if self.traced {
-            let trace = trace_text(event, outcome.row, response);
-            self.put_text(writer, trace.as_str().as_bytes())?;
-        }
-        match self.answers.put(writer, response) {
+        else {
+            return Ok(());
+        };
+        let moment = Moment::Behind(*elapsed_ms);
+        kept.execute(buffer, *locality, moment, random, &mut self.outcome)?;
+        self.trace(&event, writer)?;
+        match self.answers.put(writer, self.outcome.response.as_slice()) {
             Ok(()) => Ok(()),
             Err(_) => Err(Stop::Write),
         }
+    }
+
+    /// Prints the trace of a command with the outcome that was written last, where it is asked for.
+    fn trace<W: Write>(&mut self, event: &Event, writer: &mut Tap<W>) -> Result<(), Stop>
+        requires { IsAnswer self.old.outcome }
+    {
+        if !self.traced {
+            return Ok(());
+        }
+        let text = trace_text(event, self.outcome.row, self.outcome.response.as_slice());
+        self.put_text(writer, text.as_str().as_bytes())
     }
 
     /// Cycles the device's power, and prints the trace of that where it is asked for.
@@ -169,7 +172,9 @@ impl Player {
         Ok(())
     }
 
-    fn put_text<W: Write>(&mut self, writer: &mut Tap<W>, text: &[u8]) -> Result<(), Stop> {
+    fn put_text<W: Write>(&mut self, writer: &mut Tap<W>, text: &[u8]) -> Result<(), Stop>
+        requires { length text.now ≤ 64 }
+    {
         match self.answers.put_text(writer, text) {
             Ok(()) => Ok(()),
             Err(_) => Err(Stop::Write),

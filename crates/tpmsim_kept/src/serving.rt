@@ -6,6 +6,7 @@ use crate::kept::Kept;
 use crate::moment::Moment;
 use std::io::{Read, Write};
 use tpm_bytes::Tap;
+use tpm_step::Outcome;
 use tpm_types::{BUFFER_LIMIT, Locality};
 use tpm_wire::connection::Connection;
 use tpm_wire::reading::fill;
@@ -41,10 +42,20 @@ pub fn serve<R: Read, W: Write, B: RandomBytes>(
 ) -> Result<(), ServeFault> {
     let mut connection = Connection::new();
     let mut piece = [0; BUFFER_LIMIT];
+    let mut outcome = Outcome::empty();
     for _ in 0..READS {
         match fill(reader, &mut connection, &mut piece) {
             Ok(0) => return Ok(()),
-            Ok(_) => answer_whole(kept, locality, random, &mut connection, writer)?,
+            Ok(_) => {
+                answer_whole(
+                    kept,
+                    locality,
+                    random,
+                    &mut connection,
+                    writer,
+                    &mut outcome,
+                )?;
+            }
             Err(_) => return Err(ServeFault::Client),
         }
         if connection.has_ended() {
@@ -54,35 +65,31 @@ pub fn serve<R: Read, W: Write, B: RandomBytes>(
     Err(ServeFault::Client)
 }
 
-/// Executes the buffers that a connection holds whole, and writes their responses.
+/// Executes the buffers that a connection holds whole, of which it has no more than bytes, and writes
+/// their responses.
 fn answer_whole<W: Write, B: RandomBytes>(
     kept: &mut Kept<'_>,
     locality: Locality,
     random: &mut B,
     connection: &mut Connection,
     writer: &mut Tap<W>,
+    outcome: &mut Outcome,
 ) -> Result<(), ServeFault> {
-    while let Some(front) = connection.front() {
+    for _ in 0..BUFFER_LIMIT {
+        let Some(front) = connection.front() else {
+            return Ok(());
+        };
         let Some(bytes) = random.next() else {
             return Err(ServeFault::Random);
         };
-        let buffer = &connection.bytes()[..front.size];
-        if let Err(fault) = kept.execute(buffer, locality, Moment::Now, &bytes) {
+        let (buffer, _) = connection.bytes().split_at(front.size);
+        if let Err(fault) = kept.execute(buffer, locality, Moment::Now, &bytes, outcome) {
             return Err(ServeFault::Kept(fault));
         }
         connection.pass(front);
-        answer(kept, writer)?;
+        let Ok(()) = writer.write_all(outcome.response.as_slice()) else {
+            return Err(ServeFault::Client);
+        };
     }
     Ok(())
-}
-
-/// Writes the response to the latest command.
-fn answer<W: Write>(kept: &Kept<'_>, writer: &mut Tap<W>) -> Result<(), ServeFault> {
-    let Some(outcome) = kept.outcome() else {
-        return Ok(());
-    };
-    match writer.write_all(outcome.response.as_slice()) {
-        Ok(()) => Ok(()),
-        Err(_) => Err(ServeFault::Client),
-    }
 }

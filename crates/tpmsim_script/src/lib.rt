@@ -34,4 +34,4 @@ pub use checker::Checker;
 pub use fault::ScriptFault;
 pub use laws::check_laws;
 pub use line::Line;
-pub use run::{SCRIPT_LINES, new_machine, run_device, run_script, first_bytes};
+pub use run::{SCRIPT_LINES, first_bytes, new_machine, run_device, run_script};
