@@ -104,9 +104,10 @@ turned old new first next waited after number rest line others whole whole_first
 -- where no fault is left, what was found is what the whole has
 all_told : (text : List ℕ) (first : Option ℕ) (waited number : ℕ) (rest whole : List ℕ) (whole_first : Option ℕ) (lines : ℕ)
     → left waited number rest ≡ [] → SoFar text first waited number rest whole whole_first lines → (text ≡ whole) × (first ≡ whole_first)
-all_told text first waited number rest whole whole_first lines none sofar =
-    (sym (append-nil text) ∙ ap (λ faults. text ++ flat_map told faults) (sym none) ∙ sofar.told,
-    sym (or_none first) ∙ ap (λ faults. option_or first (first_number faults)) (sym none) ∙ sofar.first)
+all_told text first waited number rest whole whole_first lines none sofar = (
+  sym (append-nil text) ∙ ap (λ faults. text ++ flat_map told faults) (sym none) ∙ sofar.told,
+  sym (or_none first) ∙ ap (λ faults. option_or first (first_number faults)) (sym none) ∙ sofar.first,
+)
 
 pub ended : (text : List ℕ) (first : Option ℕ) (waited number : ℕ) (rest whole : List ℕ) (whole_first : Option ℕ) (lines : ℕ)
     → length rest ≡ 0 → SoFar text first waited number rest whole whole_first lines → (text ≡ whole) × (first ≡ whole_first)
