@@ -12,10 +12,10 @@ draws the same nonce again, and one prepared buffer is accepted as often as it i
 
 import sys
 
-from tpmsim.caller import BY_VALUE, Use, area
-from tpmsim.standard import CC, RH_NULL, RH_OWNER, SHA256, lines, number
-from tpmsim.caller.script_caller import FIRST, ScriptCaller
+from tpmsim.caller import area, BY_VALUE, Use
 from tpmsim.caller.script import Script
+from tpmsim.caller.script_caller import FIRST, ScriptCaller
+from tpmsim.standard import CC, lines, number, RH_NULL, RH_OWNER, SHA256
 
 PCR = 0x10
 DATA = bytes(64)

@@ -11,9 +11,9 @@ sent.
 import sys
 
 from tpmsim.caller import Use
-from tpmsim.standard import RH_OWNER
-from tpmsim.caller.script_caller import ScriptCaller
 from tpmsim.caller.script import Script
+from tpmsim.caller.script_caller import ScriptCaller
+from tpmsim.standard import RH_OWNER
 
 script = Script("bench", "")
 caller = ScriptCaller(script)

@@ -34,7 +34,8 @@ grep -lE '^"""Writes [a-z_0-9]+[.](tpm|lines)' tests/*/*.py examples/*.py >progr
 while read -r program; do
     rm -f "${program%.py}.tpm" "${program%.py}.lines"
 done <programs
-xargs -P "$jobs" -n 1 tools/python.sh <programs >said || failed=1
+grep '^tests/' programs | xargs -P "$jobs" -n 6 tools/python.sh tests/anew.py >said || failed=1
+grep '^examples/' programs | xargs -P "$jobs" -n 1 tools/python.sh >said || failed=1
 tools/python.sh tests/common/expected.py || failed=1
 
 # files: those that may be written.

@@ -8,7 +8,7 @@ from tpmsim.compare.known import cause_of
 from tpmsim.compare.main import other_tpm, told
 from tpmsim.compare.play import Comparison
 from tpmsim.device import Answered, Device, StartedSwtpm
-from tpmsim.standard.frames import number
+from tpmsim.standard import number
 
 TESTS = pathlib.Path(__file__).resolve().parents[2] / "tests"
 

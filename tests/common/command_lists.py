@@ -97,7 +97,9 @@ def sections(texts: Documents) -> List:
 
 
 def groups(texts: Documents) -> List:
-    rows = re.findall(r"^\| .+ \| (.+) \|$", between(texts[README], "|---|", "\n## "), re.M)
+    rows = re.findall(
+        r"^\| .+ \| (.+) \|$", between(texts[README], "| commands |\n|---|", "\n## "), re.M
+    )
     return List(names(CC), [name for row in rows for name in row.split(", ")])
 
 

@@ -35,10 +35,10 @@ spell() {
     '
 }
 
-# caller: plays the lines of standard input with libtpms.so.0, and prints what comes of them. Each is
+# play: plays the lines of standard input with libtpms.so.0, and prints what comes of them. Each is
 # played with sanitizers too, in a folder that was the same before, and what that prints has to be the
 # same.
-caller() {
+play() {
     spell >"$room/lines"
     rm -rf "$room/again"
     cp -r . "$room/again"

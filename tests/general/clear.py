@@ -5,8 +5,8 @@ from tpmsim.caller import storage_key, wrong
 from tpmsim.standard import CC, RH_ENDORSEMENT, RH_LOCKOUT, RH_NULL, RH_OWNER, RH_PLATFORM, SHA256
 from tpmsim.standard import command, number, on_handle
 from tpmsim.standard.nv import Attribute
-from tpmsim.caller.script_caller import FIRST, SECOND, ScriptCaller, THIRD
-from tpmsim.caller.script import Script
+from tpmsim.caller.script_caller import FIRST, SECOND, THIRD
+from tests.common.teller import Teller
 
 HANDLES, PROPERTIES = 1, 6
 HIERARCHIES = (
@@ -21,14 +21,14 @@ WITH_OBJECTS = (
     (RH_PLATFORM, "the platform", 0x8180_0000, RH_PLATFORM),
 )
 
-script = Script(
+tpm = Teller(
     "tests/general/clear.tpm",
     "TPM2_Clear, for a new owner: the objects and the NV indices of the old one are gone, with the "
     "seed of its primary objects, and so are its authorization values and its lockout. What is the "
     "platform's stays.",
+    starts=False,
 )
-tpm = ScriptCaller(script)
-says = script.command
+says = tpm.raw
 
 
 def listed(what, wanted, *handles):
@@ -65,7 +65,7 @@ def primary_of(what, hierarchy):
 
 def refusals():
     says("Before TPM2_Startup: INITIALIZE", on_handle(CC.Clear, RH_PLATFORM))
-    script.startup()
+    tpm.startup()
     says("No handle: INSUFFICIENT/h1", command(CC.Clear, b""))
     says(
         "Who cannot clear: VALUE/h1",
@@ -89,13 +89,13 @@ def refusals():
 
 
 def set_up():
-    script.chapter("There is something of each kind, a reset and a restart among it.")
-    script.power()
-    script.startup()
+    tpm.chapter("There is something of each kind, a reset and a restart among it.")
+    tpm.power()
+    tpm.startup()
     tpm.does("TPM2_Shutdown(STATE)", tpm.shutting_down(STATE))
-    script.power()
+    tpm.power()
     tpm.start_up("TPM2_Startup(STATE)", STATE)
-    script.wait(5000)
+    tpm.wait(5000)
     for index, attributes, by in (
         (FIRST, BY_OWNER | BY_VALUE, RH_OWNER),
         (SECOND, BY_PLATFORM | BY_VALUE | Attribute.PLATFORMCREATE, RH_PLATFORM),
@@ -117,7 +117,7 @@ def set_up():
 
 
 def what_is_left():
-    script.chapter("The handles that are there.")
+    tpm.chapter("The handles that are there.")
     left = 0x8000_0002, 0x8000_0003
     listed("The transient objects of the platform and of TPM_RH_NULL", 0x8000_0000, *left)
     listed("The persistent one of the platform", 0x8100_0000, 0x8180_0000)
@@ -129,7 +129,7 @@ def what_is_left():
 
 
 def effects():
-    script.chapter("TPM2_Clear by the platform.")
+    tpm.chapter("TPM2_Clear by the platform.")
     names = {
         hierarchy: primary_of("A primary object as it is before", hierarchy)
         for hierarchy, *_ in HIERARCHIES[:3]
@@ -145,9 +145,9 @@ def effects():
     lockout_is("One try", 1, 5, 2000, 3000)
     before = counter_of("The update counter, and PCR 16")
     clock_is("The clock", 5000, 5000, 1, 1)
-    script.wait(70)
+    tpm.wait(70)
     tpm.does("TPM2_Clear", tpm.clearing(RH_PLATFORM))
-    script.wait(7)
+    tpm.wait(7)
     clock_is("The clock and the counts are 0, the time goes on", 5077, 7, 0, 0)
     assert counter_of("The update counter is one more; PCR 16 is as it was") == before + 1
     lockout_is("No try, and the parameters as they were", 0, 5, 2000, 3000)
@@ -160,7 +160,7 @@ def effects():
     tpm.accepted("The sessions are there: on PCR 16", tpm.reset(session))
     tpm.accepted("On TPM_RH_OWNER, whose value is another", tpm.change_auth(RH_OWNER, b"", session))
     what_is_left()
-    script.chapter("The seed of the owner is new, and the others are not.")
+    tpm.chapter("The seed of the owner is new, and the others are not.")
     for hierarchy, name, _ in HIERARCHIES[:3]:
         object_name, ticket = primary_of(f"The same primary object of {name}", hierarchy)
         assert (object_name == names[hierarchy][0]) == (hierarchy != RH_OWNER)
@@ -168,14 +168,14 @@ def effects():
         assert (ticket == names[hierarchy][1]) == (hierarchy == RH_PLATFORM)
     parent = tpm.create_primary("A storage key of the new owner", RH_OWNER, storage_key())
     tpm.fails("What was created below the old one: INTEGRITY/p1", tpm.loading(parent, below))
-    script.chapter("No counter goes back.")
+    tpm.chapter("No counter goes back.")
     tpm.define("The counter is defined again", counter(THIRD))
     tpm.does("TPM2_NV_Increment", tpm.incrementing(THIRD))
     tpm.read("It is 4", THIRD, number(4, 8))
 
 
 def by_sessions():
-    script.chapter("By sessions. The answer's hmac is by the value after it, the empty one.")
+    tpm.chapter("By sessions. The answer's hmac is by the value after it, the empty one.")
     tpm.does('lockoutAuth is "lockout"', tpm.change_auth(RH_LOCKOUT, b"lockout", b""))
     unbound = tpm.start("An HMAC session that is bound to nothing")
     bound = tpm.start("One that is bound to TPM_RH_LOCKOUT", RH_LOCKOUT)
@@ -192,10 +192,10 @@ def by_sessions():
 
 
 def over_starts():
-    script.chapter("Over starts.")
+    tpm.chapter("Over starts.")
     tpm.does("TPM2_Shutdown(STATE)", tpm.shutting_down(STATE))
     tpm.does("TPM2_Clear cancels what was saved", tpm.clearing(RH_PLATFORM))
-    script.power()
+    tpm.power()
     tpm.fails("TPM2_Startup(STATE): VALUE/p1", tpm.starting(STATE))
     tpm.start_up("TPM2_Startup(CLEAR)")
     clock_is("It is the first reset", 0, 0, 1, 0)
@@ -208,4 +208,3 @@ set_up()
 effects()
 by_sessions()
 over_starts()
-script.write()

@@ -3,20 +3,19 @@
 from tpmsim.caller import STATE, wrong
 from tpmsim.standard import CC, CONTINUE_SESSION, DECRYPT, ENCRYPT, RH_ENDORSEMENT, RH_LOCKOUT
 from tpmsim.standard import RH_NULL, RH_OWNER, RH_PLATFORM, command, frames, number, on_handle
-from tpmsim.caller.script_caller import ScriptCaller
-from tpmsim.caller.script import Script
+from tests.common.teller import Teller
 
 NO, YES = 0, 1
 BOTH = RH_LOCKOUT, RH_PLATFORM
 PROPERTIES, LOCKOUT_COUNTER = 6, 0x20E
 
-script = Script(
+tpm = Teller(
     "tests/general/clear_control.tpm",
     "TPM2_ClearControl disables TPM2_Clear (YES, 01), by lockoutAuth or by the platform, and "
     "enables it again (NO, 00), which only the platform may.",
+    starts=False,
 )
-tpm = ScriptCaller(script)
-says = script.command
+says = tpm.raw
 
 
 def control(handle, disables):
@@ -40,7 +39,7 @@ def no_try(what):
 
 def refusals():
     says("Before TPM2_Startup: INITIALIZE", control(RH_PLATFORM, YES))
-    script.startup()
+    tpm.startup()
     says("No handle: INSUFFICIENT/h1", command(CC.ClearControl, b""))
     others = RH_OWNER, RH_ENDORSEMENT, RH_NULL, 0
     says("Who cannot clear: VALUE/h1", *(control(it, YES) for it in others))
@@ -67,14 +66,14 @@ def refusals():
 
 
 def who_may():
-    script.chapter("By the platform.")
+    tpm.chapter("By the platform.")
     says("NO, and TPM2_Clear was enabled already: SUCCESS", control(RH_PLATFORM, NO))
     clears("TPM2_Clear")
     says("YES, twice: SUCCESS", control(RH_PLATFORM, YES), control(RH_PLATFORM, YES))
     is_disabled("TPM2_Clear by lockoutAuth, and by the platform")
     says("NO: SUCCESS", control(RH_PLATFORM, NO))
     clears("TPM2_Clear")
-    script.chapter("By lockoutAuth.")
+    tpm.chapter("By lockoutAuth.")
     says("NO, though TPM2_Clear is enabled: AUTH_FAIL", control(RH_LOCKOUT, NO))
     says("YES: SUCCESS", control(RH_LOCKOUT, YES))
     is_disabled("TPM2_Clear by lockoutAuth, and by the platform")
@@ -90,7 +89,7 @@ def who_may():
         tpm.does(f"{words}: YES", tpm.clear_control(RH_LOCKOUT, YES, session))
         tpm.fails("A wrong hmac, of NO: AUTH_FAIL/s1", wrong_control(session))
         tpm.fails("It has closed lockoutAuth: LOCKOUT", tpm.lock_reset())
-        script.wait(1_000_000)
+        tpm.wait(1_000_000)
         tpm.does("It opens with the time", tpm.lock_reset())
         tpm.does("It is flushed", tpm.flush(session))
 
@@ -100,7 +99,7 @@ def wrong_control(session):
 
 
 def order():
-    script.chapter("DISABLED is the check of the command itself, behind all others.")
+    tpm.chapter("DISABLED is the check of the command itself, behind all others.")
     says("A byte behind the handle: SIZE", *(on_handle(CC.Clear, it, b"\0") for it in BOTH))
     wrong_password = [frames.entry(hmac=b"x")]
     says(
@@ -113,12 +112,12 @@ def order():
     )
     says("The right one: LOCKOUT", on_handle(CC.Clear, RH_LOCKOUT))
     says("Of TPM2_ClearControl, too: LOCKOUT", control(RH_LOCKOUT, NO), control(RH_LOCKOUT, YES))
-    script.wait(1_000_000)
+    tpm.wait(1_000_000)
     is_disabled("Behind lockoutRecovery")
 
 
 def sessions():
-    script.chapter("By sessions that cannot encrypt what is no sized buffer.")
+    tpm.chapter("By sessions that cannot encrypt what is no sized buffer.")
     session = tpm.start("An HMAC session with AES", aes=True)
     for attribute in (DECRYPT, ENCRYPT):
         words = "Its only parameter is one byte, and nothing is answered"
@@ -132,12 +131,12 @@ def sessions():
 
 
 def over_starts():
-    script.chapter("It is kept over starts.")
-    script.power()
-    script.startup()
+    tpm.chapter("It is kept over starts.")
+    tpm.power()
+    tpm.startup()
     is_disabled("Behind TPM2_Startup(CLEAR)")
     tpm.does("TPM2_Shutdown(STATE)", tpm.shutting_down(STATE))
-    script.power()
+    tpm.power()
     tpm.start_up("TPM2_Startup(STATE)", STATE)
     is_disabled("Behind it")
     says("NO by the platform: SUCCESS", control(RH_PLATFORM, NO))
@@ -149,4 +148,3 @@ who_may()
 order()
 sessions()
 over_starts()
-script.write()

@@ -261,5 +261,5 @@ COMMANDS = [
 ]
 
 
-if __name__ == "__main__":
+def write_script():
     cuts.write(__file__, HEAD, LISTED, COMMANDS)

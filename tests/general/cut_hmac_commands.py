@@ -11,7 +11,6 @@ from tpmsim.standard.objects import Attribute
 from tpmsim.caller.script_caller import FIRST, FOURTH, SECOND, THIRD
 from tests.general.cuts import HEADER_BYTES, with_size
 from tests.sessions.grounds_caller import GroundsCaller
-from tpmsim.caller.script import Script
 
 PIN, DATA, LOCKOUT = b"pin", b"abc", b"lockout"
 DEMANDING = policy.after_auth_value(SHA256, bytes(32))
@@ -19,7 +18,7 @@ DECRYPTS = CONTINUE_SESSION | DECRYPT
 HANDLES_BYTES = 8
 NO_TRY, TRY = 0, 1
 
-script = Script(
+tpm = GroundsCaller(
     "tests/general/cut_hmac_commands.tpm",
     "Commands that an hmac authorizes, cut behind their authorization area to each shorter length, "
     "with commandSize corrected. The hmac is that of the whole parameters, so it is wrong; it is "
@@ -28,7 +27,6 @@ script = Script(
     "back each time. A refusal leaves the session as it was: so the command comes whole at last, "
     "with the same hmac.",
 )
-tpm = GroundsCaller(script)
 
 
 def unlock() -> None:
@@ -37,7 +35,7 @@ def unlock() -> None:
 
 def refused(what: str, outcome: str, tries: int, *buffers: bytes) -> None:
     """What is refused, and how many tries have failed then."""
-    script.command(f"{what}: {outcome}", *buffers)
+    tpm.raw(f"{what}: {outcome}", *buffers)
     tpm.tries_are("Tries", tries)
 
 
@@ -56,14 +54,14 @@ def cuts_of(prepared: Prepared) -> Iterator[tuple[str, bytes]]:
 
 
 def comes_whole(prepared: Prepared) -> None:
-    response = script.command("Whole: SUCCESS", prepared.buffer(), fresh=True)
+    response = tpm.raw("Whole: SUCCESS", prepared.buffer(), fresh=True)
     tpm.received(prepared, response)
     tpm.tries_are("No try", NO_TRY)
 
 
 def cut(name: str, prepared: Prepared, outcome: str = "AUTH_FAIL/s1", tries: int = TRY) -> None:
     """A command that is cut, and has a byte too many: so many tries each time; and then whole."""
-    script.chapter(f"{name}.")
+    tpm.chapter(f"{name}.")
     for what, buffer in cuts_of(prepared):
         refused_alone(what, outcome, tries, buffer)
     longer = prepared.but(parameters=prepared.parameters + b"\0")
@@ -136,7 +134,7 @@ def without_try(session: Session) -> None:
 
 
 def before_the_parameters(prepared: Prepared) -> None:
-    script.chapter(
+    tpm.chapter(
         "TPM2_NV_Write, cut before its parameters, with commandSize corrected, and anywhere, with "
         "commandSize as it was. No hmac is compared, so that is no try."
     )
@@ -162,19 +160,19 @@ def of_what_is_left(session: Session) -> None:
         ("An hmac that is made of what is left of the parameters", session),
         ("The password", PIN),
     ):
-        script.chapter(f"{words} is right: so the parameters are refused, and that is no try.")
+        tpm.chapter(f"{words} is right: so the parameters are refused, and that is no try.")
         for left in range(len(whole)):
             prepared = tpm.prepare(CC.NV_Write, [FIRST, FIRST], whole[:left], use)
             outcome = f"INSUFFICIENT/{'p1' if left in in_data else 'p2'}"
             refused(f"{left} bytes are left", outcome, NO_TRY, prepared.buffer())
-    script.chapter("A wrong password is a try, whatever is left.")
+    tpm.chapter("A wrong password is a try, whatever is left.")
     for left in range(len(whole)):
         prepared = tpm.prepare(CC.NV_Write, [FIRST, FIRST], whole[:left], b"x")
         refused_alone(f"{left} bytes are left", "AUTH_FAIL/s1", TRY, prepared.buffer())
 
 
 def up_to_lockout(session: Session) -> None:
-    script.chapter("Tries add up to maxTries, which is 3. No more is counted then.")
+    tpm.chapter("Tries add up to maxTries, which is 3. No more is counted then.")
     prepared = tpm.writing(FIRST, DATA, session, offset=2)
     for tries, (what, buffer) in enumerate(cuts_of(prepared), 1):
         refused(what, "AUTH_FAIL/s1" if tries <= 3 else "LOCKOUT", min(tries, 3), buffer)
@@ -192,7 +190,7 @@ def up_to_lockout(session: Session) -> None:
 
 
 def at_lockout_auth(session: Session) -> None:
-    script.chapter(
+    tpm.chapter(
         "TPM2_DictionaryAttackParameters by a session: a try at lockoutAuth counts nothing, and "
         "closes it for lockoutRecovery, which is 1,000 seconds."
     )
@@ -202,11 +200,10 @@ def at_lockout_auth(session: Session) -> None:
         refused(what, "AUTH_FAIL/s1", NO_TRY, buffer)
         refused("Now it is closed: the same", "LOCKOUT", NO_TRY, buffer)
         refused("And whole", "LOCKOUT", NO_TRY, prepared.buffer())
-        script.wait(1_000_000)
+        tpm.wait(1_000_000)
     comes_whole(prepared)
 
 
-script.startup()
 tpm.define(
     "A protected NV index, with a policy that asks for its value",
     area(FIRST, BY_VALUE | BY_POLICY, auth_policy=DEMANDING),
@@ -234,4 +231,3 @@ by_each_command(UNBOUND, TOLD, KEY)
 beside(UNBOUND, BOUND)
 without_try(UNBOUND)
 at_lockout_auth(UNBOUND)
-script.write()

@@ -132,5 +132,5 @@ COMMANDS = [
 ]
 
 
-if __name__ == "__main__":
+def write_script():
     cuts.write(__file__, HEAD, LISTED, COMMANDS)

@@ -7,8 +7,7 @@ from tpmsim.standard import ALG_NULL, CC, RH_ENDORSEMENT, RH_LOCKOUT, RH_NULL, R
 from tpmsim.standard import RH_PLATFORM, SE_HMAC, SE_POLICY, SE_TRIAL, SHA1, SHA256, frames, policy
 from tpmsim.standard.nv import Attribute as NvAttribute
 from tpmsim.standard.objects import Attribute
-from tpmsim.caller.script_caller import ScriptCaller
-from tpmsim.caller.script import Script
+from tests.common.teller import Teller
 
 PERSISTENT, OBJECTS, SESSIONS = 16, 8, 16
 AUTH_VALUES = (
@@ -37,13 +36,13 @@ TEMPLATES = (
     (hmac_key(attributes=STAYS | Attribute.SENSITIVE_DATA_ORIGIN), b"", b""),
 )
 
-script = Script(
+tpm = Teller(
     "tests/general/full_device.tpm",
     "A device that is filled up to each of its limits: sixteen persistent objects, eight transient "
     "ones, 64 NV indices of 16,384 bytes in all, and sixteen sessions. tests/images/"
     "images.py prints the image of what it keeps.",
+    starts=False,
 )
-tpm = ScriptCaller(script)
 
 
 def indices():
@@ -66,7 +65,7 @@ def indices():
 
 
 def define_all():
-    script.chapter("NV indices.")
+    tpm.chapter("NV indices.")
     defined = indices()
     for public, auth in defined:
         tpm.define("One of each kind" if public is defined[0][0] else "", public, auth=auth)
@@ -98,7 +97,7 @@ def write_some():
 
 
 def keep_all():
-    script.chapter("Persistent objects of all three hierarchies, and of each type.")
+    tpm.chapter("Persistent objects of all three hierarchies, and of each type.")
     hierarchies = (RH_OWNER, RH_OWNER), (RH_ENDORSEMENT, RH_OWNER), (RH_PLATFORM, RH_PLATFORM)
     for at in range(PERSISTENT - 1):
         public, data, user_auth = TEMPLATES[at % len(TEMPLATES)]
@@ -118,7 +117,7 @@ def keep_all():
 
 
 def transient():
-    script.chapter("Transient objects and sessions, which nothing keeps.")
+    tpm.chapter("Transient objects and sessions, which nothing keeps.")
     for at in range(OBJECTS):
         hierarchy = (RH_OWNER, RH_NULL)[at % 2]
         tpm.create_primary("Eight objects" if at == 0 else "", hierarchy, storage_key())
@@ -131,7 +130,7 @@ def transient():
 
 
 def the_rest():
-    script.chapter("Authorization values, tries, and what is saved.")
+    tpm.chapter("Authorization values, tries, and what is saved.")
     tpm.set_protection("TPM2_DictionaryAttackParameters", 5, 0x0102_0304, 0xFFFF_FFFF)
     for handle, value in AUTH_VALUES:
         tpm.does("An authorization value", tpm.change_auth(handle, value, b""))
@@ -141,23 +140,23 @@ def the_rest():
     tpm.fails("lockoutAuth is closed: AUTH_FAIL/s1", tpm.lock_reset(b"wrong"))
     for pcr in (0, 3, 15, 16):
         tpm.does("A PCR is extended", tpm.event(b"event", b"", pcr=pcr))
-    script.wait(123_456_789)
+    tpm.wait(123_456_789)
     tpm.does("TPM2_Shutdown(STATE)", tpm.shutting_down(STATE))
 
 
 def build():
-    script.startup()
+    tpm.startup()
     tpm.does("TPM2_Shutdown(STATE)", tpm.shutting_down(STATE))
-    script.power()
+    tpm.power()
     tpm.start_up("TPM2_Startup(CLEAR), a restart")
     define_all()
     write_some()
     keep_all()
     transient()
     the_rest()
-    return script.device
+    return tpm.script.device
 
 
-if __name__ == "__main__":
+def write_script():
     build()
-    script.write()
+    tpm.script.write()

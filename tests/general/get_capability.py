@@ -4,8 +4,7 @@ from tpmsim.caller import BY_VALUE, area, storage_key, wrong
 from tpmsim.model.capability import command_attributes
 from tpmsim.standard import CC, CONTINUE_SESSION, DECRYPT, ENCRYPT, RH_OWNER, SE_HMAC, SE_POLICY
 from tpmsim.standard import SE_TRIAL, command, frames, number
-from tpmsim.caller.script_caller import ScriptCaller
-from tpmsim.caller.script import Script
+from tests.common.teller import Teller
 
 HANDLES, COMMANDS, PCRS, PROPERTIES = 1, 2, 5, 6
 MOST = 2**32 - 1
@@ -14,14 +13,14 @@ MOST = 2**32 - 1
 # answers a handle.
 ATTRIBUTES = [command_attributes(it) for it in sorted(CC)]
 
-script = Script(
+tpm = Teller(
     "tests/general/get_capability.tpm",
     "TPM2_GetCapability: handles (1), commands (2), PCRs (5) and properties (6). It answers the "
     "elements from the one that is asked for on, as many as were asked for, and whether there are "
     "more behind them.",
+    starts=False,
 )
-tpm = ScriptCaller(script)
-says = script.command
+says = tpm.raw
 
 
 def answer(capability, elements, more):
@@ -55,7 +54,7 @@ def borders(name, capability, wanted, whole):
 def refusals():
     asked = number(PROPERTIES, 4) + number(0x100, 4) + number(1, 4)
     says("Before TPM2_Startup: INITIALIZE", command(CC.GetCapability, asked))
-    script.startup()
+    tpm.startup()
     says("As it is asked for: SUCCESS", command(CC.GetCapability, asked))
     for place in (1, 2, 3):
         says(
@@ -89,7 +88,7 @@ def refusals():
 
 
 def with_sessions():
-    script.chapter("With a session.")
+    tpm.chapter("With a session.")
     session = tpm.start("An HMAC session with AES", aes=True)
     asked = tpm.capability(PROPERTIES, 0x100, 1, session)
     tpm.accepted("It authorizes nothing", asked)
@@ -104,13 +103,13 @@ def with_sessions():
 
 
 def permanent_handles():
-    script.chapter("Handles of PCRs.")
+    tpm.chapter("Handles of PCRs.")
     borders("From 0", HANDLES, 0, list(range(24)))
     gives("From 12", HANDLES, 12, 5, list(range(12, 17)), more=True)
     borders("From 23", HANDLES, 23, [23])
     borders("From 24, where there is none", HANDLES, 24, [])
     gives("From the last one of the kind", HANDLES, 0x00FF_FFFF, 1, [])
-    script.chapter("Permanent handles.")
+    tpm.chapter("Permanent handles.")
     whole = [0x40000001, 0x40000007, 0x40000009, 0x4000000A, 0x4000000B, 0x4000000C]
     borders("From 40000000", HANDLES, 0x4000_0000, whole)
     borders("From the first", HANDLES, whole[0], whole)
@@ -122,7 +121,7 @@ def permanent_handles():
 
 
 def sessions():
-    script.chapter("Sessions: those of every type are 02, by their places.")
+    tpm.chapter("Sessions: those of every type are 02, by their places.")
     borders("There is none", HANDLES, 0x0200_0000, [])
     borders("Nor from its last one on", HANDLES, 0x02FF_FFFF, [])
     kinds = SE_TRIAL, SE_HMAC, SE_POLICY, SE_HMAC
@@ -144,13 +143,13 @@ def sessions():
     handles = [*handles[:2], 0x0300_0002, handles[3], *range(0x0300_0004, 0x0300_0010)]
     borders("Sixteen sessions", HANDLES, 0x0200_0000, handles)
     borders("From the last", HANDLES, 0x0200_000F, handles[15:])
-    script.power()
-    script.startup()
+    tpm.power()
+    tpm.startup()
     borders("A power cycle has ended them", HANDLES, 0x0200_0000, [])
 
 
 def objects():
-    script.chapter("Transient objects.")
+    tpm.chapter("Transient objects.")
     borders("There is none", HANDLES, 0x8000_0000, [])
     for count in range(4):
         tpm.create_primary("Four storage keys" if not count else "", RH_OWNER, storage_key())
@@ -167,7 +166,7 @@ def objects():
 
 
 def indices():
-    script.chapter("NV indices, which are defined in no order.")
+    tpm.chapter("NV indices, which are defined in no order.")
     borders("There is none", HANDLES, 0x0100_0000, [])
     handles = [0x01FF_FFFF, 0x0100_0000, 0x01C0_0002, 0x0180_0000, 0x0100_0001]
     for index in handles:
@@ -188,7 +187,7 @@ def indices():
 
 
 def commands():
-    script.chapter("Commands, by their codes; the attributes are answered.")
+    tpm.chapter("Commands, by their codes; the attributes are answered.")
     borders("From 0", COMMANDS, 0, ATTRIBUTES)
     first, last = ATTRIBUTES[0] & 0xFFFF, ATTRIBUTES[-1] & 0xFFFF
     borders("From the first code", COMMANDS, first, ATTRIBUTES)
@@ -209,7 +208,7 @@ def commands():
 
 
 def pcrs():
-    script.chapter("PCRs: both banks have all of them, whatever property and count are.")
+    tpm.chapter("PCRs: both banks have all of them, whatever property and count are.")
     banks = number(frames.SHA1, 2) + b"\3\xff\xff\xff", number(frames.SHA256, 2) + b"\3\xff\xff\xff"
     for wanted, count in ((0, 64), (0, 0), (0, 1), (1, 1), (MOST, MOST), (MOST, 0)):
         words = f"Property {wanted:X}, count {count:X}"
@@ -218,7 +217,7 @@ def pcrs():
 
 
 def properties():
-    script.chapter(
+    tpm.chapter(
         "Properties: TPM_PT_FAMILY_INDICATOR (100), TPM_PT_TOTAL_COMMANDS (129), "
         "TPM_PT_LOCKOUT_COUNTER (20E), TPM_PT_MAX_AUTH_FAIL (20F), TPM_PT_LOCKOUT_INTERVAL (210) "
         "and TPM_PT_LOCKOUT_RECOVERY (211)."
@@ -236,7 +235,7 @@ def properties():
 
 
 def tries():
-    script.chapter("The tries that are counted (20E).")
+    tpm.chapter("The tries that are counted (20E).")
     index = 0x0100_2000
     tpm.define("An index", area(index, BY_VALUE), auth=b"a")
     tpm.does("It is written", tpm.writing(index, b"x"))
@@ -254,29 +253,29 @@ def tries():
     are("Nor was it", 3)
     tpm.fails("One of TPM_RH_LOCKOUT: AUTH_FAIL/s1", tpm.lock_reset(b"x"))
     are("Nor that", 3)
-    script.wait(999_999)
+    tpm.wait(999_999)
     are("Just before recoveryTime", 3)
-    script.wait(1)
+    tpm.wait(1)
     are("Then", 2)
-    script.wait(1_999_999)
+    tpm.wait(1_999_999)
     are("A millisecond before all are forgiven", 1)
-    script.wait(1)
+    tpm.wait(1)
     are("Then", 0)
     tpm.fails("A wrong password: AUTH_FAIL/s1", bad)
-    script.wait(2**32 - 1)
+    tpm.wait(2**32 - 1)
     are("Never less than 0", 0)
     tpm.fails("Two wrong ones: AUTH_FAIL/s1", bad, bad)
-    script.power()
-    script.startup()
+    tpm.power()
+    tpm.startup()
     are("After a power cycle", 2)
-    script.wait(1_500_000)
+    tpm.wait(1_500_000)
     are("1,500 seconds later", 1)
-    script.wait(500_000)
+    tpm.wait(500_000)
     are("500 more", 0)
     tpm.fails("Two wrong ones: AUTH_FAIL/s1", bad, bad)
     tpm.set_protection("recoveryTime is 0", 3, 0, 1000)
     tpm.fails("Two wrong ones are not counted: AUTH_FAIL/s1", bad, bad)
-    script.wait(2**32 - 1)
+    tpm.wait(2**32 - 1)
     are("Nor are others forgiven", 2)
     tpm.does("TPM2_DictionaryAttackLockReset", tpm.lock_reset())
     are("None", 0)
@@ -292,4 +291,3 @@ commands()
 pcrs()
 properties()
 tries()
-script.write()

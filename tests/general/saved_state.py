@@ -4,22 +4,22 @@ from tpmsim.caller import BY_OWNER, BY_VALUE, CLEAR, STATE, Use, area, bits, cou
 from tpmsim.caller import hmac_key, sealed, storage_key, wrong
 from tpmsim.standard import CC, Fact, RH_ENDORSEMENT, RH_OWNER, RH_PLATFORM, SHA256, frames, policy
 from tpmsim.standard.nv import Attribute
-from tpmsim.caller.script_caller import FIRST, FOURTH, SECOND, ScriptCaller, THIRD
-from tpmsim.caller.script import Script
+from tpmsim.caller.script_caller import FIRST, FOURTH, SECOND, THIRD
+from tests.common.teller import Teller
 
 FIFTH = 0x0100_0005
 KEPT = 0x8100_0001
 LOCKS = Attribute.WRITE_STCLEAR | Attribute.READ_STCLEAR
 CHANGING = policy.after_command_code(SHA256, bytes(32), CC.NV_ChangeAuth)
 
-script = Script(
+tpm = Teller(
     "tests/general/saved_state.tpm",
     "A state that TPM2_Shutdown(STATE) saved is good for the next TPM2_Startup as long as nothing "
     "has happened since. Each command that succeeds cancels it, but those that change nothing. "
     "Here each command follows a TPM2_Shutdown(STATE); behind a power cycle TPM2_Startup(STATE) "
     "then says whether the state was there still.",
+    starts=False,
 )
-tpm = ScriptCaller(script)
 
 
 def session():
@@ -119,7 +119,7 @@ def save():
 
 def start_again(is_kept):
     """By the state that was saved, where it was kept."""
-    script.power()
+    tpm.power()
     if is_kept:
         tpm.start_up("It was kept: TPM2_Startup(STATE)", STATE)
     else:
@@ -130,7 +130,7 @@ def start_again(is_kept):
 def each_command():
     for code, make in COMMANDS.items():
         is_kept = code.has(Fact.KEEPS_SAVED)
-        script.chapter(f"TPM2_{code.name} {'keeps' if is_kept else 'cancels'} it.")
+        tpm.chapter(f"TPM2_{code.name} {'keeps' if is_kept else 'cancels'} it.")
         prepared = make()
         save()
         tpm.accepted(f"TPM2_{code.name}", prepared)
@@ -138,11 +138,11 @@ def each_command():
 
 
 def others():
-    script.chapter("A second TPM2_Shutdown takes the place of the first.")
+    tpm.chapter("A second TPM2_Shutdown takes the place of the first.")
     save()
     tpm.does("TPM2_Shutdown(CLEAR)", tpm.shutting_down(CLEAR))
     start_again(is_kept=False)
-    script.chapter("A command that is refused cancels nothing, not even a try that is counted.")
+    tpm.chapter("A command that is refused cancels nothing, not even a try that is counted.")
     tpm.define("An index", area(0x0100_0007, BY_VALUE), auth=b"a")
     hmac = tpm.start("An HMAC session")
     save()
@@ -150,29 +150,29 @@ def others():
     tpm.fails("TPM2_PCR_Reset of PCR 0: LOCALITY", tpm.reset(b"", pcr=0))
     tpm.fails("TPM2_Startup: INITIALIZE", tpm.starting(CLEAR))
     tpm.refused("A wrong hmac: BAD_AUTH/s1", wrong(tpm.reset(hmac)))
-    script.command("The empty buffer: COMMAND_SIZE", b"")
+    tpm.raw("The empty buffer: COMMAND_SIZE", b"")
     start_again(is_kept=True)
-    script.chapter("The use of sessions cancels nothing, where the command does not.")
+    tpm.chapter("The use of sessions cancels nothing, where the command does not.")
     hmac = tpm.start("An HMAC session")
     other = tpm.start("Another one")
     save()
     tpm.accepted("TPM2_GetRandom with both", tpm.random(8, hmac, other))
     tpm.accepted("With one that ends by it", tpm.random(8, Use(other, attributes=0)))
     start_again(is_kept=True)
-    script.chapter("TPM2_PCR_Extend on TPM_RH_NULL changes nothing, and cancels it all the same.")
+    tpm.chapter("TPM2_PCR_Extend on TPM_RH_NULL changes nothing, and cancels it all the same.")
     save()
     tpm.does("TPM2_PCR_Extend", extending_pcr(frames.RH_NULL))
     start_again(is_kept=False)
-    script.chapter("Power cycles and time do not cancel it.")
+    tpm.chapter("Power cycles and time do not cancel it.")
     save()
-    script.power()
-    script.power()
-    script.wait(2**32 - 1)
-    script.command("TPM2_GetRandom: INITIALIZE", tpm.random(2).buffer())
+    tpm.power()
+    tpm.power()
+    tpm.wait(2**32 - 1)
+    tpm.raw("TPM2_GetRandom: INITIALIZE", tpm.random(2).buffer())
     start_again(is_kept=True)
 
 
-script.startup()
+tpm.startup()
 tpm.define("An ordinary index", area(FIRST))
 tpm.does("It is written", tpm.writing(FIRST, b"data", by=RH_OWNER))
 tpm.define("A counter", counter(SECOND))
@@ -184,4 +184,3 @@ tpm.define(
 )
 others()
 each_command()
-script.write()

@@ -2,20 +2,19 @@
 
 from tpmsim.caller import wrong
 from tpmsim.standard import CC, CONTINUE_SESSION, DECRYPT, ENCRYPT, command, frames, number
-from tpmsim.caller.script_caller import ScriptCaller
-from tpmsim.caller.script import Script
+from tests.common.teller import Teller
 
-script = Script(
+tpm = Teller(
     "tests/general/self_test.tpm",
     "TPM2_SelfTest, of all tests (YES, 01) or of those that were not run yet (NO, 00). The device "
     "has none that could fail.",
+    starts=False,
 )
-tpm = ScriptCaller(script)
-says = script.command
+says = tpm.raw
 
 BOTH = [command(CC.SelfTest, number(it, 1)) for it in (0, 1)]
 says("Before TPM2_Startup: INITIALIZE", *BOTH)
-script.startup()
+tpm.startup()
 says("NO, and YES: SUCCESS", *BOTH)
 says("Without fullTest: INSUFFICIENT/p1", command(CC.SelfTest, b""))
 says("Neither: VALUE/p1", *(command(CC.SelfTest, number(it, 1)) for it in (2, 0x80, 0xFF)))
@@ -34,4 +33,3 @@ for attribute, words in ((DECRYPT, "decrypted"), (ENCRYPT, "encrypted")):
         tpm.self_test(1, session).but_entry(1, attributes=CONTINUE_SESSION | attribute),
     )
 tpm.does("Nothing has changed: TPM2_PCR_Read", tpm.read_pcr(16))
-script.write()

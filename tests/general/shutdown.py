@@ -3,16 +3,15 @@
 from tpmsim.caller import CLEAR, STATE, Use, wrong
 from tpmsim.standard import CC, CONTINUE_SESSION, DECRYPT, ENCRYPT, RH_OWNER, command, frames
 from tpmsim.standard import number
-from tpmsim.caller.script_caller import ScriptCaller
-from tpmsim.caller.script import Script
+from tests.common.teller import Teller
 
-script = Script(
+tpm = Teller(
     "tests/general/shutdown.tpm",
     "TPM2_Shutdown says which state is kept for the next TPM2_Startup: none but what is kept "
     "anyway, CLEAR (0000), or PCR 0 to 15, STATE (0001).",
+    starts=False,
 )
-tpm = ScriptCaller(script)
-says = script.command
+says = tpm.raw
 
 
 def shutdown(kind):
@@ -21,7 +20,7 @@ def shutdown(kind):
 
 def refusals():
     says("Before TPM2_Startup, of both kinds: INITIALIZE", shutdown(CLEAR), shutdown(STATE))
-    script.startup()
+    tpm.startup()
     says(
         "Without a type, and with one byte of it: INSUFFICIENT/p1",
         *(command(CC.Shutdown, bytes(it)) for it in (0, 1)),
@@ -33,7 +32,7 @@ def refusals():
         command(CC.Shutdown, frames.area(frames.entry()) + number(STATE, 2), frames.SESSIONS),
     )
     says("No authorization area: AUTHSIZE", command(CC.Shutdown, number(0, 2), frames.SESSIONS))
-    script.power()
+    tpm.power()
     says(
         "None of these has saved a state: TPM2_Startup(STATE): VALUE/p1",
         command(CC.Startup, number(STATE, 2)),
@@ -41,7 +40,7 @@ def refusals():
 
 
 def kinds():
-    script.startup()
+    tpm.startup()
     says("TPM2_Shutdown(CLEAR): SUCCESS", shutdown(CLEAR))
     says("TPM2_Shutdown(STATE), and once more: SUCCESS", shutdown(STATE), shutdown(STATE))
     says("It does not stop the device: TPM2_GetRandom: SUCCESS", tpm.random(2).buffer())
@@ -50,24 +49,24 @@ def kinds():
         "Nor can it be started again without a power cycle: INITIALIZE",
         command(CC.Startup, number(CLEAR, 2)),
     )
-    script.chapter("The last one counts.")
+    tpm.chapter("The last one counts.")
     says("TPM2_Shutdown(STATE): SUCCESS", shutdown(STATE))
     says("TPM2_Shutdown(CLEAR): SUCCESS", shutdown(CLEAR))
-    script.power()
+    tpm.power()
     tpm.fails("TPM2_Startup(STATE): VALUE/p1", tpm.starting(STATE))
     tpm.start_up("TPM2_Startup(CLEAR)")
     says("TPM2_Shutdown(CLEAR): SUCCESS", shutdown(CLEAR))
     says("TPM2_Shutdown(STATE): SUCCESS", shutdown(STATE))
-    script.power()
+    tpm.power()
     tpm.start_up("TPM2_Startup(STATE)", STATE)
-    script.chapter("A state is restored once.")
-    script.power()
+    tpm.chapter("A state is restored once.")
+    tpm.power()
     tpm.fails("TPM2_Startup(STATE): VALUE/p1", tpm.starting(STATE))
     tpm.start_up("TPM2_Startup(CLEAR)")
 
 
 def sessions():
-    script.chapter("With sessions, which authorize nothing here.")
+    tpm.chapter("With sessions, which authorize nothing here.")
     tpm.does('ownerAuth is "owner"', tpm.change_auth(RH_OWNER, b"owner", b""))
     session = tpm.start("An HMAC session, bound to TPM_RH_OWNER, with AES", RH_OWNER, aes=True)
     policy = tpm.policy("A policy session")
@@ -81,16 +80,15 @@ def sessions():
             f"Nothing can be {words}: ATTRIBUTES/s1",
             tpm.shutting_down(CLEAR, session).but_entry(1, attributes=CONTINUE_SESSION | attribute),
         )
-    script.power()
+    tpm.power()
     tpm.start_up("The one of STATE was accepted: TPM2_Startup(STATE)", STATE)
     session = tpm.start("Another session", RH_OWNER)
     tpm.accepted("It ends with its use", tpm.shutting_down(STATE, Use(session, attributes=0)))
     tpm.refused("It is gone: REFERENCE_S0", tpm.shutting_down(CLEAR, session))
-    script.power()
+    tpm.power()
     tpm.start_up("TPM2_Startup(STATE)", STATE)
 
 
 refusals()
 kinds()
 sessions()
-script.write()

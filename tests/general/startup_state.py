@@ -3,30 +3,29 @@
 from tpmsim.caller import BY_OWNER, BY_VALUE, CLEAR, STATE, area, storage_key
 from tpmsim.standard import RH_NULL, RH_OWNER, RH_PLATFORM, SE_HMAC, SE_POLICY, SE_TRIAL, SHA256
 from tpmsim.standard.nv import Attribute
-from tpmsim.caller.script_caller import FIRST, FOURTH, SECOND, ScriptCaller, THIRD
-from tpmsim.caller.script import Script
+from tpmsim.caller.script_caller import FIRST, FOURTH, SECOND, THIRD
+from tests.common.teller import Teller
 
 # PCR 16 and 23 start as zeros, and so do those up to 15; 17 to 22 start as ones.
 PCRS = 0, 3, 15, 16, 17, 22, 23
 LOCALITY_OF = {17: 2, 22: 2}
 
-script = Script(
+tpm = Teller(
     "tests/general/startup_state.tpm",
     "TPM2_Startup(STATE) restores PCR 0 to 15 as TPM2_Shutdown(STATE) saved them, and keeps what "
     "TPM2_Startup(CLEAR) starts over: platformAuth, and the locks of NV indices. The objects and "
     "the sessions are gone all the same.",
 )
-tpm = ScriptCaller(script)
 
 
 def extend(what):
     """Each of the PCRs, with its number."""
     for locality, words in ((0, what), (2, "And 17 and 22, from locality 2")):
-        script.locality_is(locality)
+        tpm.locality_is(locality)
         for pcr in (it for it in PCRS if LOCALITY_OF.get(it, 0) == locality):
             tpm.does(words, tpm.event(b"%d" % pcr, b"", pcr=pcr))
             words = ""
-    script.locality_is(0)
+    tpm.locality_is(0)
 
 
 def values(what):
@@ -38,12 +37,12 @@ def values(what):
 
 def restart(kind, words):
     tpm.does("TPM2_Shutdown(STATE)", tpm.shutting_down(STATE))
-    script.power()
+    tpm.power()
     tpm.start_up(f"TPM2_Startup({'STATE' if kind else 'CLEAR'}), {words}", kind)
 
 
 def pcrs():
-    script.chapter("PCRs.")
+    tpm.chapter("PCRs.")
     at_start = values("The PCRs after TPM2_Startup(CLEAR), here 0, 3, 15, 16, 17, 22 and 23")
     extend("They are extended")
     extended = values("Their values")
@@ -58,31 +57,31 @@ def pcrs():
     assert values("All are as at a start") == at_start
     extend("They are extended")
     tpm.does("TPM2_Shutdown(STATE)", tpm.shutting_down(STATE))
-    script.chapter("What is saved are the values of then.")
+    tpm.chapter("What is saved are the values of then.")
     tpm.does("TPM2_Shutdown(CLEAR)", tpm.shutting_down(CLEAR))
-    script.power()
+    tpm.power()
     tpm.fails("TPM2_Startup(STATE): VALUE/p1", tpm.starting(STATE))
     tpm.start_up("TPM2_Startup(CLEAR)")
     tpm.does("TPM2_Shutdown(STATE), before any extend", tpm.shutting_down(STATE))
-    script.power()
+    tpm.power()
     tpm.start_up("TPM2_Startup(STATE)", STATE)
     assert values("As at a start") == at_start
 
 
 def localities():
-    script.chapter("From each locality, it is the same.")
+    tpm.chapter("From each locality, it is the same.")
     tpm.does("PCR 3 is extended", tpm.event(b"3", b"", pcr=3))
     for locality in (4, 3):
         tpm.does("TPM2_Shutdown(STATE)", tpm.shutting_down(STATE))
-        script.power()
-        script.locality_is(locality)
+        tpm.power()
+        tpm.locality_is(locality)
         tpm.start_up(f"TPM2_Startup(STATE) from locality {locality}", STATE)
         tpm.does("TPM2_PCR_Read of PCR 3", tpm.read_pcr(3))
-    script.locality_is(0)
+    tpm.locality_is(0)
 
 
 def sessions_and_objects():
-    script.chapter("Sessions and transient objects are gone.")
+    tpm.chapter("Sessions and transient objects are gone.")
     session = tpm.start("An HMAC session")
     policy = tpm.policy("A policy session")
     trial = tpm.trial("A trial session")
@@ -97,12 +96,12 @@ def sessions_and_objects():
     tpm.fails("The storage key: REFERENCE_H0", tpm.public(handle))
     for kind, words in ((SE_HMAC, "HMAC"), (SE_POLICY, "policy"), (SE_TRIAL, "trial")):
         tpm.start(f"A new {words} session has the next place", kind=kind)
-    script.power()
-    script.startup()
+    tpm.power()
+    tpm.script.startup()
 
 
 def policies():
-    script.chapter("A policy that was told before has no session any more.")
+    tpm.chapter("A policy that was told before has no session any more.")
     policy = tpm.policy("A policy session")
     tpm.says("TPM2_PolicyPCR of PCR 3: SUCCESS", tpm.pcrs(policy, [(SHA256, [3])]))
     restart(STATE, "a resume")
@@ -110,7 +109,7 @@ def policies():
 
 
 def hierarchies():
-    script.chapter("platformAuth, and the primary seed of the null hierarchy.")
+    tpm.chapter("platformAuth, and the primary seed of the null hierarchy.")
     name = null_name("A primary object of TPM_RH_NULL")
     tpm.does('platformAuth is "platform"', tpm.change_auth(RH_PLATFORM, b"platform", b""))
     restart(STATE, "a resume")
@@ -123,7 +122,7 @@ def hierarchies():
     restart(CLEAR, "a restart")
     assert null_name("The same primary object") == name
     tpm.does("platformAuth is empty", tpm.change_auth(RH_PLATFORM, b"platform", b""))
-    script.power()
+    tpm.power()
     tpm.start_up("TPM2_Startup(CLEAR), a reset")
     assert null_name("Another primary object: its seed is new") != name
     tpm.does("platformAuth is empty", tpm.change_auth(RH_PLATFORM, b"", b""))
@@ -137,7 +136,7 @@ def null_name(what):
 
 
 def indices():
-    script.chapter("NV indices. Their locks and what is cleared at a start stay at a resume.")
+    tpm.chapter("NV indices. Their locks and what is cleared at a start stay at a resume.")
     locks = Attribute.WRITE_STCLEAR | Attribute.READ_STCLEAR
     tpm.define("An index that can be locked until a start", area(FIRST, BY_OWNER | locks))
     tpm.define("One that is cleared at a start", area(SECOND, BY_OWNER | Attribute.CLEAR_STCLEAR))
@@ -166,7 +165,7 @@ def indices():
 
 
 def lockout():
-    script.chapter("With lockoutRecovery 0 lockoutAuth is closed until a reset.")
+    tpm.chapter("With lockoutRecovery 0 lockoutAuth is closed until a reset.")
     closing = tpm.lock_reset(b"wrong")
     tpm.set_protection("lockoutRecovery is 0", 3, 1000, 0)
     tpm.fails("A wrong password: AUTH_FAIL/s1", closing)
@@ -175,10 +174,10 @@ def lockout():
     restart(CLEAR, "a restart")
     tpm.fails("It is closed: LOCKOUT", tpm.lock_reset())
     tpm.does("TPM2_Shutdown(CLEAR)", tpm.shutting_down(CLEAR))
-    script.power()
+    tpm.power()
     tpm.start_up("TPM2_Startup(CLEAR), a reset")
     tpm.does("It is open", tpm.lock_reset())
-    script.chapter("Tries outlive all three.")
+    tpm.chapter("Tries outlive all three.")
     tpm.define("An index", area(FOURTH, BY_VALUE), auth=b"a")
     tpm.does("It is written", tpm.writing(FOURTH, b"x"))
     wrong = tpm.writing(FOURTH, b"x", b"b")
@@ -187,12 +186,11 @@ def lockout():
     tpm.fails("The second: AUTH_FAIL/s1", wrong)
     restart(CLEAR, "a restart")
     tpm.fails("The third: AUTH_FAIL/s1", wrong)
-    script.power()
+    tpm.power()
     tpm.start_up("TPM2_Startup(CLEAR), a reset")
     tpm.fails("The right one: LOCKOUT", tpm.writing(FOURTH, b"x"))
 
 
-script.startup()
 pcrs()
 localities()
 sessions_and_objects()
@@ -200,4 +198,3 @@ policies()
 hierarchies()
 indices()
 lockout()
-script.write()

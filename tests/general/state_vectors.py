@@ -3,8 +3,8 @@
 from tpmsim.caller import BY_VALUE, area, sealed, storage_key
 from tpmsim.standard import RH_NULL, frames
 from tpmsim.standard.objects import Attribute
-from tpmsim.caller.script_caller import FIRST, ScriptCaller
-from tpmsim.caller.script import Script
+from tpmsim.caller.script_caller import FIRST
+from tests.common.teller import Teller
 
 # The empty password, and the answer to it where nothing else is answered.
 PW = "00000009 40000009 0000 01 0000"
@@ -15,12 +15,12 @@ SHUTDOWN_STATE = "8001 0000000C 00000145 0001"
 READ_TRIES = "8001 00000016 0000017A 00000006 0000020E 00000001"
 SUCCESS = "8001 0000000A 00000000"
 
-script = Script(
+tpm = Teller(
     "tests/general/state_vectors.tpm",
     "Commands whose answers were written down by hand, byte by byte, before there was a device to "
     "ask. Their program stops where an answer is another.",
+    starts=False,
 )
-tpm = ScriptCaller(script)
 
 
 def bytes_of(text):
@@ -33,7 +33,7 @@ def code(number):
 
 
 def answered(what, outcome, asked, wanted):
-    response = script.command(f"{what}: {outcome}", bytes_of(asked))
+    response = tpm.raw(f"{what}: {outcome}", bytes_of(asked))
     assert response == bytes_of(wanted), f"{what}: {response.hex()}"
 
 
@@ -44,7 +44,7 @@ def tries_are(what, tries):
 
 def clock_and_capabilities():
     answered("TPM2_Startup(CLEAR)", "SUCCESS", STARTUP, SUCCESS)
-    script.wait(5)
+    tpm.wait(5)
     answered(
         "TPM2_ReadClock, five milliseconds later",
         "SUCCESS",
@@ -76,7 +76,7 @@ def clock_and_capabilities():
     nothing = "8001 00000013 00000000 00 00000001 00000000"
     sessions = "8001 00000016 0000017A 00000001 {} 00000001"
     answered("Sessions, of which there are none", "SUCCESS", sessions.format("02000000"), nothing)
-    script.entropy(b"\xaa")
+    tpm.script.entropy(b"\xaa")
     answered(
         "TPM2_StartAuthSession of a trial session",
         "SUCCESS",
@@ -94,7 +94,7 @@ def clock_and_capabilities():
 
 
 def clearing():
-    script.chapter("TPM2_ClearControl and TPM2_Clear.")
+    tpm.chapter("TPM2_ClearControl and TPM2_Clear.")
     control = "8002 0000001C 00000127 {} " + PW + " {}"
     clear = "8002 0000001B 00000126 {} " + PW
     answered(
@@ -119,7 +119,7 @@ def clearing():
 
 
 def persistent():
-    script.chapter("TPM2_EvictControl: a loaded object stays, and the platform takes it away.")
+    tpm.chapter("TPM2_EvictControl: a loaded object stays, and the platform takes it away.")
     root = tpm.create_primary("A storage key", frames.RH_OWNER, storage_key())
     made = tpm.create("A sealed object", root, sealed(), data=bytes(range(128)))
     handle = tpm.load("It is loaded as 80000001", root, made)
@@ -144,8 +144,8 @@ def persistent():
 
 
 def sent_again():
-    script.chapter("A buffer of an HMAC session that is sent again is a try.")
-    script.command(
+    tpm.chapter("A buffer of an HMAC session that is sent again is a try.")
+    tpm.raw(
         'TPM2_NV_DefineSpace of index 01000001, attributes 00040004, eight bytes, value "a": '
         "SUCCESS",
         bytes_of(
@@ -164,7 +164,7 @@ def sent_again():
 
 
 def passwords():
-    script.chapter("Passwords count without their trailing zeros; and which wrong ones are tries.")
+    tpm.chapter("Passwords count without their trailing zeros; and which wrong ones are tries.")
     change = "8002 {:08X} 00000129 40000001 {:08X} 40000009 0000 01 {} 0003 616263"
     answered('ownerAuth is "abc"', "SUCCESS", change.format(0x20, 9, "0000"), OK)
     answered("61626300 is it too", "SUCCESS", change.format(0x24, 13, "0004 61626300"), OK)
@@ -186,7 +186,7 @@ def passwords():
 
 
 def locked():
-    script.chapter("maxTries 3 and recoveryTime 1000, which are those of a new device.")
+    tpm.chapter("maxTries 3 and recoveryTime 1000, which are those of a new device.")
     unseal = "8002 {:08X} 0000015E 80000000 {:08X} 40000009 0000 01 {}"
     bad = unseal.format(0x1C, 10, "0001 78")
     right = unseal.format(0x1E, 12, "0003 70696E")
@@ -194,15 +194,15 @@ def locked():
     for what in ("The second try", "And the third"):
         answered(what, "AUTH_FAIL/s1", bad, code(0x98E))
     answered("The right password", "LOCKOUT", right, code(0x921))
-    script.wait(999_999)
+    tpm.wait(999_999)
     answered("999,999 milliseconds later", "LOCKOUT", right, code(0x921))
-    script.wait(1)
+    tpm.wait(1)
     answered("One more", "SUCCESS", right, opened)
     tries_are("Two", 2)
 
 
 def saved():
-    script.chapter("PCR 3 and 16 are extended, and TPM2_Shutdown(STATE) saves the first of them.")
+    tpm.chapter("PCR 3 and 16 are extended, and TPM2_Shutdown(STATE) saves the first of them.")
     extend = "8002 00000041 00000182 {:08X} " + PW + " 00000001 000B " + "00" * 32
     extended = "f5a5fd42d16a20302798ef6ed309979b43003d2320d9f0e8ea9831a92759fb4b"
     answered("TPM2_PCR_Extend of PCR 3 by zeros", "SUCCESS", extend.format(3), OK)
@@ -210,7 +210,7 @@ def saved():
     session = tpm.policy("A policy session")
     assert session.handle == 0x0300_0002
     answered("TPM2_Shutdown(STATE)", "SUCCESS", SHUTDOWN_STATE, SUCCESS)
-    script.power()
+    tpm.power()
     answered("TPM2_Startup(STATE)", "SUCCESS", STARTUP_STATE, SUCCESS)
     answered(
         "TPM2_PCR_Read of PCR 3 and 16: the first as before, the second zeros",
@@ -220,10 +220,10 @@ def saved():
         f"0020 {extended} 0020 {'00' * 32}",
     )
     answered("The old session", "REFERENCE_H0", "8001 0000000E 00000189 03000002", code(0x910))
-    script.chapter("With TPM2_PCR_Extend behind TPM2_Shutdown.")
+    tpm.chapter("With TPM2_PCR_Extend behind TPM2_Shutdown.")
     answered("TPM2_Shutdown(STATE)", "SUCCESS", SHUTDOWN_STATE, SUCCESS)
     answered("TPM2_PCR_Extend of PCR 3", "SUCCESS", extend.format(3), OK)
-    script.power()
+    tpm.power()
     answered("TPM2_Startup(STATE)", "VALUE/p1", STARTUP_STATE, code(0x1C4))
     answered("TPM2_Startup(CLEAR)", "SUCCESS", STARTUP, SUCCESS)
 
@@ -235,4 +235,3 @@ sent_again()
 passwords()
 locked()
 saved()
-script.write()

@@ -352,7 +352,7 @@ def long_lines():
     yield "NV_Write by a password of 4096 bytes at x", f"{write} pw:{data} - x"
 
 
-def main():
+def write_script():
     written, answered = [], []
     for what, section in sections():
         head = ["", f"# {what}"]
@@ -363,7 +363,3 @@ def main():
     here = pathlib.Path(__file__)
     here.with_suffix(".lines").write_text("\n".join(written[1:]) + "\n", "ascii")
     here.with_suffix(".out").write_text("\n".join(answered[1:]) + "\n", "ascii")
-
-
-if __name__ == "__main__":
-    main()

@@ -3,34 +3,33 @@
 from tpmsim.caller import Use
 from tpmsim.standard import CC, DECRYPT, ENCRYPT, RH_LOCKOUT, RH_NULL, RH_OWNER, RH_PLATFORM
 from tpmsim.standard import command, frames, number, on_handle
-from tpmsim.caller.script_caller import ScriptCaller
-from tpmsim.caller.script import Script
+from tests.common.teller import Teller
 
 LOCK_RESET, PARAMETERS = CC.DictionaryAttackLockReset, CC.DictionaryAttackParameters
 THREE = frames.attack_parameters(3, 1000, 1000)
 COMMANDS = (LOCK_RESET, b""), (PARAMETERS, THREE)
 
-script = Script(
+tpm = Teller(
     "tests/lockout/dictionary_attack_commands.tpm",
     "TPM2_DictionaryAttackLockReset and TPM2_DictionaryAttackParameters: their bytes, and what "
     "refuses them. TPM_RH_LOCKOUT authorizes them, by a password or an HMAC session.",
+    starts=False,
 )
-tpm = ScriptCaller(script)
-says = script.command
+says = tpm.raw
 
 says(
     "Before TPM2_Startup: INITIALIZE",
     *(on_handle(code, RH_LOCKOUT, parameters) for code, parameters in COMMANDS),
 )
-script.startup()
-script.chapter("By the empty password, which lockoutAuth is on a new device.")
+tpm.startup()
+tpm.chapter("By the empty password, which lockoutAuth is on a new device.")
 for code, parameters in COMMANDS:
     says(
         "Both: SUCCESS" if code == LOCK_RESET else "SUCCESS",
         on_handle(code, RH_LOCKOUT, parameters),
     )
 
-script.chapter("The handle.")
+tpm.chapter("The handle.")
 says("None: INSUFFICIENT/h1", *(command(code, b"") for code, _ in COMMANDS))
 says(
     "That of another hierarchy, of TPM_RH_NULL, and of PCR 0: VALUE/h1",
@@ -45,7 +44,7 @@ says(
     *(command(code, number(RH_LOCKOUT, 4) + parameters) for code, parameters in COMMANDS),
 )
 
-script.chapter("The parameters.")
+tpm.chapter("The parameters.")
 for place in (1, 2, 3):
     says(
         f"Cut within parameter {place}: INSUFFICIENT/p{place}",
@@ -68,7 +67,7 @@ says(
     ),
 )
 
-script.chapter("By sessions.")
+tpm.chapter("By sessions.")
 tpm.does('lockoutAuth is "lockout"', tpm.change_auth(RH_LOCKOUT, b"lockout", b""))
 unbound = tpm.start("An HMAC session that is bound to nothing, with AES", aes=True)
 bound = tpm.start("One that is bound to TPM_RH_LOCKOUT", RH_LOCKOUT)
@@ -97,4 +96,3 @@ says(
     "Wrong parameters of a wrong password: the password is looked at first: AUTH_FAIL/s1",
     on_handle(PARAMETERS, RH_LOCKOUT, b"", [frames.entry(hmac=b"x")]),
 )
-script.write()

@@ -4,22 +4,21 @@ from tpmsim.caller import BY_VALUE, HERE, area, sealed
 from tpmsim.standard import CC, RH_OWNER, SHA256, policy
 from tpmsim.standard.nv import Attribute as NvAttribute
 from tpmsim.standard.objects import Attribute
-from tpmsim.caller.script_caller import FIRST, SECOND, ScriptCaller, THIRD
-from tpmsim.caller.script import Script
+from tpmsim.caller.script_caller import FIRST, SECOND, THIRD
+from tests.common.teller import Teller
 
 PIN, SECRET = b"2468", b"a secret"
 
 # The objects, one of which is protected.
 PROTECTED, FREE = 0x8000_0000, 0x8000_0001
 
-script = Script(
+tpm = Teller(
     "tests/lockout/lockout.tpm",
     "Dictionary attack protection: a wrong authorization value of an object without noDA or of an "
     "NV index without TPMA_NV_NO_DA is counted in failedTries. At maxTries all of them are locked, "
     "and the right value is refused too. For each recoveryTime that passes one try is forgiven. A "
     "new device has maxTries 3, recoveryTime 1,000 seconds, and lockoutRecovery 1,000 seconds.",
 )
-tpm = ScriptCaller(script)
 
 
 def right(what, index=FIRST):
@@ -38,10 +37,10 @@ def locked(what, *passwords, index=FIRST):
 
 def opened(what, wait):
     """It is locked until so many milliseconds have passed, and not one less."""
-    script.chapter(what)
-    script.wait(wait - 1)
+    tpm.chapter(what)
+    tpm.wait(wait - 1)
     locked(f"{wait - 1:,} milliseconds later")
-    script.wait(1)
+    tpm.wait(1)
     right("One more")
 
 
@@ -55,7 +54,7 @@ def lock():
 
 
 def tries():
-    script.chapter("Three tries.")
+    tpm.chapter("Three tries.")
     wrong("A wrong password")
     right("The right one takes no try back")
     wrong("Two more: the empty one, and one with a byte too many", b"", PIN + b"1")
@@ -70,31 +69,31 @@ def tries():
 
 def milliseconds():
     opened("The last try was just now. It is forgiven after recoveryTime.", 1_000_000)
-    script.chapter("One try is forgiven, and two are not.")
+    tpm.chapter("One try is forgiven, and two are not.")
     wrong("So one more is one too many")
     locked("The right password")
     opened("And again.", 1_000_000)
-    script.chapter("A counted try starts the time anew.")
-    script.wait(999_999)
+    tpm.chapter("A counted try starts the time anew.")
+    tpm.wait(999_999)
     wrong("The third one, a millisecond before one would have been forgiven")
-    script.wait(1)
+    tpm.wait(1)
     locked("In that millisecond it was not")
-    script.wait(999_998)
+    tpm.wait(999_998)
     locked("One before the end")
-    script.wait(1)
+    tpm.wait(1)
     right("At the end")
-    script.chapter("A try that is answered LOCKOUT is not counted, and starts no time anew.")
+    tpm.chapter("A try that is answered LOCKOUT is not counted, and starts no time anew.")
     wrong("The third one")
-    script.wait(500_000)
+    tpm.wait(500_000)
     locked("Wrong ones in the middle of the time", b"0000", b"1111", b"2222", b"3333")
-    script.wait(499_999)
+    tpm.wait(499_999)
     locked("The right one, a millisecond before the end")
-    script.wait(1)
+    tpm.wait(1)
     right("At the end")
 
 
 def several():
-    script.chapter("Several tries at once, and the rest of the time.")
+    tpm.chapter("Several tries at once, and the rest of the time.")
     wrong("The third one")
     tpm.set_protection(
         "TPM2_DictionaryAttackParameters with maxTries 1: all three have to be forgiven now",
@@ -102,22 +101,22 @@ def several():
         1000,
         1000,
     )
-    script.wait(1_500_000)
+    tpm.wait(1_500_000)
     locked("One and a half times recoveryTime later: two are left")
-    script.wait(1_499_999)
+    tpm.wait(1_499_999)
     locked("A millisecond before three times recoveryTime: one is left, as the half has counted")
-    script.wait(1)
+    tpm.wait(1)
     right("Then")
     tpm.set_protection("maxTries is 3 again", 3, 1000, 1000)
     lock()
     tpm.set_protection("And 1", 1, 1000, 1000)
-    script.wait(2_999_999)
+    tpm.wait(2_999_999)
     locked("Two are forgiven at once, and the third is not")
-    script.wait(1)
+    tpm.wait(1)
     right("It is")
     tpm.set_protection("maxTries is 3 again", 3, 1000, 1000)
     wrong("A wrong password")
-    script.wait(4_294_967_295)
+    tpm.wait(4_294_967_295)
     right("More time than a try needs is not kept for later ones")
     lock()
     locked("So three are three")
@@ -125,77 +124,77 @@ def several():
 
 
 def without_tries():
-    script.chapter("Where there is no try, no time counts.")
-    script.wait(999_999)
+    tpm.chapter("Where there is no try, no time counts.")
+    tpm.wait(999_999)
     lock()
-    script.wait(1)
+    tpm.wait(1)
     locked("A millisecond after the last try, and 1,000 seconds after the last before")
     opened("That millisecond has counted.", 999_999)
     unlock()
 
 
 def any_command():
-    script.chapter("Time passes with every command, refused ones too.")
+    tpm.chapter("Time passes with every command, refused ones too.")
     lock()
-    script.wait(333_333)
+    tpm.wait(333_333)
     tpm.fails("A wrong password: LOCKOUT", tpm.reading(FIRST, 8, b"0000"))
-    script.wait(333_333)
-    script.command("The empty buffer: COMMAND_SIZE", b"")
-    script.wait(333_333)
+    tpm.wait(333_333)
+    tpm.raw("The empty buffer: COMMAND_SIZE", b"")
+    tpm.wait(333_333)
     tpm.does("TPM2_GetRandom", tpm.random(2))
     locked("999,999 milliseconds have passed")
-    script.wait(1)
+    tpm.wait(1)
     right("One more")
     unlock()
 
 
 def power_cycles():
-    script.chapter("A power cycle takes no try back, and starts the time anew.")
+    tpm.chapter("A power cycle takes no try back, and starts the time anew.")
     lock()
-    script.wait(999_999)
+    tpm.wait(999_999)
     locked("A millisecond before the end")
-    script.power()
-    script.startup()
-    script.wait(1)
+    tpm.power()
+    tpm.script.startup()
+    tpm.wait(1)
     locked("After TPM2_Startup, in that millisecond")
     opened("The time counts from the power cycle on.", 999_999)
-    script.chapter("It counts before TPM2_Startup too.")
+    tpm.chapter("It counts before TPM2_Startup too.")
     wrong("The third one")
-    script.power()
-    script.wait(400_000)
+    tpm.power()
+    tpm.wait(400_000)
     tpm.fails("TPM2_GetRandom: INITIALIZE", tpm.random(2))
-    script.wait(599_999)
-    script.startup()
+    tpm.wait(599_999)
+    tpm.script.startup()
     locked("A millisecond before the end")
-    script.wait(1)
+    tpm.wait(1)
     right("At the end")
-    script.chapter("Tries are kept at once: power that is cut after each of them saves none.")
+    tpm.chapter("Tries are kept at once: power that is cut after each of them saves none.")
     unlock()
     for what in ("The first", "The second", "The third"):
         wrong(what)
-        script.power()
-        script.startup()
+        tpm.power()
+        tpm.script.startup()
     locked("The right one")
     unlock()
 
 
 def parameters():
-    script.chapter("TPM2_DictionaryAttackParameters starts the time anew, and takes no try back.")
+    tpm.chapter("TPM2_DictionaryAttackParameters starts the time anew, and takes no try back.")
     lock()
-    script.wait(999_999)
+    tpm.wait(999_999)
     tpm.set_protection("The same values as before", 3, 1000, 1000)
-    script.wait(1)
+    tpm.wait(1)
     locked("A millisecond later")
     opened("From there on.", 999_999)
-    script.chapter("A new recoveryTime counts from there on.")
+    tpm.chapter("A new recoveryTime counts from there on.")
     wrong("The third one")
     tpm.set_protection("recoveryTime is one second", 3, 1, 1000)
     opened("One second.", 1_000)
     tpm.set_protection("The longest recoveryTime", 3, 0xFFFF_FFFF, 1000)
     wrong("The third one")
-    script.wait(4_294_967_295)
+    tpm.wait(4_294_967_295)
     locked("4,294,967 seconds are nothing to it")
-    script.chapter("A larger maxTries opens at once.")
+    tpm.chapter("A larger maxTries opens at once.")
     tpm.set_protection("maxTries is 4", 4, 1000, 1000)
     right("The right one")
     wrong("The fourth one")
@@ -206,7 +205,7 @@ def parameters():
     tpm.set_protection("maxTries is 5, and there are nine", 5, 1000, 1000)
     locked("The right one")
     tpm.set_protection("maxTries is 3 again", 3, 1000, 1000)
-    script.chapter("TPM2_DictionaryAttackLockReset forgets all tries.")
+    tpm.chapter("TPM2_DictionaryAttackLockReset forgets all tries.")
     unlock()
     right("The right one")
     wrong("Two wrong ones", b"0", b"1")
@@ -220,24 +219,24 @@ def parameters():
 
 
 def no_recovery():
-    script.chapter("With recoveryTime 0 the protection is off: no try is counted, and none locks.")
+    tpm.chapter("With recoveryTime 0 the protection is off: no try is counted, and none locks.")
     lock()
     locked("The right one")
     tpm.set_protection("recoveryTime is 0", 3, 0, 1000)
     right("The right one")
     wrong("Wrong ones are AUTH_FAIL still", b"0", b"1", b"2", b"3", b"4")
     right("The right one")
-    script.wait(4_294_967_295)
+    tpm.wait(4_294_967_295)
     right("With time")
     tpm.set_protection("recoveryTime is 1,000 again: the tries of before are there", 3, 1000, 1)
     locked("The right one")
     opened("The three of before, and no more.", 1_000_000)
     unlock()
-    script.chapter("With maxTries 0 everything that is protected is locked, without a try.")
+    tpm.chapter("With maxTries 0 everything that is protected is locked, without a try.")
     tpm.set_protection("maxTries is 0", 0, 1000, 1000)
     locked("The right one, and a wrong one", PIN, b"0")
     tpm.fails("The object: LOCKOUT", tpm.unsealing(PROTECTED))
-    script.wait(4_294_967_295)
+    tpm.wait(4_294_967_295)
     locked("No time opens it")
     unlock()
     locked("Nor does TPM2_DictionaryAttackLockReset")
@@ -249,7 +248,7 @@ def no_recovery():
 
 
 def unprotected():
-    script.chapter("noDA and TPMA_NV_NO_DA: no try is counted.")
+    tpm.chapter("noDA and TPMA_NV_NO_DA: no try is counted.")
     tpm.fails(
         "Five wrong passwords of an index: BAD_AUTH/s1",
         *(tpm.reading(THIRD, 8, it) for it in (b"0", b"1", b"2", b"3", b"4")),
@@ -273,7 +272,7 @@ def unprotected():
 
 
 def order():
-    script.chapter("The order of the checks: what comes before LOCKOUT, and what behind it.")
+    tpm.chapter("The order of the checks: what comes before LOCKOUT, and what behind it.")
     session = tpm.policy("A policy session")
     lock()
     read = tpm.reading(FIRST, 8)
@@ -320,7 +319,6 @@ def order():
 
 
 ONLY_PASSWORD = policy.after_auth_value(SHA256, bytes(32))
-script.startup()
 tpm.define(
     'An NV index with the value "2468"',
     area(FIRST, BY_VALUE | NvAttribute.POLICYREAD, auth_policy=ONLY_PASSWORD),
@@ -364,4 +362,3 @@ parameters()
 no_recovery()
 unprotected()
 order()
-script.write()

@@ -2,28 +2,26 @@
 
 from tpmsim.caller import BY_VALUE, area, wrong
 from tpmsim.standard import CC, RH_LOCKOUT, RH_OWNER, frames, on_handle, sized
-from tpmsim.caller.script_caller import FIRST, ScriptCaller
-from tpmsim.caller.script import Script
+from tpmsim.caller.script_caller import FIRST
+from tests.common.teller import Teller
 
 LOCKOUT = b"lockout"
 
-script = Script(
+tpm = Teller(
     "tests/lockout/lockout_authorization.tpm",
     "A wrong entry is AUTH_FAIL where it was a try at the value of TPM_RH_LOCKOUT: as a password "
     "or in the key of an hmac, or else because its session was bound to TPM_RH_LOCKOUT at the "
     "start. "
     "Every other wrong entry is BAD_AUTH. Each such try closes lockoutAuth for lockoutRecovery.",
+    tries=True,
 )
-tpm = ScriptCaller(script)
 
 
 def by_password(handle, password):
     return on_handle(CC.HierarchyChangeAuth, handle, sized(b"x"), [frames.entry(hmac=password)])
 
 
-script.startup()
-script.allow_tries()
-script.wait_each_time()
+tpm.script.wait_each_time()
 early = tpm.start("A session that is bound to TPM_RH_LOCKOUT while that has no value", RH_LOCKOUT)
 tpm.accepted('lockoutAuth is "lockout"', tpm.change_auth(RH_LOCKOUT, LOCKOUT, b""))
 tpm.accepted('ownerAuth is "owner"', tpm.change_auth(RH_OWNER, b"owner", b""))
@@ -31,8 +29,8 @@ bound = tpm.start("A session that is bound to TPM_RH_LOCKOUT now", RH_LOCKOUT)
 unbound = tpm.start("One that is bound to nothing")
 to_owner = tpm.start("One that is bound to TPM_RH_OWNER", RH_OWNER)
 
-script.chapter("On TPM_RH_LOCKOUT itself.")
-script.command(
+tpm.chapter("On TPM_RH_LOCKOUT itself.")
+tpm.raw(
     "A wrong password: another one, the empty one, and ownerAuth: AUTH_FAIL/s1",
     *(by_password(RH_LOCKOUT, it) for it in (b"wrong", b"", b"owner", b"lockou", b"lockout\0\1")),
 )
@@ -54,7 +52,7 @@ for session, words in (
     tpm.accepted(words, tpm.change_auth(RH_LOCKOUT, LOCKOUT, session))
 tpm.accepted("The right password", tpm.change_auth(RH_LOCKOUT, LOCKOUT, LOCKOUT))
 
-script.chapter("On entities that nothing protects, through a session bound to TPM_RH_LOCKOUT.")
+tpm.chapter("On entities that nothing protects, through a session bound to TPM_RH_LOCKOUT.")
 tpm.refused(
     "A wrong hmac on TPM_RH_OWNER, whose value is in the key too: AUTH_FAIL/s1",
     wrong(tpm.change_auth(RH_OWNER, b"owner", bound)),
@@ -69,7 +67,7 @@ tpm.refused("No hmac: AUTH_FAIL/s1", tpm.reset(bound).but_entry(1, hmac=b""))
 tpm.accepted("Right hmacs: on TPM_RH_OWNER", tpm.change_auth(RH_OWNER, b"owner", bound))
 tpm.accepted("On PCR 16", tpm.reset(bound))
 
-script.chapter("In an entry that authorizes nothing.")
+tpm.chapter("In an entry that authorizes nothing.")
 tpm.refused("Behind a password: AUTH_FAIL/s2", wrong(tpm.reset(b"", bound), 2))
 tpm.refused(
     "Behind two right entries: AUTH_FAIL/s3",
@@ -89,15 +87,13 @@ tpm.refused(
 )
 tpm.accepted("Right ones", tpm.reset(to_owner, bound, early))
 
-script.chapter("Entries that are no try at it.")
+tpm.chapter("Entries that are no try at it.")
 tpm.refused(
     "A wrong hmac on TPM_RH_OWNER, bound to it or to nothing: BAD_AUTH/s1",
     wrong(tpm.change_auth(RH_OWNER, b"owner", to_owner)),
     wrong(tpm.change_auth(RH_OWNER, b"owner", unbound)),
 )
-script.command(
-    "lockoutAuth as the password of TPM_RH_OWNER: BAD_AUTH/s1", by_password(RH_OWNER, LOCKOUT)
-)
+tpm.raw("lockoutAuth as the password of TPM_RH_OWNER: BAD_AUTH/s1", by_password(RH_OWNER, LOCKOUT))
 tpm.refused(
     "A wrong hmac beside a right one of a session bound to TPM_RH_LOCKOUT: BAD_AUTH/s1",
     wrong(tpm.reset(to_owner, bound)),
@@ -113,7 +109,7 @@ tpm.refused(
 )
 tpm.refused("And here the one that is: AUTH_FAIL/s1", wrong(wrong(tpm.reset(bound, to_owner)), 2))
 
-script.chapter("A binding of the start counts, whatever has become of the value.")
+tpm.chapter("A binding of the start counts, whatever has become of the value.")
 tpm.accepted('lockoutAuth is "another"', tpm.change_auth(RH_LOCKOUT, b"another", LOCKOUT))
 tpm.refused(
     "A wrong hmac on PCR 16 through the session that was bound to its old value: AUTH_FAIL/s1",
@@ -122,9 +118,7 @@ tpm.refused(
 tpm.accepted(
     "On TPM_RH_LOCKOUT it has the new value in its key", tpm.change_auth(RH_LOCKOUT, b"", bound)
 )
-script.command(
-    "lockoutAuth is empty: a wrong password: AUTH_FAIL/s1", by_password(RH_LOCKOUT, b"x")
-)
+tpm.raw("lockoutAuth is empty: a wrong password: AUTH_FAIL/s1", by_password(RH_LOCKOUT, b"x"))
 tpm.refused(
     "A wrong hmac of the session that is bound to nothing: AUTH_FAIL/s1",
     tpm.change_auth(RH_LOCKOUT, b"", unbound).but_entry(1, hmac=b"\0"),
@@ -132,7 +126,7 @@ tpm.refused(
 tpm.accepted("No hmac of it", tpm.change_auth(RH_LOCKOUT, b"", unbound))
 
 # From here on no time passes but where it is said.
-script.pause = 0
+tpm.script.pause = 0
 
 
 def right(what):
@@ -148,15 +142,15 @@ def closed(what, *passwords):
 
 
 def closed_for(what, milliseconds):
-    script.chapter(what)
-    script.wait(milliseconds - 1)
+    tpm.chapter(what)
+    tpm.wait(milliseconds - 1)
     closed(f"{milliseconds - 1:,} milliseconds later")
-    script.wait(1)
+    tpm.wait(1)
     right("One more")
 
 
 def how_long():
-    script.chapter("One wrong try closes lockoutAuth for lockoutRecovery, to the millisecond.")
+    tpm.chapter("One wrong try closes lockoutAuth for lockoutRecovery, to the millisecond.")
     tpm.set_protection(
         "TPM2_DictionaryAttackParameters: lockoutRecovery is 1,000 seconds", 3, 1000, 1000
     )
@@ -183,15 +177,15 @@ def how_long():
     )
     tpm.accepted("A session that is bound to another entity", tpm.reset(to_owner))
     closed_for("It opens. Wrong tries while it was closed have not closed it anew.", 1_000_000)
-    script.chapter("In the middle of the time.")
+    tpm.chapter("In the middle of the time.")
     wrong_password("A wrong one")
-    script.wait(500_000)
+    tpm.wait(500_000)
     closed("Another wrong one", b"wrong")
     closed_for("The time goes on.", 500_000)
-    script.chapter("At a wrong hmac it closes too.")
+    tpm.chapter("At a wrong hmac it closes too.")
     tpm.fails("Of PCR 16, bound to it: AUTH_FAIL/s1", wrong(tpm.reset(bound)))
     closed("The right password")
-    script.wait(1_000_000)
+    tpm.wait(1_000_000)
     right("Later")
     tpm.fails("Behind a password: AUTH_FAIL/s2", wrong(tpm.reset(b"", bound), 2))
     closed("The right password")
@@ -199,43 +193,43 @@ def how_long():
 
 
 def power_cycles():
-    script.chapter("A power cycle opens nothing, and starts the time anew.")
+    tpm.chapter("A power cycle opens nothing, and starts the time anew.")
     wrong_password("A wrong one")
-    script.wait(999_999)
+    tpm.wait(999_999)
     closed("A millisecond before the end")
-    script.power()
-    script.startup()
-    script.wait(1)
+    tpm.power()
+    tpm.script.startup()
+    tpm.wait(1)
     closed("After TPM2_Startup, in that millisecond")
     closed_for("The time counts from the power cycle on.", 999_999)
-    script.chapter("It counts before TPM2_Startup too.")
+    tpm.chapter("It counts before TPM2_Startup too.")
     wrong_password("A wrong one")
-    script.power()
-    script.wait(1_000_000)
-    script.startup()
+    tpm.power()
+    tpm.wait(1_000_000)
+    tpm.script.startup()
     right("It is over")
 
 
 def no_recovery():
-    script.chapter("With lockoutRecovery 0 no time opens it, but the next reset.")
+    tpm.chapter("With lockoutRecovery 0 no time opens it, but the next reset.")
     tpm.does("lockoutRecovery is 0", tpm.attack_parameters(3, 1000, 0, LOCKOUT))
     wrong_password("A wrong one")
-    script.wait(4_294_967_295)
+    tpm.wait(4_294_967_295)
     closed("The right one, after the longest time that one command can take")
-    script.power()
-    script.startup()
+    tpm.power()
+    tpm.script.startup()
     right("Behind a power cycle and TPM2_Startup(CLEAR)")
     wrong_password("A wrong one")
     closed("It closes again")
-    script.power()
-    script.startup()
+    tpm.power()
+    tpm.script.startup()
     tpm.does("lockoutRecovery is 1 second", tpm.attack_parameters(3, 1000, 1, LOCKOUT))
     wrong_password("A wrong one")
     closed_for("It opens.", 1_000)
 
 
 def each_alone():
-    script.chapter("lockoutAuth and other protected entities have nothing to do with each other.")
+    tpm.chapter("lockoutAuth and other protected entities have nothing to do with each other.")
     tpm.define("An NV index", area(FIRST, BY_VALUE), auth=b"pin")
     tpm.does("It is written", tpm.writing(FIRST, b"data"))
     to_lockout = tpm.start("A session that is bound to TPM_RH_LOCKOUT", RH_LOCKOUT)
@@ -248,7 +242,7 @@ def each_alone():
     wrong_password("A wrong password of TPM_RH_LOCKOUT")
     closed("lockoutAuth is closed, too")
     tpm.fails("And the index locked: LOCKOUT", tpm.writing(FIRST, b"x"))
-    script.wait(1_000)
+    tpm.wait(1_000)
     tpm.fails("After lockoutRecovery it still is: LOCKOUT", tpm.writing(FIRST, b"x"))
     tpm.accepted("The first one is accepted for PCR 16", tpm.reset(to_lockout))
     tpm.fails("The second one is not: LOCKOUT", tpm.reset(to_index))
@@ -266,25 +260,25 @@ def each_alone():
     tpm.accepted("The second one for PCR 16", tpm.reset(to_index))
     tpm.fails("The first one for PCR 16: LOCKOUT", tpm.reset(to_lockout))
     tpm.accepted("The first one for the index", tpm.writing(FIRST, b"y", to_lockout))
-    script.wait(1_000)
+    tpm.wait(1_000)
     tpm.accepted("After lockoutRecovery for PCR 16", tpm.reset(to_lockout))
     tpm.does("recoveryTime 0 is nothing to lockoutAuth", tpm.attack_parameters(3, 0, 1, LOCKOUT))
     wrong_password("A wrong one")
     closed("The right one")
-    script.wait(1_000)
+    tpm.wait(1_000)
     tpm.does("Nor is maxTries 0", tpm.attack_parameters(0, 1000, 1, LOCKOUT))
     right("The right one")
     tpm.fails("Of the index: LOCKOUT", tpm.writing(FIRST, b"x"))
 
 
 def longest():
-    script.chapter("The longest lockoutRecovery.")
+    tpm.chapter("The longest lockoutRecovery.")
     tpm.does("It is FFFFFFFF", tpm.attack_parameters(3, 1000, 0xFFFF_FFFF, LOCKOUT))
     wrong_password("A wrong one")
-    script.wait(4_294_967_295)
+    tpm.wait(4_294_967_295)
     closed("4,294,967 seconds are nothing to it")
-    script.power()
-    script.startup()
+    tpm.power()
+    tpm.script.startup()
     closed("A reset does not open it, as it has a time")
 
 
@@ -293,4 +287,3 @@ power_cycles()
 no_recovery()
 each_alone()
 longest()
-script.write()

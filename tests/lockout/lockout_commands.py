@@ -5,8 +5,8 @@ from tpmsim.caller import hmac_key, sealed, storage_key, wrong
 from tpmsim.standard import CC, RH_OWNER, SHA256, policy
 from tpmsim.standard.nv import Attribute as NvAttribute
 from tpmsim.standard.objects import Attribute
-from tpmsim.caller.script_caller import FIRST, FOURTH, SECOND, ScriptCaller, THIRD
-from tpmsim.caller.script import Script
+from tpmsim.caller.script_caller import FIRST, FOURTH, SECOND, THIRD
+from tests.common.teller import Teller
 
 PIN, DATA = b"pin", b"data"
 FIFTH = 0x0100_0005
@@ -19,12 +19,11 @@ CHANGING = policy.after_auth_value(
     SHA256, policy.after_command_code(SHA256, bytes(32), CC.NV_ChangeAuth)
 )
 
-script = Script(
+tpm = Teller(
     "tests/lockout/lockout_commands.tpm",
     "Each command that is authorized by a protected entity: with maxTries 1 one wrong entry locks, "
     "and the right one is refused then, whichever command the try was made by.",
 )
-tpm = ScriptCaller(script)
 
 
 def unlock(what="TPM2_DictionaryAttackLockReset"):
@@ -33,7 +32,7 @@ def unlock(what="TPM2_DictionaryAttackLockReset"):
 
 def tries(name, prepare, outcome="SUCCESS"):
     """A right entry, a wrong one, and the right one again; the command itself may be refused."""
-    script.chapter(f"TPM2_{name}.")
+    tpm.chapter(f"TPM2_{name}.")
     if outcome == "SUCCESS":
         tpm.accepted("Right", prepare())
     else:
@@ -65,7 +64,7 @@ def objects():
 
 
 def indices():
-    script.chapter("NV indices.")
+    tpm.chapter("NV indices.")
     for words, public in (
         ("An ordinary one with locks", area(FIRST, BY_VALUE | LOCKS)),
         ("A counter", counter(SECOND, BY_VALUE)),
@@ -107,7 +106,7 @@ def change_auth():
 
 
 def two_entries():
-    script.chapter("A command makes one try at most, whichever of its entries are wrong.")
+    tpm.chapter("A command makes one try at most, whichever of its entries are wrong.")
     first = tpm.start("A session that is bound to the sealed object", SEALED)
     second = tpm.start("One that is bound to an index", FIRST)
     third = tpm.start("One that is bound to nothing")
@@ -130,10 +129,8 @@ def two_entries():
     tpm.accepted("It is not locked", tpm.reset(third, first, second))
 
 
-script.startup()
 tpm.set_protection("TPM2_DictionaryAttackParameters: maxTries is 1", 1, 1000, 1000)
 objects()
 indices()
 change_auth()
 two_entries()
-script.write()

@@ -7,19 +7,18 @@ from tpmsim.caller import BY_POLICY, BY_VALUE, HERE, Use, area, sealed, wrong
 from tpmsim.standard import RH_LOCKOUT, RH_OWNER, SHA256, policy
 from tpmsim.standard.nv import Attribute as NvAttribute
 from tpmsim.standard.objects import Attribute
-from tpmsim.caller.script_caller import FIRST, SECOND, ScriptCaller
-from tpmsim.caller.script import Script
+from tpmsim.caller.script_caller import FIRST, SECOND
+from tests.common.teller import Teller
 
 PIN, DATA, OWNER, LOCKOUT = b"pin", b"a secret", b"owner", b"lockout"
 DEMANDING = policy.after_auth_value(SHA256, bytes(32))
 
-script = Script(
+tpm = Teller(
     "tests/lockout/lockout_sessions.tpm",
     "Each way in which an entry can be a try at a protected authorization value: as the password, "
     "in the key of an hmac, or else because its session was bound to a protected entity at the "
     "start. maxTries is 1 here. So one wrong entry of such a way locks it, and all the others.",
 )
-tpm = ScriptCaller(script)
 
 
 @dataclass
@@ -88,10 +87,10 @@ def ways(handle, use):
 
 
 def check(name, handle, use):
-    script.chapter(f"{name}.")
+    tpm.chapter(f"{name}.")
     sessions, found = ways(handle, use)
     for way in found:
-        script.chapter(f"{way.words}, {name}.")
+        tpm.chapter(f"{way.words}, {name}.")
         tpm.accepted("Right", way.prepared())
         bent = wrong(way.prepared(), way.place)
         tpm.refused(f"Wrong: that is a try: AUTH_FAIL/s{way.place}", bent)
@@ -112,7 +111,7 @@ def unlock():
 def not_a_try(name, handle, sessions):
     """The ways that have nothing to do with a protected value are open while it is locked."""
     unbound, to_owner, bound, to_lockout, told, bound_policy = sessions
-    script.chapter(f"What is no try, {name}.")
+    tpm.chapter(f"What is no try, {name}.")
     others = (
         ("On TPM_RH_OWNER, bound to nothing", tpm.change_auth, (RH_OWNER, OWNER, unbound), 1),
         ("Bound to TPM_RH_OWNER", tpm.change_auth, (RH_OWNER, OWNER, to_owner), 1),
@@ -136,7 +135,7 @@ def not_a_try(name, handle, sessions):
 
 def policy_without_value():
     """A policy that asks for no value is no try, whatever its hmac."""
-    script.chapter("A policy that asks for no authorization value, and a session bound to nothing.")
+    tpm.chapter("A policy that asks for no authorization value, and a session bound to nothing.")
     digest = policy.after_locality(SHA256, bytes(32), 1)
     tpm.define("An index with this policy", area(SECOND, BY_POLICY, auth_policy=digest))
     session = tpm.policy("A policy session")
@@ -167,7 +166,7 @@ def policy_without_value():
 
 
 def lasting():
-    script.chapter("A session stays one that was bound to a protected entity, for good.")
+    tpm.chapter("A session stays one that was bound to a protected entity, for good.")
     tpm.define("An index", area(SECOND, BY_VALUE), OWNER, auth=PIN)
     bound = tpm.start("A session that is bound to it", SECOND)
     tpm.does("The index is undefined", tpm.undefining(SECOND, OWNER))
@@ -193,7 +192,6 @@ def lasting():
         tpm.does("It is flushed", tpm.flush(session))
 
 
-script.startup()
 tpm.set_protection("TPM2_DictionaryAttackParameters: maxTries is 1", 1, 1000, 1000)
 tpm.does('lockoutAuth is "lockout"', tpm.change_auth(RH_LOCKOUT, LOCKOUT, b""))
 tpm.does('ownerAuth is "owner"', tpm.change_auth(RH_OWNER, OWNER, b""))
@@ -214,4 +212,3 @@ check("the NV index", FIRST, lambda use: tpm.writing(FIRST, DATA, use))
 check("the object", SEALED, lambda use: tpm.unsealing(SEALED, use))
 policy_without_value()
 lasting()
-script.write()

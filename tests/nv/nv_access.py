@@ -3,8 +3,8 @@
 from tpmsim.caller import BY_POLICY, BY_VALUE, area, bits, counter, extended
 from tpmsim.standard import RH_OWNER, RH_PLATFORM, frames, nv
 from tpmsim.standard.nv import Attribute
-from tpmsim.caller.script_caller import FIRST, SECOND, ScriptCaller, THIRD
-from tpmsim.caller.script import Script
+from tpmsim.caller.script_caller import FIRST, SECOND, THIRD
+from tests.common.teller import Teller
 
 # What an index allows by one attribute for writing and one for reading, and who then may.
 ALLOWED = (
@@ -15,12 +15,12 @@ ALLOWED = (
 )
 LOCKS = Attribute.WRITE_STCLEAR | Attribute.READ_STCLEAR
 
-script = Script(
+tpm = Teller(
     "tests/nv/nv_access.tpm",
     "Each attribute for writing and reading alone, with each kind of authHandle: the owner, the "
     "platform, the index itself and another one. By passwords, which a policy is not.",
+    starts=False,
 )
-tpm = ScriptCaller(script)
 ASKERS = (("The owner", RH_OWNER, "owner"), ("The platform", RH_PLATFORM, "platform"))
 
 
@@ -48,8 +48,8 @@ def each_asker(what, allowed, prepare):
 def changes(what, public, change, allowed):
     tpm.define(what, public, auth=b"a")
     each_asker("TPM2_NV_WriteLock", allowed, lambda by: tpm.write_locking(FIRST, by=by))
-    script.power()
-    script.startup()
+    tpm.power()
+    tpm.startup()
     each_asker("its change", allowed, lambda by: change(FIRST, by=by))
     tpm.is_now("TPM2_NV_ReadPublic", FIRST, cleared=Attribute.WRITELOCKED)
     tpm.does("It is undefined", tpm.undefining(FIRST))
@@ -87,7 +87,7 @@ def may_read(attribute, allowed):
 
 
 def wrong_handles():
-    script.chapter("authHandle and nvIndex of other kinds.")
+    tpm.chapter("authHandle and nvIndex of other kinds.")
     right = tpm.reading(SECOND, 8)
     for what, place, handles in (
         (
@@ -114,17 +114,17 @@ def wrong_handles():
     tpm.fails("Both: HANDLE/h1", right.but(handles=[FIRST, FIRST]))
 
 
-script.startup()
+tpm.startup()
 tpm.define("Another index, which can be used by its value", area(SECOND, BY_VALUE), auth=b"b")
 tpm.does("It is written", tpm.writing(SECOND, b"other..."))
 for write, read, allowed in ALLOWED:
-    script.chapter(f"{write.name} alone.")
+    tpm.chapter(f"{write.name} alone.")
     may_write(write, allowed)
 for write, read, allowed in ALLOWED:
-    script.chapter(f"{read.name} alone.")
+    tpm.chapter(f"{read.name} alone.")
     may_read(read, allowed)
 
-script.chapter("Another index as authHandle: its own attributes say whether it authorizes at all.")
+tpm.chapter("Another index as authHandle: its own attributes say whether it authorizes at all.")
 tpm.define("The index that is asked for", area(FIRST, BY_VALUE), auth=b"a")
 tpm.define("One that only a policy can use", area(THIRD, BY_POLICY), auth=b"c")
 tpm.does("The first is written", tpm.writing(FIRST, b"x"))
@@ -136,4 +136,3 @@ tpm.fails(
 )
 tpm.fails("Nor with a wrong one: AUTH_FAIL/s1", tpm.reading(FIRST, 1, b"a", by=SECOND))
 wrong_handles()
-script.write()

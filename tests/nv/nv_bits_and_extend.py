@@ -3,17 +3,17 @@
 from tpmsim.caller import BY_OWNER, bits, extended
 from tpmsim.standard import RH_OWNER, SHA1, digest, digest_bytes, frames, number
 from tpmsim.standard.nv import Attribute
-from tpmsim.caller.script_caller import FIRST, HASHES, SECOND, ScriptCaller, THIRD
-from tpmsim.caller.script import Script
+from tpmsim.caller.script_caller import FIRST, HASHES, SECOND, THIRD
+from tests.common.teller import Teller
 
 CLEARED = Attribute.CLEAR_STCLEAR
 
-script = Script(
+tpm = Teller(
     "tests/nv/nv_bits_and_extend.tpm",
     "Indices of bits, in which TPM2_NV_SetBits sets more and more, and indices that are extended "
     "as PCRs are, each by its own hash algorithm.",
+    starts=False,
 )
-tpm = ScriptCaller(script)
 
 
 def set_bits(what, index, more, value):
@@ -21,8 +21,8 @@ def set_bits(what, index, more, value):
     tpm.read(f"It is {value:X}", index, number(value, 8), by=RH_OWNER)
 
 
-script.startup()
-script.chapter("Bits.")
+tpm.startup()
+tpm.chapter("Bits.")
 tpm.define("TPM2_NV_DefineSpace (attributes 00020022)", bits(FIRST, BY_OWNER))
 tpm.fails("TPM2_NV_Read before the first bit: NV_UNINITIALIZED", tpm.reading(FIRST, 8, by=RH_OWNER))
 set_bits("TPM2_NV_SetBits of 1", FIRST, 1, 1)
@@ -45,7 +45,7 @@ tpm.fails(
 tpm.fails("Nine bytes: SIZE", wrong.but(parameters=bytes(9)))
 
 for index, (algorithm, name) in zip((THIRD, THIRD + 1), HASHES):
-    script.chapter(f"An index that is extended, of {name}.")
+    tpm.chapter(f"An index that is extended, of {name}.")
     zeros = bytes(digest_bytes(algorithm))
     size = len(zeros)
     tpm.define(
@@ -72,9 +72,9 @@ for index, (algorithm, name) in zip((THIRD, THIRD + 1), HASHES):
     tpm.read("It is as it was", index, value, by=RH_OWNER)
     tpm.read("A piece of it", index, value[3:9], offset=3, by=RH_OWNER)
 
-script.chapter("At the next start the first is as it was, and the second is not written any more.")
-script.power()
-script.startup()
+tpm.chapter("At the next start the first is as it was, and the second is not written any more.")
+tpm.power()
+tpm.startup()
 tpm.read("TPM2_NV_Read of the first", FIRST, b"\xff" * 8, by=RH_OWNER)
 tpm.fails("Of the second: NV_UNINITIALIZED", tpm.reading(SECOND, 8, by=RH_OWNER))
 set_bits("TPM2_NV_SetBits of 2 in the second", SECOND, 2, 2)
@@ -90,6 +90,5 @@ once = digest(algorithm, zeros + b"next")
 for what in ('TPM2_NV_Extend by "next"', "After the next start, the same"):
     tpm.does(what, tpm.extending(THIRD + 1, b"next", by=RH_OWNER))
     tpm.read("It is the digest of zeros and the data", THIRD + 1, once, by=RH_OWNER)
-    script.power()
-    script.startup()
-script.write()
+    tpm.power()
+    tpm.startup()

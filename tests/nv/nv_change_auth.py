@@ -5,15 +5,15 @@ from tpmsim.standard import CC, CONTINUE_SESSION, DECRYPT, RH_OWNER, RH_PLATFORM
 from tpmsim.standard import digest_bytes, number, policy, sized
 from tpmsim.standard.nv import Attribute
 from tpmsim.standard.policy import AUTH_VALUE, PASSWORD
-from tpmsim.caller.script_caller import FIRST, HASHES, SECOND, ScriptCaller, THIRD, zeros
-from tpmsim.caller.script import Script
+from tpmsim.caller.script_caller import FIRST, HASHES, SECOND, THIRD, zeros
+from tests.common.teller import Teller
 
-script = Script(
+tpm = Teller(
     "tests/nv/nv_change_auth.tpm",
     "TPM2_NV_ChangeAuth: an index is authorized in the ADMIN role, which takes a policy with "
     "TPM2_PolicyCommandCode of this very command.",
+    starts=False,
 )
-tpm = ScriptCaller(script)
 
 
 def changing_policy(algorithm=SHA256, before=None):
@@ -35,11 +35,11 @@ def undefine(*indices):
         tpm.does("It is undefined" if index == indices[0] else "", tpm.undefining(index))
 
 
-script.startup()
-script.allow_tries()
+tpm.startup()
+tpm.script.allow_tries()
 AFTER_AUTH_VALUE = policy.after_auth_value(SHA256, bytes(32))
 
-script.chapter("Without the policy.")
+tpm.chapter("Without the policy.")
 tpm.define(
     "An index with this policy, that can be used by its value",
     area(FIRST, BY_VALUE, auth_policy=changing_policy()),
@@ -61,7 +61,7 @@ tpm.fails("By this session: POLICY_CC/s1", tpm.changing_auth(FIRST, b"new", sess
 says("TPM2_PolicyRestart", tpm.restart(session))
 tpm.does("The value is as it was: TPM2_NV_Write by it", tpm.writing(FIRST, b"x"))
 
-script.chapter("By the policy.")
+tpm.chapter("By the policy.")
 told(session)
 tpm.does('TPM2_NV_ChangeAuth to "new"', tpm.changing_auth(FIRST, b"new", session))
 tpm.digest_is("The policy counts once", session, zeros(session))
@@ -75,12 +75,12 @@ tpm.read("TPM2_NV_Read by the empty password", FIRST, b"y")
 told(session)
 tpm.does('To "a" and zeros behind it', tpm.changing_auth(FIRST, b"a" + bytes(31), session))
 tpm.read("They do not count", FIRST, b"y", b"a")
-script.power()
-script.startup()
+tpm.power()
+tpm.startup()
 tpm.read("It outlives a power cycle", FIRST, b"y", b"a")
 undefine(FIRST)
 
-script.chapter("A digest that is right, and no TPM2_PolicyCommandCode in it.")
+tpm.chapter("A digest that is right, and no TPM2_PolicyCommandCode in it.")
 tpm.define(
     "An index whose policy is TPM2_PolicyAuthValue",
     area(FIRST, BY_POLICY, auth_policy=AFTER_AUTH_VALUE),
@@ -114,7 +114,7 @@ tpm.fails("TPM2_NV_ChangeAuth: AUTH_UNAVAILABLE", tpm.changing_auth(FIRST, b"new
 says("TPM2_PolicyRestart", tpm.restart(session))
 undefine(FIRST)
 
-script.chapter("No attribute has to allow it, and no lock forbids it.")
+tpm.chapter("No attribute has to allow it, and no lock forbids it.")
 locks = Attribute.WRITE_STCLEAR | Attribute.READ_STCLEAR
 tpm.define(
     "An index that the owner alone uses",
@@ -138,7 +138,7 @@ tpm.does("It is undefined", tpm.undefining(SECOND, by=RH_PLATFORM))
 
 for algorithm, name in HASHES:
     size = digest_bytes(algorithm)
-    script.chapter(f"With {name}: sizes of the new value.")
+    tpm.chapter(f"With {name}: sizes of the new value.")
     public = area(FIRST, BY_VALUE, algorithm=algorithm, auth_policy=changing_policy(algorithm))
     tpm.define("An index", public)
     session = tpm.policy("A policy session", algorithm=algorithm)
@@ -167,7 +167,7 @@ for algorithm, name in HASHES:
     tpm.does("TPM2_NV_Write by the empty password", tpm.writing(FIRST, b"x", b""))
     undefine(FIRST)
 
-script.chapter("A policy that asks for the old value too. The response shows the new one.")
+tpm.chapter("A policy that asks for the old value too. The response shows the new one.")
 BOTH = changing_policy(before=AFTER_AUTH_VALUE)
 tpm.define("An index", area(FIRST, BY_VALUE, auth_policy=BOTH), auth=b"old")
 aes = tpm.policy("A policy session with AES", aes=True)
@@ -203,7 +203,7 @@ tpm.fails(
 tpm.does("By the right one", tpm.changing_auth(FIRST, b"open", Use(aes, demand=PASSWORD)))
 tpm.does("TPM2_NV_Write by it", tpm.writing(FIRST, b"x"))
 
-script.chapter("A session that was bound to the index is so while it has the value of then.")
+tpm.chapter("A session that was bound to the index is so while it has the value of then.")
 bound = tpm.start("An HMAC session that is bound to it", bind=FIRST)
 tpm.does("TPM2_NV_Write by it", tpm.writing(FIRST, b"y", bound))
 both_told(AUTH_VALUE)
@@ -218,7 +218,7 @@ tpm.does(
 )
 tpm.does("TPM2_NV_Write: it is bound again", tpm.writing(FIRST, b"x", bound))
 
-script.chapter("Handles.")
+tpm.chapter("Handles.")
 told(session)
 right = tpm.changing_auth(FIRST, b"new", b"")
 tpm.fails(
@@ -227,4 +227,3 @@ tpm.fails(
 )
 tpm.fails("An index that is not defined: HANDLE/h1", right.but(handles=[THIRD]))
 tpm.fails("Without sessions: AUTH_MISSING", right.but(entries=[]))
-script.write()

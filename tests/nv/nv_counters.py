@@ -3,15 +3,15 @@
 from tpmsim.caller import BY_OWNER, area, counter
 from tpmsim.standard import RH_OWNER, SHA1, number
 from tpmsim.standard.nv import Attribute
-from tpmsim.caller.script_caller import FIRST, FOURTH, SECOND, ScriptCaller, THIRD
-from tpmsim.caller.script import Script
+from tpmsim.caller.script_caller import FIRST, FOURTH, SECOND, THIRD
+from tests.common.teller import Teller
 
-script = Script(
+tpm = Teller(
     "tests/nv/nv_counters.tpm",
     "Counters. A new one begins behind the largest value that any counter ever had, so that none "
     "has a value twice. Index 01000002 has the attributes 00020012.",
+    starts=False,
 )
-tpm = ScriptCaller(script)
 
 
 def count(what, index, value, times=1):
@@ -31,7 +31,7 @@ def define_again(what, index):
     define(what, index)
 
 
-script.startup()
+tpm.startup()
 define("TPM2_NV_DefineSpace of 01000002", SECOND)
 assert tpm.publics[SECOND].attributes == 0x0002_0012
 tpm.fails(
@@ -42,11 +42,11 @@ count("Three times TPM2_NV_Increment", SECOND, 3, times=3)
 define_again("It is defined again", SECOND)
 tpm.fails("TPM2_NV_Read: NV_UNINITIALIZED", tpm.reading(SECOND, 8, by=RH_OWNER))
 count("TPM2_NV_Increment: it goes on behind 3", SECOND, 4)
-assert script.last.response == bytes.fromhex(
+assert tpm.last.response == bytes.fromhex(
     "8002 0000001D 00000000 0000000A 0008 0000000000000004 0000 01 0000"
 )
 
-script.chapter("Two counters side by side.")
+tpm.chapter("Two counters side by side.")
 define("Another counter, of SHA-1", FIRST, algorithm=SHA1)
 count("The other begins behind the first", FIRST, 5)
 count("The first goes on by its own value", SECOND, 5)
@@ -60,35 +60,35 @@ define("A fourth one", FOURTH)
 count("It begins behind what the third had", FOURTH, 9)
 count("The first", SECOND, 8)
 
-script.chapter("A counter that is defined and not incremented changes nothing.")
+tpm.chapter("A counter that is defined and not incremented changes nothing.")
 define_again("01000004 again", FOURTH)
 define_again("And again", FOURTH)
 count("TPM2_NV_Increment", FOURTH, 10)
 
-script.chapter("Across power cycles.")
-script.power()
-script.startup()
+tpm.chapter("Across power cycles.")
+tpm.power()
+tpm.startup()
 for index, value in ((FIRST, 7), (SECOND, 8), (FOURTH, 10)):
     tpm.read(f"It is {value}", index, number(value, 8), by=RH_OWNER)
 count("The first", SECOND, 9)
 define_again("Another one again", FIRST)
-script.power()
-script.startup()
+tpm.power()
+tpm.startup()
 count("It begins behind the largest", FIRST, 11)
 
-script.chapter("Its bytes are read as those of any index.")
+tpm.chapter("Its bytes are read as those of any index.")
 tpm.read("The last byte", FIRST, b"\x0b", offset=7, by=RH_OWNER)
 tpm.read("Four in the middle", FIRST, bytes(4), offset=2, by=RH_OWNER)
 tpm.fails("Past the end: NV_RANGE", tpm.reading(FIRST, 2, offset=7, by=RH_OWNER))
 
-script.chapter("What is no counter does not count.")
+tpm.chapter("What is no counter does not count.")
 tpm.define("An ordinary index of eight bytes", area(THIRD, BY_OWNER))
 tpm.does("TPM2_NV_Write of 255", tpm.writing(THIRD, number(255, 8), by=RH_OWNER))
 tpm.fails("TPM2_NV_Increment: ATTRIBUTES/h2", tpm.incrementing(THIRD, by=RH_OWNER))
 define_again("01000001 again", FIRST)
 count("TPM2_NV_Increment: the ordinary index does not matter", FIRST, 12)
 
-script.chapter("Locked until the next start.")
+tpm.chapter("Locked until the next start.")
 lockable = counter(FOURTH, BY_OWNER | Attribute.WRITE_STCLEAR)
 tpm.does("TPM2_NV_UndefineSpace", tpm.undefining(FOURTH))
 tpm.define("A counter with WRITE_STCLEAR", lockable)
@@ -96,7 +96,6 @@ count("TPM2_NV_Increment", FOURTH, 13)
 tpm.does("TPM2_NV_WriteLock", tpm.write_locking(FOURTH, by=RH_OWNER))
 tpm.fails("TPM2_NV_Increment: NV_LOCKED", tpm.incrementing(FOURTH, by=RH_OWNER))
 tpm.read("It is read as before", FOURTH, number(13, 8), by=RH_OWNER)
-script.power()
-script.startup()
+tpm.power()
+tpm.startup()
 count("TPM2_NV_Increment after the next start", FOURTH, 14)
-script.write()

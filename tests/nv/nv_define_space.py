@@ -5,16 +5,15 @@ from tpmsim.model import nv_commands
 from tpmsim.standard import RH_ENDORSEMENT, RH_LOCKOUT, RH_NULL, RH_OWNER, RH_PLATFORM, SHA1
 from tpmsim.standard import digest_bytes, frames, number, nv, sized
 from tpmsim.standard.nv import Attribute, Type
-from tpmsim.caller.script_caller import FIRST, HASHES, ScriptCaller
-from tpmsim.caller.script import Script
+from tpmsim.caller.script_caller import FIRST, HASHES
+from tests.common.teller import Teller
 
 CREATED = Attribute.PLATFORMCREATE
 
-script = Script(
+tpm = Teller(
     "tests/nv/nv_define_space.tpm",
     "TPM2_NV_DefineSpace: which public areas an index can have, and how many indices there can be.",
 )
-tpm = ScriptCaller(script)
 
 
 def fitting(what, public, **more):
@@ -35,7 +34,7 @@ def raw(text):
 
 
 def parameters():
-    script.chapter("The parameters: auth and publicInfo.")
+    tpm.chapter("The parameters: auth and publicInfo.")
     good = sized(area().text)
     tpm.fails(
         "auth that is cut: before its size, within it, and within its bytes: INSUFFICIENT/p1",
@@ -90,7 +89,7 @@ def parameters():
 
 
 def handles():
-    script.chapter("Who defines indices: the owner and the platform.")
+    tpm.chapter("Who defines indices: the owner and the platform.")
     for what, handles in (
         (
             "TPM_RH_ENDORSEMENT, TPM_RH_LOCKOUT, TPM_RH_NULL and TPM_RS_PW",
@@ -117,7 +116,7 @@ def handles():
 
 def sizes():
     for algorithm, name in HASHES:
-        script.chapter(f"With {name}: sizes of auth, of authPolicy and of the data.")
+        tpm.chapter(f"With {name}: sizes of auth, of authPolicy and of the data.")
         size = digest_bytes(algorithm)
 
         def of(make=area, **more):
@@ -154,13 +153,13 @@ def sizes():
 
 
 def attributes():
-    script.chapter("Types.")
+    tpm.chapter("Types.")
     unfitting(
         "Every type but ordinary 0, counter 1, bits 2 and extend 4, whatever the size: "
         "ATTRIBUTES/p2",
         *(area(kind=it) for it in range(16) if it not in list(Type)),
     )
-    script.chapter("Attributes.")
+    tpm.chapter("Attributes.")
     unfitting(
         "POLICY_DELETE, WRITELOCKED, GLOBALLOCK, ORDERLY, READLOCKED and WRITTEN: ATTRIBUTES/p2",
         *(area(attributes=BY_OWNER | it) for it in Attribute if it & nv_commands.NOT_DEFINED),
@@ -192,7 +191,7 @@ def attributes():
 
 
 def numbers():
-    script.chapter("Numbers of indices.")
+    tpm.chapter("Numbers of indices.")
     for each in (0x0100_0000, 0x0140_0001, 0x01C0_0000, 0x01FF_FFFF):
         fitting(f"{each:08X}", area(each))
     tpm.define("01000001", area())
@@ -204,7 +203,7 @@ def numbers():
 
 
 def limit_of_numbers():
-    script.chapter("There are at most 64 indices, by whomever they are defined.")
+    tpm.chapter("There are at most 64 indices, by whomever they are defined.")
     every = range(FIRST, FIRST + 64)
     for index in every:
         by = RH_PLATFORM if index % 2 else RH_OWNER
@@ -215,8 +214,8 @@ def limit_of_numbers():
         "A 65th, of eight bytes or of none: NV_SPACE", area(0x0100_0100), area(0x0100_0100, size=0)
     )
     unfitting("One that is there: NV_DEFINED", area(FIRST + 1))
-    script.power()
-    script.startup()
+    tpm.power()
+    tpm.script.startup()
     unfitting("One more after a power cycle: NV_SPACE", area(0x0100_0100))
     tpm.does("One is undefined", tpm.undefining(FIRST + 7))
     tpm.define("And another one defined", area(0x0100_0100))
@@ -229,7 +228,7 @@ def limit_of_numbers():
 
 
 def limit_of_bytes():
-    script.chapter("All have at most 16,384 bytes, whether they are written or not.")
+    tpm.chapter("All have at most 16,384 bytes, whether they are written or not.")
     every = range(FIRST, FIRST + 8)
     values = {it: bytes([it & 0xFF]) * 2048 for it in every}
     for index in every:
@@ -263,7 +262,6 @@ def limit_of_bytes():
     unfitting("An index that is extended: NV_SPACE", extended(FIRST + 11))
 
 
-script.startup()
 parameters()
 handles()
 sizes()
@@ -271,4 +269,3 @@ attributes()
 numbers()
 limit_of_numbers()
 limit_of_bytes()
-script.write()

@@ -2,15 +2,15 @@
 
 from tpmsim.caller import BY_VALUE, area
 from tpmsim.standard import RH_OWNER
-from tpmsim.caller.script_caller import FIRST, ScriptCaller
-from tpmsim.caller.script import Script
+from tpmsim.caller.script_caller import FIRST
+from tests.common.teller import Teller
 
-script = Script(
+tpm = Teller(
     "tests/nv/nv_first_index.tpm",
     "A first NV index: 01000001, of SHA-256, with AUTHWRITE and AUTHREAD (attributes 00040004), "
     'eight bytes and the authorization value "a".',
+    starts=False,
 )
-tpm = ScriptCaller(script)
 PUBLIC = area(FIRST, BY_VALUE)
 
 
@@ -20,7 +20,7 @@ def spelled(prepared, wanted):
     return prepared
 
 
-script.startup()
+tpm.startup()
 defining = spelled(
     tpm.defining(PUBLIC, auth=b"a"),
     "8002 0000002E 0000012A 40000001 00000009 40000009 0000 01 0000"
@@ -36,7 +36,7 @@ tpm.does(
     tpm.writing(FIRST, b"\x5a", offset=2),
 )
 tpm.does("TPM2_NV_Read of all: what was not written is FF", tpm.reading(FIRST, 8))
-assert script.last.response == bytes.fromhex(
+assert tpm.last.response == bytes.fromhex(
     "8002 0000001D 00000000 0000000A 0008 FFFF5AFFFFFFFFFF 0000 01 0000"
 )
 tpm.is_now("TPM2_NV_ReadPublic: it has WRITTEN now, and so another Name", FIRST)
@@ -50,7 +50,7 @@ tpm.fails(
 tpm.fails("TPM2_NV_ReadLock, without READ_STCLEAR: ATTRIBUTES/h2", tpm.read_locking(FIRST))
 tpm.read("It is as it was", FIRST, b"\xff\xff\x5a\xff\xff\xff\xff\xff")
 
-script.chapter("It is written piece by piece.")
+tpm.chapter("It is written piece by piece.")
 for what, data, offset in (
     ("At the end", b"z", 7),
     ("At the beginning", b"abc", 0),
@@ -85,7 +85,7 @@ tpm.fails(
     ),
 )
 
-script.chapter("Passwords, and the owner, who has neither OWNERWRITE nor OWNERREAD.")
+tpm.chapter("Passwords, and the owner, who has neither OWNERWRITE nor OWNERREAD.")
 tpm.fails(
     "A wrong password of what is protected from guessing: AUTH_FAIL/s1", tpm.reading(FIRST, 8, b"b")
 )
@@ -95,10 +95,10 @@ tpm.fails("TPM2_NV_Read by the owner: NV_AUTHORIZATION", tpm.reading(FIRST, 8, b
 tpm.fails("TPM2_NV_Write by the owner: NV_AUTHORIZATION", tpm.writing(FIRST, b"x", by=RH_OWNER))
 tpm.fails("No sessions: AUTH_MISSING", tpm.reading(FIRST, 8).but(entries=[]))
 
-script.chapter("It outlives a power cycle.")
-script.power()
+tpm.chapter("It outlives a power cycle.")
+tpm.power()
 tpm.fails("TPM2_NV_Read before TPM2_Startup: INITIALIZE", tpm.reading(FIRST, 8))
-script.startup()
+tpm.startup()
 tpm.read("TPM2_NV_Read", FIRST, WHOLE)
 tpm.is_now("TPM2_NV_ReadPublic", FIRST)
 tpm.does("TPM2_NV_UndefineSpace by the owner", tpm.undefining(FIRST))
@@ -106,4 +106,3 @@ gone = tpm.index_public(FIRST)
 tpm.fails("TPM2_NV_ReadPublic: HANDLE/h1", gone)
 tpm.define("It is defined again, and empty", PUBLIC)
 tpm.fails("TPM2_NV_Read: NV_UNINITIALIZED", tpm.reading(FIRST, 8))
-script.write()

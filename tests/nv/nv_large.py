@@ -5,14 +5,14 @@ import hashlib
 from tpmsim.caller import BY_OWNER, area
 from tpmsim.standard import RH_OWNER, number
 from tpmsim.standard.nv import Attribute
-from tpmsim.caller.script_caller import FIRST, SECOND, ScriptCaller, THIRD
-from tpmsim.caller.script import Script
+from tpmsim.caller.script_caller import FIRST, SECOND, THIRD
+from tests.common.teller import Teller
 
-script = Script(
+tpm = Teller(
     "tests/nv/nv_large.tpm",
     "1,024 bytes are written and read at once; an index of 2,048 takes two commands.",
+    starts=False,
 )
-tpm = ScriptCaller(script)
 
 
 def some(size, seed=b""):
@@ -29,15 +29,15 @@ def read(what, index, data, offset=0):
     tpm.read(what, index, data, offset=offset, by=RH_OWNER)
 
 
-script.startup()
-script.chapter("An index of 1,024 bytes.")
+tpm.startup()
+tpm.chapter("An index of 1,024 bytes.")
 tpm.define("TPM2_NV_DefineSpace", area(FIRST, BY_OWNER, size=1024))
 data = some(1024)
 write("TPM2_NV_Write of all", FIRST, data)
 read("TPM2_NV_Read of all", FIRST, data)
 read("Of the second half", FIRST, data[512:], 512)
 
-script.chapter("An index of 2,048 bytes.")
+tpm.chapter("An index of 2,048 bytes.")
 tpm.define("TPM2_NV_DefineSpace", area(SECOND, BY_OWNER, size=2048))
 whole = some(2048, b"large")
 write("TPM2_NV_Write of the second half", SECOND, whole[1024:], 1024)
@@ -52,7 +52,7 @@ whole = whole[:512] + data + whole[1536:]
 read("TPM2_NV_Read of the first half", SECOND, whole[:1024])
 read("Of the second half", SECOND, whole[1024:], 1024)
 
-script.chapter("More than 1,024 bytes at once.")
+tpm.chapter("More than 1,024 bytes at once.")
 tpm.fails(
     "TPM2_NV_Write of 1,025 bytes: SIZE/p1",
     tpm.writing(SECOND, bytes(1025), by=RH_OWNER),
@@ -76,7 +76,7 @@ tpm.fails(
 )
 read("The first is as it was", FIRST, data)
 
-script.chapter("WRITEALL: all bytes at once.")
+tpm.chapter("WRITEALL: all bytes at once.")
 public = area(THIRD, BY_OWNER | Attribute.WRITEALL, size=1024)
 tpm.define("TPM2_NV_DefineSpace of 1,024 bytes", public)
 tpm.fails(
@@ -107,11 +107,10 @@ tpm.is_now("It is written", THIRD)
 read("TPM2_NV_Read of no bytes", THIRD, b"")
 tpm.fails("Of one: NV_RANGE", tpm.reading(THIRD, 1, by=RH_OWNER))
 
-script.chapter("After the next start.")
-script.power()
-script.startup()
+tpm.chapter("After the next start.")
+tpm.power()
+tpm.startup()
 read("The first", FIRST, data)
 read("The second", SECOND, whole[:1024])
 read("Its second half", SECOND, whole[1024:], 1024)
 read("The third", THIRD, b"")
-script.write()

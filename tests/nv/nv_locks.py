@@ -3,8 +3,8 @@
 from tpmsim.caller import BY_OWNER, area, bits, extended
 from tpmsim.standard import CC, RH_OWNER, frames
 from tpmsim.standard.nv import Attribute
-from tpmsim.caller.script_caller import FIRST, SECOND, ScriptCaller
-from tpmsim.caller.script import Script
+from tpmsim.caller.script_caller import FIRST, SECOND
+from tests.common.teller import Teller
 
 DEFINE, WRITE_CLEAR = Attribute.WRITEDEFINE, Attribute.WRITE_STCLEAR
 READ_CLEAR, CLEARED = Attribute.READ_STCLEAR, Attribute.CLEAR_STCLEAR
@@ -12,18 +12,17 @@ WRITTEN, WRITE_LOCKED = Attribute.WRITTEN, Attribute.WRITELOCKED
 READ_LOCKED = Attribute.READLOCKED
 DATA = b"8 bytes."
 
-script = Script(
+tpm = Teller(
     "tests/nv/nv_locks.tpm",
     "Locks: WRITEDEFINE locks an index against writing for good, once it is written; WRITE_STCLEAR "
     "and READ_STCLEAR lock it until the next start. CLEAR_STCLEAR has it not written at each "
     "start.",
 )
-tpm = ScriptCaller(script)
 
 
 def start():
-    script.power()
-    script.startup()
+    tpm.power()
+    tpm.script.startup()
 
 
 def write(what="TPM2_NV_Write", index=FIRST):
@@ -60,7 +59,7 @@ def undefine():
 
 
 def refused_locks():
-    script.chapter("What may be locked: neither attribute says what the other does.")
+    tpm.chapter("What may be locked: neither attribute says what the other does.")
     for attributes in (0, CLEARED, READ_CLEAR, READ_CLEAR | CLEARED):
         define(attributes)
         tpm.fails("TPM2_NV_WriteLock: ATTRIBUTES/h2", tpm.write_locking(FIRST, by=RH_OWNER))
@@ -72,7 +71,7 @@ def refused_locks():
 
 
 def for_good():
-    script.chapter("WRITEDEFINE.")
+    tpm.chapter("WRITEDEFINE.")
     for more in (0, WRITE_CLEAR):
         define(DEFINE | more)
         write()
@@ -87,7 +86,7 @@ def for_good():
         read()
         undefine()
 
-    script.chapter("WRITEDEFINE, locked before it is written: only until the next start.")
+    tpm.chapter("WRITEDEFINE, locked before it is written: only until the next start.")
     define(DEFINE)
     write_lock()
     not_written()
@@ -102,7 +101,7 @@ def for_good():
 
 
 def until_the_start():
-    script.chapter("WRITE_STCLEAR.")
+    tpm.chapter("WRITE_STCLEAR.")
     for writes_before in (True, False):
         define(WRITE_CLEAR)
         if writes_before:
@@ -115,7 +114,7 @@ def until_the_start():
         read()
         undefine()
 
-    script.chapter("READ_STCLEAR.")
+    tpm.chapter("READ_STCLEAR.")
     define(READ_CLEAR)
     read_lock("TPM2_NV_ReadLock before it is written")
     tpm.is_now("It has READLOCKED", FIRST)
@@ -130,7 +129,7 @@ def until_the_start():
     not_read()
     undefine()
 
-    script.chapter("Both, and each without the other.")
+    tpm.chapter("Both, and each without the other.")
     define(WRITE_CLEAR | READ_CLEAR)
     write()
     read_lock()
@@ -149,7 +148,7 @@ def until_the_start():
 
 
 def cleared():
-    script.chapter("CLEAR_STCLEAR: the data go with each start.")
+    tpm.chapter("CLEAR_STCLEAR: the data go with each start.")
     for make, change, name in (
         (area, lambda: tpm.writing(FIRST, DATA, by=RH_OWNER), "TPM2_NV_Write"),
         (bits, lambda: tpm.setting(FIRST, 5, by=RH_OWNER), "TPM2_NV_SetBits"),
@@ -164,7 +163,7 @@ def cleared():
         tpm.is_now("It is written", FIRST)
         undefine()
 
-    script.chapter("What was written partly before is not there in the next first write.")
+    tpm.chapter("What was written partly before is not there in the next first write.")
     define(CLEARED)
     tpm.does("TPM2_NV_Write of two bytes", tpm.writing(FIRST, b"ab", by=RH_OWNER))
     start()
@@ -172,7 +171,7 @@ def cleared():
     tpm.read("TPM2_NV_Read", FIRST, b"\xff" * 6 + b"yz", by=RH_OWNER)
     undefine()
 
-    script.chapter("CLEAR_STCLEAR with WRITEDEFINE: as it is not written any more, it is open.")
+    tpm.chapter("CLEAR_STCLEAR with WRITEDEFINE: as it is not written any more, it is open.")
     define(CLEARED | DEFINE)
     write()
     write_lock()
@@ -182,7 +181,7 @@ def cleared():
     write()
     undefine()
 
-    script.chapter("With all of them.")
+    tpm.chapter("With all of them.")
     define(CLEARED | DEFINE | WRITE_CLEAR | READ_CLEAR)
     write()
     write_lock()
@@ -198,19 +197,19 @@ def cleared():
 
 
 def power_cycles():
-    script.chapter(
+    tpm.chapter(
         "It is TPM2_Startup that opens, not the power; what is not started cannot be asked."
     )
     define(WRITE_CLEAR | READ_CLEAR | CLEARED)
     write()
     write_lock()
-    script.power()
+    tpm.power()
     tpm.fails("TPM2_NV_ReadPublic: INITIALIZE", tpm.index_public(FIRST))
-    script.power()
-    script.startup()
+    tpm.power()
+    tpm.script.startup()
     tpm.is_now("After two power cycles and a start", FIRST, cleared=WRITTEN | WRITE_LOCKED)
     write()
-    script.command(
+    tpm.raw(
         "TPM2_Startup(CLEAR) on a device that is started: INITIALIZE",
         frames.command(CC.Startup, frames.number(0, 2)),
     )
@@ -219,7 +218,7 @@ def power_cycles():
 
 
 def each_for_itself():
-    script.chapter("A lock is that of one index.")
+    tpm.chapter("A lock is that of one index.")
     define(WRITE_CLEAR | READ_CLEAR)
     tpm.define("Another one", area(SECOND, BY_OWNER | WRITE_CLEAR | READ_CLEAR))
     write()
@@ -236,11 +235,9 @@ def each_for_itself():
     read()
 
 
-script.startup()
 refused_locks()
 for_good()
 until_the_start()
 cleared()
 power_cycles()
 each_for_itself()
-script.write()

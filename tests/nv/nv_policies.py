@@ -5,19 +5,19 @@ from tpmsim.standard import CC, CONTINUE_SESSION, DECRYPT, ENCRYPT, RH_OWNER, SH
 from tpmsim.standard import digest_bytes, nv, policy, selection
 from tpmsim.standard.nv import Attribute
 from tpmsim.standard.policy import AUTH_VALUE, PASSWORD
-from tpmsim.caller.script_caller import FIRST, HASHES, SECOND, ScriptCaller, THIRD, zeros
-from tpmsim.caller.script import Script
+from tpmsim.caller.script_caller import FIRST, HASHES, SECOND, THIRD, zeros
+from tests.common.teller import Teller
 
 DATA = b"8 bytes."
 POLICYWRITE, POLICYREAD = Attribute.POLICYWRITE, Attribute.POLICYREAD
 LOCKS = Attribute.WRITE_STCLEAR | Attribute.READ_STCLEAR
 
-script = Script(
+tpm = Teller(
     "tests/nv/nv_policies.tpm",
     "Indices and policy sessions: POLICYWRITE and POLICYREAD let the policy of an index authorize "
     "what is asked of it.",
+    tries=True,
 )
-tpm = ScriptCaller(script)
 
 
 def says(what, prepared):
@@ -35,7 +35,7 @@ def after_auth_value(algorithm=SHA256):
 
 def demands():
     for algorithm, name in HASHES:
-        script.chapter(f"TPM2_PolicyAuthValue and TPM2_PolicyPassword, of {name}.")
+        tpm.chapter(f"TPM2_PolicyAuthValue and TPM2_PolicyPassword, of {name}.")
         public = area(
             FIRST, BY_POLICY, algorithm=algorithm, auth_policy=after_auth_value(algorithm)
         )
@@ -87,7 +87,7 @@ USES = tuple(it for it in COMMANDS if it not in LOCKING)
 
 
 def availability():
-    script.chapter("Which attribute lets what authorize: the others do not.")
+    tpm.chapter("Which attribute lets what authorize: the others do not.")
     session = tpm.policy("A policy session")
     hmac = tpm.start("An HMAC session")
     for what, attributes in (
@@ -114,7 +114,7 @@ def availability():
                 )
         undefine(FIRST)
 
-    script.chapter("With all attributes and without a policy.")
+    tpm.chapter("With all attributes and without a policy.")
     tpm.define("The index", area(FIRST, nv.WRITES | nv.READS | LOCKS), auth=b"a")
     for name, _, prepare in COMMANDS:
         tpm.fails(f"{name} by a policy session: AUTH_UNAVAILABLE", prepare(session))
@@ -123,7 +123,7 @@ def availability():
     says("TPM2_PolicyRestart of the session that was told", tpm.restart(told))
     undefine(FIRST)
 
-    script.chapter("With all attributes and a policy, each way is open.")
+    tpm.chapter("With all attributes and a policy, each way is open.")
     public = area(FIRST, nv.WRITES | nv.READS | LOCKS, auth_policy=after_auth_value())
     tpm.define("The index", public, auth=b"a")
     for name, _, prepare in USES + LOCKING:
@@ -135,7 +135,7 @@ def availability():
 
 
 def by_code_and_pcrs():
-    script.chapter(
+    tpm.chapter(
         "One policy with two branches: who knows the value writes, and everybody reads while PCR "
         "10 has its value of now."
     )
@@ -184,25 +184,23 @@ def by_code_and_pcrs():
 
 
 def by_locality():
-    script.chapter("TPM2_PolicyLocality: written from locality 1 alone.")
+    tpm.chapter("TPM2_PolicyLocality: written from locality 1 alone.")
     auth_policy = policy.after_locality(SHA256, bytes(32), 0b10)
     public = area(FIRST, POLICYWRITE | Attribute.OWNERREAD, auth_policy=auth_policy)
     tpm.define("The index", public)
     session = tpm.policy("A policy session")
     says("TPM2_PolicyLocality", tpm.locality(session, 0b10))
     tpm.fails("TPM2_NV_Write at locality 0: LOCALITY", tpm.writing(FIRST, DATA, session))
-    script.locality_is(1)
+    tpm.locality_is(1)
     tpm.does("At locality 1", tpm.writing(FIRST, DATA, session))
-    script.locality_is(0)
+    tpm.locality_is(0)
     tpm.read("TPM2_NV_Read by the owner", FIRST, DATA, by=RH_OWNER)
     undefine(FIRST)
     says("The session is flushed", tpm.flush(session))
 
 
 def bound_and_encrypting():
-    script.chapter(
-        "A policy session that is bound to the index. The first write ends no key of it."
-    )
+    tpm.chapter("A policy session that is bound to the index. The first write ends no key of it.")
     tpm.define("The index", area(FIRST, BY_POLICY, auth_policy=after_auth_value()), auth=b"a")
     session = tpm.policy("The session, with AES", bind=FIRST, aes=True)
     for what, attributes in (
@@ -223,7 +221,7 @@ def bound_and_encrypting():
 
 
 def who_authorizes():
-    script.chapter("The policy is that of the index that authorizes, and of no other entity.")
+    tpm.chapter("The policy is that of the index that authorizes, and of no other entity.")
     auth_policy = after_auth_value()
     tpm.define("An index", area(FIRST, BY_POLICY | BY_OWNER, auth_policy=auth_policy), auth=b"a")
     tpm.define(
@@ -259,8 +257,6 @@ def who_authorizes():
     )
 
 
-script.startup()
-script.allow_tries()
 told = tpm.policy("A session that TPM2_PolicyNV and TPM2_PolicySecret are told to")
 demands()
 availability()
@@ -268,4 +264,3 @@ by_code_and_pcrs()
 by_locality()
 bound_and_encrypting()
 who_authorizes()
-script.write()

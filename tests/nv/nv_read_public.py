@@ -4,19 +4,19 @@ from tpmsim.caller import BY_OWNER, BY_VALUE, Use, area, counter, extended
 from tpmsim.standard import CONTINUE_SESSION, ENCRYPT, RH_NULL, RH_OWNER, digest, digest_bytes
 from tpmsim.standard import frames, number, sized
 from tpmsim.standard.nv import Attribute
-from tpmsim.caller.script_caller import FIRST, HASHES, SECOND, ScriptCaller
-from tpmsim.caller.script import Script
+from tpmsim.caller.script_caller import FIRST, HASHES, SECOND
+from tests.common.teller import Teller
 
-script = Script(
+tpm = Teller(
     "tests/nv/nv_read_public.tpm",
     "TPM2_NV_ReadPublic needs no authorization. It answers the public area with the attributes of "
     "now, and the Name, which is nameAlg and the digest of the public area.",
+    starts=False,
 )
-tpm = ScriptCaller(script)
 LOCKS = Attribute.WRITE_STCLEAR | Attribute.READ_STCLEAR
 
-script.startup()
-script.chapter("Each fact of a public area, in both hash algorithms.")
+tpm.startup()
+tpm.chapter("Each fact of a public area, in both hash algorithms.")
 for algorithm, name in HASHES:
     size = digest_bytes(algorithm)
     for what, public in (
@@ -35,7 +35,7 @@ for algorithm, name in HASHES:
         assert answer == sized(text) + sized(number(algorithm, 2) + digest(algorithm, text))
         tpm.does("It is undefined", tpm.undefining(public.index))
 
-script.chapter("Attributes that come and go, and the Name with them.")
+tpm.chapter("Attributes that come and go, and the Name with them.")
 tpm.define("An index with WRITE_STCLEAR and READ_STCLEAR", area(FIRST, BY_OWNER | LOCKS))
 names = set()
 for what, prepared in (
@@ -48,12 +48,12 @@ for what, prepared in (
     tpm.is_now("TPM2_NV_ReadPublic", FIRST)
     names.add(tpm.names[FIRST])
 assert len(names) == 3
-script.power()
-script.startup()
+tpm.power()
+tpm.startup()
 tpm.is_now("After the next start", FIRST, cleared=Attribute.WRITELOCKED | Attribute.READLOCKED)
 assert tpm.names[FIRST] in names
 
-script.chapter("With sessions, which authorize nothing.")
+tpm.chapter("With sessions, which authorize nothing.")
 tpm.define("Another index", area(SECOND, BY_VALUE), auth=b"a")
 plain = tpm.start("A session that is bound to nothing", bind=RH_NULL)
 encrypting = tpm.start("One that is bound to the other index, with AES", bind=SECOND, aes=True)
@@ -75,7 +75,7 @@ tpm.fails(
 )
 tpm.is_now("And it ends with the command", SECOND, Use(plain, 0))
 
-script.chapter("Handles.")
+tpm.chapter("Handles.")
 right = tpm.index_public(SECOND)
 tpm.fails(
     "What is no index: the owner, PCR 0, an object, a persistent one and a session: VALUE/h1",
@@ -86,4 +86,3 @@ tpm.fails(
     *(right.but(handles=[it]) for it in (0x0100_0000, 0x0100_0003, 0x01FF_FFFF)),
 )
 tpm.fails("A byte behind the handle: SIZE", right.but(parameters=b"\0"))
-script.write()

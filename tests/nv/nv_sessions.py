@@ -4,19 +4,19 @@ from tpmsim.caller import BY_OWNER, BY_VALUE, Use, area, bits, counter, extended
 from tpmsim.standard import CC, CONTINUE_SESSION, DECRYPT, ENCRYPT, RH_NULL, RH_OWNER, SHA1, SHA256
 from tpmsim.standard import frames
 from tpmsim.standard.nv import Attribute
-from tpmsim.caller.script_caller import FIRST, FOURTH, SECOND, ScriptCaller, THIRD
-from tpmsim.caller.script import Script
+from tpmsim.caller.script_caller import FIRST, FOURTH, SECOND, THIRD
+from tests.common.teller import Teller
 
 DECRYPTS, ENCRYPTS = CONTINUE_SESSION | DECRYPT, CONTINUE_SESSION | ENCRYPT
 LOCKS = Attribute.WRITE_STCLEAR | Attribute.READ_STCLEAR
 DATA = b"8 bytes."
 
-script = Script(
+tpm = Teller(
     "tests/nv/nv_sessions.tpm",
     "NV indices and HMAC sessions: the Name of an index, which its first write changes, is in the "
     "hmacs and in what a session is bound to.",
+    tries=True,
 )
-tpm = ScriptCaller(script)
 
 
 def flush(*held):
@@ -30,7 +30,7 @@ def undefine(*indices):
 
 
 def unbound():
-    script.chapter("A session that is bound to nothing: the value of the index is the key.")
+    tpm.chapter("A session that is bound to nothing: the value of the index is the key.")
     for algorithm, name in ((SHA256, "SHA-256"), (SHA1, "SHA-1")):
         session = tpm.start(f"A session of {name}", algorithm=algorithm)
         for index, make, change in (
@@ -59,7 +59,7 @@ def unbound():
 
 
 def names():
-    script.chapter("An hmac of before the index was written names another index.")
+    tpm.chapter("An hmac of before the index was written names another index.")
     tpm.define("An index", area(FIRST, BY_VALUE), auth=b"a")
     session = tpm.start("A session")
     before = tpm.writing(FIRST, DATA, session)
@@ -81,7 +81,7 @@ def names():
 
 
 def bound():
-    script.chapter(
+    tpm.chapter(
         "A session that is bound to an index before its first write. The command's hmac is without "
         "the value; as the Name is another then, the response's has it in its key."
     )
@@ -91,17 +91,17 @@ def bound():
     tpm.does("TPM2_NV_Write: the value is in both keys", tpm.writing(FIRST, DATA, session))
     flush(session)
 
-    script.chapter("A session that is bound to it as it is written.")
+    tpm.chapter("A session that is bound to it as it is written.")
     session = tpm.start("A session that is bound to it", bind=FIRST)
     tpm.does("TPM2_NV_Write changes no Name now", tpm.writing(FIRST, DATA, session))
     tpm.read("TPM2_NV_Read", FIRST, DATA, session)
     tpm.does("TPM2_NV_ReadLock does", tpm.read_locking(FIRST, session))
     tpm.does("TPM2_NV_WriteLock", tpm.write_locking(FIRST, session))
-    script.power()
-    script.startup()
+    tpm.power()
+    tpm.script.startup()
     tpm.is_now("After the next start", FIRST, cleared=Attribute.WRITELOCKED | Attribute.READLOCKED)
 
-    script.chapter("A session that is bound to one index, and authorizes another.")
+    tpm.chapter("A session that is bound to one index, and authorizes another.")
     tpm.define("Another index", area(SECOND, BY_VALUE | Attribute.NO_DA), auth=b"b")
     session = tpm.start("A session that is bound to the first", bind=FIRST)
     tpm.does("TPM2_NV_Write of the second", tpm.writing(SECOND, DATA, session))
@@ -133,7 +133,7 @@ def bound():
 
 
 def encryption():
-    script.chapter("Parameters that are encrypted.")
+    tpm.chapter("Parameters that are encrypted.")
     tpm.does('ownerAuth becomes "owner"', tpm.change_auth(RH_OWNER, b"owner", b""))
     owner = tpm.start("A session that is bound to TPM_RH_OWNER, with AES", bind=RH_OWNER, aes=True)
     for index, make in ((FIRST, area), (SECOND, extended), (THIRD, bits), (FOURTH, counter)):
@@ -219,7 +219,7 @@ def encryption():
 
 
 def others():
-    script.chapter("TPM2_StartAuthSession and TPM2_PolicySecret of an index.")
+    tpm.chapter("TPM2_StartAuthSession and TPM2_PolicySecret of an index.")
     tpm.define("An index", area(FIRST, BY_VALUE), auth=b"a")
     handles, parameters = frames.start_auth_session(bytes(16), FIRST)
     start = tpm.prepare(CC.StartAuthSession, handles, parameters)
@@ -245,7 +245,7 @@ def others():
 
 
 def sent_again():
-    script.chapter(
+    tpm.chapter(
         "A buffer that is sent again. The index has the attributes 00040004, eight bytes and the "
         'value "a", and is written once by the password.'
     )
@@ -258,8 +258,8 @@ def sent_again():
 
     def start_session(what):
         """Each time with the same bytes and the same random bytes."""
-        script.chapter(f"{what}.")
-        script.entropy(seed)
+        tpm.chapter(f"{what}.")
+        tpm.script.entropy(seed)
         response = tpm.says("TPM2_StartAuthSession: SUCCESS", start)
         answer = tpm.received(start, response)
         return tpm.started(answer, nonce, RH_NULL, SHA256, frames.SE_HMAC)
@@ -277,16 +277,13 @@ def sent_again():
     tpm.read("TPM2_NV_Read: it was written again", FIRST, b"again...", b"a")
     tpm.fails("And once more: AUTH_FAIL/s1", write)
     flush(session)
-    script.fresh()
+    tpm.script.fresh()
     undefine(FIRST)
 
 
-script.startup()
-script.allow_tries()
 unbound()
 names()
 bound()
 encryption()
 others()
 sent_again()
-script.write()

@@ -2,17 +2,16 @@
 
 from tpmsim.caller import BY_OWNER, area, bits, counter, extended
 from tpmsim.standard import RH_OWNER, digest, number
-from tpmsim.caller.script_caller import FIRST, ScriptCaller
-from tpmsim.caller.script import Script
+from tpmsim.caller.script_caller import FIRST
+from tests.common.teller import Teller
 
 SECRET = b"8 bytes."
 
-script = Script(
+tpm = Teller(
     "tests/nv/nv_types.tpm",
     "An ordinary index is written, a counter incremented, bits are set, and what is extended is "
     "extended. Every other change is refused, before the first one and after it.",
 )
-tpm = ScriptCaller(script)
 
 
 def writing(index):
@@ -53,9 +52,8 @@ def others(index, change):
             tpm.fails(f"{what}: ATTRIBUTES/h2", each(index))
 
 
-script.startup()
 for index, (name, make, change, value) in enumerate(TYPES, FIRST):
-    script.chapter(f"{name}.")
+    tpm.chapter(f"{name}.")
     tpm.define("TPM2_NV_DefineSpace", make(index, BY_OWNER))
     others(index, change)
     tpm.fails(
@@ -74,4 +72,3 @@ for index, (name, make, change, value) in enumerate(TYPES, FIRST):
         tpm.write_locking(index, by=RH_OWNER),
     )
     tpm.fails("Nor TPM2_NV_ReadLock: ATTRIBUTES/h2", tpm.read_locking(index, by=RH_OWNER))
-script.write()

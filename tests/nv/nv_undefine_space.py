@@ -3,18 +3,16 @@
 from tpmsim.caller import BY_OWNER, BY_VALUE, area
 from tpmsim.standard import CC, RH_ENDORSEMENT, RH_NULL, RH_OWNER, RH_PLATFORM
 from tpmsim.standard.nv import Attribute
-from tpmsim.caller.script_caller import FIRST, SECOND, ScriptCaller, THIRD
-from tpmsim.caller.script import Script
+from tpmsim.caller.script_caller import FIRST, SECOND, THIRD
+from tests.common.teller import Teller
 
 CREATED = Attribute.PLATFORMCREATE
 
-script = Script(
+tpm = Teller(
     "tests/nv/nv_undefine_space.tpm",
     "TPM2_NV_UndefineSpace: the owner takes its own indices away, the platform all.",
 )
-tpm = ScriptCaller(script)
 
-script.startup()
 tpm.define("An index of the owner's", area(FIRST, BY_VALUE), auth=b"a")
 tpm.define("One of the platform's", area(SECOND, BY_VALUE | CREATED), auth=b"b", by=RH_PLATFORM)
 tpm.does("Both are written", tpm.writing(FIRST, b"first"))
@@ -38,7 +36,7 @@ tpm.fails(
 )
 tpm.does("The platform's by the platform", tpm.undefining(SECOND, by=RH_PLATFORM))
 
-script.chapter("What is defined again is new.")
+tpm.chapter("What is defined again is new.")
 tpm.define("01000001, with another value", area(FIRST, BY_VALUE), auth=b"new")
 tpm.fails("The value of before: AUTH_FAIL/s1", tpm.writing(FIRST, b"x", b"a"))
 tpm.fails("TPM2_NV_Read: NV_UNINITIALIZED", tpm.reading(FIRST, 8))
@@ -46,7 +44,7 @@ tpm.does("TPM2_NV_Write of a byte", tpm.writing(FIRST, b"x"))
 tpm.read("TPM2_NV_Read: nothing of before is in it", FIRST, b"x" + b"\xff" * 7)
 tpm.does("The platform takes away what is the owner's, too", tpm.undefining(FIRST, by=RH_PLATFORM))
 
-script.chapter("Handles, and authorization values.")
+tpm.chapter("Handles, and authorization values.")
 tpm.define("An index of the owner's", area(FIRST, BY_OWNER | Attribute.AUTHREAD), auth=b"a")
 right = tpm.undefining(FIRST)
 tpm.fails(
@@ -66,7 +64,7 @@ tpm.fails(
 tpm.fails("A byte behind the area: SIZE", tpm.undefining(FIRST).but(parameters=b"\0"))
 tpm.does("By the right one", tpm.undefining(FIRST))
 
-script.chapter("Sessions: one that is bound to the owner, and one beside it.")
+tpm.chapter("Sessions: one that is bound to the owner, and one beside it.")
 bound = tpm.start("A session that is bound to TPM_RH_OWNER", bind=RH_OWNER)
 tpm.define("An index, defined through it", area(FIRST, BY_VALUE), bound, auth=b"a")
 of_index = tpm.start("A session that is bound to the index", bind=FIRST)
@@ -85,4 +83,3 @@ tpm.does(
     "Its session is bound to it again, as Name and value are those of then",
     tpm.writing(FIRST, b"x", of_index),
 )
-script.write()

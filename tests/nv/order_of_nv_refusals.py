@@ -5,8 +5,7 @@ from tpmsim.standard import CC, DECRYPT, Entry, RH_LOCKOUT, RH_OWNER, RH_PLATFOR
 from tpmsim.standard import area as entries_area, command, frames, handle_kinds, number, policy
 from tpmsim.standard import sized
 from tpmsim.standard.nv import Attribute
-from tpmsim.caller.script_caller import ScriptCaller
-from tpmsim.caller.script import Script
+from tests.common.teller import Teller
 
 ORDINARY, COUNTER, BITS, EXTENDED = range(0x0100_0001, 0x0100_0005)
 LOCKED_ORDINARY, LOCKED_COUNTER, READ_LOCKED, UNWRITTEN = range(0x0100_0011, 0x0100_0015)
@@ -15,12 +14,12 @@ ABSENT, ABSENT_SESSION = 0x0100_0099, Entry(0x0200_000F, b"", 1, b"")
 VALUE = b"a"
 LOCKS = Attribute.WRITE_STCLEAR | Attribute.READ_STCLEAR
 
-script = Script(
+tpm = Teller(
     "tests/nv/order_of_nv_refusals.tpm",
     "The order of refusals in the commands on NV indices: a buffer with many faults, of which one "
     "after the other is repaired. What is answered is the first that is left.",
+    tries=True,
 )
-tpm = ScriptCaller(script)
 
 
 def wrong(prepared, *places):
@@ -43,7 +42,7 @@ def handles_in_order(code, handles):
             is_of_kind = handle_kinds.IS_OF_KIND[code.handles[place - 1].kind]
             if len(text) == 4 and absent != RH_LOCKOUT and not is_of_kind(absent):
                 continue
-            script.command(
+            tpm.raw(
                 f"Handle {place}. {what}, and no sessions: {outcome}",
                 command(code, before + text, frames.NO_SESSIONS),
             )
@@ -54,8 +53,8 @@ def general_refusals(code, handles, cut, uses):
     handles_in_order(code, handles)
     text = b"".join(number(it, 4) for it in handles)
     if code.authorized:
-        script.command("No sessions: AUTH_MISSING", command(code, text + cut))
-    script.command(
+        tpm.raw("No sessions: AUTH_MISSING", command(code, text + cut))
+    tpm.raw(
         "An area of eight bytes: AUTHSIZE",
         command(code, text + entries_area(bytes(8)) + cut, frames.SESSIONS),
     )
@@ -91,7 +90,7 @@ def in_order(code, uses, *cases):
 
 def changes(code, name, index, locked, parameters, faults=(), ranges=()):
     """One of the four commands that change an index: `locked` is of another type."""
-    script.chapter(f"{name}.")
+    tpm.chapter(f"{name}.")
     uses = [VALUE, Use(session, 1 | DECRYPT) if code.takes_sized else Use(session)]
     general_refusals(code, [index, index], parameters[:-1] or b"\0", uses)
     open_one = ORDINARY if index != ORDINARY else COUNTER
@@ -116,7 +115,7 @@ def changes(code, name, index, locked, parameters, faults=(), ranges=()):
 
 
 def define_space():
-    script.chapter("TPM2_NV_DefineSpace, with auth encrypted.")
+    tpm.chapter("TPM2_NV_DefineSpace, with auth encrypted.")
     code, uses = CC.NV_DefineSpace, [b"", Use(session, 1 | DECRYPT)]
     general_refusals(code, [RH_OWNER], sized(b"a")[:-1], uses)
     long_auth, none = sized(b"a" * 21), sized(b"")
@@ -154,7 +153,7 @@ def define_space():
 
 
 def undefine_space():
-    script.chapter("TPM2_NV_UndefineSpace.")
+    tpm.chapter("TPM2_NV_UndefineSpace.")
     code, uses = CC.NV_UndefineSpace, [b"", Use(session)]
     general_refusals(code, [RH_OWNER, PLATFORMS], b"\0", uses)
     in_order(
@@ -167,7 +166,7 @@ def undefine_space():
 
 
 def read_public():
-    script.chapter("TPM2_NV_ReadPublic, with a session that authorizes nothing.")
+    tpm.chapter("TPM2_NV_ReadPublic, with a session that authorizes nothing.")
     general_refusals(CC.NV_ReadPublic, [ORDINARY], b"\0", [Use(session)])
     wrong_size = tpm.index_public(ORDINARY, session).handles
     tpm.refused(
@@ -177,7 +176,7 @@ def read_public():
 
 
 def read():
-    script.chapter("TPM2_NV_Read.")
+    tpm.chapter("TPM2_NV_Read.")
     code, uses = CC.NV_Read, [VALUE, Use(session)]
     general_refusals(code, [ORDINARY, ORDINARY], b"\0", uses)
     far = frames.nv_read(1025, 9)
@@ -202,7 +201,7 @@ def locks():
         (CC.NV_WriteLock, "TPM2_NV_WriteLock"),
         (CC.NV_ReadLock, "TPM2_NV_ReadLock"),
     ):
-        script.chapter(f"{name}.")
+        tpm.chapter(f"{name}.")
         uses = [VALUE, Use(session)]
         general_refusals(code, [ORDINARY, ORDINARY], b"\0", uses)
         in_order(
@@ -218,7 +217,7 @@ def locks():
 
 
 def change_auth():
-    script.chapter("TPM2_NV_ChangeAuth, with newAuth encrypted by another session.")
+    tpm.chapter("TPM2_NV_ChangeAuth, with newAuth encrypted by another session.")
     code = CC.NV_ChangeAuth
     told = tpm.policy("A policy session of SHA-1", algorithm=SHA1)
     hides = Use(session, 1 | DECRYPT)
@@ -273,7 +272,7 @@ def change_auth():
         tpm.command_code(told, CC.NV_ChangeAuth),
     )
     refused("Another locality, and another digest: LOCALITY", all_wrong())
-    script.locality_is(1)
+    tpm.locality_is(1)
     refused("Another digest: POLICY_FAIL/s1", all_wrong())
     tpm.says("TPM2_PolicyRestart: SUCCESS", tpm.restart(told))
     tpm.says(
@@ -294,11 +293,11 @@ def change_auth():
         refused(f"{what}: {outcome}", prepared(parameters, Use(told, shows_empty_key=True), hides))
     good = prepared(sized(b"a" * 20), Use(told, shows_empty_key=True), hides)
     tpm.does("With nothing wrong", good)
-    script.locality_is(0)
+    tpm.locality_is(0)
 
 
 def policy_nv():
-    script.chapter("TPM2_PolicyNV, with operandB encrypted.")
+    tpm.chapter("TPM2_PolicyNV, with operandB encrypted.")
     code, uses = CC.PolicyNV, [VALUE, Use(session, 1 | DECRYPT)]
     told = tpm.policy("A policy session")
     operand = sized(b"x")
@@ -327,9 +326,7 @@ def policy_nv():
     )
 
 
-script.startup()
-script.allow_tries()
-script.chapter("Indices: of each type, some that are locked, and the rest of the bytes.")
+tpm.chapter("Indices: of each type, some that are locked, and the rest of the bytes.")
 UNREAD = 0x0100_0031
 for index, public in enumerate(
     (
@@ -405,4 +402,3 @@ read()
 locks()
 change_auth()
 policy_nv()
-script.write()

@@ -5,8 +5,7 @@ from tpmsim.standard import ALG_NULL, CC, RH_ENDORSEMENT, RH_LOCKOUT, RH_NULL, R
 from tpmsim.standard import RH_PLATFORM, SHA1, SHA256, SYMCIPHER, digest, frames, mac, number
 from tpmsim.standard import on_handle, sized
 from tpmsim.standard.objects import Attribute, Public
-from tpmsim.caller.script_caller import ScriptCaller
-from tpmsim.caller.script import Script
+from tests.common.teller import Teller
 
 HIERARCHIES = (
     (RH_OWNER, "TPM_RH_OWNER"),
@@ -17,11 +16,10 @@ HIERARCHIES = (
 ALGORITHMS = ((SHA1, "SHA-1"), (SHA256, "SHA-256"))
 QUESTION = b"what do ya want for nothing?"
 
-script = Script(
+tpm = Teller(
     "tests/objects/create_primary.tpm",
     "TPM2_CreatePrimary makes an object out of its template and its hierarchy's seed.",
 )
-tpm = ScriptCaller(script)
 
 
 def creates(what, hierarchy, public, **more):
@@ -32,33 +30,32 @@ def refused(words, hierarchy, public, *uses, **more):
     tpm.says(words, tpm.primary(hierarchy, public, *uses, **more))
 
 
-script.startup()
-script.chapter(
+tpm.chapter(
     "An HMAC key that is given, byte by byte. inSensitive: userAuth is empty, and the key is "
     '"Jefe". inPublic: type KEYEDHASH (0008), nameAlg SHA-256 (000B), attributes userWithAuth, '
     "noDA and sign (00040440), no authPolicy, scheme HMAC (0005) with SHA-256, and unique is "
     "empty. No outsideInfo, and no PCRs."
 )
 jefe = "0008 0000 0004 4A656665 0010 0008 000B 00040440 0000 0005 000B 0000 0000 00000000"
-script.command(
+tpm.raw(
     "TPM2_CreatePrimary in TPM_RH_OWNER: the object is 80000000: SUCCESS",
     on_handle(CC.CreatePrimary, RH_OWNER, bytes.fromhex(jefe)),
 )
 FIRST = 0x8000_0000
-answer = script.command(
+answer = tpm.raw(
     'TPM2_HMAC of "what do ya want for nothing?" with SHA-256, which is test case 2 of RFC 4231: '
     "SUCCESS",
     on_handle(CC.HMAC, FIRST, sized(QUESTION) + number(SHA256, 2)),
 )
 assert mac(SHA256, b"Jefe", QUESTION) in answer
-script.command(
+tpm.raw(
     "With SHA-1, which is not its scheme's: VALUE/p2",
     on_handle(CC.HMAC, FIRST, sized(QUESTION) + number(SHA1, 2)),
 )
-script.command("TPM2_Unseal: it is a key: ATTRIBUTES/h1", on_handle(CC.Unseal, FIRST))
+tpm.raw("TPM2_Unseal: it is a key: ATTRIBUTES/h1", on_handle(CC.Unseal, FIRST))
 tpm.says("It is flushed: SUCCESS", tpm.flush(FIRST))
 
-script.chapter("primaryHandle.")
+tpm.chapter("primaryHandle.")
 tpm.says(
     "No hierarchy that has objects: TPM_RH_LOCKOUT, TPM_RS_PW, PCR 0, an NV index, sessions, "
     "objects: VALUE/h1",
@@ -70,7 +67,7 @@ tpm.says(
         )
     ),
 )
-script.command(
+tpm.raw(
     "It has to be authorized: no sessions (tag 8001): AUTH_MISSING",
     frames.command(CC.CreatePrimary, number(RH_OWNER, 4)),
 )
@@ -82,7 +79,7 @@ by_session = tpm.create_primary(
 )
 tpm.flush_objects("The object is flushed", by_session)
 
-script.chapter("The same template and the same hierarchy give the same object, whatever is drawn.")
+tpm.chapter("The same template and the same hierarchy give the same object, whatever is drawn.")
 names = set()
 for algorithm, hash_name in ALGORITHMS:
     for hierarchy, hierarchy_name in HIERARCHIES:
@@ -99,7 +96,7 @@ for algorithm, hash_name in ALGORITHMS:
         tpm.flush_objects("Both are flushed", first, second)
 assert len(names) == 2 * len(HIERARCHIES)
 
-script.chapter("Whatever is another in inSensitive or inPublic gives another object.")
+tpm.chapter("Whatever is another in inSensitive or inPublic gives another object.")
 names = set()
 for what, public, more in (
     ("userAuth is empty", storage_key(), {}),
@@ -130,7 +127,7 @@ for what, public, more in (
     tpm.flush_objects("It is flushed", handle)
 assert len(names) == 9
 
-script.chapter("outsideInfo, PCRs and the locality are no part of the object, but of its creation.")
+tpm.chapter("outsideInfo, PCRs and the locality are no part of the object, but of its creation.")
 same = []
 for what, more in (
     ("With nothing", {}),
@@ -144,7 +141,7 @@ for what, more in (
     same.append((tpm.names[handle], tpm.creation_data))
     tpm.flush_objects("It is flushed", handle)
 for locality in (4, 1, 0):
-    script.locality_is(locality)
+    tpm.locality_is(locality)
     handle = creates(f"From locality {locality}", RH_OWNER, storage_key())
     same.append((tpm.names[handle], tpm.creation_data))
     tpm.flush_objects("It is flushed", handle)
@@ -161,10 +158,10 @@ tpm.flush_objects("It is flushed", FIRST)
 whole = tpm.primary(RH_OWNER, storage_key())
 tpm.says("A byte behind creationPCR: SIZE", whole.but(parameters=whole.parameters + b"\0"))
 
-script.chapter("Objects of each type, with data that are given and that are generated.")
+tpm.chapter("Objects of each type, with data that are given and that are generated.")
 GENERATED = Attribute.SENSITIVE_DATA_ORIGIN
 for algorithm, hash_name in ALGORITHMS:
-    script.chapter(f"Their nameAlg is {hash_name}.")
+    tpm.chapter(f"Their nameAlg is {hash_name}.")
     handle = creates("Sealed data of one byte", RH_OWNER, sealed(algorithm), data=b"x")
     tpm.unseal("TPM2_Unseal", handle, b"x")
     handle = creates(
@@ -209,4 +206,3 @@ for algorithm, hash_name in ALGORITHMS:
     )
     refused("A ninth object: OBJECT_MEMORY", RH_OWNER, storage_key())
     tpm.flush_objects("The eight are flushed", *range(FIRST, FIRST + 8))
-script.write()

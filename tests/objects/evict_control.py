@@ -5,8 +5,7 @@ from tpmsim.caller import wrong
 from tpmsim.standard import CC, RH_ENDORSEMENT, RH_LOCKOUT, RH_NULL, RH_OWNER, RH_PLATFORM, SHA256
 from tpmsim.standard import command, frames, number, on_handles
 from tpmsim.standard.objects import Attribute
-from tpmsim.caller.script_caller import ScriptCaller
-from tpmsim.caller.script import Script
+from tests.common.teller import Teller
 
 # The handles of persistent objects: the owner's are below 81800000, the platform's from there on.
 FIRST, OWNERS_LAST, PLATFORMS_FIRST, LAST = 0x8100_0000, 0x817F_FFFF, 0x8180_0000, 0x81FF_FFFF
@@ -19,14 +18,14 @@ HANDLES, MOST = 1, 16
 
 ST_CLEAR = HERE | OPEN | STORES | Attribute.ST_CLEAR
 
-script = Script(
+tpm = Teller(
     "tests/objects/evict_control.tpm",
     "TPM2_EvictControl makes a persistent object of a transient one, or takes a persistent one "
     "away. A persistent object outlives power cycles, has a handle from 81000000 on, and is used "
     "as the transient one was.",
+    starts=False,
 )
-tpm = ScriptCaller(script)
-says = script.command
+says = tpm.raw
 
 
 def evict(asker, handle, wanted):
@@ -50,7 +49,7 @@ def kept_handles(what, *handles):
 
 
 def handles_and_parameter(owners):
-    script.chapter("The handles and the parameter.")
+    tpm.chapter("The handles and the parameter.")
     handles = number(RH_OWNER, 4) + number(owners, 4)
     says("No handle: INSUFFICIENT/h1", command(CC.EvictControl, b""))
     fails(
@@ -90,7 +89,7 @@ def handles_and_parameter(owners):
 
 def in_order():
     """Each refusal, where those behind it would stand too."""
-    script.chapter("The checks in their order; each command has the later faults too.")
+    tpm.chapter("The checks in their order; each command has the later faults too.")
     owners = primary("An object of the owner", RH_OWNER)
     clears = primary("One with stClear", RH_OWNER, storage_key(attributes=ST_CLEAR))
     endorsements = primary("One of the endorsement hierarchy", RH_ENDORSEMENT)
@@ -101,7 +100,7 @@ def in_order():
     nulls = primary("One of TPM_RH_NULL with stClear", RH_NULL, storage_key(attributes=ST_CLEAR))
     handles_and_parameter(owners)
 
-    script.chapter("The hierarchy of the object.")
+    tpm.chapter("The hierarchy of the object.")
     fails(
         "The platform has its own alone: HIERARCHY/h2",
         *((RH_PLATFORM, it, FIRST) for it in (owners, clears, endorsements, nulls)),
@@ -112,7 +111,7 @@ def in_order():
         *((RH_OWNER, it, FIRST) for it in (platforms, platforms_clears, nulls)),
         *((RH_OWNER, it, LAST) for it in (platforms, platforms_clears, nulls)),
     )
-    script.chapter("stClear, and a wrong range.")
+    tpm.chapter("stClear, and a wrong range.")
     fails(
         "An object that a start takes away cannot stay: ATTRIBUTES/h2",
         (RH_OWNER, clears, FIRST),
@@ -120,7 +119,7 @@ def in_order():
         (RH_PLATFORM, platforms_clears, LAST),
         (RH_PLATFORM, platforms_clears, FIRST),
     )
-    script.chapter("The range of handles.")
+    tpm.chapter("The range of handles.")
     fails(
         "The owner's ends at 817FFFFF: RANGE/p1",
         *((RH_OWNER, owners, it) for it in (PLATFORMS_FIRST, LAST)),
@@ -134,7 +133,7 @@ def in_order():
 
 
 def borders(owners, endorsements, platforms):
-    script.chapter("At the borders of the ranges.")
+    tpm.chapter("At the borders of the ranges.")
     kept_handles("There is no persistent object")
     for asker, handle, wanted, words in (
         (RH_OWNER, owners, FIRST, "The owner's, at the first handle"),
@@ -144,7 +143,7 @@ def borders(owners, endorsements, platforms):
     ):
         tpm.keep(words, asker, handle, wanted)
     kept_handles("The four", FIRST, OWNERS_LAST, PLATFORMS_FIRST, LAST)
-    script.chapter("A persistent object is taken away by its own handle.")
+    tpm.chapter("A persistent object is taken away by its own handle.")
     fails(
         "The owner takes the platform's not away, by whatever handle: HIERARCHY/h2",
         *((RH_OWNER, it, it) for it in (PLATFORMS_FIRST, LAST)),
@@ -176,7 +175,7 @@ def borders(owners, endorsements, platforms):
 
 
 def places():
-    script.chapter("Sixteen persistent objects, and no more.")
+    tpm.chapter("Sixteen persistent objects, and no more.")
     transient = primary("An object of the owner", RH_OWNER)
     platforms = primary("And one of the platform", RH_PLATFORM)
     handles = [FIRST + 3 * it for it in range(MOST - 1)] + [LAST]
@@ -192,7 +191,7 @@ def places():
     )
     fails("At a handle that is taken: NV_DEFINED", (RH_OWNER, transient, FIRST))
     fails("In the wrong range: RANGE/p1", (RH_OWNER, transient, LAST))
-    script.chapter("They take no place of a transient object, and no NV index takes one of theirs.")
+    tpm.chapter("They take no place of a transient object, and no NV index takes one of theirs.")
     for count in range(6):
         primary("Six more transient ones" if not count else "", RH_OWNER)
     tpm.fails("The ninth: OBJECT_MEMORY", tpm.primary(RH_OWNER, storage_key()))
@@ -201,8 +200,8 @@ def places():
     tpm.remove("One is taken away", RH_OWNER, handles[5])
     tpm.keep("There is a place for another", RH_OWNER, transient, OTHER)
     kept_handles("They ascend", *sorted({*handles, OTHER} - {handles[5]}))
-    script.power()
-    script.startup()
+    tpm.power()
+    tpm.startup()
     kept_handles("A power cycle later", *sorted({*handles, OTHER} - {handles[5]}))
     for handle in sorted({*handles, OTHER} - {handles[5]}):
         words = "The platform takes all away" if handle == FIRST else ""
@@ -211,7 +210,7 @@ def places():
 
 
 def use():
-    script.chapter("A persistent object is what the transient one was.")
+    tpm.chapter("A persistent object is what the transient one was.")
     root = primary("A storage key", RH_OWNER)
     public, qualified = tpm.read_public("TPM2_ReadPublic of it", root)
     tpm.keep("It stays as 81000000", RH_OWNER, root, FIRST)
@@ -249,10 +248,10 @@ def use():
 
 
 def restarts():
-    script.chapter("After a power cycle.")
-    script.power()
+    tpm.chapter("After a power cycle.")
+    tpm.power()
     tpm.fails("Before TPM2_Startup: INITIALIZE", tpm.public(OTHER))
-    script.startup()
+    tpm.startup()
     tpm.unseal("TPM2_Unseal by the password", OTHER, b"a secret", b"pin")
     session = tpm.start("A session that is bound to it, with AES", OTHER, aes=True)
     tpm.unseal("TPM2_Unseal by it, encrypted", OTHER, b"a secret", Use(session, ENCRYPTING))
@@ -274,12 +273,12 @@ def restarts():
 def start_again():
     """Through TPM2_Shutdown."""
     tpm.does("TPM2_Shutdown(STATE)", tpm.shutting_down(STATE))
-    script.power()
+    tpm.power()
     tpm.start_up("TPM2_Startup(STATE)", STATE)
 
 
 def sessions():
-    script.chapter("TPM2_EvictControl by sessions.")
+    tpm.chapter("TPM2_EvictControl by sessions.")
     handle = primary("An object of the owner", RH_OWNER)
     wanted = 0x8100_0003
     tpm.does('ownerAuth is "owner"', tpm.change_auth(RH_OWNER, b"owner", b""))
@@ -307,11 +306,10 @@ def sessions():
     kept_handles("None")
 
 
-script.startup()
+tpm.startup()
 borders(*in_order())
-script.power()
-script.startup()
+tpm.power()
+tpm.startup()
 places()
 use()
 sessions()
-script.write()

@@ -4,15 +4,13 @@ from tpmsim.caller import HERE, OPEN, hmac_key, sealed, storage_key
 from tpmsim.standard import ALG_NULL, CC, RH_NULL, RH_OWNER, SHA1, SHA256, SYMCIPHER, frames, mac
 from tpmsim.standard import number, sized
 from tpmsim.standard.objects import Attribute, Public
-from tpmsim.caller.script_caller import ScriptCaller
-from tpmsim.caller.script import Script
+from tests.common.teller import Teller
 
-script = Script(
+tpm = Teller(
     "tests/objects/hmac_keys.tpm",
     "TPM2_HMAC makes an HMAC of a buffer by an object that is a key for it: of the hash algorithm "
     "of its scheme, or with scheme NULL of the one that the command names.",
 )
-tpm = ScriptCaller(script)
 refused = tpm.says
 
 
@@ -25,7 +23,6 @@ def on_nothing(handle):
     return tpm.hmac(handle, b"text", SHA256)
 
 
-script.startup()
 refused(
     "No object's handle: TPM_RH_OWNER, TPM_RH_NULL, PCR 0, an NV index, sessions: VALUE/h1",
     *map(on_nothing, (RH_OWNER, RH_NULL, 0, 0x0100_0000, 0x0200_0000, 0x0300_0000)),
@@ -36,7 +33,7 @@ refused(
 )
 refused("A persistent object, while there is none: HANDLE/h1", on_nothing(0x8100_0000))
 
-script.chapter("Keys and texts of RFC 2202 and RFC 4231, which give HMACs of SHA-1 and SHA-256.")
+tpm.chapter("Keys and texts of RFC 2202 and RFC 4231, which give HMACs of SHA-1 and SHA-256.")
 CASES = (
     (1, b"\x0b" * 20, b"Hi There"),
     (2, b"Jefe", b"what do ya want for nothing?"),
@@ -52,7 +49,7 @@ for case, key, data in CASES:
     is_hmac("With SHA-256", handle, key, data, SHA256, SHA256)
     tpm.flush_objects("It is flushed", handle)
 
-script.chapter("The scheme, and the hash algorithm that the command names.")
+tpm.chapter("The scheme, and the hash algorithm that the command names.")
 for scheme, name in ((SHA1, "SHA-1"), (SHA256, "SHA-256")):
     for name_algorithm in (SHA1, SHA256):
         handle = tpm.create_primary(
@@ -73,7 +70,7 @@ key = tpm.create_primary(
 )
 refused("TPM_ALG_NULL: VALUE/p2", tpm.hmac(key, b"text", ALG_NULL))
 
-script.chapter("Sizes, and what cannot be read.")
+tpm.chapter("Sizes, and what cannot be read.")
 is_hmac("An empty buffer", key, b"key", b"", SHA256, SHA256)
 is_hmac("1,024 bytes", key, b"key", bytes(1024), SHA1, SHA1)
 refused(
@@ -98,14 +95,14 @@ refused(
 )
 whole = tpm.hmac(key, b"text", SHA256)
 refused("A byte behind it: SIZE", whole.but(parameters=whole.parameters + b"\0"))
-script.command(
+tpm.raw(
     "It has to be authorized: no sessions (tag 8001): AUTH_MISSING",
     frames.command(CC.HMAC, number(key, 4) + whole.parameters),
 )
 refused("By another value: BAD_AUTH/s1", tpm.hmac(key, b"text", SHA256, b"b"))
 tpm.flush_objects("It is flushed", key)
 
-script.chapter("Not every object is a key for it.")
+tpm.chapter("Not every object is a key for it.")
 KEYS = Attribute.SIGN | Attribute.DECRYPT
 RESTRICTED = hmac_key(attributes=HERE | OPEN | Attribute.RESTRICTED)
 for what, public, data, outcome in (
@@ -122,4 +119,3 @@ for what, public, data, outcome in (
     )
     refused("But what cannot be read: HASH/p2", tpm.hmac(handle, b"text", 0))
     tpm.flush_objects("It is flushed", handle)
-script.write()

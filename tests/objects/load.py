@@ -6,17 +6,14 @@ from tpmsim.caller import HERE, OPEN, STORES, hmac_key, sealed, storage_key
 from tpmsim.standard import CC, RH_ENDORSEMENT, RH_NULL, RH_OWNER, SHA1, SHA256, frames, mac
 from tpmsim.standard import number, sized
 from tpmsim.standard.objects import Attribute
-from tpmsim.caller.script_caller import ScriptCaller
-from tpmsim.caller.script import Script
+from tests.common.teller import Teller
 
-script = Script(
+tpm = Teller(
     "tests/objects/load.tpm",
     "TPM2_Load takes a private and a public area that TPM2_Create gave for this parent.",
 )
-tpm = ScriptCaller(script)
 refused = tpm.says
 
-script.startup()
 parent = tpm.create_primary(
     'A storage key, whose value is "parent"', RH_OWNER, storage_key(), user_auth=b"parent"
 )
@@ -28,7 +25,7 @@ made = tpm.create(
     data=b"secret",
 )
 
-script.chapter("parentHandle.")
+tpm.chapter("parentHandle.")
 refused(
     "No object's handle: TPM_RH_OWNER, TPM_RH_NULL, PCR 0, an NV index, sessions: VALUE/h1",
     *(
@@ -41,13 +38,13 @@ refused(
     *(tpm.loading(it, made) for it in (0x8000_0001, 0x8000_0008, 0x80FF_FFFF)),
 )
 refused("A persistent object: HANDLE/h1", tpm.loading(0x8100_0000, made))
-script.command(
+tpm.raw(
     "It has to be authorized: no sessions (tag 8001): AUTH_MISSING",
     frames.command(CC.Load, number(parent, 4)),
 )
 refused("By the value of the child: BAD_AUTH/s1", tpm.loading(parent, made, b"child"))
 
-script.chapter("An object is loaded as often as there are places.")
+tpm.chapter("An object is loaded as often as there are places.")
 first = tpm.load("TPM2_Load: it is 80000001", parent, made)
 second = tpm.load("Once more: it is 80000002, and has the same Name", parent, made)
 assert (first, second) == (0x8000_0001, 0x8000_0002)
@@ -63,7 +60,7 @@ by_session = tpm.load("TPM2_Load by it", parent, made, session)
 refused("Sealed data are no parent: TYPE/h1", tpm.loading(by_session, made))
 tpm.flush_objects("It is flushed", by_session)
 
-script.chapter("inPrivate belongs to one parent and to one public area.")
+tpm.chapter("inPrivate belongs to one parent and to one public area.")
 twin = tpm.create_primary(
     "Another primary key", RH_OWNER, storage_key(unique=b"twin"), user_auth=b"parent"
 )
@@ -86,7 +83,7 @@ def with_public(**changes):
     return tpm.loading(parent, replace(made, public=replace(made.public, **changes)))
 
 
-script.chapter("With another public area.")
+tpm.chapter("With another public area.")
 for what, changes in (
     ("Another nameAlg", {"name_algorithm": SHA1}),
     ("stClear in the attributes", {"attributes": HERE | OPEN | Attribute.ST_CLEAR}),
@@ -107,7 +104,7 @@ refused(
     tpm.loading(parent, replace(made, private=other.private)),
 )
 
-script.chapter("Sizes.")
+tpm.chapter("Sizes.")
 refused(
     "inPrivate of 257 bytes, whole and cut: SIZE/p1",
     tpm.loading(parent, replace(made, private=bytes(257))),
@@ -141,7 +138,7 @@ handle = tpm.load("TPM2_Load", parent, longest)
 tpm.unseal("TPM2_Unseal", handle, b"d" * 128)
 tpm.flush_objects("It is flushed", handle)
 
-script.chapter("Objects of each type.")
+tpm.chapter("Objects of each type.")
 for what, public, data in (
     ("An HMAC key that is given", hmac_key(), b"key"),
     (
@@ -162,11 +159,10 @@ for what, public, data in (
         tpm.unseal("TPM2_Unseal", handle, data)
     tpm.flush_objects("It is flushed", handle)
 
-script.chapter("Eight objects, and a ninth.")
+tpm.chapter("Eight objects, and a ninth.")
 for place in range(1, 8):
     assert tpm.load("" if place > 1 else "Seven more", parent, made) == 0x8000_0000 + place
 refused("The ninth: OBJECT_MEMORY", tpm.loading(parent, made))
 tpm.flush_objects("The fourth is flushed", 0x8000_0003)
 assert tpm.load("Its place is taken again", parent, made) == 0x8000_0003
 refused("And there is none: OBJECT_MEMORY", tpm.loading(parent, made))
-script.write()

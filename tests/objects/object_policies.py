@@ -6,21 +6,19 @@ from tpmsim.standard import RH_OWNER, SHA1, SHA256, command_hash, digest, name_o
 from tpmsim.standard import selection
 from tpmsim.standard.objects import Attribute
 from tpmsim.standard.policy import AUTH_VALUE, PASSWORD
-from tpmsim.caller.script_caller import ScriptCaller, zeros
-from tpmsim.caller.script import Script
+from tpmsim.caller.script_caller import zeros
+from tests.common.teller import Teller
 
 NO_DA, USER = Attribute.NO_DA, Attribute.USER_WITH_AUTH
 PCR_16 = [(SHA256, [16])]
 SECRET, PIN = b"secret", b"pin"
 
-script = Script(
+tpm = Teller(
     "tests/objects/object_policies.tpm",
     "A policy session authorizes an object whose authPolicy is its digest. What it was told is "
     "held against the command and the device, and it counts for one command.",
+    tries=True,
 )
-tpm = ScriptCaller(script)
-script.startup()
-script.allow_tries()
 parent = tpm.create_primary("A storage key", RH_OWNER, storage_key())
 
 
@@ -53,14 +51,14 @@ AFTER_AUTH_VALUE = {
 # A demand for the authorization value.
 
 for algorithm, hash_name in ((SHA256, "SHA-256"), (SHA1, "SHA-1")):
-    script.chapter(
+    tpm.chapter(
         f"TPM2_PolicyPassword and TPM2_PolicyAuthValue, which make one digest, of {hash_name}."
     )
     handle = sealed_by('Sealed data whose value is "pin"', AFTER_AUTH_VALUE[algorithm], algorithm)
     session = tpm.policy("A policy session", algorithm=algorithm)
     tpm.refused("Nothing is asserted: POLICY_FAIL/s1", tpm.unsealing(handle, session))
 
-    script.chapter("TPM2_PolicyPassword: the hmac is the value itself, and is answered empty.")
+    tpm.chapter("TPM2_PolicyPassword: the hmac is the value itself, and is answered empty.")
     says("TPM2_PolicyPassword", tpm.password_told(session))
     by_password = Use(session, demand=PASSWORD)
     right = tpm.unsealing(handle, by_password)
@@ -82,7 +80,7 @@ for algorithm, hash_name in ((SHA256, "SHA-256"), (SHA1, "SHA-1")):
     padded = tpm.unsealing(handle, by_password).but_entry(1, hmac=PIN + bytes(29))
     tpm.accepted("The value, and zeros behind it", padded)
 
-    script.chapter("TPM2_PolicyAuthValue: the value is in the key of the hmac and of the answer's.")
+    tpm.chapter("TPM2_PolicyAuthValue: the value is in the key of the hmac and of the answer's.")
     says("TPM2_PolicyAuthValue", tpm.auth_value_told(session))
     by_value = Use(session, demand=AUTH_VALUE)
     tpm.refused("The value in plain: BAD_AUTH/s1", tpm.unsealing(handle, by_password))
@@ -95,7 +93,7 @@ for algorithm, hash_name in ((SHA256, "SHA-256"), (SHA1, "SHA-1")):
     start_again(session)
     tpm.refused("Once more: POLICY_FAIL/s1", tpm.unsealing(handle, by_value))
 
-    script.chapter("Of the two the later one counts.")
+    tpm.chapter("Of the two the later one counts.")
     VALUE, PLAIN = "TPM2_PolicyAuthValue", "TPM2_PolicyPassword"
     for first, last, use, names in (
         (tpm.auth_value_told, tpm.password_told, by_password, (VALUE, PLAIN)),
@@ -110,21 +108,19 @@ for algorithm, hash_name in ((SHA256, "SHA-256"), (SHA1, "SHA-1")):
         tpm.unseal("What the second asks for", double, SECRET, use)
         tpm.flush_objects("The object is flushed", double)
 
-    script.chapter("Without continueSession the session ends.")
+    tpm.chapter("Without continueSession the session ends.")
     says("TPM2_PolicyPassword", tpm.password_told(session))
     tpm.unseal("By the password", handle, SECRET, Use(session, 0, demand=PASSWORD))
     tpm.says("It is no more: REFERENCE_H0", tpm.get_digest(session))
 
-    script.chapter("A session that is bound to the object.")
+    tpm.chapter("A session that is bound to the object.")
     session = tpm.policy("The object is bind", bind=handle, algorithm=algorithm, aes=True)
     says("TPM2_PolicyAuthValue: it is in the key, bound or not", tpm.auth_value_told(session))
     tpm.refused(
         "An hmac without the value in its key: BAD_AUTH/s1", tpm.unsealing(handle, Use(session))
     )
     tpm.unseal("With it", handle, SECRET, Use(session, demand=AUTH_VALUE))
-    script.chapter(
-        "As a further entry it authorizes nothing, and has an hmac whatever is asked for."
-    )
+    tpm.chapter("As a further entry it authorizes nothing, and has an hmac whatever is asked for.")
     says("TPM2_PolicyPassword", tpm.password_told(session))
     beside = tpm.random(2, session)
     tpm.refused("The password there: BAD_AUTH/s1", beside.but_entry(1, hmac=PIN))
@@ -139,7 +135,7 @@ for algorithm, hash_name in ((SHA256, "SHA-256"), (SHA1, "SHA-1")):
     tpm.unseal("By the password", handle, SECRET, Use(session, 0, demand=PASSWORD))
     tpm.flush_objects("The object is flushed", handle)
 
-    script.chapter("An object whose value is empty.")
+    tpm.chapter("An object whose value is empty.")
     handle = sealed_by("Sealed data", AFTER_AUTH_VALUE[algorithm], algorithm, user_auth=b"")
     session = tpm.policy("A policy session", algorithm=algorithm)
     for what, told in (
@@ -160,7 +156,7 @@ for algorithm, hash_name in ((SHA256, "SHA-256"), (SHA1, "SHA-1")):
 
 # Without a demand.
 
-script.chapter("A policy that asks for no value: the key of the hmac is the session's alone.")
+tpm.chapter("A policy that asks for no value: the key of the hmac is the session's alone.")
 AFTER_CODE = policy.after_command_code(SHA256, bytes(32), CC.Unseal)
 handle = sealed_by("An object for TPM2_Unseal alone", AFTER_CODE)
 session = tpm.policy("A session that is bound to nothing")
@@ -192,7 +188,7 @@ tpm.flush_objects("The object is flushed", handle)
 
 # The conditions.
 
-script.chapter("Each condition of a use in its order: all of them fail, and one is put right.")
+tpm.chapter("Each condition of a use in its order: all of them fail, and one is put right.")
 
 
 def tell_all(session, cp_hash, code=CC.Unseal, localities=1):
@@ -250,15 +246,15 @@ tpm.refused("Another cpHash: POLICY_FAIL/s1", wrong(handle, session))
 says("TPM2_PolicyRestart", tpm.restart(session))
 tell_all(session, cp_hash_of(handle), CC.Unseal, 2)
 tpm.refused("Another locality: LOCALITY", wrong(handle, session))
-script.locality_is(1)
+tpm.locality_is(1)
 tpm.refused("From that locality: another digest: POLICY_FAIL/s1", wrong(handle, session))
-script.locality_is(0)
+tpm.locality_is(0)
 says("TPM2_PolicyRestart", tpm.restart(session))
 tell_all(session, cp_hash_of(handle))
 tpm.refused("A wrong hmac: BAD_AUTH/s1", wrong(handle, session))
 tpm.unseal("With nothing wrong", handle, SECRET, session)
 
-script.chapter("Each of them alone.")
+tpm.chapter("Each of them alone.")
 tell_all(session, cp_hash_of(handle))
 tpm.says("PCR 16 is reset: SUCCESS", tpm.reset(b""))
 tpm.refused("The PCRs have changed: PCR_CHANGED", tpm.unsealing(handle, session))
@@ -271,9 +267,9 @@ tpm.refused("Of another object: POLICY_FAIL/s1", tpm.unsealing(handle, session))
 says("TPM2_PolicyRestart", tpm.restart(session))
 tell_all(session, cp_hash_of(handle))
 for locality in (1, 2, 3, 4):
-    script.locality_is(locality)
+    tpm.locality_is(locality)
     tpm.refused("From another locality: LOCALITY", tpm.unsealing(handle, session))
-script.locality_is(0)
+tpm.locality_is(0)
 tpm.unseal("From locality 0", handle, SECRET, session)
 says("The same assertions in another order: first the code", tpm.command_code(session, CC.Unseal))
 says("Then the PCRs", tpm.pcrs(session, PCR_16))
@@ -281,7 +277,7 @@ says("TPM2_PolicySecret", tpm.secret(session, cp_hash=cp_hash_of(handle)))
 says("TPM2_PolicyLocality", tpm.locality(session, 1))
 tpm.refused("It is another digest: POLICY_FAIL/s1", tpm.unsealing(handle, session))
 
-script.chapter("The hash of the session is not nameAlg.")
+tpm.chapter("The hash of the session is not nameAlg.")
 sha1 = tpm.policy("A session with SHA-1", algorithm=SHA1)
 says("TPM2_PolicyPassword", tpm.password_told(sha1))
 thirty_two = sealed_by("An object with nameAlg SHA-256", AFTER_AUTH_VALUE[SHA256])
@@ -295,7 +291,7 @@ tpm.unseal("The first", thirty_two, SECRET, Use(session, demand=PASSWORD))
 tpm.flush_objects("All are flushed", handle, without, thirty_two, twenty)
 says("A session, too", tpm.flush(sha1))
 
-script.chapter("TPM2_PolicyPCR, a change, another assertion, and then the use.")
+tpm.chapter("TPM2_PolicyPCR, a change, another assertion, and then the use.")
 after = policy.after_auth_value(
     SHA256, policy.after_pcr(SHA256, bytes(32), selection(*PCR_16), PCR_16_DIGEST)
 )
@@ -314,7 +310,7 @@ tpm.flush_objects("It is flushed", handle)
 
 # What else can be authorized, and by what.
 
-script.chapter("userWithAuth: what its absence and its presence mean.")
+tpm.chapter("userWithAuth: what its absence and its presence mean.")
 FOR_HMAC = policy.after_command_code(SHA256, bytes(32), CC.HMAC)
 for what, attributes, by_value in (
     ("Without userWithAuth", NO_DA, False),
@@ -343,7 +339,7 @@ for what, attributes, by_value in (
         says("An HMAC session is flushed", tpm.flush(each))
     tpm.flush_objects("The object is flushed", handle)
 
-script.chapter("A parent with a policy, by which its children are created and loaded.")
+tpm.chapter("A parent with a policy, by which its children are created and loaded.")
 PARENT_POLICY = policy.after_auth_value(SHA256, bytes(32))
 guarded = tpm.create_primary(
     "A storage key with TPM2_PolicyAuthValue as its policy",
@@ -364,7 +360,7 @@ child = tpm.load(
 tpm.unseal("TPM2_Unseal", child, SECRET)
 tpm.flush_objects("Both are flushed", child, guarded)
 
-script.chapter("noDA: whether a wrong entry counts as a try.")
+tpm.chapter("noDA: whether a wrong entry counts as a try.")
 for what, attributes, outcome in (
     ("With noDA", NO_DA, "BAD_AUTH/s1"),
     ("Without noDA", 0, "AUTH_FAIL/s1"),
@@ -418,7 +414,7 @@ for what, attributes, outcome in (
 
 # TPM2_PolicySecret by a policy.
 
-script.chapter("TPM2_PolicySecret of an object, authorized by the very session that it is told to.")
+tpm.chapter("TPM2_PolicySecret of an object, authorized by the very session that it is told to.")
 handle = sealed_by("An object with TPM2_PolicyAuthValue as its policy", AFTER_AUTH_VALUE[SHA256])
 says("TPM2_PolicyAuthValue", tpm.auth_value_told(session))
 told = tpm.secret(session, Use(session, demand=AUTH_VALUE), of=handle)
@@ -451,4 +447,3 @@ tpm.accepted(
 )
 tpm.digest_is("It is the same digest", trial, wanted)
 tpm.refused("By the trial session itself: ATTRIBUTES/s1", tpm.secret(trial, trial, of=handle))
-script.write()

@@ -4,20 +4,18 @@ from tpmsim.caller import HERE, Use, hmac_key, sealed, storage_key
 from tpmsim.standard import ALG_NULL, CC, RH_ENDORSEMENT, RH_OWNER, SHA1, SHA256, command, number
 from tpmsim.standard import policy, policy_secret, start_auth_session
 from tpmsim.standard.objects import Attribute
-from tpmsim.caller.script_caller import ScriptCaller, zeros
-from tpmsim.caller.script import Script
+from tpmsim.caller.script_caller import zeros
+from tests.common.teller import Teller
 
 PROTECTED = HERE | Attribute.USER_WITH_AUTH
 SECRET, PIN = b"secret", b"pin"
 
-script = Script(
+tpm = Teller(
     "tests/objects/object_sessions.tpm",
     "HMAC sessions that authorize objects. The Name of an object stands where that of a hierarchy "
     "is its handle: in the hash of a command, in a binding, and in TPM2_PolicySecret.",
+    tries=True,
 )
-tpm = ScriptCaller(script)
-script.startup()
-script.allow_tries()
 parent = tpm.create_primary("A storage key", RH_OWNER, storage_key())
 made = tpm.create(
     'TPM2_Create of sealed data, whose value is "pin"', parent, sealed(), user_auth=PIN, data=SECRET
@@ -28,7 +26,7 @@ twin = tpm.create_primary(
 )
 
 for algorithm, hash_name in ((SHA256, "SHA-256"), (SHA1, "SHA-1")):
-    script.chapter(f"Sessions with {hash_name}.")
+    tpm.chapter(f"Sessions with {hash_name}.")
     unbound = tpm.start("One that is bound to nothing", algorithm=algorithm)
     bound = tpm.start("One that is bound to the object", bind=handle, algorithm=algorithm)
     owner = tpm.start("One that is bound to TPM_RH_OWNER", bind=RH_OWNER, algorithm=algorithm)
@@ -55,7 +53,7 @@ for algorithm, hash_name in ((SHA256, "SHA-256"), (SHA1, "SHA-1")):
         tpm.refused("But with that one's value in the key: BAD_AUTH/s1", tpm.unsealing(twin, bound))
     tpm.accepted("And a PCR", tpm.reset(bound))
 
-    script.chapter("The hash of a command has the object's Name in it, and not its handle.")
+    tpm.chapter("The hash of a command has the object's Name in it, and not its handle.")
     tpm.refused(
         "An hmac for the one, with the handle of the other: BAD_AUTH/s1",
         tpm.unsealing(handle, unbound).but(handles=[twin]),
@@ -76,7 +74,7 @@ for algorithm, hash_name in ((SHA256, "SHA-256"), (SHA1, "SHA-1")):
     tpm.accepted("So it is with the one that is bound to the first", prepared.but(handles=[again]))
     tpm.unseal("It is bound to the second as well", again, SECRET, bound)
 
-    script.chapter("The object is flushed, and loaded again.")
+    tpm.chapter("The object is flushed, and loaded again.")
     tpm.flush_objects("Both are flushed", handle, again)
     tpm.accepted("The session that is bound to it lives on", tpm.reset(bound))
     tpm.refused(
@@ -94,7 +92,7 @@ for algorithm, hash_name in ((SHA256, "SHA-256"), (SHA1, "SHA-1")):
     for each in (unbound, bound, owner):
         tpm.says("A session is flushed: SUCCESS", tpm.flush(each))
 
-script.chapter("TPM2_StartAuthSession: bind is an object.")
+tpm.chapter("TPM2_StartAuthSession: bind is an object.")
 
 
 def starting(bind):
@@ -117,7 +115,7 @@ for what, public, data in (
     tpm.flush_objects("The object is flushed", other)
     tpm.accepted("TPM2_PCR_Reset by the session", tpm.reset(Use(session, 0)))
 
-script.chapter("A wrong entry is a try where it uses the value of an object without noDA.")
+tpm.chapter("A wrong entry is a try where it uses the value of an object without noDA.")
 guarded = tpm.create_primary(
     "Such an object", RH_OWNER, sealed(attributes=PROTECTED), user_auth=PIN, data=SECRET
 )
@@ -174,7 +172,7 @@ tpm.refused(
 for each in (plain, to_guarded, to_open):
     tpm.says("A session is flushed: SUCCESS", tpm.flush(each))
 
-script.chapter("TPM2_PolicySecret with an object as authHandle.")
+tpm.chapter("TPM2_PolicySecret with an object as authHandle.")
 for algorithm, hash_name in ((SHA256, "SHA-256"), (SHA1, "SHA-1")):
     key = tpm.create_primary(
         f"An object with nameAlg {hash_name}",
@@ -191,7 +189,7 @@ for algorithm, hash_name in ((SHA256, "SHA-256"), (SHA1, "SHA-1")):
         ("A policy session that is not there", "REFERENCE_H1", number(0x0300_000F, 4)),
         ("No sessions (tag 8001)", "AUTH_MISSING", handles[1]),
     ):
-        script.command(f"{what}: {outcome}", command(CC.PolicySecret, handles[0] + handle_text))
+        tpm.raw(f"{what}: {outcome}", command(CC.PolicySecret, handles[0] + handle_text))
     tpm.says("By a wrong value: BAD_AUTH/s1", tpm.secret(session, b"nip", of=key))
     tpm.accepted("By its value", tpm.secret(session, PIN, of=key, policy_ref=b"ref"))
     told = policy.after_secret(SHA256, zeros(session), tpm.names[key], b"ref")
@@ -217,7 +215,7 @@ for algorithm, hash_name in ((SHA256, "SHA-256"), (SHA1, "SHA-1")):
     for each in (session, bound):
         tpm.says("A session is flushed: SUCCESS", tpm.flush(each))
 
-script.chapter("Three sessions at once.")
+tpm.chapter("Three sessions at once.")
 first, second, third = (tpm.start("One with AES", bind=it, aes=True) for it in (handle, twin, 10))
 tpm.unseal(
     "The first authorizes, the second encrypts", handle, SECRET, first, Use(second, 0x41), third
@@ -230,4 +228,3 @@ tpm.accepted(
     tpm.hmac(key, b"text", ALG_NULL, second, Use(third, 0x21), Use(first, 0x41)),
 )
 tpm.flush_objects("All are flushed", key, handle, twin, parent)
-script.write()

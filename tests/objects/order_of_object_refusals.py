@@ -4,15 +4,13 @@ from tpmsim.caller import HERE, OPEN, Use, hmac_key, sealed, storage_key
 from tpmsim.standard import ALG_NULL, CC, DECRYPT, Entry, RH_LOCKOUT, RH_OWNER, SHA1, SHA256, area
 from tpmsim.standard import command, frames, number, sized
 from tpmsim.standard.objects import Attribute
-from tpmsim.caller.script_caller import ScriptCaller
-from tpmsim.caller.script import Script
+from tests.common.teller import Teller
 
-script = Script(
+tpm = Teller(
     "tests/objects/order_of_object_refusals.tpm",
     "The order of refusals in the commands of objects: a buffer with many faults, of which one "
     "after the other is repaired. What is answered is the first that is left.",
 )
-tpm = ScriptCaller(script)
 ABSENT, SECRET = 0x8000_0007, b"secret"
 ABSENT_SESSION = Entry(0x0200_000F, b"", 1, b"")
 
@@ -31,24 +29,22 @@ def general_refusals(code, handle, other_handle, cut, uses):
     def raw(handle_text, rest=b"", tag=frames.SESSIONS):
         return command(code, handle_text + rest, tag)
 
-    script.command(
+    tpm.raw(
         "Half a handle, and no sessions (tag 8001): INSUFFICIENT/h1",
         raw(b"\x80\0", tag=frames.NO_SESSIONS),
     )
-    script.command(
+    tpm.raw(
         "A handle of another kind, and no sessions: VALUE/h1",
         raw(number(other_handle, 4), tag=frames.NO_SESSIONS),
     )
     if code != CC.CreatePrimary:
-        script.command(
+        tpm.raw(
             "An object that is not there, and no sessions: REFERENCE_H0",
             raw(number(ABSENT, 4), tag=frames.NO_SESSIONS),
         )
     if code != CC.ReadPublic:
-        script.command(
-            "No sessions: AUTH_MISSING", raw(number(handle, 4), cut, tag=frames.NO_SESSIONS)
-        )
-    script.command("An area of eight bytes: AUTHSIZE", raw(number(handle, 4), area(bytes(8)) + cut))
+        tpm.raw("No sessions: AUTH_MISSING", raw(number(handle, 4), cut, tag=frames.NO_SESSIONS))
+    tpm.raw("An area of eight bytes: AUTHSIZE", raw(number(handle, 4), area(bytes(8)) + cut))
     prepared = tpm.prepare(code, [handle], cut, *uses)
     last = len(uses)
     tpm.refused(
@@ -65,7 +61,6 @@ def parameters_in_order(code, handle, uses, cases):
         tpm.refused(f"{what}: {outcome}", tpm.prepare(code, [handle], parameters, *uses))
 
 
-script.startup()
 parent = tpm.create_primary("A storage key", RH_OWNER, storage_key(), user_auth=b"parent")
 made = tpm.create("TPM2_Create of sealed data", parent, sealed(), user_auth=b"s", data=SECRET)
 handle = tpm.load("TPM2_Load", parent, made)
@@ -91,7 +86,7 @@ for code, name, on, uses in (
     (CC.CreatePrimary, "TPM2_CreatePrimary", RH_OWNER, [b"", DECRYPTS]),
     (CC.Create, "TPM2_Create", parent, [b"parent", DECRYPTS]),
 ):
-    script.chapter(f"{name}, with inSensitive encrypted.")
+    tpm.chapter(f"{name}, with inSensitive encrypted.")
     other = RH_LOCKOUT if code == CC.CreatePrimary else RH_OWNER
     general_refusals(code, on, other, GOOD_SENSITIVE[:-1], uses)
     bad_type = sized(number(1, 2))
@@ -158,7 +153,7 @@ for code, name, on, uses in (
     tpm.accepted("With nothing wrong", good)
 tpm.says("The object of the first is flushed: SUCCESS", tpm.flush(0x8000_0004))
 
-script.chapter("TPM2_Load, with inPrivate encrypted.")
+tpm.chapter("TPM2_Load, with inPrivate encrypted.")
 uses = [b"parent", DECRYPTS]
 private, public = sized(made.private), sized(made.public.text)
 general_refusals(CC.Load, parent, RH_OWNER, private[:-1], uses)
@@ -209,12 +204,12 @@ tpm.flush_objects("Some are flushed", *others)
 again = tpm.load("With nothing wrong", parent, made, *uses)
 tpm.flush_objects("It is flushed", again)
 
-script.chapter("TPM2_ReadPublic, with a session that authorizes nothing.")
+tpm.chapter("TPM2_ReadPublic, with a session that authorizes nothing.")
 general_refusals(CC.ReadPublic, key, RH_OWNER, b"\0", [Use(session)])
 tpm.refused("A byte behind the handle: SIZE", tpm.prepare(CC.ReadPublic, [key], b"\0", session))
 tpm.read_public("With nothing wrong", key, session)
 
-script.chapter("TPM2_Unseal.")
+tpm.chapter("TPM2_Unseal.")
 general_refusals(CC.Unseal, key, RH_OWNER, b"\0", [b"k", Use(session)])
 tpm.refused(
     "A byte behind the area, of a key: SIZE", tpm.prepare(CC.Unseal, [key], b"\0", b"k", session)
@@ -223,7 +218,7 @@ tpm.refused("A storage key: TYPE/h1", tpm.prepare(CC.Unseal, [parent], b"", b"pa
 tpm.refused("An HMAC key: ATTRIBUTES/h1", tpm.prepare(CC.Unseal, [key], b"", b"k", session))
 tpm.unseal("With nothing wrong", handle, SECRET, b"s", session)
 
-script.chapter("TPM2_HMAC, with the buffer encrypted.")
+tpm.chapter("TPM2_HMAC, with the buffer encrypted.")
 uses = [b"k", DECRYPTS]
 data = sized(b"text")
 general_refusals(CC.HMAC, key, RH_OWNER, data[:-1], uses)
@@ -247,4 +242,3 @@ for what, outcome, on, value in (
 ):
     tpm.refused(f"{what}: {outcome}", tpm.prepare(CC.HMAC, [on], by_sha1, value, DECRYPTS))
 tpm.accepted("With nothing wrong", tpm.hmac(key, b"text", SHA256, *uses))
-script.write()

@@ -6,15 +6,13 @@ from tpmsim.model.object_rules import Sensitive
 from tpmsim.standard import KEYEDHASH, RH_OWNER, SHA1, SHA256, SYMCIPHER, aes, digest, digest_bytes
 from tpmsim.standard import kdfa, mac, number, sized
 from tpmsim.standard.objects import Public
-from tpmsim.caller.script_caller import ScriptCaller
-from tpmsim.caller.script import Script
+from tests.common.teller import Teller
 
-script = Script(
+tpm = Teller(
     "tests/objects/private_area.tpm",
     "A private area is an integrity value, the first block of the cipher, and the encrypted "
     "sensitive area. TPM2_Load takes it where its parent made it for this public area.",
 )
-tpm = ScriptCaller(script)
 
 
 def refused(what, parent, public, *privates):
@@ -22,9 +20,7 @@ def refused(what, parent, public, *privates):
     tpm.says(f"{what}: INTEGRITY/p1", *(tpm.loading(parent, it) for it in made))
 
 
-script.startup()
-
-script.chapter("A private area that the device made, and that is changed on its way.")
+tpm.chapter("A private area that the device made, and that is changed on its way.")
 for algorithm, hash_name, step, words in (
     (SHA1, "SHA-1", 1, "each shorter length"),
     (SHA256, "SHA-256", 6, "shorter lengths"),
@@ -51,7 +47,7 @@ for algorithm, hash_name, step, words in (
     tpm.unseal("TPM2_Unseal", handle, b"x")
     tpm.flush_objects("Both are flushed", handle, parent)
 
-script.chapter(
+tpm.chapter(
     "Someone knows the seed of the parent: that of a primary key follows from the hierarchy's. The "
     "private areas that he makes have the right integrity value."
 )
@@ -59,7 +55,7 @@ script.chapter(
 
 def forge(parent, public, text, iv=b"\x5a" * aes.BLOCK, name=None, algorithm=None):
     """A private area whose encrypted part is this text, by the equations and not by object_rules.py."""
-    known = script.device.objects[parent]
+    known = tpm.script.device.objects[parent]
     seed = known.sensitive.seed_value
     algorithm = algorithm or known.public.name_algorithm
     name = public.name if name is None else name
@@ -80,7 +76,7 @@ for algorithm, hash_name in ((SHA1, "SHA-1"), (SHA256, "SHA-256")):
     )
     public = sealed(unique=b"u" * 32)
     private = forge(parent, public, sensitive())
-    known = script.device.objects[parent]
+    known = tpm.script.device.objects[parent]
     same = Sensitive(KEYEDHASH, b"", b"s" * 32, b"forged")
     assert private == object_rules.wrapped(known, public.name, same, b"\x5a" * aes.BLOCK)
 
@@ -88,7 +84,7 @@ for algorithm, hash_name in ((SHA1, "SHA-1"), (SHA256, "SHA-256")):
     tpm.unseal("TPM2_Unseal: unique is not compared with it", handle, b"forged")
     tpm.flush_objects("It is flushed", handle)
 
-    script.chapter("The integrity value.")
+    tpm.chapter("The integrity value.")
     refused("Without the Name", parent, public, forge(parent, public, sensitive(), name=b""))
     other = storage_key().name
     refused("With another Name", parent, public, forge(parent, public, sensitive(), name=other))
@@ -111,7 +107,7 @@ for algorithm, hash_name in ((SHA1, "SHA-1"), (SHA256, "SHA-256")):
         sized(value + b"\0") + rest,
     )
 
-    script.chapter("The first block of the cipher.")
+    tpm.chapter("The first block of the cipher.")
     refused(
         "Of 0, 1, 15, 17 and 32 bytes",
         parent,
@@ -131,7 +127,7 @@ for algorithm, hash_name in ((SHA1, "SHA-1"), (SHA256, "SHA-256")):
         *map(behind, (b"", b"\0", number(16, 2), number(16, 2) + bytes(15), b"\xff\xff" * 20)),
     )
 
-    script.chapter("The sensitive area.")
+    tpm.chapter("The sensitive area.")
     refused(
         "Another type than that of the public area",
         parent,
@@ -179,7 +175,7 @@ for algorithm, hash_name in ((SHA1, "SHA-1"), (SHA256, "SHA-256")):
         ),
     )
 
-    script.chapter("What is not made by TPM2_Create, and is loaded none the less.")
+    tpm.chapter("What is not made by TPM2_Create, and is loaded none the less.")
     for what, auth, given in (
         ('The value is "a" and two zeros, which count for nothing', b"a\0\0", b"a"),
         ("It is 32 zeros, the empty one", bytes(32), b""),
@@ -244,4 +240,3 @@ for algorithm, hash_name in ((SHA1, "SHA-1"), (SHA256, "SHA-256")):
     child = tpm.load("TPM2_Load", handle, made)
     tpm.unseal("TPM2_Unseal: he can read it, too", child, b"secret")
     tpm.flush_objects("All are flushed", child, handle, parent)
-script.write()

@@ -2,38 +2,37 @@
 
 from tpmsim.caller import Use, hmac_key, sealed, storage_key
 from tpmsim.standard import CC, ENCRYPT, RH_NULL, RH_OWNER, SHA1, SHA256, command, digest, number
-from tpmsim.caller.script_caller import ScriptCaller
-from tpmsim.caller.script import Script
+from tests.common.teller import Teller
 
-script = Script(
+tpm = Teller(
     "tests/objects/read_public.tpm",
     "TPM2_ReadPublic answers an object's public area, its Name, which is nameAlg and the hash of "
     "that area, and its qualified name, which has the Names of all that are above it in it. It "
     "needs no authorization.",
+    starts=False,
 )
-tpm = ScriptCaller(script)
 
 
 def read(handle):
     return command(CC.ReadPublic, number(handle, 4))
 
 
-script.command("Before TPM2_Startup: INITIALIZE", read(0x8000_0000))
-script.startup()
-script.command(
+tpm.raw("Before TPM2_Startup: INITIALIZE", read(0x8000_0000))
+tpm.startup()
+tpm.raw(
     "No object's handle: TPM_RH_OWNER, TPM_RH_NULL, PCR 0, an NV index, sessions: VALUE/h1",
     *map(read, (RH_OWNER, RH_NULL, 0, 0x0100_0000, 0x0200_0000, 0x0300_0000, 0xFFFF_FFFF)),
 )
-script.command(
+tpm.raw(
     "A transient object, while there is none: REFERENCE_H0",
     *map(read, (0x8000_0000, 0x8000_0007, 0x8000_0008, 0x80FF_FFFF)),
 )
-script.command(
+tpm.raw(
     "A persistent object, while there is none: HANDLE/h1", *map(read, (0x8100_0000, 0x81FF_FFFF))
 )
-script.command("Three bytes of a handle: INSUFFICIENT/h1", command(CC.ReadPublic, b"\x80\0\0"))
+tpm.raw("Three bytes of a handle: INSUFFICIENT/h1", command(CC.ReadPublic, b"\x80\0\0"))
 
-script.chapter("Qualified names: of a primary object, of its child, and of that one's child.")
+tpm.chapter("Qualified names: of a primary object, of its child, and of that one's child.")
 qualified_names = {}
 for hierarchy, name in ((RH_OWNER, "TPM_RH_OWNER"), (RH_NULL, "TPM_RH_NULL")):
     qualified, handles = number(hierarchy, 4), []
@@ -55,7 +54,7 @@ for hierarchy, name in ((RH_OWNER, "TPM_RH_OWNER"), (RH_NULL, "TPM_RH_NULL")):
         assert answered == qualified
     tpm.flush_objects("They are flushed", *handles)
 
-script.chapter("What is wrong with the command.")
+tpm.chapter("What is wrong with the command.")
 key = tpm.create_primary(
     'An HMAC key, whose value is "a"', RH_OWNER, hmac_key(), user_auth=b"a", data=b"key"
 )
@@ -78,5 +77,4 @@ tpm.refused(
 )
 tpm.read_public("For the right one", key, bound)
 tpm.flush_objects("Both are flushed", key, stranger)
-script.command("They are no more: REFERENCE_H0", read(key), read(stranger))
-script.write()
+tpm.raw("They are no more: REFERENCE_H0", read(key), read(stranger))

@@ -3,26 +3,23 @@
 from tpmsim.caller import Use, hmac_key, sealed, storage_key
 from tpmsim.standard import ALG_NULL, CC, CONTINUE_SESSION, DECRYPT, ENCRYPT, RH_OWNER, SHA1
 from tpmsim.standard import SHA256, mac, number, sized
-from tpmsim.caller.script_caller import ScriptCaller
-from tpmsim.caller.script import Script
+from tests.common.teller import Teller
 
 IN, OUT = CONTINUE_SESSION | DECRYPT, CONTINUE_SESSION | ENCRYPT
 BOTH = CONTINUE_SESSION | DECRYPT | ENCRYPT
 
-script = Script(
+tpm = Teller(
     "tests/objects/sealed_sizes.tpm",
     "Sealed data of up to 128 bytes, which a session hides on the wire: inSensitive of "
     "TPM2_Create, inPrivate of TPM2_Load, outData of TPM2_Unseal, and what TPM2_HMAC takes and "
     "answers.",
 )
-tpm = ScriptCaller(script)
-script.startup()
 parent = tpm.create_primary(
     'A storage key, whose value is "parent"', RH_OWNER, storage_key(), user_auth=b"parent"
 )
 
 for algorithm, hash_name in ((SHA256, "SHA-256"), (SHA1, "SHA-1")):
-    script.chapter(f"AES sessions with {hash_name}.")
+    tpm.chapter(f"AES sessions with {hash_name}.")
     data = bytes(range(128))
     made = tpm.create(
         'TPM2_Create of 128 bytes, whose value is "pin"',
@@ -34,7 +31,7 @@ for algorithm, hash_name in ((SHA256, "SHA-256"), (SHA1, "SHA-1")):
     handle = tpm.load("TPM2_Load", parent, made)
     session = tpm.start("A session with AES", algorithm=algorithm, aes=True)
     prepared = tpm.unsealing(handle, Use(session, OUT))
-    response = script.command(
+    response = tpm.raw(
         "TPM2_Unseal authorized by it, with encrypt: the answer is 0080, and 128 bytes that are "
         "not those that were sealed: SUCCESS",
         prepared.buffer(),
@@ -63,7 +60,7 @@ for algorithm, hash_name in ((SHA256, "SHA-256"), (SHA1, "SHA-1")):
         tpm.unseal("TPM2_Unseal, encrypted", again, data[:size], Use(session, OUT))
         tpm.flush_objects("It is flushed", again)
 
-    script.chapter("129 bytes.")
+    tpm.chapter("129 bytes.")
     tpm.says("In plain: SIZE/p1", tpm.child(parent, sealed(), data=bytes(129)))
     long = tpm.child(parent, sealed(), Use(session, IN), data=bytes(129))
     tpm.refused("Encrypted: SIZE/p1", long)
@@ -79,7 +76,7 @@ for algorithm, hash_name in ((SHA256, "SHA-256"), (SHA1, "SHA-1")):
         *(tpm.prepare(CC.Create, [parent], whole[:it], Use(session, IN)) for it in (0, 1, 2, 133)),
     )
 
-    script.chapter("Both ways at once.")
+    tpm.chapter("Both ways at once.")
     made = tpm.create(
         "TPM2_Create with inSensitive and outPrivate encrypted by the session that authorizes",
         parent,
@@ -121,7 +118,7 @@ for algorithm, hash_name in ((SHA256, "SHA-256"), (SHA1, "SHA-1")):
     assert tpm.names[first] == tpm.names[second]
     tpm.flush_objects("Both are flushed", first, second)
 
-    script.chapter("TPM2_HMAC, with what it takes and what it answers encrypted.")
+    tpm.chapter("TPM2_HMAC, with what it takes and what it answers encrypted.")
     key = tpm.create_primary(
         "A key", RH_OWNER, hmac_key(algorithm, scheme=ALG_NULL), user_auth=b"k", data=b"key"
     )
@@ -139,7 +136,7 @@ for algorithm, hash_name in ((SHA256, "SHA-256"), (SHA1, "SHA-1")):
     for each in (session, bound, unrelated):
         tpm.says("A session is flushed: SUCCESS", tpm.flush(each))
 
-script.chapter("What cannot be encrypted.")
+tpm.chapter("What cannot be encrypted.")
 plain = tpm.start("A session without AES")
 aes = tpm.start("One with AES", aes=True)
 handle = tpm.create_primary("Sealed data", RH_OWNER, sealed(), data=b"secret")
@@ -156,4 +153,3 @@ tpm.refused(
     tpm.unsealing(handle, Use(aes, OUT), plain).but_entry(2, attributes=OUT),
 )
 tpm.refused("By a password: ATTRIBUTES/s1", tpm.unsealing(handle).but_entry(1, attributes=OUT))
-script.write()

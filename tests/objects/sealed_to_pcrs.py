@@ -3,18 +3,18 @@
 from tpmsim.caller import HERE, sealed, storage_key
 from tpmsim.standard import CC, RH_NULL, RH_OWNER, SHA256, digest, digests, policy, selection
 from tpmsim.standard.objects import Attribute
-from tpmsim.caller.script_caller import ScriptCaller, zeros
-from tpmsim.caller.script import Script
+from tpmsim.caller.script_caller import zeros
+from tests.common.teller import Teller
 
 CHOSEN = [(SHA256, [10])]
 SECRET = b"the secret"
 
-script = Script(
+tpm = Teller(
     "tests/objects/sealed_to_pcrs.tpm",
     "Sealed data whose authPolicy is that of TPM2_PolicyPCR over PCR 10: a trial session tells its "
     "digest, and a policy session authorizes TPM2_Unseal while PCR 10 has the same value.",
+    starts=False,
 )
-tpm = ScriptCaller(script)
 
 
 def measured():
@@ -37,7 +37,7 @@ def policy_session(what="A policy session"):
     return session
 
 
-script.startup()
+tpm.startup()
 measured()
 trial = tpm.trial("A trial session")
 asserts("TPM2_PolicyPCR", trial)
@@ -55,7 +55,7 @@ made = tpm.create(
 )
 handle = tpm.load("TPM2_Load", parent, made)
 
-script.chapter("PCR 10 is as it was.")
+tpm.chapter("PCR 10 is as it was.")
 tpm.says("By a password: AUTH_UNAVAILABLE", tpm.unsealing(handle))
 plain = tpm.start("An HMAC session")
 tpm.refused("By it: AUTH_UNAVAILABLE", tpm.unsealing(handle, plain))
@@ -68,7 +68,7 @@ tpm.refused("TPM2_Unseal again: POLICY_FAIL/s1", tpm.unsealing(handle, session))
 asserts("TPM2_PolicyPCR again", session)
 tpm.unseal("TPM2_Unseal", handle, SECRET, session)
 
-script.chapter("PCR 10 is extended between the assertion and its use.")
+tpm.chapter("PCR 10 is extended between the assertion and its use.")
 asserts("TPM2_PolicyPCR", session)
 tpm.says("TPM2_PCR_Extend of PCR 10: SUCCESS", extend(10))
 tpm.refused("TPM2_Unseal: PCR_CHANGED", tpm.unsealing(handle, session))
@@ -87,9 +87,9 @@ tpm.says(
 )
 tpm.refused("TPM2_Unseal: POLICY_FAIL/s1", tpm.unsealing(handle, other))
 
-script.chapter("The next start with the same measurement.")
-script.power()
-script.startup()
+tpm.chapter("The next start with the same measurement.")
+tpm.power()
+tpm.startup()
 tpm.forget(handle, parent)
 measured()
 parent = tpm.create_primary("The same storage key", RH_OWNER, storage_key())
@@ -97,7 +97,7 @@ handle = tpm.load("TPM2_Load", parent, made)
 session = policy_session()
 tpm.unseal("TPM2_Unseal", handle, SECRET, session)
 
-script.chapter("Any change of a PCR counts, also of one that is not chosen; the value is the same.")
+tpm.chapter("Any change of a PCR counts, also of one that is not chosen; the value is the same.")
 for what, prepared in (
     ("TPM2_PCR_Extend of PCR 23", extend(23)),
     ("TPM2_PCR_Reset of PCR 16", tpm.reset(b"")),
@@ -110,7 +110,7 @@ for what, prepared in (
     asserts("TPM2_PolicyPCR", session)
     tpm.unseal("TPM2_Unseal", handle, SECRET, session)
 
-script.chapter("What changes no PCR does not.")
+tpm.chapter("What changes no PCR does not.")
 asserts("TPM2_PolicyPCR", session)
 tpm.accepted("TPM2_PCR_Extend on TPM_RH_NULL", extend(RH_NULL))
 tpm.says(
@@ -122,11 +122,10 @@ tpm.accepted("TPM2_PCR_Read", tpm.read_pcr(10))
 tpm.accepted("TPM2_GetRandom beside the session", tpm.random(2, session))
 tpm.unseal("TPM2_Unseal", handle, SECRET, session)
 
-script.chapter("Somebody extends PCR 10 in the moment between: the session of another caller.")
+tpm.chapter("Somebody extends PCR 10 in the moment between: the session of another caller.")
 asserts("TPM2_PolicyPCR", session)
 own = tpm.start("A session of the other", bind=RH_OWNER)
 tpm.accepted(
     "TPM2_PCR_Extend by it", tpm.prepare(CC.PCR_Extend, [10], digests((SHA256, bytes(32))), own)
 )
 tpm.refused("TPM2_Unseal: PCR_CHANGED", tpm.unsealing(handle, session))
-script.write()

@@ -4,16 +4,14 @@ from tpmsim.caller import OPEN, STORES, hmac_key, sealed, storage_key
 from tpmsim.standard import CC, Fields, RH_ENDORSEMENT, RH_NULL, RH_OWNER, RH_PLATFORM, SHA1
 from tpmsim.standard import SHA256, digest, digest_bytes, number, policy
 from tpmsim.standard.objects import Attribute
-from tpmsim.caller.script_caller import ScriptCaller
-from tpmsim.caller.script import Script
+from tests.common.teller import Teller
 
-script = Script(
+tpm = Teller(
     "tests/objects/sha1_parent.tpm",
     "A private area is protected by the nameAlg of the parent; the Name, the qualified name, the "
     "hashes in the creation data and unique are by the nameAlg of the object itself. The hierarchy "
     "comes from the parent.",
 )
-tpm = ScriptCaller(script)
 ALGORITHMS = ((SHA1, "SHA-1"), (SHA256, "SHA-256"))
 
 
@@ -21,9 +19,8 @@ def qualified(above, name, algorithm):
     return number(algorithm, 2) + digest(algorithm, above + name)
 
 
-script.startup()
 for parent_algorithm, parent_hash in ALGORITHMS:
-    script.chapter(f"A parent with nameAlg {parent_hash}.")
+    tpm.chapter(f"A parent with nameAlg {parent_hash}.")
     parent = tpm.create_primary(
         "TPM2_CreatePrimary", RH_OWNER, storage_key(parent_algorithm), user_auth=b"parent"
     )
@@ -60,7 +57,7 @@ for parent_algorithm, parent_hash in ALGORITHMS:
             tpm.flush_objects("It is flushed", child)
     tpm.flush_objects("The parent is flushed", parent)
 
-script.chapter("Children of children: four storage keys under one another, and sealed data.")
+tpm.chapter("Children of children: four storage keys under one another, and sealed data.")
 chain = [tpm.create_primary("The primary key", RH_OWNER, storage_key(SHA1))]
 above = [number(RH_OWNER, 4)]
 _, answered = tpm.read_public("TPM2_ReadPublic", chain[0])
@@ -93,7 +90,7 @@ tpm.unseal("What was under them stays", handle, b"deep")
 _, again = tpm.read_public("And keeps its qualified name", handle)
 assert again == answered
 tpm.flush_objects("It is flushed", handle)
-script.chapter("All of it once more, from the primary key on.")
+tpm.chapter("All of it once more, from the primary key on.")
 parent = tpm.create_primary("The primary key", RH_OWNER, storage_key(SHA1))
 for made in links:
     child = tpm.load("TPM2_Load of the next one", parent, made)
@@ -103,7 +100,7 @@ handle = tpm.load("TPM2_Load of the sealed data", parent, leaf)
 tpm.unseal("TPM2_Unseal", handle, b"deep")
 tpm.flush_objects("Both are flushed", handle, parent)
 
-script.chapter("What is under a parent is in its hierarchy: the ticket, and the qualified name.")
+tpm.chapter("What is under a parent is in its hierarchy: the ticket, and the qualified name.")
 for hierarchy, name in (
     (RH_PLATFORM, "TPM_RH_PLATFORM"),
     (RH_ENDORSEMENT, "TPM_RH_ENDORSEMENT"),
@@ -123,7 +120,7 @@ for hierarchy, name in (
     tpm.unseal("TPM2_Unseal", handle, b"leaf")
     tpm.flush_objects("They are flushed", primary, child, handle)
 
-script.chapter("fixedTPM: what is under a parent without it is without it, down to the last.")
+tpm.chapter("fixedTPM: what is under a parent without it is without it, down to the last.")
 movable = storage_key(attributes=OPEN | STORES)
 primary = tpm.create_primary("A parent without fixedTPM", RH_OWNER, movable)
 inner = storage_key(SHA1, attributes=OPEN | STORES | Attribute.FIXED_PARENT)
@@ -138,7 +135,7 @@ handle = tpm.load("TPM2_Load", child, leaf)
 tpm.unseal("TPM2_Unseal", handle, b"leaf")
 tpm.flush_objects("They are flushed", primary, child, handle)
 
-script.chapter("A policy of SHA-1.")
+tpm.chapter("A policy of SHA-1.")
 parent = tpm.create_primary("A parent with SHA-256", RH_OWNER, storage_key())
 made = tpm.create(
     "Sealed data with nameAlg SHA-1 and a policy: TPM2_Create",
@@ -154,4 +151,3 @@ handle = tpm.load("TPM2_Load", parent, made)
 session = tpm.policy("A policy session with SHA-1", algorithm=SHA1)
 tpm.says("TPM2_PolicyCommandCode: SUCCESS", tpm.command_code(session, CC.Unseal))
 tpm.unseal("TPM2_Unseal", handle, b"secret", session)
-script.write()

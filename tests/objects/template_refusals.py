@@ -5,21 +5,19 @@ from tpmsim.model.object_rules import NAMED
 from tpmsim.standard import AES, ALG_HMAC, ALG_NULL, CC, CFB, KEYEDHASH, RH_OWNER, SHA1, SHA256
 from tpmsim.standard import SYMCIPHER, frames, number, sized
 from tpmsim.standard.objects import Attribute, Public
-from tpmsim.caller.script_caller import ScriptCaller
-from tpmsim.caller.script import Script
+from tests.common.teller import Teller
 
 RESTRICTED, SIGN, DECRYPT = Attribute.RESTRICTED, Attribute.SIGN, Attribute.DECRYPT
 FIXED_TPM, FIXED_PARENT = Attribute.FIXED_TPM, Attribute.FIXED_PARENT
 DUPLICATION, ORIGIN = Attribute.ENCRYPTED_DUPLICATION, Attribute.SENSITIVE_DATA_ORIGIN
 UNUSED_BITS = [1 << bit for bit in range(32) if not NAMED >> bit & 1]
 
-script = Script(
+tpm = Teller(
     "tests/objects/template_refusals.tpm",
     "What TPM2_CreatePrimary, TPM2_Create and TPM2_Load refuse of inSensitive and inPublic: first "
     "what cannot be read, in reading order, then what is asked of every public area, and then what "
     "is asked of what is created.",
 )
-tpm = ScriptCaller(script)
 
 
 def raw(code, handle, first, public):
@@ -30,7 +28,6 @@ def raw(code, handle, first, public):
     return tpm.prepare(code, [handle], parameters, b"")
 
 
-script.startup()
 parent = tpm.create_primary("A storage key", RH_OWNER, storage_key())
 TARGETS = (
     (CC.CreatePrimary, RH_OWNER, "TPM2_CreatePrimary"),
@@ -44,7 +41,7 @@ GOOD = sized(sealed().text)
 # inSensitive.
 
 for code, handle, name in TARGETS[:2]:
-    script.chapter(f"{name}: reading inSensitive, a sized buffer of userAuth and data.")
+    tpm.chapter(f"{name}: reading inSensitive, a sized buffer of userAuth and data.")
 
     def sensitive(words, *texts):
         tpm.says(words, *(raw(code, handle, it, GOOD) for it in texts))
@@ -90,7 +87,7 @@ KEYED = head() + number(ALG_NULL, 2)
 
 for code, handle, name in TARGETS:
     first = sized(b"") if code == CC.Load else SECRET
-    script.chapter(f"{name}: reading inPublic, a sized buffer.")
+    tpm.chapter(f"{name}: reading inPublic, a sized buffer.")
 
     def public(words, *texts):
         tpm.says(words, *(raw(code, handle, first, sized(it)) for it in texts))
@@ -233,7 +230,7 @@ WRONG_SCHEMES = (
 )
 for code, handle, name in TARGETS:
     first = sized(b"") if code == CC.Load else SECRET
-    script.chapter(f"{name}: what is asked of inPublic. unique may be anything.")
+    tpm.chapter(f"{name}: what is asked of inPublic. unique may be anything.")
 
     def asked(words, *publics):
         tpm.says(words, *(raw(code, handle, first, sized(it.text)) for it in publics))
@@ -244,7 +241,7 @@ for code, handle, name in TARGETS:
     for what, publics in WRONG_SCHEMES:
         asked(f"{what}: SCHEME/p2", *publics)
 
-    script.chapter("Two faults at once.")
+    tpm.chapter("Two faults at once.")
     asked(
         "authPolicy, and fixedTPM without fixedParent: SIZE/p2",
         sealed(attributes=FIXED_TPM | OPEN, auth_policy=b"p"),
@@ -257,7 +254,7 @@ for code, handle, name in TARGETS:
         sealed(attributes=FIXED_TPM | OPEN, scheme=SHA256),
     )
 
-script.chapter("Under a parent without fixedTPM nothing has it; fixedParent may be or not.")
+tpm.chapter("Under a parent without fixedTPM nothing has it; fixedParent may be or not.")
 movable = tpm.create_primary(
     "A storage key without fixedTPM", RH_OWNER, storage_key(attributes=OPEN | STORES)
 )
@@ -285,7 +282,7 @@ tpm.flush_objects("The parent is flushed", movable)
 # What is asked of what is created.
 
 for code, handle, name in TARGETS[:2]:
-    script.chapter(f"{name}: what is asked of what is created.")
+    tpm.chapter(f"{name}: what is asked of what is created.")
 
     def created(words, public, *sensitives):
         texts = (raw(code, handle, it, sized(public.text)) for it in sensitives)
@@ -326,7 +323,7 @@ for code, handle, name in TARGETS[:2]:
         *(given(data=bytes(it)) for it in (1, 15, 17, 32, 128)),
     )
 
-    script.chapter("Two faults at once.")
+    tpm.chapter("Two faults at once.")
     long = given(b"a" * 21, b"secret")
     created("authPolicy, and userAuth: SIZE/p2", sealed(SHA1, auth_policy=b"p"), long)
     created("Scheme HMAC without sign, and userAuth: SCHEME/p2", sealed(SHA1, scheme=SHA1), long)
@@ -342,7 +339,7 @@ for code, handle, name in TARGETS[:2]:
     )
     created("Scheme HMAC without sign, and no data: SCHEME/p2", sealed(scheme=SHA256), NOTHING)
 
-    script.chapter("What is just right.")
+    tpm.chapter("What is just right.")
     for what, public, user_auth, data in (
         ("userAuth of 20 bytes, for SHA-1", sealed(SHA1), b"a" * 20, b"x"),
         ("And of 12 zeros behind them", sealed(SHA1), b"a" * 20 + bytes(12), b"x"),
@@ -362,7 +359,7 @@ for code, handle, name in TARGETS[:2]:
 
 # Behind all of it.
 
-script.chapter("The parent comes first, and the place for the object last.")
+tpm.chapter("The parent comes first, and the place for the object last.")
 child = tpm.create("TPM2_Create of sealed data", parent, sealed(), data=b"secret")
 key = tpm.load("TPM2_Load", parent, child)
 for code, name in ((CC.Create, "TPM2_Create"), (CC.Load, "TPM2_Load")):
@@ -398,4 +395,3 @@ tpm.says(
 )
 tpm.says("With nothing wrong: OBJECT_MEMORY", tpm.loading(parent, child))
 tpm.create("TPM2_Create needs no place", parent, sealed(), data=b"secret")
-script.write()

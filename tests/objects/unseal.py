@@ -3,17 +3,14 @@
 from tpmsim.caller import HERE, OPEN, hmac_key, sealed, storage_key
 from tpmsim.standard import CC, RH_NULL, RH_OWNER, SHA1, SHA256, SYMCIPHER, frames, number
 from tpmsim.standard.objects import Attribute, Public
-from tpmsim.caller.script_caller import ScriptCaller
-from tpmsim.caller.script import Script
+from tests.common.teller import Teller
 
-script = Script(
+tpm = Teller(
     "tests/objects/unseal.tpm",
     "TPM2_Unseal gives out the data of a sealed object, by its authorization.",
 )
-tpm = ScriptCaller(script)
 refused = tpm.says
 
-script.startup()
 refused(
     "No object's handle: TPM_RH_OWNER, TPM_RH_NULL, PCR 0, an NV index, sessions: VALUE/h1",
     *map(tpm.unsealing, (RH_OWNER, RH_NULL, 0, 0x0100_0000, 0x0200_0000, 0x0300_0000)),
@@ -25,7 +22,7 @@ refused(
 refused("A persistent object, while there is none: HANDLE/h1", tpm.unsealing(0x8100_0000))
 parent = tpm.create_primary("A storage key", RH_OWNER, storage_key())
 
-script.chapter("Data of all sizes.")
+tpm.chapter("Data of all sizes.")
 for size in (1, 15, 16, 17, 127, 128):
     data = bytes(range(size))
     made = tpm.create(f"{size} bytes: TPM2_Create", parent, sealed(), data=data)
@@ -34,7 +31,7 @@ for size in (1, 15, 16, 17, 127, 128):
     tpm.unseal("Once more", handle, data)
     tpm.flush_objects("It is flushed", handle)
 
-script.chapter("Authorization by the value.")
+tpm.chapter("Authorization by the value.")
 for what, value, passwords, wrong in (
     ("The empty value", b"", (b"", b"\0", bytes(32)), (b"\1", b"\0\1")),
     ('"pin"', b"pin", (b"pin", b"pin\0", b"pin" + bytes(29)), (b"", b"pi", b"pin1", b"\0pin")),
@@ -73,13 +70,13 @@ refused(
 )
 tpm.refused("Nor a session: AUTH_UNAVAILABLE", tpm.unsealing(handle, session))
 tpm.refused("Of either type: AUTH_UNAVAILABLE", tpm.unsealing(handle, policy))
-script.command(
+tpm.raw(
     "It has to be authorized: no sessions (tag 8001): AUTH_MISSING",
     frames.command(CC.Unseal, number(handle, 4)),
 )
 tpm.flush_objects("It is flushed", handle)
 
-script.chapter("What is not sealed is not given out.")
+tpm.chapter("What is not sealed is not given out.")
 KEYS = Attribute.SIGN | Attribute.DECRYPT
 for what, public, data, outcome in (
     ("A storage key", storage_key(), b"", "TYPE/h1"),
@@ -100,4 +97,3 @@ for what, public, data, outcome in (
     whole = tpm.unsealing(handle)
     refused("With a byte behind: SIZE", whole.but(parameters=b"\0"))
     tpm.flush_objects("It is flushed", handle)
-script.write()

@@ -1,23 +1,23 @@
 """Writes long_policy.tpm: a policy of all assertions, in a trial and a policy session."""
 
 from tpmsim.standard import CC, RH_OWNER, SHA1, SHA256, digest, frames, name_of, policy
-from tpmsim.caller.script_caller import HASHES, ScriptCaller, zeros
-from tpmsim.caller.script import Script
+from tpmsim.caller.script_caller import HASHES, zeros
+from tests.common.teller import Teller
 
 BANKS = [(SHA1, [0, 7]), (SHA256, [0, 1, 2, 3, 4, 5, 6, 7, 8])]
 REFERENCE = b"first of January"
 
-script = Script(
+tpm = Teller(
     "tests/policies/long_policy.tpm",
     "A policy of many assertions. A trial session comes to the digest that a policy session comes "
     "to, without anything being so yet.",
 )
-tpm = ScriptCaller(script)
 
 
 def values_digest(algorithm):
     return digest(
-        algorithm, b"".join(script.device.banks[bank][pcr] for bank, pcrs in BANKS for pcr in pcrs)
+        algorithm,
+        b"".join(tpm.script.device.banks[bank][pcr] for bank, pcrs in BANKS for pcr in pcrs),
     )
 
 
@@ -26,13 +26,12 @@ def both(what, trial, session, tell):
     tpm.says(f"{what}: SUCCESS", tell(trial), tell(session))
 
 
-script.startup()
 for pcr in (0, 4, 7, 8):
     tpm.accepted(f"TPM2_PCR_Event into PCR {pcr}", tpm.event(b"boot %d" % pcr, b"", pcr=pcr))
 tpm.accepted('ownerAuth is "owner"', tpm.change_auth(RH_OWNER, b"owner", b""))
 
 for algorithm, name in HASHES:
-    script.chapter(f"{name}.")
+    tpm.chapter(f"{name}.")
     trial = tpm.trial("A trial session", algorithm=algorithm)
     session = tpm.policy("A policy session", algorithm=algorithm)
     wanted = zeros(session)
@@ -68,7 +67,7 @@ for algorithm, name in HASHES:
     tpm.digest_is("The trial session's digest", trial, wanted)
     tpm.digest_is("The policy session's is the same", session, wanted)
 
-    script.chapter("A trial session makes it with nothing being so, and a policy session does not.")
+    tpm.chapter("A trial session makes it with nothing being so, and a policy session does not.")
     both("Both from the start", trial, session, tpm.restart)
     future = digest(algorithm, b"values that the PCRs do not have")
     tpm.says("PCRs of a future: SUCCESS", tpm.pcrs(trial, BANKS, future))
@@ -79,4 +78,3 @@ for algorithm, name in HASHES:
     tpm.digest_is("The policy session's is zeros yet", session, zeros(session))
     for it in (trial, session):
         tpm.says("It is flushed: SUCCESS", tpm.flush(it))
-script.write()

@@ -3,19 +3,18 @@
 from tpmsim.caller import Use, flipped
 from tpmsim.standard import CC, CONTINUE_SESSION, DECRYPT, ENCRYPT, Entry, RH_LOCKOUT, RH_NULL
 from tpmsim.standard import RH_OWNER, SHA256, frames, number, selection, sized
-from tpmsim.caller.script_caller import ScriptCaller
-from tpmsim.caller.script import Script
+from tests.common.teller import Teller
 
 DECRYPTS, ENCRYPTS = CONTINUE_SESSION | DECRYPT, CONTINUE_SESSION | ENCRYPT
 ABSENT_POLICY = 0x0300_000F
 ABSENT = Entry(0x0200_0009, b"", 0xFF, b"")
 
-script = Script(
+tpm = Teller(
     "tests/policies/order_of_policy_refusals.tpm",
     "The order of refusals of the policy commands: of many faults one after the other is repaired. "
     "What is answered is the first that is left, in the order of docs/table/order_of_refusals.md.",
+    tries=True,
 )
-tpm = ScriptCaller(script)
 
 
 def wrong(prepared, *places):
@@ -25,8 +24,6 @@ def wrong(prepared, *places):
     return prepared
 
 
-script.startup()
-script.allow_tries()
 hmac = tpm.start("An HMAC session, with AES", RH_OWNER, aes=True)
 plain = tpm.start("Another, without AES", RH_OWNER)
 policy = tpm.policy("A policy session, with AES", bind=RH_OWNER, aes=True)
@@ -84,12 +81,12 @@ for name, code in (
     ("TPM2_PolicyAuthValue", CC.PolicyAuthValue),
     ("TPM2_PolicyPassword", CC.PolicyPassword),
 ):
-    script.chapter(f"{name} with a byte too many.")
+    tpm.chapter(f"{name} with a byte too many.")
     up_to_hmacs(code, b"\0")
     says("The byte: SIZE", code, b"\0")
     ends_well(code, b"")
 
-script.chapter("TPM2_PolicyGetDigest with a byte too many.")
+tpm.chapter("TPM2_PolicyGetDigest with a byte too many.")
 up_to_hmacs(CC.PolicyGetDigest, b"\0")
 tpm.refused(
     "encrypt in a session that cannot, and a wrong hmac before: SYMMETRIC/s2",
@@ -98,7 +95,7 @@ tpm.refused(
 says("The byte: SIZE", CC.PolicyGetDigest, b"\0")
 ends_well(CC.PolicyGetDigest, b"")
 
-script.chapter("TPM2_PolicyLocality.")
+tpm.chapter("TPM2_PolicyLocality.")
 up_to_hmacs(CC.PolicyLocality, b"")
 says("No byte: INSUFFICIENT/p1", CC.PolicyLocality, b"")
 says("A byte behind 0, and behind FF: SIZE", CC.PolicyLocality, b"\0\0")
@@ -106,7 +103,7 @@ says("SIZE", CC.PolicyLocality, b"\xff\0")
 says("0: RANGE/p1", CC.PolicyLocality, b"\0")
 ends_well(CC.PolicyLocality, b"\1")
 
-script.chapter("TPM2_PolicyCommandCode behind TPM2_PolicyCommandCode of Unseal.")
+tpm.chapter("TPM2_PolicyCommandCode behind TPM2_PolicyCommandCode of Unseal.")
 tpm.says("Unseal: SUCCESS", tpm.command_code(policy, CC.Unseal))
 up_to_hmacs(CC.PolicyCommandCode, b"\0\0\1")
 says("Three bytes: INSUFFICIENT/p1", CC.PolicyCommandCode, b"\0\0\1")
@@ -116,7 +113,7 @@ tpm.says("TPM2_PolicyRestart: SUCCESS", tpm.restart(policy))
 says("0, and none is recorded: POLICY_CC/p1", CC.PolicyCommandCode, bytes(4))
 ends_well(CC.PolicyCommandCode, number(CC.Unseal, 4))
 
-script.chapter("TPM2_PolicyOR.")
+tpm.chapter("TPM2_PolicyOR.")
 up_to_hmacs(CC.PolicyOR, b"\0\0\0")
 OR = CC.PolicyOR
 says("Three bytes of the number: INSUFFICIENT/p1", OR, b"\0\0\0")
@@ -134,7 +131,7 @@ says("Two of others: VALUE/p1", OR, frames.sized_list(b"x", b"y"))
 tpm.says("TPM2_PolicyRestart: SUCCESS", tpm.restart(policy))
 ends_well(OR, frames.sized_list(b"x", bytes(32)))
 
-script.chapter("TPM2_PolicyPCR behind TPM2_PolicyPCR, and PCR 16 has changed; hmac decrypts.")
+tpm.chapter("TPM2_PolicyPCR behind TPM2_PolicyPCR, and PCR 16 has changed; hmac decrypts.")
 tpm.says("TPM2_PolicyRestart: SUCCESS", tpm.restart(policy))
 tpm.says("TPM2_PolicyPCR: SUCCESS", tpm.pcrs(policy, [(SHA256, [0])]))
 tpm.accepted("TPM2_PCR_Reset of PCR 16", tpm.reset(b""))
@@ -164,8 +161,8 @@ tpm.says("TPM2_PolicyRestart: SUCCESS", tpm.restart(policy))
 pcr("The pcrDigest: VALUE/p1", GIVEN + selection())
 tpm.accepted("No fault is left", tpm.pcrs(policy, [], b"", [Use(hmac, DECRYPTS)]))
 
-script.chapter("TPM2_PolicySecret of TPM_RH_LOCKOUT.")
-script.wait_each_time()
+tpm.chapter("TPM2_PolicySecret of TPM_RH_LOCKOUT.")
+tpm.script.wait_each_time()
 tpm.says("TPM2_PolicyRestart: SUCCESS", tpm.restart(policy))
 CP_HASH = bytes([1]) * 32
 tpm.accepted('lockoutAuth is "lockout"', tpm.change_auth(RH_LOCKOUT, b"lockout", b""))
@@ -250,7 +247,7 @@ tpm.accepted(
     "No fault is left", secret(frames.policy_secret(**faulty), b"lockout", Use(policy, DECRYPTS))
 )
 
-script.chapter("In a trial session fewer of them are faults.")
+tpm.chapter("In a trial session fewer of them are faults.")
 
 
 def in_trial(words, **parameters):
@@ -275,7 +272,7 @@ tpm.refused(
 )
 tpm.says("TPM2_PolicyPCR with it: SUCCESS", tpm.pcrs(trial, [], bytes(32)))
 
-script.chapter("TPM2_PolicyCpHash behind TPM2_PolicyCpHash; hmac decrypts.")
+tpm.chapter("TPM2_PolicyCpHash behind TPM2_PolicyCpHash; hmac decrypts.")
 tpm.says("TPM2_PolicyRestart: SUCCESS", tpm.restart(policy), tpm.restart(trial))
 CP = CC.PolicyCpHash
 tpm.says("A cpHash: SUCCESS", tpm.cp_hash_told(policy, CP_HASH))
@@ -304,7 +301,7 @@ cp_hash("Another one", "CPHASH", sized(bytes(32)))
 for session in (policy, trial):
     tpm.accepted("No fault is left", tpm.told(CP, session, sized(CP_HASH), Use(hmac, DECRYPTS)))
 
-script.chapter("TPM2_PolicyNvWritten behind TPM2_PolicyNvWritten of 1.")
+tpm.chapter("TPM2_PolicyNvWritten behind TPM2_PolicyNvWritten of 1.")
 WRITTEN = CC.PolicyNvWritten
 tpm.says("In a policy session: SUCCESS", tpm.written_told(policy, True))
 tpm.says("In a trial session: SUCCESS", tpm.written_told(trial, True))
@@ -315,4 +312,3 @@ for session in (policy, trial):
     says("A byte behind 0: SIZE", WRITTEN, b"\0\0", session)
     says("0, and 1 is recorded: VALUE/p1", WRITTEN, b"\0", session)
     tpm.accepted("No fault is left", tpm.told(WRITTEN, session, b"\1", hmac))
-script.write()

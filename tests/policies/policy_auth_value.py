@@ -1,17 +1,15 @@
 """Writes policy_auth_value.tpm: TPM2_PolicyAuthValue and TPM2_PolicyPassword."""
 
 from tpmsim.standard import CC, policy
-from tpmsim.caller.script_caller import ScriptCaller, zeros
-from tpmsim.caller.script import Script
+from tpmsim.caller.script_caller import zeros
+from tests.common.teller import Teller
 
-script = Script(
+tpm = Teller(
     "tests/policies/policy_auth_value.tpm",
     "TPM2_PolicyAuthValue and TPM2_PolicyPassword: who uses the policy has to show the entity's "
     "authorization value, in an hmac or as a password. They make the same digest.",
 )
-tpm = ScriptCaller(script)
 
-script.startup()
 for session in tpm.each_session():
     after = policy.after_auth_value(session.algorithm, zeros(session))
     twice = policy.after_auth_value(session.algorithm, after)
@@ -40,4 +38,3 @@ for session in tpm.each_session():
         session.algorithm, policy.after_auth_value(session.algorithm, twice)
     )
     tpm.digest_is("The digest is four times behind zeros", session, fourth)
-script.write()

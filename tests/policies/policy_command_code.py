@@ -1,24 +1,22 @@
 """Writes policy_command_code.tpm: TPM2_PolicyCommandCode, of each code that there is."""
 
 from tpmsim.standard import CC, SE_POLICY, SE_TRIAL, SHA1, SHA256, number, policy
-from tpmsim.caller.script_caller import ScriptCaller, zeros
-from tpmsim.caller.script import Script
+from tpmsim.caller.script_caller import zeros
+from tests.common.teller import Teller
 
 UNKNOWN = 0x194
 
-script = Script(
+tpm = Teller(
     "tests/policies/policy_command_code.tpm",
     "TPM2_PolicyCommandCode: the policy is for one command alone. Its parameter is the code of a "
     "command, served or not.",
 )
-tpm = ScriptCaller(script)
 
 
 def raw(session, text):
     return tpm.told(CC.PolicyCommandCode, session, text)
 
 
-script.startup()
 for session in tpm.each_session():
     tpm.says(
         "A code that is no command's: 0, 11E, 194, and all ones: POLICY_CC/p1",
@@ -56,7 +54,7 @@ for kind, name, algorithm, hash_name in (
     (SE_POLICY, "policy", SHA256, "SHA-256"),
     (SE_TRIAL, "trial", SHA1, "SHA-1"),
 ):
-    script.chapter(f"Each code that there is, in a {name} session of {hash_name}.")
+    tpm.chapter(f"Each code that there is, in a {name} session of {hash_name}.")
     session = tpm.start("It is started", kind=kind, algorithm=algorithm)
     for code in sorted(CC):
         tpm.says(
@@ -67,7 +65,7 @@ for kind, name, algorithm, hash_name in (
         after = policy.after_command_code(algorithm, zeros(session), code)
         tpm.digest_is("", session, after)
 
-    script.chapter("And each number between 11F and 190 that is no code.")
+    tpm.chapter("And each number between 11F and 190 that is no code.")
     tpm.says("TPM2_PolicyRestart: SUCCESS", tpm.restart(session))
     others = sorted(set(range(0x11F, 0x191)) - set(CC))
     tpm.says("All of them: POLICY_CC/p1", *(tpm.command_code(session, it) for it in others))
@@ -76,4 +74,3 @@ for kind, name, algorithm, hash_name in (
         "POLICY_CC/p1",
         *(tpm.command_code(session, it) for it in (0x2000_015E, 0x0001_015E, 0x5E01_0000)),
     )
-script.write()

@@ -6,17 +6,17 @@ from tpmsim.caller import BY_OWNER, BY_POLICY, HERE, Use, area, flipped, sealed,
 from tpmsim.standard import CC, CONTINUE_SESSION, DECRYPT, RH_ENDORSEMENT, RH_OWNER, SHA1, SHA256
 from tpmsim.standard import command_hash, digest_bytes, name_of, number, policy, sized
 from tpmsim.standard.objects import Attribute
-from tpmsim.caller.script_caller import FIRST, ScriptCaller, is_trial, zeros
-from tpmsim.caller.script import Script
+from tpmsim.caller.script_caller import FIRST, is_trial, zeros
+from tests.common.teller import Teller
 
 DECRYPTS = CONTINUE_SESSION | DECRYPT
 
-script = Script(
+tpm = Teller(
     "tests/policies/policy_cp_hash.tpm",
     "TPM2_PolicyCpHash: the policy is for one command alone, with its handles and its parameters. "
     "Its parameter is the cpHash of that command, by the session's hash.",
+    tries=True,
 )
-tpm = ScriptCaller(script)
 
 
 def says(words, session, *hashes):
@@ -27,8 +27,6 @@ def raw(session, text):
     return tpm.told(CC.PolicyCpHash, session, text)
 
 
-script.startup()
-script.allow_tries()
 for session in tpm.each_session():
     algorithm = session.algorithm
     size = digest_bytes(algorithm)
@@ -68,7 +66,7 @@ for session in tpm.each_session():
     twice = policy.after_cp_hash(algorithm, once, one)
     tpm.digest_is("And it is in the digest again", session, twice)
 
-    script.chapter("With TPM2_PolicySecret, which records a cpHash too.")
+    tpm.chapter("With TPM2_PolicySecret, which records a cpHash too.")
     outcome = "SUCCESS" if is_trial(session) else "CPHASH"
     tpm.says(f"Another one by it: {outcome}", tpm.secret(session, cp_hash=other))
     recorded, wrong = (other, one) if is_trial(session) else (one, other)
@@ -87,7 +85,7 @@ for session in tpm.each_session():
     after = policy.after_cp_hash(algorithm, zeros(session), other)
     tpm.digest_is("From zeros", session, after)
 
-script.chapter("As a first parameter that a session encrypts, by AES and by TPM_ALG_XOR.")
+tpm.chapter("As a first parameter that a session encrypts, by AES and by TPM_ALG_XOR.")
 session = tpm.policy("A policy session")
 one = bytes([1]) * 32
 once = policy.after_cp_hash(SHA256, zeros(session), one)
@@ -97,7 +95,7 @@ for name, choices in (("AES", dict(aes=True)), ("TPM_ALG_XOR", dict(xor=True))):
     tpm.digest_is("Its digest, of the cpHash in plain", session, once)
     tpm.says("TPM2_PolicyRestart: SUCCESS", tpm.restart(session))
 
-script.chapter(
+tpm.chapter(
     "A use. The Name of what is authorized is in cpHash, and has the authPolicy in it: so none "
     "has the cpHash of its own command, and the digest refuses at last. What refuses before it "
     "shows whether the cpHash held: here the locality, which has to be 1."
@@ -141,7 +139,7 @@ for words, other in WRONG:
     )
     says(f"The cpHash {words}: SUCCESS", session, other)
     tpm.fails('TPM2_NV_Write of "data" at 0: POLICY_FAIL/s1', writes())
-script.locality_is(1)
+tpm.locality_is(1)
 tpm.fails("From locality 1: POLICY_FAIL/s1", writes())
 tpm.says("TPM2_PolicyRestart: SUCCESS", tpm.restart(session))
 tpm.says("TPM2_PolicyLocality: SUCCESS", tpm.locality(session, 2))
@@ -153,9 +151,9 @@ tpm.says(
     tpm.locality(session, 2),
 )
 tpm.does("TPM2_NV_Write", writes())
-script.locality_is(0)
+tpm.locality_is(0)
 
-script.chapter("What comes before the cpHash: the PCRs, and the command code.")
+tpm.chapter("What comes before the cpHash: the PCRs, and the command code.")
 says("Another cpHash: SUCCESS", session, bytes(32))
 tpm.says("TPM2_PolicyCommandCode of NV_Read: SUCCESS", tpm.command_code(session, CC.NV_Read))
 tpm.says("TPM2_PolicyPCR of no PCR: SUCCESS", tpm.pcrs(session, []))
@@ -164,7 +162,7 @@ tpm.accepted("TPM2_PCR_Reset of PCR 16", tpm.reset(b""))
 tpm.fails("TPM2_NV_Write: PCR_CHANGED", writes())
 tpm.says("TPM2_PolicyRestart: SUCCESS", tpm.restart(session))
 
-script.chapter("An object: sealed data whose policy is TPM2_PolicySecret of TPM_RH_ENDORSEMENT.")
+tpm.chapter("An object: sealed data whose policy is TPM2_PolicySecret of TPM_RH_ENDORSEMENT.")
 parent = tpm.create_primary("A storage key", RH_OWNER, storage_key())
 by_secret = policy.after_secret(SHA256, bytes(32), name_of(RH_ENDORSEMENT), b"")
 attributes = HERE | Attribute.NO_DA
@@ -186,8 +184,7 @@ tpm.says("TPM2_PolicySecret with it: SUCCESS", tpm.secret(session, cp_hash=OPENS
 says("TPM2_PolicyCpHash too, which is in the digest: SUCCESS", session, OPENS)
 tpm.refused("TPM2_Unseal: POLICY_FAIL/s1", tpm.unsealing(handle, session))
 
-script.chapter("In a trial session that is to authorize.")
+tpm.chapter("In a trial session that is to authorize.")
 trial = tpm.trial("A trial session")
 tpm.says("The cpHash of TPM2_Unseal: SUCCESS", tpm.cp_hash_told(trial, OPENS))
 tpm.refused("TPM2_Unseal: ATTRIBUTES/s1", tpm.unsealing(handle, trial))
-script.write()

@@ -1,17 +1,15 @@
 """Writes policy_get_digest.tpm: what a policy session's digest is."""
 
 from tpmsim.standard import CC, policy
-from tpmsim.caller.script_caller import ScriptCaller, zeros
-from tpmsim.caller.script import Script
+from tpmsim.caller.script_caller import zeros
+from tests.common.teller import Teller
 
-script = Script(
+tpm = Teller(
     "tests/policies/policy_get_digest.tpm",
     "TPM2_PolicyGetDigest answers the digest that a policy session or a trial session has come to. "
     "It has no parameters, and changes nothing.",
 )
-tpm = ScriptCaller(script)
 
-script.startup()
 for session in tpm.each_session(size=20):
     tpm.digest_is("It begins with zeros", session, zeros(session))
     tpm.digest_is("They are there when asked again", session, zeros(session))
@@ -33,7 +31,7 @@ for session in tpm.each_session(size=20):
     tpm.accepted("With it once more|and a new nonce", tpm.get_digest(session, session))
     tpm.digest_is("And without", session, again)
 
-script.chapter("Two sessions have a digest each.")
+tpm.chapter("Two sessions have a digest each.")
 first, second = tpm.policy("The first"), tpm.policy("The second")
 tpm.says("TPM2_PolicyLocality of locality 3 in the first: SUCCESS", tpm.locality(first, 8))
 after = policy.after_locality(first.algorithm, zeros(first), 8)
@@ -41,4 +39,3 @@ tpm.digest_is("The first one's digest", first, after)
 tpm.digest_is("The second one's", second, zeros(second))
 tpm.says("TPM2_PolicyAuthValue in the second: SUCCESS", tpm.auth_value_told(second))
 tpm.digest_is("The first one's again", first, after)
-script.write()

@@ -3,15 +3,14 @@
 from tpmsim.caller import flipped
 from tpmsim.standard import CC, RH_ENDORSEMENT, RH_NULL, RH_OWNER, RS_PW, SHA1, SHA256, area, entry
 from tpmsim.standard import frames, number
-from tpmsim.caller.script_caller import ScriptCaller
-from tpmsim.caller.script import Script
+from tests.common.teller import Teller
 
-script = Script(
+tpm = Teller(
     "tests/policies/policy_handles.tpm",
     "The commands of policies have the handle of a policy session or a trial session, which needs "
     "no authorization; TPM2_PolicySecret has it as its second one.",
+    starts=False,
 )
-tpm = ScriptCaller(script)
 
 COMMANDS = (
     ("TPM2_PolicyRestart", CC.PolicyRestart, b""),
@@ -49,7 +48,7 @@ def by_password(handle, session, parameters, cut=None):
 
 
 def refused(words, *buffers):
-    script.command(words, *buffers)
+    tpm.raw(words, *buffers)
 
 
 NOTHING = frames.policy_secret()
@@ -58,7 +57,7 @@ refused(
     *(plain(code, number(0x0300_0000, 4) + text) for _, code, text in (*COMMANDS, *LATER)),
     by_password(RH_ENDORSEMENT, 0x0300_0000, NOTHING),
 )
-script.startup()
+tpm.startup()
 refused(
     "While there is no session at all: REFERENCE_H0",
     *(plain(code, number(0x0300_0000, 4) + text) for _, code, text in (*COMMANDS, *LATER)),
@@ -71,7 +70,7 @@ assert (hmac.handle, policy.handle, trial.handle) == (0x0200_0000, 0x0300_0001, 
 
 
 def handles_of(name, code, text):
-    script.chapter(f"{name}.")
+    tpm.chapter(f"{name}.")
     refused("No handle: INSUFFICIENT/h1", plain(code, b""), plain(code, b"\3\0\0"))
     refused(
         "A handle of another kind: VALUE/h1",
@@ -113,7 +112,7 @@ def handles_of(name, code, text):
 for command in COMMANDS:
     handles_of(*command)
 
-script.chapter("TPM2_PolicySecret, whose first handle needs authorization.")
+tpm.chapter("TPM2_PolicySecret, whose first handle needs authorization.")
 refused(
     "No authHandle: INSUFFICIENT/h1",
     plain(CC.PolicySecret, b""),
@@ -170,7 +169,7 @@ tpm.accepted(
     tpm.secret(policy, b"", hmac, policy),
 )
 
-script.chapter("The place of an HMAC session is no policy session's, and the other way round.")
+tpm.chapter("The place of an HMAC session is no policy session's, and the other way round.")
 other = tpm.start("An HMAC session, 02000003", algorithm=SHA1)
 refused(
     "TPM2_PolicyGetDigest of 03000003: REFERENCE_H0",
@@ -183,4 +182,3 @@ tpm.says("Its digest: SUCCESS", tpm.get_digest(other))
 
 for command in LATER:
     handles_of(*command)
-script.write()

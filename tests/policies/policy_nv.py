@@ -6,8 +6,8 @@ from tpmsim.caller import BY_OWNER, BY_PLATFORM, BY_POLICY, BY_VALUE, Use, area,
 from tpmsim.caller import extended
 from tpmsim.standard import CC, RH_OWNER, RH_PLATFORM, SHA1, SHA256, frames, number, policy, sized
 from tpmsim.standard.nv import Attribute
-from tpmsim.caller.script_caller import FIRST, FOURTH, SECOND, ScriptCaller, THIRD, is_trial, zeros
-from tpmsim.caller.script import Script
+from tpmsim.caller.script_caller import FIRST, FOURTH, SECOND, THIRD, is_trial, zeros
+from tests.common.teller import Teller
 
 NAMES = (
     *("equal", "not equal", "greater, signed", "greater", "less, signed", "less"),
@@ -17,12 +17,11 @@ NAMES = (
 EQ, NEQ, SIGNED_GT, GT, SIGNED_LT, LT, SIGNED_GE, GE, SIGNED_LE, LE, BITSET, BITCLEAR = range(12)
 READ_CLEAR = Attribute.READ_STCLEAR
 
-script = Script(
+tpm = Teller(
     "tests/policies/policy_nv.tpm",
     "TPM2_PolicyNV: the policy is for when an index holds what is compared with it. Its parameters "
     "are operandB, offset and operation; the index stands at the left of the comparison.",
 )
-tpm = ScriptCaller(script)
 
 
 def of(algorithm):
@@ -37,7 +36,7 @@ def after(session, old, index, operand, offset, operation):
 
 
 def restarted(session, what=""):
-    script.command(f"{what or 'TPM2_PolicyRestart'}: SUCCESS", tpm.restart(session).buffer())
+    tpm.raw(f"{what or 'TPM2_PolicyRestart'}: SUCCESS", tpm.restart(session).buffer())
 
 
 def holds(what, session, operation, operand, offset=0, index=FIRST, by=RH_OWNER):
@@ -85,7 +84,7 @@ def digests():
 
 
 def the_name_of_now():
-    script.chapter("The digest has the Name of the index as it is then.")
+    tpm.chapter("The digest has the Name of the index as it is then.")
     trial = tpm.trial("A trial session")
     tpm.define("An index that is not written", area(SECOND, BY_OWNER))
     holds("A trial session asserts of it all the same", trial, EQ, bytes(8), index=SECOND)
@@ -160,7 +159,7 @@ def both(what, session, operation, true, false, **more):
 def numbers():
     session = tpm.policy("A policy session")
     for held, operands in ((HELD, OPERANDS), (NEGATIVE, NEGATIVE_OPERANDS)):
-        script.chapter(f"Comparisons with {held:08X}.")
+        tpm.chapter(f"Comparisons with {held:08X}.")
         tpm.does("It is written", tpm.writing(SECOND, number(held, 4), by=RH_OWNER))
         for operation, compare in COMPARISONS.items():
             true = [number(it, 4) for it, how in operands.items() if compare(*how)]
@@ -173,7 +172,7 @@ def numbers():
                 false,
                 index=SECOND,
             )
-    script.chapter("Bits of A5A5A5A5.")
+    tpm.chapter("Bits of A5A5A5A5.")
     tpm.does("It is written", tpm.writing(SECOND, b"\xa5" * 4, by=RH_OWNER))
     zero, one, all_bits = bytes(4), number(1, 4), b"\xff" * 4
     both(
@@ -192,7 +191,7 @@ def numbers():
         [all_bits, one, b"\xa5" * 4, b"\x5b\x5a\x5a\x5a", b"\x80\0\0\0"],
         index=SECOND,
     )
-    script.chapter("No bytes are equal to no bytes, at every offset.")
+    tpm.chapter("No bytes are equal to no bytes, at every offset.")
     for operation in range(12):
         what = f"Operation {operation:X}, {NAMES[operation]}"
         if operation in (NEQ, SIGNED_GT, GT, SIGNED_LT, LT):
@@ -204,7 +203,7 @@ def numbers():
 
 
 def sizes_and_offsets():
-    script.chapter(
+    tpm.chapter(
         "Operands of other sizes, and at other offsets: the sign is that of their first bit."
     )
     session = tpm.policy("A policy session")
@@ -250,7 +249,7 @@ def sizes_and_offsets():
 
 
 def types():
-    script.chapter("Indices of each type.")
+    tpm.chapter("Indices of each type.")
     session = tpm.policy("A policy session")
     for index, make, change, held in (
         (THIRD, counter, tpm.incrementing, number(1, 8)),
@@ -276,9 +275,7 @@ def types():
 
 
 def refusals():
-    script.chapter(
-        "Refusals. The index is not written, is locked, and only the platform may read it."
-    )
+    tpm.chapter("Refusals. The index is not written, is locked, and only the platform may read it.")
     session = tpm.policy("A policy session")
     trial = tpm.trial("A trial session")
     tpm.define("An index", area(THIRD, BY_VALUE | BY_PLATFORM | READ_CLEAR), auth=b"a")
@@ -292,8 +289,8 @@ def refusals():
     refused("By another index: NV_AUTHORIZATION", FIRST)
     refused("By the index: NV_LOCKED", THIRD)
     refused("By the platform: NV_LOCKED", RH_PLATFORM)
-    script.power()
-    script.startup()
+    tpm.power()
+    tpm.script.startup()
     session = tpm.policy("A policy session")
     trial = tpm.trial("A trial session")
     tpm.is_now("It is open", THIRD, cleared=Attribute.READLOCKED)
@@ -304,7 +301,7 @@ def refusals():
     tpm.digest_is("The digest is zeros", session, zeros(session))
     refused("What holds: SUCCESS", THIRD, offset=0)
 
-    script.chapter("In a trial session none of these stands.")
+    tpm.chapter("In a trial session none of these stands.")
     tpm.does("TPM2_NV_ReadLock", tpm.read_locking(THIRD))
     old = zeros(trial)
     for what, by, offset in (
@@ -318,7 +315,7 @@ def refusals():
         holds(what, trial, EQ, b"x", offset, index=THIRD, by=by)
         old = after(trial, old, THIRD, b"x", offset, EQ)
         tpm.digest_is("Its digest", trial, old)
-    script.chapter("But the authorization does, and so do handles and parameters.")
+    tpm.chapter("But the authorization does, and so do handles and parameters.")
     right = tpm.comparing(trial, THIRD, b"x")
     tpm.fails("A wrong password: AUTH_FAIL/s1", tpm.comparing(trial, THIRD, b"x", b"wrong"))
     tpm.define("An index that its value cannot read", area(FOURTH, BY_OWNER | BY_POLICY), auth=b"a")
@@ -353,7 +350,7 @@ def refusals():
 
 
 def sessions(session, trial):
-    script.chapter("By sessions.")
+    tpm.chapter("By sessions.")
     hmac = tpm.start("An HMAC session that is bound to the index, with AES", bind=FIRST, aes=True)
     restarted(session)
     tpm.does("By it", tpm.comparing(session, FIRST, b"8", hmac))
@@ -366,7 +363,7 @@ def sessions(session, trial):
         "encrypt, where nothing is answered: ATTRIBUTES/s1",
         tpm.comparing(session, FIRST, b"8", hmac).but_entry(1, attributes=0x41),
     )
-    script.chapter("By a policy: the index authorizes itself to the very session that is told.")
+    tpm.chapter("By a policy: the index authorizes itself to the very session that is told.")
     auth_policy = policy.after_auth_value(SHA256, bytes(32))
     tpm.define("An index", area(0x0100_0005, BY_POLICY, auth_policy=auth_policy), auth=b"a")
     by_value = lambda: Use(session, demand=policy.AUTH_VALUE)
@@ -384,7 +381,6 @@ def sessions(session, trial):
     tpm.fails("By the trial session: ATTRIBUTES/s1", tpm.comparing(trial, 0x0100_0005, b"x", trial))
 
 
-script.startup()
 tpm.define("An index that holds eight bytes", area(FIRST, BY_OWNER | BY_VALUE), auth=b"")
 tpm.does("It is written", tpm.writing(FIRST, b"8 bytes."))
 digests()
@@ -394,4 +390,3 @@ numbers()
 sizes_and_offsets()
 types()
 sessions(*refusals())
-script.write()

@@ -7,18 +7,18 @@ from tpmsim.caller import storage_key
 from tpmsim.standard import CC, RH_OWNER, SHA1, SHA256, command_hash, frames, policy
 from tpmsim.standard.nv import Attribute
 from tpmsim.standard.objects import Attribute as ObjectAttribute
-from tpmsim.caller.script_caller import FIRST, FOURTH, SECOND, ScriptCaller, THIRD, zeros
-from tpmsim.caller.script import Script
+from tpmsim.caller.script_caller import FIRST, FOURTH, SECOND, THIRD, zeros
+from tests.common.teller import Teller
 
 NO, YES = False, True
 FIFTH = 0x0100_0005
 
-script = Script(
+tpm = Teller(
     "tests/policies/policy_nv_written.tpm",
     "TPM2_PolicyNvWritten: the policy is for an NV index that is written (1), or for one that is "
     "not (0). Whether it is, is looked at when the session authorizes.",
+    tries=True,
 )
-tpm = ScriptCaller(script)
 
 
 def says(words, session, *values):
@@ -29,8 +29,6 @@ def raw(session, text):
     return tpm.told(CC.PolicyNvWritten, session, text)
 
 
-script.startup()
-script.allow_tries()
 for session in tpm.each_session():
     algorithm = session.algorithm
     tpm.says("No parameter: INSUFFICIENT/p1", raw(session, b""))
@@ -57,7 +55,7 @@ for session in tpm.each_session():
         tpm.digest_is("The digest is zeros", session, zeros(session))
 
 for algorithm, hash_name, index in ((SHA256, "SHA-256", FIRST), (SHA1, "SHA-1", SECOND)):
-    script.chapter(f"An index that is written once, of {hash_name}.")
+    tpm.chapter(f"An index that is written once, of {hash_name}.")
     size = 20 if algorithm == SHA1 else 32
     once = policy.after_nv_written(algorithm, bytes(size), NO)
     public = area(index, BY_OWNER | BY_POLICY, algorithm=algorithm, auth_policy=once)
@@ -83,7 +81,7 @@ for algorithm, hash_name, index in ((SHA256, "SHA-256", FIRST), (SHA1, "SHA-1", 
     tpm.does("The owner may write all the same", tpm.writing(index, b"again", by=RH_OWNER))
     tpm.says("It ends: SUCCESS", tpm.flush(session))
 
-script.chapter("An index that is read by its policy as soon as it is written.")
+tpm.chapter("An index that is read by its policy as soon as it is written.")
 written = policy.after_nv_written(SHA256, bytes(32), YES)
 tpm.define("An index", area(THIRD, BY_OWNER | BY_POLICY, auth_policy=written))
 session = tpm.policy("A policy session")
@@ -95,7 +93,7 @@ tpm.read("TPM2_NV_Read by the same assertion", THIRD, b"data", session)
 says("1: SUCCESS", session, YES)
 tpm.does("TPM2_NV_Write too", tpm.writing(THIRD, b"more", session))
 
-script.chapter("What a startup clears is not written any more, and may be written once again.")
+tpm.chapter("What a startup clears is not written any more, and may be written once again.")
 by_clear = Attribute.CLEAR_STCLEAR | BY_OWNER | BY_POLICY
 unwritten = policy.after_nv_written(SHA256, bytes(32), NO)
 tpm.define("An index with CLEAR_STCLEAR", area(FOURTH, by_clear, auth_policy=unwritten))
@@ -105,11 +103,11 @@ for words in ("TPM2_NV_Write", "After a startup it is a first one again"):
     tpm.does(words, tpm.writing(FOURTH, b"data", session))
     says("0: SUCCESS", session, NO)
     tpm.fails("Another TPM2_NV_Write: POLICY_FAIL/s1", tpm.writing(FOURTH, b"x", session))
-    script.power()
-    script.startup()
+    tpm.power()
+    tpm.script.startup()
     tpm.read_index_public("TPM2_NV_ReadPublic: not written", FOURTH)
 
-script.chapter("Defined anew, an index is not written.")
+tpm.chapter("Defined anew, an index is not written.")
 tpm.define("A counter", counter(FIFTH, BY_OWNER | BY_POLICY, auth_policy=unwritten))
 session = tpm.policy("A policy session")
 for _ in range(2):
@@ -121,7 +119,7 @@ for _ in range(2):
     tpm.does("It is undefined", tpm.undefining(FIFTH))
     tpm.define("And defined again", counter(FIFTH, BY_OWNER | BY_POLICY, auth_policy=unwritten))
 
-script.chapter(
+tpm.chapter(
     "What is no NV index is neither written nor not: an object whose policy is the same refuses "
     "both."
 )
@@ -141,7 +139,7 @@ for value in (NO, YES):
     tpm.says("It is flushed: SUCCESS", tpm.flush(trial))
     tpm.accepted("The object is flushed", tpm.flush(handle))
 
-script.chapter(
+tpm.chapter(
     "Where it stands in the order. A policy of the command code and of an index that is not "
     "written, and of locality 1; the index is written already."
 )
@@ -175,7 +173,7 @@ def hash_of(prepared):
     return command_hash(SHA256, prepared.code, names, prepared.parameters)
 
 
-script.chapter(
+tpm.chapter(
     "With a cpHash. Which of both is looked at first cannot be seen, as both answer POLICY_FAIL; "
     "the locality behind them shows whether both hold."
 )
@@ -196,7 +194,7 @@ for words, cp_hash, value, outcome in (
     tpm.fails(f"TPM2_NV_Write: {outcome}", writes)
     tpm.says("TPM2_PolicyRestart: SUCCESS", tpm.restart(session))
 
-script.chapter("The role ADMIN asks for the command code before.")
+tpm.chapter("The role ADMIN asks for the command code before.")
 changes = policy.after_nv_written(SHA256, bytes(32), NO)
 SEVENTH = 0x0100_0007
 tpm.define("An index", area(SEVENTH, BY_OWNER | BY_POLICY, auth_policy=changes))
@@ -204,7 +202,7 @@ says("0, and no command code: SUCCESS", session, NO)
 tpm.fails("TPM2_NV_ChangeAuth: POLICY_FAIL/s1", tpm.changing_auth(SEVENTH, b"new", session))
 tpm.does("TPM2_NV_Write, in the role USER", tpm.writing(SEVENTH, b"data", session))
 
-script.chapter("With an hmac, and by a session that ends.")
+tpm.chapter("With an hmac, and by a session that ends.")
 EIGHTH = 0x0100_0008
 tpm.define("An index", area(EIGHTH, BY_OWNER | BY_POLICY, auth_policy=unwritten))
 bound = tpm.policy("A policy session, bound to TPM_RH_OWNER", bind=RH_OWNER, xor=True)
@@ -217,4 +215,3 @@ tpm.fails(
 tpm.does("TPM2_NV_Write of a buffer that it masks", prepared)
 tpm.read("The data in plain", EIGHTH, b"data", by=RH_OWNER)
 tpm.says("It is no more: REFERENCE_H0", tpm.get_digest(bound))
-script.write()

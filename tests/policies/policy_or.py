@@ -1,14 +1,13 @@
 """Writes policy_or.tpm: TPM2_PolicyOR, and of which lists it is."""
 
 from tpmsim.standard import CC, digest, frames, number, policy, sized
-from tpmsim.caller.script_caller import ScriptCaller, is_trial, zeros
-from tpmsim.caller.script import Script
+from tpmsim.caller.script_caller import is_trial, zeros
+from tests.common.teller import Teller
 
-script = Script(
+tpm = Teller(
     "tests/policies/policy_or.tpm",
     "TPM2_PolicyOR: the digest is one of two to eight in a list, and becomes that of the list.",
 )
-tpm = ScriptCaller(script)
 
 
 def other(session, count):
@@ -31,7 +30,6 @@ def raw(session, text):
     return tpm.told(CC.PolicyOR, session, text)
 
 
-script.startup()
 for session in tpm.each_session():
     current = zeros(session)
     joins("The digest is the first of two", session, current, *other(session, 1))
@@ -122,7 +120,7 @@ for session in tpm.each_session():
     )
     tpm.digest_is("No refusal changed the digest", session, current)
 
-script.chapter("What was recorded before a list stays behind it.")
+tpm.chapter("What was recorded before a list stays behind it.")
 session = tpm.policy("A policy session is started")
 cp_hash = digest(session.algorithm, b"a command")
 tpm.says(
@@ -141,4 +139,3 @@ another = digest(session.algorithm, b"another command")
 tpm.says("Another cpHash: CPHASH", tpm.secret(session, cp_hash=another))
 tpm.accepted("TPM2_PCR_Reset of PCR 16", tpm.reset(b""))
 tpm.says("PCRs, of which one changed: PCR_CHANGED", tpm.pcrs(session, [(frames.SHA256, [0])]))
-script.write()

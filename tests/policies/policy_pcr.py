@@ -2,22 +2,21 @@
 
 from tpmsim.standard import CC, RH_NULL, SHA1, SHA256, digest, frames, number, policy, selection
 from tpmsim.standard import sized
-from tpmsim.caller.script_caller import ScriptCaller, is_trial, zeros
-from tpmsim.caller.script import Script
+from tpmsim.caller.script_caller import is_trial, zeros
+from tests.common.teller import Teller
 
 ALL = range(24)
 
-script = Script(
+tpm = Teller(
     "tests/policies/policy_pcr.tpm",
     "TPM2_PolicyPCR: the policy is for PCRs that have the values of now. Its parameters are the "
     "digest that they should have, if any, and the selection of PCRs.",
 )
-tpm = ScriptCaller(script)
 
 
 def values_digest(session, banks):
     """The hash of the values of a selection, bank by bank, and in each by number."""
-    values = (script.device.banks[alg][pcr] for alg, pcrs in banks for pcr in sorted(pcrs))
+    values = (tpm.script.device.banks[alg][pcr] for alg, pcrs in banks for pcr in sorted(pcrs))
     return digest(session.algorithm, b"".join(values))
 
 
@@ -86,7 +85,6 @@ def edges(session):
     tpm.digest_is("The digest is zeros", session, zeros(session))
 
 
-script.startup()
 for pcr in (0, 1, 7, 8, 16, 23):
     tpm.accepted(f"TPM2_PCR_Event into PCR {pcr}", tpm.event(b"event %d" % pcr, b"", pcr=pcr))
 
@@ -111,7 +109,7 @@ for session in tpm.each_session():
         tpm.says(f"{what}: SUCCESS", tpm.restart(session), tpm.pcrs(session, banks))
         tpm.digest_is("Its digest", session, after(session, banks))
 
-    script.chapter("A digest that is given.")
+    tpm.chapter("A digest that is given.")
     both = [(SHA1, [1]), (SHA256, [0, 23])]
     right = values_digest(session, both)
     restarted(session)
@@ -140,7 +138,7 @@ for session in tpm.each_session():
         words = "It is in the digest as it is" if is_trial(session) else "The digest is as it was"
         tpm.digest_is(words, session, wanted)
 
-    script.chapter("PCRs that change behind it.")
+    tpm.chapter("PCRs that change behind it.")
     zero = [(SHA256, [0])]
     restarted(session)
     tpm.says("PCR 0: SUCCESS", tpm.pcrs(session, zero))
@@ -173,7 +171,7 @@ for session in tpm.each_session():
     tpm.accepted("TPM2_PCR_Event into PCR 23", tpm.event(b"abc", b"", pcr=23))
     changed("TPM2_PolicyPCR again", session, zero)
 
-    script.chapter("What changes no PCR.")
+    tpm.chapter("What changes no PCR.")
     restarted(session)
     tpm.says("From the start: SUCCESS", tpm.pcrs(session, zero))
     tpm.accepted("TPM2_PCR_Event on TPM_RH_NULL", tpm.event(b"abc", b"", pcr=RH_NULL))
@@ -188,7 +186,7 @@ for session in tpm.each_session():
     twice = after(session, zero, after(session, zero))
     tpm.digest_is("Its digest, of twice the same", session, twice)
 
-script.chapter("Other assertions are not refused where a PCR has changed.")
+tpm.chapter("Other assertions are not refused where a PCR has changed.")
 session = tpm.policy("A policy session")
 zero = [(SHA256, [0])]
 tpm.says("TPM2_PolicyPCR: SUCCESS", tpm.pcrs(session, zero))
@@ -198,13 +196,13 @@ tpm.says("TPM2_PolicyAuthValue: SUCCESS", tpm.auth_value_told(session))
 told = policy.after_auth_value(session.algorithm, told)
 tpm.digest_is("Its digest", session, told)
 
-script.chapter("That nothing changes is asked from the first one on, also where it selects none.")
+tpm.chapter("That nothing changes is asked from the first one on, also where it selects none.")
 restarted(session)
 tpm.says("No PCR: SUCCESS", tpm.pcrs(session, []))
 tpm.accepted("TPM2_PCR_Event into PCR 0", tpm.event(b"abc", b"", pcr=0))
 tpm.says("PCR 0: PCR_CHANGED", tpm.pcrs(session, zero))
 
-script.chapter("But not from one that was refused.")
+tpm.chapter("But not from one that was refused.")
 restarted(session)
 tpm.says("A wrong digest: VALUE/p1", tpm.pcrs(session, zero, bytes(32)))
 tpm.digest_is("The digest is zeros", session, zeros(session))
@@ -212,9 +210,8 @@ tpm.accepted("TPM2_PCR_Event into PCR 0", tpm.event(b"abc", b"", pcr=0))
 tpm.says("PCR 0: SUCCESS", tpm.pcrs(session, zero))
 tpm.digest_is("Its digest", session, after(session, zero))
 
-script.chapter("Each session by itself.")
+tpm.chapter("Each session by itself.")
 other = tpm.policy("Another policy session")
 tpm.accepted("TPM2_PCR_Reset of PCR 16", tpm.reset(b""))
 tpm.says("It has not been told of a PCR: SUCCESS", tpm.pcrs(other, zero))
 tpm.says("But the one before has: PCR_CHANGED", tpm.pcrs(session, zero))
-script.write()

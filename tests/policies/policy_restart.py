@@ -2,14 +2,13 @@
 
 from tpmsim.caller import Use
 from tpmsim.standard import CC, RH_OWNER, SHA1, SHA256, digest_bytes, frames, policy
-from tpmsim.caller.script_caller import ScriptCaller, is_trial, zeros
-from tpmsim.caller.script import Script
+from tpmsim.caller.script_caller import is_trial, zeros
+from tests.common.teller import Teller
 
-script = Script(
+tpm = Teller(
     "tests/policies/policy_restart.tpm",
     "TPM2_PolicyRestart: the session has forgotten what it was told, and keeps all else.",
 )
-tpm = ScriptCaller(script)
 PCR_0 = [(SHA256, [0])]
 
 
@@ -21,7 +20,6 @@ def forgets(what, session, *told):
     tpm.digest_is("The digest is zeros", session, zeros(session))
 
 
-script.startup()
 for session in tpm.each_session():
     tpm.says("On a new session it changes nothing: SUCCESS", tpm.restart(session))
     tpm.digest_is("The digest is zeros", session, zeros(session))
@@ -62,7 +60,7 @@ for session in tpm.each_session():
     forgets("TPM2_PolicyAuthValue", session, tpm.auth_value_told(session))
     tpm.says("TPM2_PolicyPCR of PCR 0: SUCCESS", tpm.pcrs(session, PCR_0))
 
-script.chapter("The nonce, the key, the hash and the encryption stay.")
+tpm.chapter("The nonce, the key, the hash and the encryption stay.")
 for algorithm in (SHA1, SHA256):
     session = tpm.policy(
         "A session bound to TPM_RH_OWNER", bind=RH_OWNER, algorithm=algorithm, aes=True
@@ -77,7 +75,7 @@ for algorithm in (SHA1, SHA256):
         "TPM2_GetRandom, which it encrypts", tpm.random(8, Use(session, frames.ENCRYPT | 1))
     )
 
-script.chapter("Only the session that is named is restarted.")
+tpm.chapter("Only the session that is named is restarted.")
 other = tpm.policy("Another one")
 tpm.says("TPM2_PolicyAuthValue in it: SUCCESS", tpm.auth_value_told(other))
 tpm.says("TPM2_PolicyRestart of the one before: SUCCESS", tpm.restart(session))
@@ -88,4 +86,3 @@ tpm.accepted(
     tpm.restart(other, Use(other, 0)),
 )
 tpm.says("It is no more: REFERENCE_H0", tpm.get_digest(other))
-script.write()

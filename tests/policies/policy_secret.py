@@ -3,8 +3,8 @@
 from tpmsim.caller import Use, flipped
 from tpmsim.standard import RH_ENDORSEMENT, RH_LOCKOUT, RH_OWNER, RH_PLATFORM, SHA1, SHA256
 from tpmsim.standard import digest_bytes, frames, name_of, number, policy, sized
-from tpmsim.caller.script_caller import ScriptCaller, is_trial, zeros
-from tpmsim.caller.script import Script
+from tpmsim.caller.script_caller import is_trial, zeros
+from tests.common.teller import Teller
 
 ENTITIES = (
     (RH_OWNER, "TPM_RH_OWNER"),
@@ -15,13 +15,12 @@ ENTITIES = (
     (23, "PCR 23"),
 )
 
-script = Script(
+tpm = Teller(
     "tests/policies/policy_secret.tpm",
     "TPM2_PolicySecret: the policy is for who knows the authorization value of an entity, and "
     "shows it now. Its parameters are nonceTPM, cpHashA, policyRef and expiration. Here by the "
     "empty password alone.",
 )
-tpm = ScriptCaller(script)
 
 
 def after(session, old, of=RH_ENDORSEMENT, policy_ref=b""):
@@ -160,14 +159,13 @@ def edges(session):
     tpm.digest_is("The digest is zeros", session, zeros(session))
 
 
-script.startup()
 for session in tpm.each_session():
     digests(session)
     nonces(session)
     cp_hashes(session)
     edges(session)
 
-script.chapter("A nonceTPM of 32 bytes, of a session of SHA-256.")
+tpm.chapter("A nonceTPM of 32 bytes, of a session of SHA-256.")
 session = tpm.policy("The session", size=32)
 tpm.accepted("Its nonce", tpm.secret(session, nonce_tpm=session.nonce_tpm))
 tpm.refused("Half of it: NONCE/p1", tpm.secret(session, nonce_tpm=session.nonce_tpm[:16]))
@@ -190,7 +188,7 @@ tpm.accepted(
 digest = after(session, after(session, zeros(session)), policy_ref=bytes(32))
 tpm.digest_is("Its digest", session, digest)
 
-script.chapter("On the policy session that is named as a further entry too.")
+tpm.chapter("On the policy session that is named as a further entry too.")
 session = tpm.policy("The session, bound to TPM_RH_OWNER", bind=RH_OWNER, algorithm=SHA256)
 old = session.nonce_tpm
 tpm.accepted(
@@ -213,4 +211,3 @@ tpm.accepted(
     "With an hmac by the empty key", tpm.secret(unbound, b"", Use(unbound, shows_empty_key=True))
 )
 tpm.digest_is("Its digest", unbound, after(unbound, after(unbound, zeros(unbound))))
-script.write()

@@ -3,8 +3,8 @@
 from tpmsim.caller import Use, flipped
 from tpmsim.standard import RH_ENDORSEMENT, RH_LOCKOUT, RH_OWNER, RH_PLATFORM, SHA1, SHA256
 from tpmsim.standard import name_of, policy
-from tpmsim.caller.script_caller import HASHES, ScriptCaller, zeros
-from tpmsim.caller.script import Script
+from tpmsim.caller.script_caller import HASHES, zeros
+from tests.common.teller import Teller
 
 VALUES = (
     (RH_OWNER, "TPM_RH_OWNER", b"owner"),
@@ -13,12 +13,12 @@ VALUES = (
     (RH_LOCKOUT, "TPM_RH_LOCKOUT", b"lockout"),
 )
 
-script = Script(
+tpm = Teller(
     "tests/policies/policy_secret_authorization.tpm",
     "TPM2_PolicySecret is authorized by the value of its first handle, in a password or an HMAC "
     "session, as any other command. Of the policy session nothing is asked.",
+    tries=True,
 )
-tpm = ScriptCaller(script)
 
 
 def wrong(prepared, place=1):
@@ -26,9 +26,7 @@ def wrong(prepared, place=1):
     return prepared.but_entry(place, hmac=flipped(hmac) if hmac else b"\0")
 
 
-script.startup()
-script.allow_tries()
-script.wait_each_time()
+tpm.script.wait_each_time()
 for handle, name, value in VALUES:
     tpm.accepted(f'The value of {name} is "{value.decode()}"', tpm.change_auth(handle, value, b""))
 target = tpm.policy("The policy session, with AES", aes=True)
@@ -45,7 +43,7 @@ def accepted(what, session, *uses, of, **parameters):
 
 
 for handle, name, value in VALUES:
-    script.chapter(f"{name}.")
+    tpm.chapter(f"{name}.")
     code = "AUTH_FAIL/s1" if handle == RH_LOCKOUT else "BAD_AUTH/s1"
     bound = tpm.start("An HMAC session that is bound to it", handle, aes=True)
     for session in (target, trial):
@@ -93,7 +91,7 @@ for handle, name, value in VALUES:
     for session in (target, trial):
         tpm.digest_is("The digest", session, after[session.handle])
 
-script.chapter("A PCR, whose value is empty.")
+tpm.chapter("A PCR, whose value is empty.")
 for algorithm, hash_name in HASHES:
     bound = tpm.start(f"An HMAC session of {hash_name}, bound to PCR 7", 7, algorithm=algorithm)
     accepted("By the empty password", target, b"", of=7)
@@ -105,7 +103,7 @@ tpm.refused("A password: BAD_AUTH/s1", tpm.secret(target, b"x", of=7))
 for session in (target, trial):
     tpm.digest_is("The digest", session, after[session.handle])
 
-script.chapter("With further entries.")
+tpm.chapter("With further entries.")
 bound = tpm.start("An HMAC session that is bound to TPM_RH_LOCKOUT", RH_LOCKOUT, algorithm=SHA1)
 accepted("Behind a password", target, b"owner", bound, of=RH_OWNER)
 accepted(
@@ -139,4 +137,3 @@ accepted(
 )
 for session in (target, trial):
     tpm.digest_is("The digest", session, after[session.handle])
-script.write()

@@ -3,18 +3,18 @@
 from tpmsim.caller import Use, flipped
 from tpmsim.standard import CC, Entry, RH_LOCKOUT, RH_OWNER, SE_HMAC, SE_POLICY, SE_TRIAL, SHA1
 from tpmsim.standard import SHA256, frames, number
-from tpmsim.caller.script_caller import HASHES, ScriptCaller, zeros
-from tpmsim.caller.script import Script
+from tpmsim.caller.script_caller import HASHES, zeros
+from tests.common.teller import Teller
 
 PLACES = 16
 NAMES = {SE_HMAC: "HMAC", SE_POLICY: "policy", SE_TRIAL: "trial"}
 
-script = Script(
+tpm = Teller(
     "tests/policies/policy_sessions.tpm",
     "Policy sessions and trial sessions have the sixteen places that HMAC sessions have. Their "
     "handles begin with 03, and those of HMAC sessions with 02.",
+    starts=False,
 )
-tpm = ScriptCaller(script)
 
 
 def start(kind, place, what=None, **choices):
@@ -38,8 +38,8 @@ def random_by(handle):
     return prepared.but(entries=[Entry(handle, b"", 1, b"")])
 
 
-script.startup()
-script.chapter("Sixteen policy sessions, and trial sessions among them.")
+tpm.startup()
+tpm.chapter("Sixteen policy sessions, and trial sessions among them.")
 sessions = []
 for place in range(PLACES):
     kind = SE_TRIAL if place % 4 == 3 else SE_POLICY
@@ -68,29 +68,29 @@ hmac = start(SE_HMAC, 3, "An HMAC session takes the lowest free place", bind=RH_
 policy = start(SE_POLICY, 5, "And a policy session the other", bind=RH_OWNER)
 tpm.digest_is("It begins with zeros", policy, zeros(policy))
 
-script.chapter("A handle is that of a place and a kind.")
-script.command(
+tpm.chapter("A handle is that of a place and a kind.")
+tpm.raw(
     "The place of the HMAC session, as a policy session's: REFERENCE_H0", get_digest(0x0300_0003)
 )
-script.command("In TPM2_FlushContext: HANDLE/p1", flush(0x0300_0003))
+tpm.raw("In TPM2_FlushContext: HANDLE/p1", flush(0x0300_0003))
 tpm.refused("As an entry: REFERENCE_S0", random_by(0x0300_0003))
-script.command(
+tpm.raw(
     "The place of a policy session, as an HMAC session's: HANDLE/p1",
     flush(0x0200_0005),
     flush(0x0200_0000),
 )
 tpm.refused("As an entry: REFERENCE_S0", random_by(0x0200_0005), random_by(0x0200_0000))
-script.command(
+tpm.raw(
     "Handles of places that there are not: HANDLE/p1",
     *map(flush, (0x0300_0010, 0x0300_0100, 0x0301_0000, 0x03FF_FFFF)),
 )
 tpm.accepted("The two of those places, by their right handles", tpm.reset(hmac, policy))
 tpm.says("The HMAC session is flushed: SUCCESS", tpm.flush(hmac))
 trial = start(SE_TRIAL, 3, "A trial session has its place", bind=RH_OWNER)
-script.command("And the handle 02000003 is no more: HANDLE/p1", flush(0x0200_0003))
+tpm.raw("And the handle 02000003 is no more: HANDLE/p1", flush(0x0200_0003))
 tpm.refused("As an entry: REFERENCE_S0", tpm.random(1, hmac))
 
-script.chapter("A new session in the place of one that was told something knows nothing of it.")
+tpm.chapter("A new session in the place of one that was told something knows nothing of it.")
 CP_HASHES = bytes([1]) * 32, bytes([2]) * 32
 PCR_0 = [(SHA256, [0])]
 
@@ -135,7 +135,7 @@ tpm.digest_is("It begins with zeros", told, zeros(told))
 is_policy_session(told)
 tell(told, 0x173, 8, CP_HASHES[1])
 
-script.chapter("A policy session's entry has its own nonce, and ends without continueSession.")
+tpm.chapter("A policy session's entry has its own nonce, and ends without continueSession.")
 for session, words in ((policy, "policy"), (trial, "trial")):
     told = tpm.random(2, session)
     tpm.accepted(f"The {words} session beside TPM2_GetRandom", told)
@@ -149,7 +149,7 @@ tpm.refused(
 )
 tpm.says("Is there: SUCCESS", tpm.get_digest(sessions[0]))
 
-script.chapter("A refused command changes neither nonce nor policy.")
+tpm.chapter("A refused command changes neither nonce nor policy.")
 session = sessions[1]
 right = tpm.locality(session, 0, session)
 tpm.refused("TPM2_PolicyLocality of nothing, with a right hmac: RANGE/p1", right)
@@ -159,18 +159,18 @@ tpm.refused("A wrong hmac: BAD_AUTH/s1", right.but_entry(1, hmac=flipped(right.e
 tpm.digest_is("The digest is zeros", session, zeros(session))
 tpm.accepted("The right one", right)
 
-script.chapter("A power cycle ends them all.")
-script.power()
-script.startup()
-script.command(
+tpm.chapter("A power cycle ends them all.")
+tpm.power()
+tpm.startup()
+tpm.raw(
     "No session has a digest: REFERENCE_H0", *(get_digest(0x0300_0000 + it) for it in range(16))
 )
-script.command("Nor can it be flushed: HANDLE/p1", flush(0x0300_0000), flush(0x0300_000F))
+tpm.raw("Nor can it be flushed: HANDLE/p1", flush(0x0300_0000), flush(0x0300_000F))
 again = start(SE_POLICY, 0, "The first place is free", algorithm=SHA1)
 tpm.digest_is("A new policy is there", again, zeros(again))
 tpm.says("It is flushed: SUCCESS", tpm.flush(again))
 
-script.chapter("Nor is anything left in the eighth place, whose session was told something.")
+tpm.chapter("Nor is anything left in the eighth place, whose session was told something.")
 MIXED = (SE_POLICY, SE_HMAC, SE_TRIAL)
 for place in range(8):
     last = start(MIXED[place % 3], place, "" if place else "Eight of each kind are started")
@@ -181,10 +181,10 @@ tpm.digest_is("It begins with zeros", last, zeros(last))
 tell(last, 0x14E, 16, bytes([3]) * 32)
 for place in range(7):
     kind = 0x0200_0000 if MIXED[place % 3] == SE_HMAC else 0x0300_0000
-    script.command("SUCCESS" if place else "The others are flushed: SUCCESS", flush(kind | place))
+    tpm.raw("SUCCESS" if place else "The others are flushed: SUCCESS", flush(kind | place))
 again = start(SE_POLICY, 0, "The first place is free again", algorithm=SHA1)
 
-script.chapter("A session of each kind, by what it was started with.")
+tpm.chapter("A session of each kind, by what it was started with.")
 for bind, words in ((frames.RH_NULL, "nothing"), (RH_LOCKOUT, "TPM_RH_LOCKOUT"), (7, "PCR 7")):
     for algorithm, size in ((SHA1, 16), (SHA1, 20), (SHA256, 16), (SHA256, 32)):
         for kind in (SE_POLICY, SE_TRIAL):
@@ -198,4 +198,3 @@ for bind, words in ((frames.RH_NULL, "nothing"), (RH_LOCKOUT, "TPM_RH_LOCKOUT"),
                 aes=size > 16,
             )
             tpm.accepted("TPM2_GetRandom, and it ends", tpm.random(1, Use(session, 0)))
-script.write()

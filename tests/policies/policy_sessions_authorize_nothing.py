@@ -3,17 +3,15 @@
 from tpmsim.caller import Use, flipped
 from tpmsim.standard import CC, CONTINUE_SESSION, DECRYPT, Entry, RH_ENDORSEMENT, RH_LOCKOUT
 from tpmsim.standard import RH_NULL, RH_OWNER, RH_PLATFORM, frames
-from tpmsim.caller.script_caller import ScriptCaller, zeros
-from tpmsim.caller.script import Script
+from tpmsim.caller.script_caller import zeros
+from tests.common.teller import Teller
 
-script = Script(
+tpm = Teller(
     "tests/policies/policy_sessions_authorize_nothing.tpm",
     "A policy session authorizes what has a policy. Hierarchies and PCRs have none: they are "
     "authorized by their authorization value alone. A trial session never authorizes.",
 )
-tpm = ScriptCaller(script)
 
-script.startup()
 tpm.accepted('ownerAuth is "owner"', tpm.change_auth(RH_OWNER, b"owner", b""))
 hmac = tpm.start("An HMAC session, bound to TPM_RH_OWNER, with AES", RH_OWNER, aes=True)
 policy = tpm.policy("A policy session, bound to nothing, and so without a key")
@@ -48,7 +46,7 @@ for words, session in (
 for words, session in (("without a key", trial), ("bound to TPM_RH_OWNER", keyed)):
     tpm.refused(f"{WHAT}, by the trial session {words}: ATTRIBUTES/s1", *commands(session))
 
-script.chapter("Whatever the session was told.")
+tpm.chapter("Whatever the session was told.")
 for what, told in (
     ("TPM2_PolicyAuthValue", tpm.auth_value_told),
     ("TPM2_PolicyPassword", tpm.password_told),
@@ -70,7 +68,7 @@ tpm.accepted(
 tpm.refused("TPM2_PCR_Reset by the policy session: AUTH_UNAVAILABLE", tpm.reset(policy))
 tpm.refused("By the trial session: ATTRIBUTES/s1", tpm.reset(trial))
 
-script.chapter("It comes before its own hmac, right or wrong, and before the entries behind.")
+tpm.chapter("It comes before its own hmac, right or wrong, and before the entries behind.")
 reset = tpm.reset(bound, hmac)
 tpm.refused(
     "The hmac wrong, left out, and that of the second entry wrong: AUTH_UNAVAILABLE",
@@ -91,7 +89,7 @@ tpm.refused(
     tpm.change_auth(RH_LOCKOUT, b"x", lockout).but_entry(1, hmac=bytes(32)),
 )
 
-script.chapter("But what is refused of entries whatever their hmacs are comes before.")
+tpm.chapter("But what is refused of entries whatever their hmacs are comes before.")
 absent = Entry(0x0300_0009, b"", CONTINUE_SESSION, b"")
 for session in (bound, keyed):
     right = tpm.reset(session)
@@ -124,10 +122,9 @@ tpm.refused(
     tpm.reset(policy, pcr=0),
 )
 
-script.chapter("No session was changed, nor anything else.")
+tpm.chapter("No session was changed, nor anything else.")
 tpm.digest_is("The session that was to be told something", target, zeros(target))
 for session in (policy, bound, lockout, trial, keyed):
     tpm.accepted("TPM2_GetRandom beside it", tpm.random(1, session))
 tpm.accepted("ownerAuth", tpm.change_auth(RH_OWNER, b"owner", b"owner"))
 tpm.accepted("The others are empty", tpm.secret(target, b"", of=RH_LOCKOUT))
-script.write()

@@ -3,18 +3,18 @@
 from tpmsim.caller import Use, flipped
 from tpmsim.standard import CC, CONTINUE_SESSION, DECRYPT, ENCRYPT, RH_ENDORSEMENT, RH_LOCKOUT
 from tpmsim.standard import RH_OWNER, SE_POLICY, SE_TRIAL, SHA1, digest, frames, name_of, policy
-from tpmsim.caller.script_caller import HASHES, KINDS, ScriptCaller, zeros
-from tpmsim.caller.script import Script
+from tpmsim.caller.script_caller import HASHES, KINDS, zeros
+from tests.common.teller import Teller
 
 DECRYPTS, ENCRYPTS = CONTINUE_SESSION | DECRYPT, CONTINUE_SESSION | ENCRYPT
 
-script = Script(
+tpm = Teller(
     "tests/policies/policy_sessions_that_encrypt.tpm",
     "Policy sessions and trial sessions as further entries: they authorize nothing there, and are "
     "held against their hmac as HMAC sessions are. They can decrypt and encrypt, and keep what "
     "they were told.",
+    tries=True,
 )
-tpm = ScriptCaller(script)
 
 
 def wrong(prepared, place):
@@ -22,14 +22,12 @@ def wrong(prepared, place):
     return prepared.but_entry(place, hmac=flipped(hmac) if hmac else b"\0")
 
 
-script.startup()
-script.allow_tries()
 tpm.accepted('ownerAuth is "owner"', tpm.change_auth(RH_OWNER, b"owner", b""))
 hmac = tpm.start("An HMAC session, bound to TPM_RH_OWNER, with AES", RH_OWNER, aes=True)
 
 for algorithm, hash_name in HASHES:
     for kind, name in KINDS:
-        script.chapter(f"A {name} session of {hash_name}, bound to TPM_RH_OWNER.")
+        tpm.chapter(f"A {name} session of {hash_name}, bound to TPM_RH_OWNER.")
         session = tpm.start(
             "It is started", RH_OWNER, algorithm=algorithm, aes=True, kind=kind, size=20
         )
@@ -158,7 +156,7 @@ for algorithm, hash_name in HASHES:
         )
         tpm.accepted("It encrypts, and ends", tpm.random(20, Use(session, ENCRYPT)))
 
-script.chapter("Without a key: the hmac may be left out.")
+tpm.chapter("Without a key: the hmac may be left out.")
 for algorithm, hash_name in HASHES:
     for kind, name in KINDS:
         session = tpm.start(
@@ -192,7 +190,7 @@ for algorithm, hash_name in HASHES:
         tpm.digest_is("Its digest is zeros", session, zeros(session))
         tpm.says("It is flushed: SUCCESS", tpm.flush(session))
 
-script.chapter("Without AES.")
+tpm.chapter("Without AES.")
 plain = tpm.policy("A policy session", bind=RH_OWNER)
 tpm.refused(
     "decrypt and encrypt: SYMMETRIC/s1",
@@ -201,7 +199,7 @@ tpm.refused(
 )
 tpm.refused("Behind a password: SYMMETRIC/s2", tpm.event(b"a", b"", Use(plain, DECRYPTS)))
 
-script.chapter("Started beside others, and with others beside it.")
+tpm.chapter("Started beside others, and with others beside it.")
 first = tpm.policy("A policy session, with AES", bind=RH_OWNER, aes=True)
 second = tpm.start(
     "TPM2_StartAuthSession of another, by which it is encrypted in both directions",
@@ -246,8 +244,8 @@ for it, kind in ((first, SE_POLICY), (second, SE_TRIAL)):
     assert it.kind == kind
     tpm.digest_is("Its digest is zeros", it, zeros(it))
 
-script.chapter("Bound to TPM_RH_LOCKOUT, a wrong hmac is a try at its value.")
-script.wait_each_time()
+tpm.chapter("Bound to TPM_RH_LOCKOUT, a wrong hmac is a try at its value.")
+tpm.script.wait_each_time()
 locked = tpm.policy("A policy session", bind=RH_LOCKOUT)
 trial = tpm.trial("A trial session, of SHA-1", bind=RH_LOCKOUT, algorithm=SHA1)
 for it in (locked, trial):
@@ -258,4 +256,3 @@ tpm.refused(
     "One that is bound to TPM_RH_OWNER, beside them: BAD_AUTH/s3",
     wrong(tpm.random(1, locked, trial, first), 3),
 )
-script.write()

@@ -26,7 +26,6 @@ from tests.sessions.grounds_caller import (
     after_code,
 )
 from tests.sessions.grounds_caller import after_equal_data, after_secret
-from tpmsim.caller.script import Script
 
 USER = ObjectAttribute.USER_WITH_AUTH
 ENDS = 0x00
@@ -39,14 +38,13 @@ HIERARCHIES = {
     RH_LOCKOUT: ("TPM_RH_LOCKOUT", b"lockout"),
 }
 
-script = Script(
+tpm = GroundsCaller(
     "tests/sessions/grounds.tpm",
     "By what an entity may be authorized: each ground once, and accepted. The same grounds are "
     "lost in tests/sessions/lost_grounds.tpm. A ground is a password, the hmac of an HMAC session, "
     "or a "
     "policy session whose policy holds.",
 )
-tpm = GroundsCaller(script)
 
 
 # Authorization values: by a password, and in the key of an HMAC session.
@@ -75,7 +73,7 @@ def hierarchy(handle):
 
 def entities():
     """All kinds of entities that have an authorization value."""
-    script.chapter('The entities of this script. The value of objects and indices is "pin".')
+    tpm.chapter('The entities of this script. The value of objects and indices is "pin".')
     for handle, (name, value) in HIERARCHIES.items():
         what = f'{name}, whose value is empty at first, and "{value.decode("ascii")}" from here on'
         tpm.does(what, tpm.change_auth(handle, value, b""))
@@ -120,7 +118,7 @@ def at_null(*uses):
 
 
 def by_passwords(found):
-    script.chapter("PASSWORDS. The password is the authorization value of the entity.")
+    tpm.chapter("PASSWORDS. The password is the authorization value of the entity.")
     for entity in found:
         tpm.does(f"{entity.words}: {entity.command}", entity.prepare(entity.value))
     tpm.does("A PCR, whose value is always empty: TPM2_PCR_Reset", tpm.reset(b""))
@@ -132,7 +130,7 @@ def by_passwords(found):
 
 
 def by_hmac_sessions(found):
-    script.chapter(
+    tpm.chapter(
         "HMAC SESSIONS. The key of the hmac is the session key, which an unbound session has not, "
         "and the value of the entity; but where the session is bound to that very entity its value "
         "is left out."
@@ -140,20 +138,20 @@ def by_hmac_sessions(found):
     unbound = tpm.start("A session bound to nothing")
     other = tpm.start("One bound to PCR 16", 16)
     for entity in found:
-        script.chapter(f"{entity.words}: {entity.command}.")
+        tpm.chapter(f"{entity.words}: {entity.command}.")
         tpm.does("Bound to nothing: the key is the value", entity.prepare(unbound))
         tpm.does("Bound to another: the key is both", entity.prepare(other))
         bound = tpm.start("A session bound to the entity", entity.handle)
         tpm.does("The key is the session key|and it ends", entity.prepare(Use(bound, ENDS)))
 
     loaded, kept = found[4:6]
-    script.chapter("A session is bound by the Name, so that it may be a copy that is authorized.")
+    tpm.chapter("A session is bound by the Name, so that it may be a copy that is authorized.")
     bound = tpm.start("A session of SHA-1, bound to the object", loaded.handle, SHA1)
     tpm.does("TPM2_Unseal of the object, whose nameAlg is SHA-256", loaded.prepare(bound))
     tpm.does("Of the persistent object, and the key is the session key", kept.prepare(bound))
     tpm.flushed(bound)
 
-    script.chapter("Key and hmac are both empty: a session bound to nothing, and an empty value.")
+    tpm.chapter("Key and hmac are both empty: a session bound to nothing, and an empty value.")
     openly = tpm.sealed_object(
         "An object with userWithAuth, whose value is empty", attributes=HERE | USER, value=b""
     )
@@ -200,21 +198,21 @@ def with_policy(auth_policy):
 
 def in_turn(session, condition):
     """An object and an index are authorized under a condition."""
-    script.chapter(condition.words)
+    tpm.chapter(condition.words)
     handle, index = with_policy(condition.auth_policy)
     if condition.locality:
-        script.locality_is(condition.locality)
+        tpm.locality_is(condition.locality)
     for name, prepare in uses_of(handle, index):
         prepared = prepare(Use(session, demand=condition.demand))
         tpm.asserts(f"{condition.told}, and {name}", *condition.assertions(session, prepared))
         tpm.does("", prepared)
     if condition.locality:
-        script.locality_is(0)
+        tpm.locality_is(0)
     tpm.flushed(handle)
 
 
 def demanding_nothing(session, bound):
-    script.chapter(
+    tpm.chapter(
         "Nothing is demanded: the key of the hmac is the session key alone. Here the policy has no "
         "assertion either: authPolicy is the digest that a session starts with, 32 zeros."
     )
@@ -232,7 +230,7 @@ def demanding_nothing(session, bound):
 
 
 def demanding_the_value(bound):
-    script.chapter("What is demanded, with other keys and other values.")
+    tpm.chapter("What is demanded, with other keys and other values.")
     handle = tpm.sealed_object("An object whose policy is either of the two", AFTER_AUTH_VALUE)
     tpm.asserts_value(bound)
     demanded = Use(bound, demand=AUTH_VALUE)
@@ -260,7 +258,7 @@ def demanding_the_value(bound):
 
 
 def command_codes(session):
-    script.chapter(
+    tpm.chapter(
         "TPM2_PolicyCommandCode: the command is the one that is recorded. So an object and two "
         "indices have each a policy of their own. All three are in the USER role."
     )
@@ -286,7 +284,7 @@ def command_codes(session):
 
 
 def admin_role(session):
-    script.chapter(
+    tpm.chapter(
         "The ADMIN role, in which TPM2_NV_ChangeAuth alone authorizes: the command is recorded. No "
         "attribute of the index is asked for."
     )
@@ -412,7 +410,7 @@ def conditions():
 
 
 def all_at_once(session):
-    script.chapter("All at once: a PCR, a locality, a command, a cpHash and the value.")
+    tpm.chapter("All at once: a PCR, a locality, a command, a cpHash and the value.")
     auth_policy = AFTER_PCR_16
     auth_policy = policy.after_locality(SHA256, auth_policy, AT_LOCALITY_1)
     auth_policy = policy.after_command_code(SHA256, auth_policy, CC.NV_Write)
@@ -420,7 +418,7 @@ def all_at_once(session):
     auth_policy = policy.after_auth_value(SHA256, auth_policy)
     index = tpm.index("An index with this policy", BY_POLICY, auth_policy)
     prepared = tpm.writing(index, DATA, Use(session, demand=AUTH_VALUE))
-    script.locality_is(1)
+    tpm.locality_is(1)
     tpm.asserts(
         "What the policy says, in its order",
         tpm.pcrs(session, PCR_16),
@@ -430,11 +428,11 @@ def all_at_once(session):
         tpm.auth_value_told(session),
     )
     tpm.does("TPM2_NV_Write", prepared)
-    script.locality_is(0)
+    tpm.locality_is(0)
 
 
 def by_policy_sessions():
-    script.chapter(
+    tpm.chapter(
         "POLICY SESSIONS, on objects and NV indices: nothing else has a policy. The session is no "
         "trial session, its hash is the nameAlg of the entity, and its policy digest the "
         "authPolicy. What it was told holds as the command comes, and counts for one command."
@@ -451,9 +449,7 @@ def by_policy_sessions():
     tpm.flushed(session, bound)
 
 
-script.startup()
 found = entities()
 by_passwords(found)
 by_hmac_sessions(found)
 by_policy_sessions()
-script.write()

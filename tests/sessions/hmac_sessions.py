@@ -2,23 +2,20 @@
 
 from tpmsim.caller import Use, flipped
 from tpmsim.standard import CC, RH_ENDORSEMENT, RH_OWNER, SHA1, SHA256, frames, sized
-from tpmsim.caller.script_caller import ScriptCaller
-from tpmsim.caller.script import Script
+from tests.common.teller import Teller
 
 NAMES = {SHA1: "SHA-1", SHA256: "SHA-256"}
 AUTH = b"owner"
 ENDS = 0x00
 
-script = Script(
+tpm = Teller(
     "tests/sessions/hmac_sessions.tpm",
     "HMAC sessions authorize commands: unbound, bound to the entity that they authorize, and bound "
     "to another. Each of their hmacs was computed outside, and each line `entropy` gives new "
     "random bytes, so that each command has its own nonces.",
 )
-tpm = ScriptCaller(script)
 
 
-script.startup()
 tpm.accepted('ownerAuth is "owner" from here on', tpm.change_auth(RH_OWNER, AUTH, b""))
 tpm.accepted(
     'endorsementAuth is "endorsement"', tpm.change_auth(RH_ENDORSEMENT, b"endorsement", b"")
@@ -69,7 +66,7 @@ for bind, words in (
     (RH_ENDORSEMENT, "to TPM_RH_ENDORSEMENT"),
 ):
     for algorithm in (SHA1, SHA256):
-        script.chapter(
+        tpm.chapter(
             f"A session of {NAMES[algorithm]}, bound {words}, on TPM2_HierarchyChangeAuth of "
             'TPM_RH_OWNER, which sets "owner" again.'
         )
@@ -84,7 +81,7 @@ for bind, words in (
         )
         tpm.refused("It is no more: REFERENCE_S0", tpm.change_auth(RH_OWNER, AUTH, session))
 
-script.chapter("What is in the key of an hmac.")
+tpm.chapter("What is in the key of an hmac.")
 bound = tpm.start("A session bound to TPM_RH_OWNER", RH_OWNER)
 other = tpm.start("Another one, bound to TPM_RH_ENDORSEMENT", RH_ENDORSEMENT)
 unbound = tpm.start("And one that is unbound")
@@ -119,7 +116,7 @@ tpm.accepted(
 )
 tpm.accepted("And on PCR 16, whose authorization value is empty", tpm.reset(bound))
 
-script.chapter("A refused command leaves the session's nonce, whatever refused it.")
+tpm.chapter("A refused command leaves the session's nonce, whatever refused it.")
 tried = tpm.reset(bound, pcr=0)
 tpm.refused("TPM2_PCR_Reset of PCR 0, which has a right hmac: LOCALITY", tried)
 tpm.refused(
@@ -133,7 +130,7 @@ corrected = tpm.reset(bound)
 tpm.refused("PCR 16 with a wrong hmac: BAD_AUTH/s1", corrected.but_entry(1, hmac=bytes(32)))
 tpm.accepted("And with the right one, of the nonce that was there before them", corrected)
 
-script.chapter("Empty keys: an unbound session on an entity whose authorization value is empty.")
+tpm.chapter("Empty keys: an unbound session on an entity whose authorization value is empty.")
 tpm.accepted("An empty hmac, which is answered by an empty one", tpm.reset(unbound))
 tpm.accepted(
     "An hmac by the empty key, which is answered by one",
@@ -155,11 +152,11 @@ tpm.refused("With no hmac: BAD_AUTH/s1", tpm.reset(to_pcr).but_entry(1, hmac=b""
 tpm.accepted("With its hmac", tpm.reset(to_pcr))
 tpm.accepted("It ends", tpm.flush(to_pcr))
 
-script.chapter("Nonces of the caller have any length up to 32 bytes.")
+tpm.chapter("Nonces of the caller have any length up to 32 bytes.")
 for nonce, words in ((b"", "no nonce"), (b"\x5a", "one byte"), (bytes(32), "32 bytes")):
     tpm.accepted(f"With {words}", tpm.reset(Use(bound, nonce=nonce)))
 
-script.chapter("Sessions that authorize nothing, as entries of TPM2_GetRandom.")
+tpm.chapter("Sessions that authorize nothing, as entries of TPM2_GetRandom.")
 tpm.accepted("One, bound to TPM_RH_OWNER", tpm.random(4, bound))
 tpm.accepted(
     "Three, of which the unbound one has an empty hmac", tpm.random(4, other, unbound, bound)
@@ -180,7 +177,7 @@ tpm.accepted(
 tpm.refused("The second again: REFERENCE_S1", tpm.random(2, other, unbound, bound))
 tpm.accepted("The others", tpm.random(2, other, bound))
 
-script.chapter("Authorization values with trailing zeros count without them.")
+tpm.chapter("Authorization values with trailing zeros count without them.")
 tpm.accepted('ownerAuth is "own" and two zeros', tpm.change_auth(RH_OWNER, b"own\0\0", bound))
 tpm.accepted(
     'Bound to TPM_RH_OWNER while that had another value, and so with "own" in the key',
@@ -201,11 +198,11 @@ tpm.accepted("TPM2_PCR_Read of PCR 16", tpm.read_pcr(16))
 tpm.accepted("New random bytes, and so a new nonce", tpm.reset(trailing))
 again = tpm.reset(trailing)
 for what in ("Where they stay the same the nonce does too, and a buffer is accepted again", "", ""):
-    tpm.received(again, script.command(f"{what}: SUCCESS", again.buffer()))
+    tpm.received(again, tpm.raw(f"{what}: SUCCESS", again.buffer()))
 tpm.accepted("Once more, and the random bytes are others", again)
 tpm.refused("So it is not accepted again: BAD_AUTH/s1", again)
 
-script.chapter("The longest response that there is, 601 bytes.")
+tpm.chapter("The longest response that there is, 601 bytes.")
 tpm.accepted(
     "TPM2_PCR_Read of sixteen banks, with three sessions of SHA-256 and nonces of 32 bytes",
     tpm.prepare(
@@ -215,6 +212,4 @@ tpm.accepted(
         *(tpm.start("A session with a nonce of 32 bytes", RH_OWNER, size=32) for _ in range(3)),
     ),
 )
-assert len(script.last.response) == 601
-
-script.write()
+assert len(tpm.last.response) == 601

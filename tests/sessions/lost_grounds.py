@@ -23,7 +23,6 @@ from tests.sessions.grounds_caller import (
     after_code,
 )
 from tests.sessions.grounds_caller import after_equal_data, after_secret
-from tpmsim.caller.script import Script
 
 USER = ObjectAttribute.USER_WITH_AUTH
 ENDS = 0x00
@@ -31,14 +30,14 @@ AFTER_UNSEAL = after_code(CC.Unseal)
 EQUAL, AT_LEAST = 0, 7  # operations of TPM2_PolicyNV
 AT_LOCALITY_0_OR_1 = 0b11
 
-script = Script(
+tpm = GroundsCaller(
     "tests/sessions/lost_grounds.tpm",
     "How the grounds of tests/sessions/grounds.tpm are lost: each way is refused, by G9 where "
     "nothing else "
     "is said, and beside it stands the same with the condition met. How a session itself is lost "
     "shows tests/sessions/replays.tpm.",
+    tries=True,
 )
-tpm = GroundsCaller(script)
 lost = tpm.lost
 
 
@@ -46,7 +45,7 @@ lost = tpm.lost
 
 
 def wrong_passwords(handle):
-    script.chapter("PASSWORDS. The password is not the value. Protected is what has no noDA.")
+    tpm.chapter("PASSWORDS. The password is not the value. Protected is what has no noDA.")
     lost("A hierarchy: BAD_AUTH/s1", tpm.change_auth(RH_OWNER, OWNER, b"other"))
     tpm.does("By the value", tpm.change_auth(RH_OWNER, OWNER, OWNER))
     lost("A PCR, whose value is empty: BAD_AUTH/s1", tpm.reset(b"other"))
@@ -67,7 +66,7 @@ def wrong_passwords(handle):
 
 
 def value_of_no_use(hmac):
-    script.chapter("THE VALUE IS OF NO USE. It is right, in a password and in an HMAC session.")
+    tpm.chapter("THE VALUE IS OF NO USE. It is right, in a password and in an HMAC session.")
     closed = tpm.sealed_object("An object without userWithAuth", AFTER_UNSEAL)
     lost("TPM2_Unseal: AUTH_UNAVAILABLE", tpm.unsealing(closed, PIN), tpm.unsealing(closed, hmac))
     usable = tpm.sealed_object("The same with userWithAuth", AFTER_UNSEAL, HERE | USER)
@@ -121,7 +120,7 @@ def by_key(key, handle, session):
 
 
 def other_texts(index, unbound):
-    script.chapter("AN HMAC. It is of another text: here TPM2_NV_Write of a protected index.")
+    tpm.chapter("AN HMAC. It is of another text: here TPM2_NV_Write of a protected index.")
     old = tpm.writing(index, DATA, unbound)
     tpm.does("Right, and the nonceTPM is new", old)
     lost("With the nonceTPM of before: AUTH_FAIL/s1", old)
@@ -150,7 +149,7 @@ def other_texts(index, unbound):
 
 
 def other_keys(handle, unbound):
-    script.chapter("One under another key: here TPM2_Unseal of a protected object.")
+    tpm.chapter("One under another key: here TPM2_Unseal of a protected object.")
     bound = tpm.start("A session bound to the object", handle)
     other = tpm.start("One bound to TPM_RH_ENDORSEMENT", RH_ENDORSEMENT)
     lost(
@@ -169,7 +168,7 @@ def other_keys(handle, unbound):
     lost("Bound to another, without the value: AUTH_FAIL/s1", by_key(other.key, handle, other))
     tpm.unseal("With it", handle, SECRET, other)
 
-    script.chapter("An empty one, where there is a key.")
+    tpm.chapter("An empty one, where there is a key.")
     for session, words in ((unbound, "the value"), (bound, "the session key")):
         empty = tpm.unsealing(handle, session).but_entry(1, hmac=b"")
         lost(f"The key is {words}: AUTH_FAIL/s1", empty)
@@ -177,7 +176,7 @@ def other_keys(handle, unbound):
 
 
 def lapsed_bindings():
-    script.chapter("A binding that has lapsed, by another value or by another Name.")
+    tpm.chapter("A binding that has lapsed, by another value or by another Name.")
     bound = tpm.start("A session bound to the owner", RH_OWNER)
     tpm.does("ownerAuth is another", tpm.change_auth(RH_OWNER, b"other", OWNER))
     changing = tpm.change_auth, RH_OWNER, OWNER, bound
@@ -197,7 +196,7 @@ def lapsed_bindings():
 
 
 def trial_sessions(handle, session):
-    script.chapter("A POLICY. The session is a trial session (condition 1).")
+    tpm.chapter("A POLICY. The session is a trial session (condition 1).")
     trial = tpm.trial("It is started")
     tpm.asserts_code(trial)
     lost("TPM2_Unseal by it: ATTRIBUTES/s1", tpm.unsealing(handle, trial))
@@ -207,7 +206,7 @@ def trial_sessions(handle, session):
 
 
 def no_policy(openly, session):
-    script.chapter("The entity cannot have a policy (condition 2). No policy is asserted here.")
+    tpm.chapter("The entity cannot have a policy (condition 2). No policy is asserted here.")
     lost("An object with an empty authPolicy: AUTH_UNAVAILABLE", tpm.unsealing(openly, session))
     hierarchies = RH_OWNER, RH_ENDORSEMENT, RH_PLATFORM, RH_LOCKOUT
     lost(
@@ -237,7 +236,7 @@ def extending(pcr, *values):
 
 
 def changed_pcrs(session):
-    script.chapter("A PCR was written behind TPM2_PolicyPCR (condition 3), here of PCR 16.")
+    tpm.chapter("A PCR was written behind TPM2_PolicyPCR (condition 3), here of PCR 16.")
     handle = tpm.sealed_object("An object whose policy is that PCR 16 is zeros", AFTER_PCR_16)
     value = SHA256, b"\1" * 32
 
@@ -266,7 +265,7 @@ def changed_pcrs(session):
     tpm.says("SUCCESS", extending(16), tpm.event(b"event", b"", pcr=RH_NULL))
     tpm.unseal("TPM2_Unseal", handle, SECRET, session)
 
-    script.chapter("And behind TPM2_PolicyOR, which leaves of the branch the condition.")
+    tpm.chapter("And behind TPM2_PolicyOR, which leaves of the branch the condition.")
     branches = AFTER_PCR_16, AFTER_UNSEAL
     either = tpm.sealed_object("An object with its policy", policy.after_or(SHA256, branches))
     both = tpm.pcrs(session, PCR_16), tpm.branches(session, *branches)
@@ -279,7 +278,7 @@ def changed_pcrs(session):
 
 
 def other_commands(session):
-    script.chapter("The command is another than the one recorded (condition 4).")
+    tpm.chapter("The command is another than the one recorded (condition 4).")
     index = tpm.written_index(
         "An index whose policy is TPM2_NV_Read", BY_POLICY | BY_OWNER, after_code(CC.NV_Read)
     )
@@ -289,7 +288,7 @@ def other_commands(session):
 
 
 def admin_role(session):
-    script.chapter("The ADMIN role, and no command is recorded (condition 5), or another.")
+    tpm.chapter("The ADMIN role, and no command is recorded (condition 5), or another.")
     index = tpm.index("An index whose authPolicy is 32 zeros", BY_POLICY, ZEROS)
     lost("TPM2_NV_ChangeAuth: POLICY_FAIL/s1", tpm.changing_auth(index, PIN, session))
     tpm.does("TPM2_NV_Write, in the USER role", tpm.writing(index, DATA, session))
@@ -304,7 +303,7 @@ def admin_role(session):
 
 
 def other_cp_hashes(session):
-    script.chapter(
+    tpm.chapter(
         "The command has another cpHash than TPM2_PolicySecret has recorded (condition 5). The "
         "policy digest is the same for each."
     )
@@ -331,7 +330,7 @@ def other_cp_hashes(session):
 
 
 def other_written_values(session):
-    script.chapter("The policy is for an NV index that is not written (condition 6).")
+    tpm.chapter("The policy is for an NV index that is not written (condition 6).")
     unwritten = policy.after_nv_written(SHA256, ZEROS, False)
     index = tpm.index("An index with this policy", BY_POLICY, unwritten)
     handle = tpm.sealed_object("An object with it", unwritten)
@@ -346,20 +345,20 @@ def other_written_values(session):
 
 
 def other_localities(session):
-    script.chapter("The command comes from a locality that is not named (condition 7).")
+    tpm.chapter("The command comes from a locality that is not named (condition 7).")
     handle = tpm.sealed_object("An object whose policy is locality 1", AFTER_LOCALITY_1)
     tpm.asserts("TPM2_PolicyLocality of 1", tpm.locality(session, AT_LOCALITY_1))
     lost("TPM2_Unseal from locality 0: LOCALITY", tpm.unsealing(handle, session))
-    script.locality_is(2)
+    tpm.locality_is(2)
     lost("From locality 2: LOCALITY", tpm.unsealing(handle, session))
-    script.locality_is(1)
+    tpm.locality_is(1)
     tpm.unseal("From locality 1", handle, SECRET, session)
-    script.locality_is(0)
+    tpm.locality_is(0)
     tpm.flushed(handle)
 
 
 def other_hashes(handle, session):
-    script.chapter("The hash of the session is not the nameAlg of the entity (condition 8).")
+    tpm.chapter("The hash of the session is not the nameAlg of the entity (condition 8).")
     by_sha1 = tpm.policy("A policy session of SHA-1", algorithm=SHA1)
     tpm.asserts_code(by_sha1)
     lost("The nameAlg is SHA-256: POLICY_FAIL/s1", tpm.unsealing(handle, by_sha1))
@@ -375,7 +374,7 @@ def other_hashes(handle, session):
 
 def other_digests(session):
     """A policy of four assertions, of which one at a time is another."""
-    script.chapter("The policy digest is not the authPolicy (condition 8): an assertion differs.")
+    tpm.chapter("The policy digest is not the authPolicy (condition 8): an assertion differs.")
     compared = tpm.written_index("An index that TPM2_PolicyNV looks at", BY_OWNER)
     auth_policy = policy.after_locality(SHA256, AFTER_PCR_16, AT_LOCALITY_0_OR_1)
     auth_policy = policy.after_secret(SHA256, auth_policy, name_of(RH_OWNER), b"disk")
@@ -421,7 +420,7 @@ def other_digests(session):
 
 
 def session_keys(session):
-    script.chapter("THE HMAC OF A POLICY SESSION. Nothing is demanded: the key is the session key.")
+    tpm.chapter("THE HMAC OF A POLICY SESSION. Nothing is demanded: the key is the session key.")
     handle = tpm.sealed_object("An object whose authPolicy is 32 zeros", ZEROS)
     bound = tpm.policy("A policy session bound to TPM_RH_OWNER, which has a key", bind=RH_OWNER)
     right = tpm.unsealing(handle, bound)
@@ -439,7 +438,7 @@ def session_keys(session):
 
 
 def demands(session):
-    script.chapter("TPM2_PolicyPassword: the hmac is not the value in plain.")
+    tpm.chapter("TPM2_PolicyPassword: the hmac is not the value in plain.")
     handle = tpm.sealed_object(
         "An object with its policy, which is that of TPM2_PolicyAuthValue, too", AFTER_AUTH_VALUE
     )
@@ -452,7 +451,7 @@ def demands(session):
     lost("It is an hmac, with the value in its key: AUTH_FAIL/s1", by_value())
     tpm.does("It is the value", by_password())
 
-    script.chapter("TPM2_PolicyAuthValue: the value is not in the key of the hmac.")
+    tpm.chapter("TPM2_PolicyAuthValue: the value is not in the key of the hmac.")
     tpm.asserts_value(session)
     lost("There is no hmac: AUTH_FAIL/s1", by_value().but_entry(1, hmac=b""))
     lost("The hmac is by the session key alone, which is empty: AUTH_FAIL/s1", by_nothing())
@@ -464,7 +463,7 @@ def demands(session):
 
 def locked(openly, demanding, undemanding, hmac, session):
     """What is right, and refused, as the failed tries of this script lock."""
-    script.chapter("LOCKOUT. Who would compare the value of a protected entity is refused.")
+    tpm.chapter("LOCKOUT. Who would compare the value of a protected entity is refused.")
     bound = tpm.start("A session bound to the object", openly)
     tpm.set_protection("maxTries is 1, and there were more", 1, 1000, 1)
     lost(
@@ -485,7 +484,7 @@ def locked(openly, demanding, undemanding, hmac, session):
 
 
 def asked_once(session, compared):
-    script.chapter(
+    tpm.chapter(
         "WHAT IS ASKED ONCE. TPM2_PolicyNV and TPM2_PolicySecret look at data and at a value as "
         "they are told, and not as the command comes."
     )
@@ -507,8 +506,6 @@ def asked_once(session, compared):
     lost("TPM2_PolicySecret once more: BAD_AUTH/s1", told)
 
 
-script.startup()
-script.allow_tries()
 tpm.does('ownerAuth is "owner" from here on', tpm.change_auth(RH_OWNER, OWNER, b""))
 openly = tpm.sealed_object("A protected object with userWithAuth", attributes=HERE | USER)
 hmac = tpm.start("An HMAC session, which is unbound")
@@ -533,4 +530,3 @@ undemanding = session_keys(session)
 demanding = demands(session)
 locked(openly, demanding, undemanding, hmac, session)
 asked_once(session, compared)
-script.write()

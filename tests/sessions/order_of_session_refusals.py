@@ -3,20 +3,18 @@
 from tpmsim.caller import Use, flipped
 from tpmsim.standard import CC, CONTINUE_SESSION, DECRYPT, ENCRYPT, Entry, RH_NULL, RH_OWNER
 from tpmsim.standard import frames, number, sized
-from tpmsim.caller.script_caller import ScriptCaller
-from tpmsim.caller.script import Script
+from tests.common.teller import Teller
 
 DECRYPTS = CONTINUE_SESSION | DECRYPT
 ENCRYPTS = CONTINUE_SESSION | ENCRYPT
 NULLS = [RH_NULL, RH_NULL]
 
-script = Script(
+tpm = Teller(
     "tests/sessions/order_of_session_refusals.tpm",
     "The order of refusals of commands with sessions: of many faults one after the other is "
     "repaired. What is answered is the first that is left, in the order of "
     "docs/table/order_of_refusals.md.",
 )
-tpm = ScriptCaller(script)
 
 
 def wrong(prepared, *places):
@@ -26,11 +24,10 @@ def wrong(prepared, *places):
     return prepared
 
 
-script.startup()
 first = tpm.start("A session", RH_OWNER, aes=True)
 second = tpm.start("Another one", RH_OWNER, aes=True)
 
-script.chapter(
+tpm.chapter(
     "TPM2_StartAuthSession with two sessions that decrypt and encrypt; its first parameter is cut, "
     "and the hmacs of both are wrong."
 )
@@ -84,7 +81,7 @@ tpm.refused(
 )
 tpm.accepted("No fault is left", start(NULLS, frames.start_auth_session(bytes(16))[1], *uses))
 
-script.chapter("TPM2_PCR_Event into PCR 17 from locality 0, with two sessions and a cut parameter.")
+tpm.chapter("TPM2_PCR_Event into PCR 17 from locality 0, with two sessions and a cut parameter.")
 
 
 def event(text, *uses, pcr=17):
@@ -123,13 +120,13 @@ tpm.refused(
     "A byte behind it: SIZE", event(sized(bytes(1024)) + b"\0", first, Use(second, DECRYPTS))
 )
 tpm.refused("The locality: LOCALITY", event(sized(bytes(1024)), first, Use(second, DECRYPTS)))
-script.locality_is(3)
+tpm.locality_is(3)
 tpm.accepted(
     "From locality 3 no fault is left", event(sized(bytes(1024)), first, Use(second, DECRYPTS))
 )
-script.locality_is(0)
+tpm.locality_is(0)
 
-script.chapter("TPM2_HierarchyChangeAuth of TPM_RH_OWNER.")
+tpm.chapter("TPM2_HierarchyChangeAuth of TPM_RH_OWNER.")
 
 
 def change(text, *uses):
@@ -144,26 +141,24 @@ tpm.refused("That value, and a byte behind it: SIZE/p1", change(sized(bytes(33))
 tpm.refused("The byte behind it: SIZE", change(sized(b"abc") + b"\0", first))
 tpm.accepted("No fault is left", change(sized(b"abc"), first))
 
-script.chapter("TPM2_FlushContext of the first session.")
+tpm.chapter("TPM2_FlushContext of the first session.")
 
 
 def flush(text, tag=frames.NO_SESSIONS):
     return frames.command(CC.FlushContext, text, tag)
 
 
-script.command(
+tpm.raw(
     "With sessions (tag 8002) and nothing behind the header: AUTH_CONTEXT",
     flush(b"", frames.SESSIONS),
 )
-script.command("No handle: INSUFFICIENT/p1", flush(b""))
-script.command(
-    "A byte behind a handle that is no session's: SIZE", flush(number(RH_OWNER, 4) + b"\0")
-)
-script.command("That handle: VALUE/p1", flush(number(RH_OWNER, 4)))
-script.command("A session that is not there: HANDLE/p1", flush(number(0x0200_0009, 4)))
-script.command("The session: SUCCESS", flush(number(first.handle, 4)))
+tpm.raw("No handle: INSUFFICIENT/p1", flush(b""))
+tpm.raw("A byte behind a handle that is no session's: SIZE", flush(number(RH_OWNER, 4) + b"\0"))
+tpm.raw("That handle: VALUE/p1", flush(number(RH_OWNER, 4)))
+tpm.raw("A session that is not there: HANDLE/p1", flush(number(0x0200_0009, 4)))
+tpm.raw("The session: SUCCESS", flush(number(first.handle, 4)))
 
-script.chapter(
+tpm.chapter(
     "TPM2_StartAuthSession with TPM_ALG_XOR of another hash, by a session that masks the nonce."
 )
 masking = tpm.start("A session with TPM_ALG_XOR", RH_OWNER, xor=True)
@@ -191,4 +186,3 @@ tpm.refused("A salt: VALUE/p2", start(NULLS, masked(OTHER_HASH, 16), *uses))
 tpm.refused("Another hash than authHash: HASH/p4", start(NULLS, masked(OTHER_HASH, 16, b""), *uses))
 same = frames.start_auth_session(bytes(16), xor=frames.SHA256)[1]
 tpm.accepted("No fault is left", start(NULLS, same, *uses))
-script.write()

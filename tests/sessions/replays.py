@@ -9,7 +9,6 @@ from tpmsim.standard.nv import Attribute
 from tpmsim.standard.policy import AUTH_VALUE, PASSWORD
 from tpmsim.caller.script_caller import FIRST
 from tests.sessions.grounds_caller import AFTER_AUTH_VALUE, DATA, OWNER, ZEROS, GroundsCaller
-from tpmsim.caller.script import Script
 
 VALUE, LOCKOUT_AUTH, OTHER_DATA = b"a", b"lockout", b"to write"
 ENDS = 0x00
@@ -19,21 +18,20 @@ RECOVERY = 1_000_000  # milliseconds of recoveryTime and lockoutRecovery, as the
 # Random bytes that are given more than once.
 SEED, OTHER_SEED = b"\xa1", b"\xb2"
 
-script = Script(
+tpm = GroundsCaller(
     "tests/sessions/replays.tpm",
     "Commands that were accepted, and are sent again byte for byte. The hmac of a session is of "
     "its nonceTPM, which each accepted command makes a new one, so that it is refused where the "
     "hmac is compared. Where nothing is compared, or random bytes come again, it is accepted. Each "
     "command of a session has random bytes of its own, where nothing else is said.",
 )
-tpm = GroundsCaller(script)
 
 
 def with_random(what, seed, prepared):
     """Sends a command that must be accepted, with these random bytes; its answer."""
-    script.chapter(f"{what}: SUCCESS.")
-    script.entropy(seed)
-    return tpm.received(prepared, script.command("SUCCESS", prepared.buffer()))
+    tpm.chapter(f"{what}: SUCCESS.")
+    tpm.script.entropy(seed)
+    return tpm.received(prepared, tpm.raw("SUCCESS", prepared.buffer()))
 
 
 class Start:
@@ -94,7 +92,7 @@ def write(by, data=DATA, index=FIRST):
 
 def protected():
     """An unbound session, and a command of it that was accepted."""
-    script.chapter("A PROTECTED INDEX. It is no index with NO_DA, so each wrong entry is a try.")
+    tpm.chapter("A PROTECTED INDEX. It is no index with NO_DA, so each wrong entry is a try.")
     start = Start("TPM2_StartAuthSession of an HMAC session, bound to nothing")
     session = start.session
     first = accepted("TPM2_NV_Write by it, and it goes on", write(session))
@@ -109,7 +107,7 @@ def protected():
     again("The index is locked: the first again: LOCKOUT", first)
     again("And one by the nonce of now: LOCKOUT", right)
     tpm.tries_are("Neither is a try", 3)
-    script.wait(RECOVERY)
+    tpm.wait(RECOVERY)
     tpm.tries_are("recoveryTime later one try is forgiven", 2)
     again("The first again: AUTH_FAIL/s1", first)
     tpm.tries_are("It is locked again", 3)
@@ -121,7 +119,7 @@ def protected():
 
 
 def not_counted(session, to_endorsement):
-    script.chapter("WHAT IS NOT PROTECTED. A wrong entry is no try.")
+    tpm.chapter("WHAT IS NOT PROTECTED. A wrong entry is no try.")
     openly = tpm.index("An index with NO_DA", BY_VALUE | Attribute.NO_DA, value=VALUE)
     tpm.does("", write(VALUE, index=openly))
     for what, prepare in (
@@ -137,17 +135,17 @@ def not_counted(session, to_endorsement):
 
 
 def counted_otherwise(session):
-    script.chapter("LOCKOUTAUTH. A wrong entry closes it for lockoutRecovery.")
+    tpm.chapter("LOCKOUTAUTH. A wrong entry closes it for lockoutRecovery.")
     tpm.does('It is "lockout"', tpm.change_auth(RH_LOCKOUT, LOCKOUT_AUTH, b""))
     first = accepted("TPM2_DictionaryAttackLockReset by the session", tpm.lock_reset(session))
     again("The same again: AUTH_FAIL/s1", first)
     tpm.tries_are("It is no failed try", 0)
     again("But lockoutAuth is closed: the same again: LOCKOUT", first)
     again("And the password: LOCKOUT", tpm.lock_reset())
-    script.wait(RECOVERY)
+    tpm.wait(RECOVERY)
     tpm.does("lockoutRecovery later, the password", tpm.lock_reset())
 
-    script.chapter(
+    tpm.chapter(
         "A SESSION THAT WAS BOUND TO THE PROTECTED INDEX. Its wrong entry is a try wherever no "
         "other value is compared."
     )
@@ -166,7 +164,7 @@ def counted_otherwise(session):
 
 
 def other_places(session, to_endorsement):
-    script.chapter(
+    tpm.chapter(
         "OTHER PLACES. No command has two handles to authorize, so that the sessions in the second "
         "and in the third entry authorize nothing. The first entry is here a password."
     )
@@ -211,7 +209,7 @@ def other_places(session, to_endorsement):
 
 
 def compared_with_nothing(session):
-    script.chapter("NOTHING IS COMPARED where key and hmac are empty, and a password has no nonce.")
+    tpm.chapter("NOTHING IS COMPARED where key and hmac are empty, and a password has no nonce.")
     first = accepted("TPM2_PCR_Event by an empty hmac", tpm.event(b"event", session))
     accepted_again("The same again, and PCR 16 is extended twice", first)
     shown = tpm.event(b"event", Use(session, shows_empty_key=True))
@@ -220,7 +218,7 @@ def compared_with_nothing(session):
     by_password = accepted("TPM2_NV_Write by the password", write(VALUE))
     accepted_again("The same again", by_password)
 
-    script.chapter("Parameter encryption has the nonce in its key all the same.")
+    tpm.chapter("Parameter encryption has the nonce in its key all the same.")
     aes = tpm.start("A session with AES, bound to nothing", aes=True)
     decrypting = accepted(
         "TPM2_NV_Write by the password, and this session decrypts, whose hmac is empty",
@@ -237,7 +235,7 @@ def compared_with_nothing(session):
 
 
 def policy_sessions():
-    script.chapter(
+    tpm.chapter(
         "A POLICY SESSION forgets what it was told with each use. Where it is told that again, the "
         "hmac is compared."
     )
@@ -253,7 +251,7 @@ def policy_sessions():
     tpm.restarts(bound)
     tpm.does("It takes none away either: what was not sent yet", unsent)
 
-    script.chapter("The same with what TPM2_PolicyAuthValue and TPM2_PolicyPassword demand.")
+    tpm.chapter("The same with what TPM2_PolicyAuthValue and TPM2_PolicyPassword demand.")
     value = tpm.written_index(
         "An index of their policy", BY_POLICY | Attribute.OWNERWRITE, AFTER_AUTH_VALUE
     )
@@ -275,7 +273,7 @@ def policy_sessions():
     tpm.asserts_password(bound)
     accepted_again("The same again|as a password has no nonce", first)
 
-    script.chapter("And where key and hmac are empty.")
+    tpm.chapter("And where key and hmac are empty.")
     unbound = tpm.policy("A policy session, bound to nothing")
     first = accepted("TPM2_NV_Write of the first index", write(unbound, index=zeros))
     accepted_again("The same again", first)
@@ -286,7 +284,7 @@ def policy_sessions():
 
 
 def new_starts(start, first):
-    script.chapter(
+    tpm.chapter(
         "A NEW SESSION WITH THE SAME BYTES. The nonceTPM is of the random bytes: where they come "
         "again so does it, and that is not refused."
     )
@@ -300,7 +298,7 @@ def new_starts(start, first):
 
     tpm.flushed(session)
 
-    script.chapter("Other bytes.")
+    tpm.chapter("Other bytes.")
     start.otherwise("With other random bytes", OTHER_SEED)
     again("The first again: AUTH_FAIL/s1", first)
     tpm.flushed(session)
@@ -317,7 +315,7 @@ def new_starts(start, first):
     again("The first again: REFERENCE_S0, as its handle is of no session", first, "G8")
     tpm.flushed(other, elsewhere)
 
-    script.chapter("A bound session, whose key is of its nonceCaller and of the value.")
+    tpm.chapter("A bound session, whose key is of its nonceCaller and of the value.")
     bound = Start("TPM2_StartAuthSession, bound to TPM_RH_OWNER", RH_OWNER)
     event = accepted("TPM2_PCR_Event", tpm.event(b"event", bound.session))
     again("The same again: BAD_AUTH/s1", event)
@@ -339,7 +337,7 @@ def new_starts(start, first):
 
 
 def new_names(start):
-    script.chapter("The hmac is of the Name, too, which the first write of an index changes.")
+    tpm.chapter("The hmac is of the Name, too, which the first write of an index changes.")
     index = tpm.index("An index", BY_VALUE, value=VALUE)
     public = tpm.publics[index]
     start.again()
@@ -355,7 +353,7 @@ def new_names(start):
 
 
 def repeated_nonces(start):
-    script.chapter(
+    tpm.chapter(
         "ONE NONCE TWICE IN ONE SESSION, as random bytes come again. Here the session goes on."
     )
     start.again()
@@ -374,14 +372,14 @@ def repeated_nonces(start):
 
 
 def power_cycles(start, first):
-    script.chapter("A POWER CYCLE ends all sessions.")
+    tpm.chapter("A POWER CYCLE ends all sessions.")
     start.again()
     told = tpm.policy("A policy session beside it")
     for kind, words in ((CLEAR, "CLEAR"), (STATE, "STATE")):
         accepted_again("The first TPM2_NV_Write of the protected index", first)
         again("The same again: AUTH_FAIL/s1", first)
         tpm.does(f"TPM2_Shutdown({words})", tpm.shutting_down(kind))
-        script.power()
+        tpm.power()
         again("The same again: INITIALIZE, as the device is not started", first, "G5")
         tpm.start_up(f"TPM2_Startup({words})", kind)
         again("The same again: REFERENCE_S0, as the session is gone", first, "G8")
@@ -397,7 +395,7 @@ def power_cycles(start, first):
 
 
 def ended_sessions(start, to_endorsement):
-    script.chapter("WITHOUT continueSession a session ends with the use of it.")
+    tpm.chapter("WITHOUT continueSession a session ends with the use of it.")
     tpm.flushed(start.session)
     start.again()
     last = accepted("TPM2_NV_Write", write(Use(start.session, ENDS)))
@@ -417,20 +415,19 @@ def ended_sessions(start, to_endorsement):
 
 
 def refused_before(to_endorsement):
-    script.chapter(
+    tpm.chapter(
         "WHAT WAS REFUSED can be sent again until it is accepted: a refusal makes no nonce new."
     )
     reset = tpm.reset(to_endorsement, pcr=20)
     again("TPM2_PCR_Reset of PCR 20 from locality 0: LOCALITY", reset, "A1")
     again("The same again: LOCALITY", reset, "A1")
-    script.locality_is(4)
+    tpm.locality_is(4)
     accepted_again("The same from locality 4", reset)
     again("And once more: BAD_AUTH/s1", reset)
-    script.locality_is(0)
+    tpm.locality_is(0)
     again("From locality 0: BAD_AUTH/s1", reset)
 
 
-script.startup()
 tpm.does('ownerAuth is "owner"', tpm.change_auth(RH_OWNER, OWNER, b""))
 assert FIRST == tpm.index(
     'An index with AUTHWRITE and AUTHREAD, whose value is "a"', BY_VALUE, value=VALUE
@@ -452,4 +449,3 @@ power_cycles(start, first)
 to_endorsement = tpm.start("A session bound to TPM_RH_ENDORSEMENT", RH_ENDORSEMENT)
 ended_sessions(start, to_endorsement)
 refused_before(to_endorsement)
-script.write()

@@ -3,19 +3,17 @@
 from tpmsim.caller import Use, flipped
 from tpmsim.standard import CC, CONTINUE_SESSION, DECRYPT, ENCRYPT, RH_ENDORSEMENT, RH_OWNER, SHA1
 from tpmsim.standard import SHA256, frames, sized
-from tpmsim.caller.script_caller import ScriptCaller
-from tpmsim.caller.script import Script
+from tests.common.teller import Teller
 
 DECRYPTS = CONTINUE_SESSION | DECRYPT
 ENCRYPTS = CONTINUE_SESSION | ENCRYPT
 NAMES = {SHA1: "SHA-1", SHA256: "SHA-256"}
 
-script = Script(
+tpm = Teller(
     "tests/sessions/session_encryption.tpm",
     "Parameter encryption by AES-128 in mode CFB: a session with the attribute decrypt has "
     "encrypted the bytes of the first parameter, and one with encrypt those of the first answer.",
 )
-tpm = ScriptCaller(script)
 
 
 def others_are(*sessions):
@@ -24,14 +22,13 @@ def others_are(*sessions):
     return tpm.breaking(nonces_of_others=lambda *_: nonces)
 
 
-script.startup()
 tpm.accepted('ownerAuth is "owner"', tpm.change_auth(RH_OWNER, b"owner", b""))
 tpm.accepted(
     'endorsementAuth is "endorsement"', tpm.change_auth(RH_ENDORSEMENT, b"endorsement", b"")
 )
 
 for algorithm, size in ((SHA1, 16), (SHA1, 20), (SHA256, 16), (SHA256, 32)):
-    script.chapter(f"Sessions of {NAMES[algorithm]}, with nonces of {size} bytes.")
+    tpm.chapter(f"Sessions of {NAMES[algorithm]}, with nonces of {size} bytes.")
     choices = dict(algorithm=algorithm, size=size, aes=True)
     bound = tpm.start("Bound to TPM_RH_OWNER", RH_OWNER, **choices)
     unbound = tpm.start("Bound to nothing", **choices)
@@ -65,7 +62,7 @@ for algorithm, size in ((SHA1, 16), (SHA1, 20), (SHA256, 16), (SHA256, 32)):
     for session in (bound, unbound):
         tpm.accepted("It is flushed", tpm.flush(session))
 
-script.chapter("Sizes. Blocks have 16 bytes, and the last may be cut.")
+tpm.chapter("Sizes. Blocks have 16 bytes, and the last may be cut.")
 session = tpm.start("A session, bound to TPM_RH_OWNER", RH_OWNER, aes=True)
 for count in (0, 1, 15, 16, 17, 31, 32):
     tpm.accepted(f"TPM2_GetRandom of {count} bytes", tpm.random(count, Use(session, ENCRYPTS)))
@@ -75,7 +72,7 @@ for count in (0, 1, 15, 16, 17, 1024):
     )
 tpm.accepted("TPM2_PCR_Read of PCR 16", tpm.read_pcr(16))
 
-script.chapter("A session that decrypts beside the one that authorizes.")
+tpm.chapter("A session that decrypts beside the one that authorizes.")
 other = tpm.start("Another session, bound to TPM_RH_ENDORSEMENT", RH_ENDORSEMENT, aes=True)
 third = tpm.start("A third one, bound to nothing", aes=True, size=32)
 tpm.accepted(
@@ -133,7 +130,7 @@ tpm.refused(
     tpm.change_auth(RH_OWNER, b"owner", session, Use(other, DECRYPTS)),
 )
 
-script.chapter("Sessions that encrypt where nothing is authorized.")
+tpm.chapter("Sessions that encrypt where nothing is authorized.")
 other = tpm.start("Another session, bound to TPM_RH_ENDORSEMENT", RH_ENDORSEMENT, aes=True)
 tpm.accepted("TPM2_GetRandom: the second of two", tpm.random(32, session, Use(other, ENCRYPTS)))
 tpm.accepted("The first of three", tpm.random(32, Use(other, ENCRYPTS), session, third))
@@ -146,7 +143,7 @@ tpm.refused(
 )
 tpm.accepted("Without", tpm.random(32, session, Use(third, ENCRYPTS)))
 
-script.chapter(
+tpm.chapter(
     "TPM2_StartAuthSession has a sized buffer in both directions. The new session's key is of the "
     "nonces in plain, and its nonce is drawn before the others'."
 )
@@ -163,7 +160,7 @@ for words, uses in (
         "By the new session, which ends", tpm.change_auth(RH_OWNER, b"owner", Use(new, DECRYPT))
     )
 
-script.chapter("What is refused, with right hmacs.")
+tpm.chapter("What is refused, with right hmacs.")
 
 
 def changing(parameters, *uses):
@@ -208,4 +205,3 @@ tpm.refused(
 )
 tpm.accepted("The right one, with the nonce that no refusal changed", wrong)
 tpm.accepted('ownerAuth is still "owner"', tpm.change_auth(RH_OWNER, b"owner", b"owner"))
-script.write()

@@ -3,18 +3,16 @@
 from tpmsim.caller import Use
 from tpmsim.standard import CC, CONTINUE_SESSION, DECRYPT, ENCRYPT, Entry, RH_OWNER, RS_PW, SHA256
 from tpmsim.standard import frames, number, sized
-from tpmsim.caller.script_caller import ScriptCaller
-from tpmsim.caller.script import Script
+from tests.common.teller import Teller
 
 STAYS = CONTINUE_SESSION
 BOTH = DECRYPT | ENCRYPT
 
-script = Script(
+tpm = Teller(
     "tests/sessions/session_entries.tpm",
     "Entries of sessions in an authorization area: what is refused of them before any hmac is "
     "looked at, entry by entry, and in each the first of these faults.",
 )
-tpm = ScriptCaller(script)
 
 
 def entry(session, attributes=STAYS, nonce=b"", hmac=b""):
@@ -48,13 +46,12 @@ def change(*entries):
     return with_entries(CC.HierarchyChangeAuth, [RH_OWNER], sized(b"abc"), *entries)
 
 
-script.startup()
 plain = tpm.start("Session 02000000, bound to TPM_RH_OWNER, which cannot encrypt", RH_OWNER)
 aes = tpm.start("Session 02000001, bound to it, which can", RH_OWNER, aes=True)
 more = tpm.start("Session 02000002, bound to it, which can", RH_OWNER, aes=True)
 password = entry(RS_PW)
 
-script.chapter("The entries of these sessions have no hmac, which is wrong: they have keys.")
+tpm.chapter("The entries of these sessions have no hmac, which is wrong: they have keys.")
 tpm.refused("The first on PCR 16: BAD_AUTH/s1", reset(entry(plain)))
 tpm.refused("Behind a password: BAD_AUTH/s2", reset(password, entry(plain)))
 tpm.refused(
@@ -62,7 +59,7 @@ tpm.refused(
     tpm.prepare(CC.PCR_Reset, [16], b"", b"", aes, plain).but_entry(3, hmac=b""),
 )
 
-script.chapter("A nonce or an hmac of 33 bytes, of a session too.")
+tpm.chapter("A nonce or an hmac of 33 bytes, of a session too.")
 tpm.refused(
     "In the first entry: SIZE/s1",
     reset(entry(plain, nonce=bytes(33))),
@@ -71,7 +68,7 @@ tpm.refused(
 tpm.refused("In the second: SIZE/s2", reset(password, entry(plain, nonce=bytes(33))))
 tpm.refused("In the third: SIZE/s3", reset(password, entry(plain), entry(aes, hmac=bytes(33))))
 
-script.chapter("A session that is not there.")
+tpm.chapter("A session that is not there.")
 tpm.refused(
     "The next number, and far ones: REFERENCE_S0",
     *(reset(entry(it)) for it in (0x0200_0003, 0x0200_0010, 0x0200_0100, 0x02FF_FFFF)),
@@ -92,7 +89,7 @@ tpm.refused(
     random(entry(plain), entry(aes), entry(0x0300_0000)),
 )
 
-script.chapter("A session that stands twice, or a password that authorizes nothing.")
+tpm.chapter("A session that stands twice, or a password that authorizes nothing.")
 tpm.refused(
     "In the first two entries: HANDLE/s2",
     reset(entry(plain), entry(plain)),
@@ -109,7 +106,7 @@ tpm.refused(
     random(entry(plain), password),
 )
 
-script.chapter("Attributes.")
+tpm.chapter("Attributes.")
 tpm.refused(
     "Reserved ones, bit 3 and 4: RESERVED_BITS/s1",
     *(reset(entry(plain, it)) for it in (0x08, 0x10, 0x18, 0x09, 0xFF)),
@@ -172,7 +169,7 @@ tpm.refused(
     start(entry(aes, ENCRYPT), entry(more, BOTH)),
 )
 
-script.chapter("decrypt or encrypt in a session that cannot.")
+tpm.chapter("decrypt or encrypt in a session that cannot.")
 tpm.refused(
     "decrypt, TPM2_PCR_Event and TPM2_HierarchyChangeAuth: SYMMETRIC/s1",
     event(entry(plain, DECRYPT)),
@@ -189,7 +186,7 @@ tpm.refused(
     "As the third: SYMMETRIC/s3", start(entry(aes, DECRYPT), entry(more), entry(plain, ENCRYPT))
 )
 
-script.chapter(
+tpm.chapter(
     "The order within an entry: one fault after the other is repaired. The command is "
     "TPM2_PCR_Event with a right entry before."
 )
@@ -224,7 +221,7 @@ tpm.refused(
 )
 tpm.refused("The second entry's wrong hmac alone: BAD_AUTH/s2", second(entry(more, STAYS)))
 
-script.chapter("The order of entries: all of the first comes before the second.")
+tpm.chapter("The order of entries: all of the first comes before the second.")
 tpm.refused(
     "The last fault of the first entry, and the first of the second: SYMMETRIC/s1",
     event(entry(plain, DECRYPT), entry(0x8000_0000, 0xFF, nonce=bytes(33))),
@@ -235,7 +232,7 @@ tpm.refused(
 )
 cut = frames.entry(plain.handle, bytes(33)) + frames.entry(aes.handle)[:-1]
 four = (frames.entry(plain.handle, bytes(33)), *3 * [frames.entry(aes.handle)])
-script.command(
+tpm.raw(
     "But an entry that is cut comes before them all, and so does a fourth: AUTHSIZE",
     *(frames.on_handle(CC.PCR_Reset, 16, b"", entries) for entries in ((cut,), four)),
     fresh=True,
@@ -247,4 +244,3 @@ tpm.accepted(
     "The three of them, decrypting and in another order",
     tpm.event(b"abc", more, Use(aes, DECRYPT | STAYS), plain),
 )
-script.write()

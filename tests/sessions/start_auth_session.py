@@ -4,19 +4,18 @@ from tpmsim.caller import Use
 from tpmsim.standard import ALG_NULL, CC, RH_ENDORSEMENT, RH_LOCKOUT, RH_NULL, RH_OWNER
 from tpmsim.standard import RH_PLATFORM, RS_PW, SHA1, SHA256, area, command, entry, frames, number
 from tpmsim.standard import sized
-from tpmsim.caller.script_caller import ScriptCaller
-from tpmsim.caller.script import Script
+from tests.common.teller import Teller
 
 NONCE = bytes(range(16))
 ENDS = 0x00
 
-script = Script(
+tpm = Teller(
     "tests/sessions/start_auth_session.tpm",
     "TPM2_StartAuthSession starts an HMAC session, a policy session or a trial session. Its "
     "handles are tpmKey and bind; its parameters are nonceCaller, encryptedSalt, sessionType, "
     "symmetric and authHash.",
+    starts=False,
 )
-tpm = ScriptCaller(script)
 
 
 def start(**changes):
@@ -37,13 +36,13 @@ def words(*values):
 
 
 def refused(words, *buffers):
-    script.command(words, *buffers)
+    tpm.raw(words, *buffers)
 
 
 refused("Before TPM2_Startup: INITIALIZE", start())
-script.startup()
+tpm.startup()
 
-script.chapter("The handles, one after the other.")
+tpm.chapter("The handles, one after the other.")
 refused(
     "No handle, and two bytes of one: INSUFFICIENT/h1",
     command(CC.StartAuthSession, b""),
@@ -93,7 +92,7 @@ refused(
     command(CC.StartAuthSession, number(RH_NULL, 4) * 2 + area(entry()), frames.SESSIONS),
 )
 
-script.chapter("The parameters, read in order.")
+tpm.chapter("The parameters, read in order.")
 NULLS = [RH_NULL, RH_NULL]
 refused(
     "nonceCaller that is cut: INSUFFICIENT/p1",
@@ -162,7 +161,7 @@ refused(
 )
 refused("A byte behind them: SIZE", on(NULLS, frames.start_auth_session(NONCE)[1] + b"\0"))
 
-script.chapter("Of two faults the one that is read first.")
+tpm.chapter("Of two faults the one that is read first.")
 refused(
     "nonceCaller that says too much, and a sessionType of 02: SIZE/p1",
     start(nonce=bytes(33), kind=0x02),
@@ -176,7 +175,7 @@ refused(
     with_symmetric(words(frames.XOR, 0x000C), b""),
 )
 
-script.chapter("The command's own checks come behind all of these.")
+tpm.chapter("The command's own checks come behind all of these.")
 refused(
     "A nonce of 15 bytes and a salt, and a byte left over: SIZE",
     on(NULLS, frames.start_auth_session(bytes(15), salt=b"\x01")[1] + b"\0"),
@@ -194,7 +193,7 @@ refused(
 refused("A nonce of 15 bytes, and a salt: SIZE/p1", start(nonce=bytes(15), salt=b"\x01"))
 refused("A salt of 1 byte and of 32: VALUE/p2", start(salt=b"\x01"), start(salt=bytes(32)))
 
-script.chapter("None of these refusals started a session. What starts one, and it is ended again:")
+tpm.chapter("None of these refusals started a session. What starts one, and it is ended again:")
 
 
 def starts(what, **choices):
@@ -224,7 +223,7 @@ for bind, name in (
     )
 
 for kind, name in ((frames.SE_POLICY, "policy"), (frames.SE_TRIAL, "trial")):
-    script.chapter(f"A {name} session, of the same lowest number, and it is ended.")
+    tpm.chapter(f"A {name} session, of the same lowest number, and it is ended.")
     for what, choices in (
         ("SHA-256 and a nonce of 16 bytes", {}),
         ("SHA-256 and a nonce of 32 bytes", dict(size=32)),
@@ -248,7 +247,7 @@ for kind, name in ((frames.SE_POLICY, "policy"), (frames.SE_TRIAL, "trial")):
     refused("A tpmKey: VALUE/h1", start(tpm_key=RH_OWNER, kind=kind))
     refused("A wrong hash: HASH/p5", start(algorithm=ALG_NULL, kind=kind))
 
-script.chapter("Sessions beside the command, which authorize nothing.")
+tpm.chapter("Sessions beside the command, which authorize nothing.")
 first = tpm.start("A session, bound to TPM_RH_OWNER", RH_OWNER)
 second = tpm.start("Another one, started with the first beside it", uses=[first])
 assert second.handle == 0x0200_0001
@@ -268,7 +267,7 @@ tpm.refused(
 for session in (third, second, first):
     tpm.accepted("It ends", tpm.flush(session))
 
-script.chapter("There are sixteen sessions at most.")
+tpm.chapter("There are sixteen sessions at most.")
 sessions = []
 for place in range(16):
     what = "" if place else "Sixteen are started, and each has the lowest free number"
@@ -291,7 +290,7 @@ tpm.accepted("One ends as it is used", tpm.reset(Use(sessions[0], ENDS)))
 assert tpm.start("And its number is free").handle == 0x0200_0000
 tpm.accepted("The others are as they were", tpm.reset(sessions[15]))
 
-script.chapter("TPM_ALG_XOR, behind which stands the hash that makes its masks.")
+tpm.chapter("TPM_ALG_XOR, behind which stands the hash that makes its masks.")
 refused(
     "It is cut, before its hash and within it: INSUFFICIENT/p4",
     with_symmetric(words(frames.XOR), b""),
@@ -334,5 +333,3 @@ for kind, name in ((frames.SE_POLICY, "policy"), (frames.SE_TRIAL, "trial")):
     assert session.handle == 0x0300_0000
     tpm.accepted("TPM2_GetRandom by it", tpm.random(4, session))
     tpm.accepted("It is flushed", tpm.flush(session))
-
-script.write()

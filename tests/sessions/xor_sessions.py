@@ -11,8 +11,8 @@ from tpmsim.caller import HERE, OPEN, Use, area, flipped, hmac_key, sealed, stor
 from tpmsim.standard import CC, COMMAND_BYTES, CONTINUE_SESSION, DECRYPT, ENCRYPT, RH_ENDORSEMENT
 from tpmsim.standard import RH_OWNER, SE_TRIAL, SHA1, SHA256, frames, number, policy, sized
 from tpmsim.standard.policy import AUTH_VALUE, PASSWORD
-from tpmsim.caller.script_caller import FIRST, ScriptCaller
-from tpmsim.caller.script import Script
+from tpmsim.caller.script_caller import FIRST
+from tests.common.teller import Teller
 
 DECRYPTS, ENCRYPTS = CONTINUE_SESSION | DECRYPT, CONTINUE_SESSION | ENCRYPT
 BOTH = DECRYPTS | ENCRYPT
@@ -23,12 +23,12 @@ OWNER_AUTH = b"owner"
 # Sizes of a first buffer: none, a byte, those of digests and a byte more, and the largest data.
 SIZES = 0, 1, 20, 21, 32, 33, 1024
 
-script = Script(
+tpm = Teller(
     "tests/sessions/xor_sessions.tpm",
     "TPM_ALG_XOR: the bytes of the first parameter, or of the first answer, have on them a mask of "
     'as many bytes, KDFa(authHash, sessionKey || authValue, "XOR", nonceNewer, nonceOlder, bits).',
+    tries=True,
 )
-tpm = ScriptCaller(script)
 
 
 # The masks, by the book.
@@ -68,7 +68,7 @@ def masked(what, prepared, plain, place=1, auth_value=b""):
     """The same of an answer: the mask is that of the device's new nonce and the caller's."""
     use = prepared.uses[place - 1]
     tpm.accepted(what, prepared)
-    body = script.last.response[10:]
+    body = tpm.last.response[10:]
     if prepared.code == CC.StartAuthSession:
         body = body[4:]
     given = first_buffer(body[4:])
@@ -82,20 +82,18 @@ def masked(what, prepared, plain, place=1, auth_value=b""):
 
 def drawn(count):
     """What TPM2_GetRandom gives: random bytes from the front, which the next seed has."""
-    return (seed_of(script.seeds + 1) * 256)[:count]
+    return (seed_of(tpm.script.seeds + 1) * 256)[:count]
 
 
 def seed_of(number):
     return hashlib.sha256(b"entropy %d" % number).digest()[:7]
 
 
-script.startup()
-script.allow_tries()
 tpm.accepted('ownerAuth is "owner"', tpm.change_auth(RH_OWNER, OWNER_AUTH, b""))
 tpm.define("An index of 1,024 bytes", area(FIRST, size=1024), OWNER_AUTH, auth=b"index")
 
 for algorithm, nonce_size in ((SHA1, 16), (SHA1, 20), (SHA256, 16), (SHA256, 32)):
-    script.chapter(f"Sessions of {NAMES[algorithm]}, with nonces of {nonce_size} bytes.")
+    tpm.chapter(f"Sessions of {NAMES[algorithm]}, with nonces of {nonce_size} bytes.")
     choices = dict(algorithm=algorithm, size=nonce_size, xor=True)
     bound = tpm.start("Bound to TPM_RH_OWNER", RH_OWNER, **choices)
     unbound = tpm.start("Bound to nothing, and so with an empty key", **choices)
@@ -145,7 +143,7 @@ for algorithm, nonce_size in ((SHA1, 16), (SHA1, 20), (SHA256, 16), (SHA256, 32)
     for session in (bound, unbound):
         tpm.accepted("It is flushed", tpm.flush(session))
 
-script.chapter("Both directions of one command, with one session and with two.")
+tpm.chapter("Both directions of one command, with one session and with two.")
 session = tpm.start("A session, bound to TPM_RH_OWNER", RH_OWNER, xor=True)
 other = tpm.start("Another one, bound to TPM_RH_ENDORSEMENT", RH_ENDORSEMENT, xor=True)
 parent = tpm.create_primary("A storage key", RH_OWNER, storage_key(), OWNER_AUTH)
@@ -208,7 +206,7 @@ both_ways(
 tpm.accepted("The key is flushed", tpm.flush(key))
 tpm.forget(key)
 
-script.chapter("What an object answers.")
+tpm.chapter("What an object answers.")
 made = tpm.create(
     'Sealed data, whose value is "value"', parent, sealed(), user_auth=b"value", data=b"s" * 128
 )
@@ -255,14 +253,14 @@ trial = tpm.start("A trial session", kind=SE_TRIAL, xor=True)
 masked("TPM2_GetRandom by it", tpm.random(32, Use(trial, ENCRYPTS)), drawn(32))
 tpm.accepted("It is flushed", tpm.flush(trial))
 
-script.chapter(
+tpm.chapter(
     "TPM2_StartAuthSession has a sized buffer in both directions, and a nonce that is masked is "
     "that of the new session's key in plain."
 )
 new = tpm.start("One session does both", RH_OWNER, size=20, xor=True, uses=[Use(session, BOTH)])
 tpm.accepted("By the new session", tpm.change_auth(RH_OWNER, OWNER_AUTH, Use(new, DECRYPT)))
 
-script.chapter(
+tpm.chapter(
     "The longest first buffer that a command can hold. It is unmasked whole, and is too long then; "
     "so is one of 1,025 bytes."
 )
@@ -278,8 +276,8 @@ def of_size(size):
 LONGEST = COMMAND_BYTES - len(of_size(0))
 assert (LONGEST, len(of_size(LONGEST))) == (4067, 4096)
 for size in (1025, LONGEST):
-    script.command(f"TPM2_PCR_Event of {size:,} bytes: SIZE/p1", of_size(size), fresh=True)
-script.command("And of one byte more: COMMAND_SIZE", of_size(LONGEST + 1), fresh=True)
+    tpm.raw(f"TPM2_PCR_Event of {size:,} bytes: SIZE/p1", of_size(size), fresh=True)
+tpm.raw("And of one byte more: COMMAND_SIZE", of_size(LONGEST + 1), fresh=True)
 room = COMMAND_BYTES - len(tpm.event(b"", Use(session, DECRYPTS)).buffer())
 tpm.refused(
     f"With a nonce and an hmac, of {room:,} bytes: SIZE/p1",
@@ -294,12 +292,12 @@ tpm.refused(
 )
 masking("Of 1,024 bytes", tpm.event(bytes(1024), Use(session, DECRYPTS)), bytes(1024))
 
-script.chapter("What is refused, with right hmacs.")
+tpm.chapter("What is refused, with right hmacs.")
 tpm.refused(
     "TPM_ALG_XOR of SHA-1 for a session of SHA-256: HASH/p4",
     tpm.prepare(CC.StartAuthSession, *frames.start_auth_session(bytes(16), xor=SHA1)),
 )
-assert script.last.response == bytes.fromhex("80010000000a000004c3")
+assert tpm.last.response == bytes.fromhex("80010000000a000004c3")
 right = tpm.event(b"event data", Use(session, DECRYPTS))
 tpm.refused(
     "One bit of the masked bytes, which the hmac is of: BAD_AUTH/s1",
@@ -323,7 +321,7 @@ masking("No refusal has changed its nonce", right, b"event data")
 plain = tpm.start("A session without a cipher", RH_OWNER)
 tpm.refused("It masks nothing: SYMMETRIC/s1", tpm.event(b"event data", Use(plain, DECRYPTS)))
 
-script.chapter("The cipher of an object is AES, and no TPM_ALG_XOR.")
+tpm.chapter("The cipher of an object is AES, and no TPM_ALG_XOR.")
 template = storage_key().text
 assert template.count(frames.symmetric(aes=True)) == 1
 for words, cipher in (
@@ -338,4 +336,3 @@ for words, cipher in (
         f"A storage key with TPM_ALG_XOR and {words}: SYMMETRIC/p2",
         tpm.prepare(CC.CreatePrimary, [RH_OWNER], parameters, OWNER_AUTH),
     )
-script.write()

@@ -4,28 +4,23 @@ has it (Asserted).
 
 from dataclasses import dataclass
 
-from tpmsim.audit.words import entity_words
-from tpmsim.model import nv_commands
+from tpmsim.audit.watch import Seen
+from tpmsim.explain.words import handle_words
+from tpmsim.model.history import Accepted, LiveSession, Pcrs
 from tpmsim.policies.policy_texts import or_update
-from tpmsim.policies.written import PolicyAuthValue, PolicyCommandCode, PolicyCpHash
-from tpmsim.policies.written import PolicyLocality, PolicyNv, PolicyNvWritten, PolicyPassword
-from tpmsim.policies.written import PolicyPcr, PolicySecret
-from tpmsim.standard import frames
-from tpmsim.standard.commands import CC
-from tpmsim.standard.lines import handle_word
-from tpmsim.standard.policy import LEAST_BRANCHES, MOST_BRANCHES
-from tpmsim.standard.sessions import DIGEST_BYTES
+from tpmsim.policies.written import Said, Update
+from tpmsim.standard import CC, frames, values
 
 
 @dataclass(frozen=True)
 class PolicyOr:
     """The digest before it is one of these."""
 
-    digests: tuple
-
+    digests: tuple[bytes, ...]
+    code = CC.PolicyOR
     words = "PolicyOR"
 
-    def update(self, algorithm):
+    def update(self, algorithm: int) -> Update:
         return or_update(self.digests)
 
 
@@ -36,72 +31,43 @@ class Asserted:
     """
 
     line: int
-    said: object
+    said: Said | PolicyOr
     of: str
     before: bytes
     digest: bytes
 
-    def says(self, said):
+    def says(self, said: Said) -> bool:
         """Whether it says what is written. TPM2_PolicyAuthValue and TPM2_PolicyPassword have one
         digest, so that each of them stands for both.
         """
-        ask_value = isinstance(self.said, ASK_VALUE) and isinstance(said, ASK_VALUE)
+        ask_value = self.said.code in ASK_VALUE and said.code in ASK_VALUE
         return ask_value or self.said == said
 
 
-ASK_VALUE = PolicyAuthValue, PolicyPassword
+ASK_VALUE = CC.PolicyAuthValue, CC.PolicyPassword
 
 
-def asserted_by(seen, before, after, pcrs):
+def asserted_by(seen: Seen, before: LiveSession, after: LiveSession, pcrs: Pcrs) -> Asserted:
     """The assertion of an event, with its session before and after it, and the PCRs."""
-    event = seen.event
-    said = SAID[event.code](event, event.read(), before.algorithm, pcrs)
-    return Asserted(seen.line, said, named_by(event), before.policy.digest, after.policy.digest)
+    event, of = seen.accepted, ""
+    if event.code in (CC.PolicySecret, CC.PolicyNV):
+        of = handle_words(event.handles[0 if event.code == CC.PolicySecret else 1])
+    said = said_by(event, before.algorithm, pcrs)
+    return Asserted(seen.line, said, of, before.policy.digest, after.policy.digest)
 
 
-def named_by(event):
-    """The entity of TPM2_PolicySecret, or the index of TPM2_PolicyNV."""
-    if event.code == CC.PolicySecret:
-        return entity_words(event.handles[0])
-    return handle_word(event.handles[1]) if event.code == CC.PolicyNV else ""
-
-
-# What is said by each command: of a policy session TPM2_PolicyPCR asserts the values of now.
-
-
-def pcr_said(event, fields, algorithm, pcrs):
-    fields.next().sized(DIGEST_BYTES)
-    selection = fields.next().selection()
-    return PolicyPcr(frames.selection(*selection), pcrs.digest(algorithm, selection))
-
-
-def or_said(event, fields, algorithm, pcrs):
-    return PolicyOr(tuple(fields.next().sized_list(LEAST_BRANCHES, MOST_BRANCHES)))
-
-
-def secret_said(event, fields, algorithm, pcrs):
-    _, _, reference = (fields.next().sized(DIGEST_BYTES) for _ in range(3))
-    return PolicySecret(event.names[0], reference)
-
-
-def nv_said(event, fields, algorithm, pcrs):
-    return PolicyNv(event.names[1], *nv_commands.read_policy_nv(fields))
-
-
-def plain(said):
-    """Of a command that only its parameters matter of."""
-    return lambda event, fields, algorithm, pcrs: said(fields)
-
-
-SAID = {
-    CC.PolicyPCR: pcr_said,
-    CC.PolicyOR: or_said,
-    CC.PolicySecret: secret_said,
-    CC.PolicyNV: nv_said,
-    CC.PolicyAuthValue: plain(lambda fields: PolicyAuthValue()),
-    CC.PolicyPassword: plain(lambda fields: PolicyPassword()),
-    CC.PolicyCommandCode: plain(lambda fields: PolicyCommandCode(fields.next().number(4))),
-    CC.PolicyCpHash: plain(lambda fields: PolicyCpHash(fields.next().sized(DIGEST_BYTES))),
-    CC.PolicyNvWritten: plain(lambda fields: PolicyNvWritten(bool(fields.next().number(1)))),
-    CC.PolicyLocality: plain(lambda fields: PolicyLocality(fields.next().number(1))),
-}
+def said_by(event: Accepted, algorithm: int, pcrs: Pcrs) -> Said | PolicyOr:
+    """Of a policy session TPM2_PolicyPCR asserts the values of now."""
+    code = CC(event.code)
+    given = values.read_all(code.parameters, event.parameters)
+    match code:
+        case CC.PolicyPCR:
+            of_now = pcrs.digest(algorithm, given["pcrs"])
+            return Said(code, (frames.selection(*given["pcrs"]), of_now))
+        case CC.PolicyOR:
+            return PolicyOr(tuple(given["pHashList"]))
+        case CC.PolicySecret:
+            return Said(code, (event.names[0], given["policyRef"]))
+        case CC.PolicyNV:
+            return Said(code, (event.names[1], *given.values()))
+    return Said(code, tuple(given.values()))

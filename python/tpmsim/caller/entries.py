@@ -5,10 +5,8 @@ from __future__ import annotations
 from dataclasses import dataclass, replace
 from typing import Any, Union
 
-from tpmsim.standard import frames
-from tpmsim.standard.commands import CC
-from tpmsim.standard.frames import ALG_NULL, CONTINUE_SESSION, DECRYPT, ENCRYPT, Entry, SE_HMAC
-from tpmsim.standard.frames import number
+from tpmsim.standard import ALG_NULL, CC, CONTINUE_SESSION, DECRYPT, ENCRYPT, Entry, frames
+from tpmsim.standard import SE_HMAC
 from tpmsim.standard.objects import Public
 
 
@@ -73,12 +71,7 @@ class Prepared:
     entries: list[Entry]
 
     def buffer(self) -> bytes:
-        handles = b"".join(number(it, 4) for it in self.handles)
-        if not self.entries:
-            return frames.command(self.code, handles + self.parameters)
-        entries = [frames.entry(it.handle, it.nonce, it.attributes, it.hmac) for it in self.entries]
-        body = handles + frames.area(*entries) + self.parameters
-        return frames.command(self.code, body, frames.SESSIONS)
+        return frames.buffer_of(self.code, self.handles, self.entries, self.parameters)
 
     def authorized(self, place: int) -> int | None:
         """The handle that the entry of a place, from 1, authorizes, if any."""

@@ -5,7 +5,7 @@ from functools import cached_property
 from typing import Any
 
 from tpmsim.caller.entries import Prepared
-from tpmsim.standard.commands import CC
+from tpmsim.standard import CC
 from tpmsim.standard.frames import spelled_code
 from tpmsim.standard.values import read_all
 

@@ -3,9 +3,8 @@
 from dataclasses import dataclass
 from typing import Any, Iterator
 
-from tpmsim.standard import frames
+from tpmsim.standard import frames, Short
 from tpmsim.standard.objects import Public
-from tpmsim.standard.reading import Short
 from tpmsim.standard.values import Digest, Ticket, Time
 
 # Fields that come of random bytes or of a TPM's own secrets: their sizes are compared.

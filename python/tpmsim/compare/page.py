@@ -6,7 +6,7 @@ import sys
 from collections import Counter, defaultdict
 
 from tpmsim.compare.differences import Difference
-from tpmsim.compare.known import CAUSES, Cause, cause_of
+from tpmsim.compare.known import Cause, cause_of, CAUSES
 from tpmsim.compare.main import compared
 from tpmsim.model.player import BadLine
 

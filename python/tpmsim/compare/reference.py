@@ -10,11 +10,10 @@ from tpmsim.device.library import LibraryDevice
 from tpmsim.device.told import Device
 from tpmsim.model.general import Command
 from tpmsim.model.machine import MANUFACTURED, Model, Session
-from tpmsim.standard import sessions
+from tpmsim.standard import ALG_NULL, DECRYPT, ENCRYPT, Entry, Fields, NUMBERED, SESSIONS, sessions
+from tpmsim.standard import Short
 from tpmsim.standard.aes_tables import encrypt_block
-from tpmsim.standard.commands import NUMBERED
-from tpmsim.standard.frames import ALG_NULL, DECRYPT, ENCRYPT, NO_SESSIONS, SESSIONS, Entry
-from tpmsim.standard.reading import Fields, Short
+from tpmsim.standard.frames import NO_SESSIONS
 from tpmsim.standard.values import read_all
 
 

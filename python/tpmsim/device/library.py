@@ -9,7 +9,7 @@ import pathlib
 import tpmsim
 from tpmsim.device.base import BadImage, DeviceEnded, Executed
 from tpmsim.device.image_file import ImageFile
-from tpmsim.device.told import RANDOM_BYTES, Device, Path
+from tpmsim.device.told import Device, Path, RANDOM_BYTES
 
 NAME = "libtpmsim.so.0"
 RESPONSE_BYTES = 4096

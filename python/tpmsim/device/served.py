@@ -2,9 +2,9 @@
 
 import os
 
-from tpmsim.device.base import Answered, DeviceEnded, Executed, Transport, checked_locality
+from tpmsim.device.base import Answered, checked_locality, DeviceEnded, Executed, Transport
 from tpmsim.device.sockets import Connection
-from tpmsim.standard.frames import number
+from tpmsim.standard import number
 
 RESPONSE_BYTES, RETRY, MOST_TIMES = 4096, number(0x922, 4), 5
 

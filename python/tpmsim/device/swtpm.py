@@ -6,12 +6,10 @@ import tempfile
 import time
 from typing import Self
 
-from tpmsim.device.base import DeviceEnded, checked_locality
+from tpmsim.device.base import checked_locality, DeviceEnded
 from tpmsim.device.served import OtherDevice
 from tpmsim.device.sockets import Address, Connection
-from tpmsim.standard import frames, handle_kinds
-from tpmsim.standard.commands import CC
-from tpmsim.standard.frames import RH_PLATFORM, SHA1, SHA256, number
+from tpmsim.standard import CC, frames, handle_kinds, number, RH_PLATFORM, SHA1, SHA256
 
 # Requests of the control channel (swtpm's tpm_ioctl.h).
 INIT, SET_LOCALITY, GET_BLOB, SET_BLOB, STOP = 2, 5, 12, 13, 14

@@ -1,14 +1,10 @@
 """Commands and responses, field by field. Whatever the bytes are, all of them have a field."""
 
-from __future__ import annotations
-
 
 from tpmsim.explain import structures
 from tpmsim.explain.field import Cut, ENTRY, Field, HANDLE, HEADER, PARAMETER, REST, Walk
 from tpmsim.explain.words import ATTRIBUTES, bit_words, command_words, plural
-from tpmsim.standard import frames
-from tpmsim.standard.commands import CC, NUMBERED, Parameter
-from tpmsim.standard.frames import RS_PW
+from tpmsim.standard import CC, frames, NUMBERED, Parameter, RS_PW
 
 TAGS = {
     frames.NO_SESSIONS: "no sessions",

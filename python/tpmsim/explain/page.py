@@ -4,8 +4,6 @@ Whatever stands in a log is data of the page, which its script shows as text alo
 the element that it stands in, or be read as markup.
 """
 
-from __future__ import annotations
-
 import html
 import json
 import pathlib

@@ -1,7 +1,5 @@
 """A log as the values that its page has: each text once, and of each event what is otherwise."""
 
-from __future__ import annotations
-
 import re
 from typing import Any
 
@@ -12,9 +10,7 @@ from tpmsim.explain.play import Event, Play
 from tpmsim.explain.reason import Reason
 from tpmsim.explain.text import Counts, name_of
 from tpmsim.explain.words import handle_words, kind_words
-from tpmsim.standard import handle_kinds, lines
-from tpmsim.standard.commands import CC, NUMBERED
-from tpmsim.standard.frames import RH_NULL, RS_PW
+from tpmsim.standard import CC, handle_kinds, lines, NUMBERED, RH_NULL, RS_PW
 
 LONG_HEX = re.compile(r"[0-9A-Fa-f]{13,}")
 PCR_HANDLE = re.compile(r"000000[01][0-9a-f]")
@@ -104,7 +100,7 @@ class PageData:
         if scene.number not in NUMBERED:
             return []
         found = list(scene.handles)
-        if scene.command is not None:
+        if scene.known is not None:
             found += [it.handle for it in scene.command.entries or []]
         assert event.outcome is not None
         if not event.refused and scene.code.answers_handle:
@@ -143,7 +139,7 @@ class PageData:
         told["q"] = [scene.buffer.hex(), *self.fields(asked)]
         answered = dissection.fields_of_response(code, outcome.response, event.answered)
         told["r"] = [outcome.response.hex(), *self.fields(answered)]
-        if scene.plain is not None and scene.command and scene.plain != scene.command.parameters:
+        if scene.plain is not None and scene.plain != scene.command.parameters:
             told["p"] = [scene.parameters_at, scene.plain.hex()]
         if event.refused:
             told["x"] = self.texts.of(event.refused)

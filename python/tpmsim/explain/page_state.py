@@ -1,7 +1,5 @@
 """What a device has, as texts, and what an event makes another one."""
 
-from __future__ import annotations
-
 from typing import Iterator
 
 from tpmsim.explain import own_nv
@@ -11,8 +9,8 @@ from tpmsim.explain.words import handle_words, localities_words, seconds_words, 
 from tpmsim.model.machine import Model, Session
 from tpmsim.model.nv_commands import Index
 from tpmsim.model.object_rules import Object
-from tpmsim.standard import frames, nv, objects, policy
-from tpmsim.standard.frames import RH_ENDORSEMENT, RH_LOCKOUT, RH_OWNER, RH_PLATFORM
+from tpmsim.standard import frames, nv, objects, policy, RH_ENDORSEMENT, RH_LOCKOUT, RH_OWNER
+from tpmsim.standard import RH_PLATFORM
 
 # A value's group, what it is of, and its name.
 Key = tuple[str, str, str]

@@ -1,17 +1,14 @@
 """What came before a command: when the values were set that it stands on, and by which command."""
 
-from __future__ import annotations
-
 from dataclasses import dataclass, field
 
-from tpmsim.explain.assertions import Banks, Step, banks_of, step_of
+from tpmsim.explain.assertions import Banks, banks_of, Step, step_of
 from tpmsim.model import nv_commands, object_rules
 from tpmsim.model.general import Command
 from tpmsim.model.machine import Model, Session
 from tpmsim.model.parameters import Parameters
-from tpmsim.standard import frames, handle_kinds
-from tpmsim.standard.commands import CC
-from tpmsim.standard.frames import RH_ENDORSEMENT, RH_LOCKOUT, RH_OWNER, RH_PLATFORM
+from tpmsim.standard import CC, frames, handle_kinds, RH_ENDORSEMENT, RH_LOCKOUT, RH_OWNER
+from tpmsim.standard import RH_PLATFORM
 
 WRITES_PCR = CC.PCR_Extend, CC.PCR_Event, CC.PCR_Reset
 # How many states of the PCRs are kept.
@@ -217,6 +214,11 @@ class Past:
         """What a policy session was told, with the lines."""
         begun = self.sessions.get(handle)
         return [f"line {it.line}: {it.words}" for it in begun.told] if begun else []
+
+    def lines_told(self, handle: int, *codes: CC) -> list[int]:
+        """The lines of a policy session's assertions by these commands."""
+        begun = self.sessions.get(handle)
+        return [it.line for it in begun.told if it.code in codes] if begun else []
 
     def gone_words(self, handle: int) -> str:
         """When what a handle named ended, or that there never was such a thing."""

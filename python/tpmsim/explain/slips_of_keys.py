@@ -1,92 +1,77 @@
 """Slips in the key of an HMAC: its authorization value, and the session key."""
 
-from __future__ import annotations
-
-from dataclasses import replace
 from typing import Iterator
 
 from tpmsim.explain import encryption
 from tpmsim.explain.ingredients import Use
-from tpmsim.explain.slip import Change, Slip
-from tpmsim.explain.words import ALGORITHMS, handle_words
-from tpmsim.standard import frames, sessions
-from tpmsim.standard.frames import SHA1, SHA256
+from tpmsim.explain.slip import Slip, other_hash_words
+from tpmsim.explain.words import handle_words
+from tpmsim.standard import sessions, sized, trimmed
 
 # The bytes of a block of both hashes: an HMAC's key is padded with zeros to it.
-BLOCK = 64
-MOST_PADDED = 128
+BLOCK, MOST_PADDED = 64, 128
 
 
-# The authorization value in the key.
+def value_slip(name: str, words: str, value: bytes) -> Slip:
+    return Slip(name, words, "authValue", auth_value=value)
 
 
 def auth_values(use: Use) -> Iterator[Slip]:
+    """The authorization value in the key."""
     if use.handle is None:
         yield from values_put_in(use)
         return
     value, said = use.auth_value, handle_words(use.handle)
     if use.takes_value and value:
         if use.was_bound:
-            words = (
-                f"the authValue was left out; the binding to {said} has lapsed, {use.lapse_words()}"
-            )
-            yield Slip("binding lapsed", words, "authValue", value_is(b""))
+            lapsed = f"the binding to {said} has lapsed, {use.lapse_words()}"
+            yield value_slip("binding lapsed", f"the authValue was left out; {lapsed}", b"")
         else:
             words = f"the authValue of {said} was left out of the key: {use.value_words()}"
-            yield Slip("authValue left out", words, "authValue", value_is(b""))
+            yield value_slip("authValue left out", words, b"")
         yield from bent_values(value)
     if not use.takes_value and value:
         words = f"the authValue of {said} was put into the key: {use.value_words()}"
-        yield Slip("authValue put in", words, "authValue", value_is(value))
+        yield value_slip("authValue put in", words, value)
     for past in use.scene.past.values.get(use.handle, [])[:-1]:
         if past.value:
             words = (
                 f"the key has the authValue that {said} had since line {past.line}, which is past"
             )
-            yield Slip("old authValue", words, "authValue", value_is(past.value))
-    if use.scene.command is not None and use.code.name in ("HierarchyChangeAuth", "NV_ChangeAuth"):
-        plain = encryption.decrypting_use(use.scene)
-        new = new_value(use) if plain is None else b""
-        if new:
-            words = (
-                "the key has the new authValue; a command has the old one, its response the new one"
-            )
-            yield Slip("new authValue", words, "authValue", value_is(new))
+            yield value_slip("old authValue", words, past.value)
+    new = new_value(use)
+    if new:
+        words = "the key has the new authValue; a command has the old one, its response the new one"
+        yield value_slip("new authValue", words, new)
 
 
 def new_value(use: Use) -> bytes:
-    assert use.scene.command is not None
-    parameters = use.scene.command.parameters
-    size = int.from_bytes(parameters[:2], "big")
-    return sessions.trimmed(parameters[2 : 2 + size])
+    """That which a command sets and has in plain, or none."""
+    is_change = use.code.name in ("HierarchyChangeAuth", "NV_ChangeAuth")
+    if not is_change or encryption.decrypting_use(use.scene) is not None:
+        return b""
+    size = int.from_bytes(use.command.parameters[:2], "big")
+    return trimmed(use.command.parameters[2 : 2 + size])
 
 
 def values_put_in(use: Use) -> Iterator[Slip]:
     """Of an entry that authorizes nothing: the value of a handle of the command, or of its bind."""
-    handles = list(use.scene.handles)
-    if use.begun is not None:
-        handles.append(use.begun.bind)
-    for handle in dict.fromkeys(handles):
+    bind = [] if use.begun is None else [use.begun.bind]
+    for handle in dict.fromkeys([*use.scene.handles, *bind]):
         value = use.scene.model.auth_value(handle)
         if value:
-            words = (
-                f"the authValue of {handle_words(handle)} was put into the key, and the entry "
-                "authorizes nothing"
-            )
-            yield Slip("authValue put in", words, "authValue", value_is(value))
+            put_in = f"the authValue of {handle_words(handle)} was put into the key"
+            words = f"{put_in}, and the entry authorizes nothing"
+            yield value_slip("authValue put in", words, value)
 
 
 def bent_values(value: bytes) -> Iterator[Slip]:
     words = "the authValue has a line break behind it in the key"
-    yield Slip("authValue with a line break", words, "authValue", value_is(value + b"\n"))
+    yield value_slip("authValue with a line break", words, value + b"\n")
     words = "the authValue is in the key as the text of its hex"
-    yield Slip("authValue as hex", words, "authValue", value_is(value.hex().encode()))
+    yield value_slip("authValue as hex", words, value.hex().encode())
     words = "the authValue is in the key with its size in front"
-    yield Slip("authValue with its size", words, "authValue", value_is(frames.sized(value)))
-
-
-def value_is(value: bytes) -> Change:
-    return lambda it: replace(it, auth_value=value)
+    yield value_slip("authValue with its size", words, sized(value))
 
 
 def zeros(use: Use) -> Iterator[Slip]:
@@ -96,35 +81,31 @@ def zeros(use: Use) -> Iterator[Slip]:
         return
     for size in range(BLOCK - len(use.session.key) + 1, MOST_PADDED + 1):
         words = f"the authValue was padded with zeros to {size} bytes, and counts without them"
-        yield Slip("zeros", words, "authValue", value_is(value.ljust(size, b"\0")))
+        yield value_slip("zeros", words, value.ljust(size, b"\0"))
     for size in range(len(value) + 1, BLOCK + 1):
         words = f"the authValue has zeros in front, to {size} bytes"
-        yield Slip("zeros", words, "authValue", value_is(value.rjust(size, b"\0")))
-
-
-# The session key.
+        yield value_slip("zeros", words, value.rjust(size, b"\0"))
 
 
 def session_keys(use: Use) -> Iterator[Slip]:
     session, begun = use.session, use.begun
     if begun is None or not session.key:
         return
-    words = "the session key was left out: a bound session has one"
-    yield Slip("session key left out", words, "session key", key_is(b""))
-    first, caller = begun.nonces[0].value, begun.nonce_caller
-    made = sessions.session_key
-    words = "the session key was made with the nonces swapped: nonceTPM comes first"
-    swapped = made(session.algorithm, session.bind_auth, caller, first)
-    yield Slip("session key, nonces swapped", words, "session key", key_is(swapped))
-    other = SHA1 if session.algorithm == SHA256 else SHA256
-    words = f"the session key was made by {ALGORITHMS[other]}, and the session has {ALGORITHMS[session.algorithm]}"
-    yield Slip(
-        "wrong hash", words, "session key", key_is(made(other, session.bind_auth, first, caller))
-    )
+    first, caller, own = begun.nonces[0].value, begun.nonce_caller, session.algorithm
+
+    def slip(name: str, words: str, key: bytes) -> Slip:
+        return Slip(name, f"the session key was {words}", "session key", session_key=key)
+
+    yield slip("session key left out", "left out: a bound session has one", b"")
+    swapped = sessions.session_key(own, session.bind_auth, caller, first)
+    words = "made with the nonces swapped: nonceTPM comes first"
+    yield slip("session key, nonces swapped", words, swapped)
+    other, said = other_hash_words(own)
+    key = sessions.session_key(other, session.bind_auth, first, caller)
+    yield slip("wrong hash", f"made {said}", key)
     for value, said in bind_values(use):
-        words = f"the session key was made of {said}"
-        key = made(session.algorithm, value, first, caller)
-        yield Slip("session key, other authValue", words, "session key", key_is(key))
+        key = sessions.session_key(own, value, first, caller)
+        yield slip("session key, other authValue", f"made of {said}", key)
 
 
 def bind_values(use: Use) -> Iterator[tuple[bytes, str]]:
@@ -137,7 +118,3 @@ def bind_values(use: Use) -> Iterator[tuple[bytes, str]]:
     for past in use.scene.past.values.get(begun.bind, []):
         if past.value not in (b"", use.session.bind_auth):
             yield past.value, f"the authValue that {said} has since line {past.line}"
-
-
-def key_is(value: bytes) -> Change:
-    return lambda it: replace(it, session_key=value)

@@ -1,15 +1,11 @@
 """Parameters and the structures in them, field by field."""
 
-from __future__ import annotations
-
 from typing import Callable
 
 from tpmsim.explain import words
 from tpmsim.explain.field import Walk
-from tpmsim.explain.words import OPERATIONS, command_words
-from tpmsim.standard import frames, nv, objects
-from tpmsim.standard.commands import Kind, Parameter
-from tpmsim.standard.sessions import HASHES, digest_bytes
+from tpmsim.explain.words import command_words, OPERATIONS
+from tpmsim.standard import digest_bytes, frames, HASHES, Kind, nv, objects, Parameter
 
 STARTS = {0: "CLEAR", 1: "STATE"}
 TICKETS = {frames.ST_CREATION: "of a creation", frames.ST_AUTH_SECRET: "of an assertion"}

@@ -1,14 +1,10 @@
 """TPM2_GetCapability: what the device has and is (TPM 2.0 Library, Part 3, section 30.2)."""
 
-from __future__ import annotations
-
 from tpmsim.model.general import Answer, Refusal
 from tpmsim.model.held import Held
 from tpmsim.model.parameters import Request
-from tpmsim.standard import frames, handle_kinds
-from tpmsim.standard.commands import CC
-from tpmsim.standard.frames import HMAC_SESSION, NV, PERSISTENT, POLICY_SESSION, TRANSIENT, number
-from tpmsim.standard.sessions import HASHES
+from tpmsim.standard import CC, frames, handle_kinds, HASHES, HMAC_SESSION, number, NV, PERSISTENT
+from tpmsim.standard import POLICY_SESSION, TRANSIENT
 
 # The capabilities that are served (Part 2, section 6.12), and the most elements of one answer.
 HANDLES, COMMANDS, PCRS, PROPERTIES = 1, 2, 5, 6

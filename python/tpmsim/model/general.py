@@ -7,13 +7,11 @@ from __future__ import annotations
 from dataclasses import dataclass
 from typing import Iterator, TYPE_CHECKING
 
-from tpmsim.standard import frames
-from tpmsim.standard.commands import CC, Fact, Handle, NUMBERED
-from tpmsim.standard.frames import AUDIT, AUDIT_EXCLUSIVE, AUDIT_RESET, COMMAND_BYTES, DECRYPT
-from tpmsim.standard.frames import ENCRYPT, Entry, HEADER_BYTES, MOST_ENTRIES, PERSISTENT, RESERVED
-from tpmsim.standard.frames import RS_PW, TRANSIENT
-from tpmsim.standard.handle_kinds import IS_OF_KIND, first_byte, is_index, is_policy, is_session
-from tpmsim.standard.reading import Fields, Short
+from tpmsim.standard import CC, COMMAND_BYTES, DECRYPT, ENCRYPT, Entry, Fact, Fields, first_byte
+from tpmsim.standard import frames, Handle, HEADER_BYTES, is_index, is_policy, is_session
+from tpmsim.standard import MOST_ENTRIES, NUMBERED, PERSISTENT, RS_PW, Short, TRANSIENT
+from tpmsim.standard.frames import AUDIT, AUDIT_EXCLUSIVE, AUDIT_RESET, RESERVED
+from tpmsim.standard.handle_kinds import IS_OF_KIND
 
 if TYPE_CHECKING:
     from tpmsim.model.machine import Session

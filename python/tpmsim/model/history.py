@@ -12,12 +12,9 @@ from typing import Any, Callable, Iterator, TYPE_CHECKING
 
 from tpmsim.model import nv_commands, object_rules, pcrs, policy_state, state
 from tpmsim.model.parameters import Parameters
-from tpmsim.standard import frames, nv, policy, sessions
-from tpmsim.standard.commands import CC
-from tpmsim.standard.frames import RH_ENDORSEMENT, RH_LOCKOUT, RH_NULL, RH_OWNER, RH_PLATFORM
-from tpmsim.standard.frames import RS_PW, SHA1, SHA256, number
-from tpmsim.standard.handle_kinds import PCRS
-from tpmsim.standard.sessions import DIGEST_BYTES, digest, digest_bytes, trimmed
+from tpmsim.standard import CC, digest, digest_bytes, DIGEST_BYTES, frames, number, nv, PCRS, policy
+from tpmsim.standard import RH_ENDORSEMENT, RH_LOCKOUT, RH_NULL, RH_OWNER, RH_PLATFORM, RS_PW
+from tpmsim.standard import sessions, SHA1, SHA256, trimmed
 
 if TYPE_CHECKING:
     from tpmsim.model.machine import Model

@@ -14,14 +14,12 @@ from tpmsim.model.general import Answer, Command, Refusal
 from tpmsim.model.history import Accepted, PowerCycle
 from tpmsim.model.parameters import Parameters, Request
 from tpmsim.model.policy_state import Entity
-from tpmsim.standard import aes, frames, handle_kinds, nv, objects, policy, sessions
+from tpmsim.standard import aes, CC, DECRYPT, digest_bytes, DIGEST_BYTES, ENCRYPT, Entry, Fact
+from tpmsim.standard import Fields, frames, handle_kinds, number, nv, objects, policy
+from tpmsim.standard import RH_ENDORSEMENT, RH_LOCKOUT, RH_NULL, RH_OWNER, RH_PLATFORM, RS_PW
+from tpmsim.standard import sessions, Short, sized, TRANSIENT, trimmed
 from tpmsim.standard.aes_tables import encrypt_block
-from tpmsim.standard.commands import CC, Fact
-from tpmsim.standard.frames import DECRYPT, ENCRYPT, Entry, RH_ENDORSEMENT, RH_LOCKOUT, RH_NULL
-from tpmsim.standard.frames import RH_OWNER, RH_PLATFORM, RS_PW, TRANSIENT, number, sized
 from tpmsim.standard.objects import Attribute
-from tpmsim.standard.reading import Fields, Short
-from tpmsim.standard.sessions import DIGEST_BYTES, digest_bytes, trimmed
 
 # How many bytes TPM2_GetRandom gives.
 RANDOM_AT_ONCE = 32

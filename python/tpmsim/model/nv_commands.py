@@ -4,18 +4,14 @@ TPM 2.0 Library, Part 1, section 37; Part 2, section 13; Part 3, section 31. Wha
 is left to each TPM, or is narrower here, is that of docs/table.
 """
 
-from __future__ import annotations
-
 from dataclasses import dataclass
 
 from tpmsim.model.general import Answer, Refusal
 from tpmsim.model.held import Held
 from tpmsim.model.parameters import Parameters, Request
-from tpmsim.standard.commands import CC, Fact
-from tpmsim.standard.frames import NV, RH_OWNER, RH_PLATFORM, number, sized
-from tpmsim.standard.handle_kinds import first_byte
+from tpmsim.standard import CC, digest, digest_bytes, DIGEST_BYTES, Fact, first_byte, number, NV
+from tpmsim.standard import RH_OWNER, RH_PLATFORM, sized, trimmed
 from tpmsim.standard.nv import Attribute, NAMED, NUMBER_BYTES, Public, READS, Type, WRITES
-from tpmsim.standard.sessions import DIGEST_BYTES, digest, digest_bytes, trimmed
 
 # How many indices there may be, how many bytes they may have in all, and one alone.
 INDICES, ALL_BYTES, INDEX_BYTES = 64, 16_384, 2048

@@ -1,7 +1,5 @@
 """The commands of objects (TPM 2.0 Library, Part 3, sections 12, 15 and 24)."""
 
-from __future__ import annotations
-
 from dataclasses import replace
 
 from tpmsim.model import object_rules
@@ -9,10 +7,9 @@ from tpmsim.model.general import Answer, Refusal
 from tpmsim.model.held import Held
 from tpmsim.model.object_rules import Object, Template
 from tpmsim.model.parameters import Request
-from tpmsim.standard import aes
-from tpmsim.standard.frames import ALG_NULL, KEYEDHASH, TRANSIENT, number, sized
+from tpmsim.standard import aes, ALG_NULL, digest, HASHES, KEYEDHASH, mac, number, sized, TRANSIENT
+from tpmsim.standard import trimmed
 from tpmsim.standard.objects import Attribute, Public
-from tpmsim.standard.sessions import HASHES, digest, mac, trimmed
 
 # How many transient objects there may be, and how many bytes TPM2_HMAC takes.
 OBJECTS = 8

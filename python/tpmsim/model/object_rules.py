@@ -5,18 +5,14 @@ and creation of objects); Part 2, section 12. A primary object has no parent: wh
 for, `parent` is None.
 """
 
-from __future__ import annotations
-
 from dataclasses import dataclass, replace
 
 from tpmsim.model.general import Refusal
 from tpmsim.model.parameters import Parameters
-from tpmsim.standard import aes, frames
+from tpmsim.standard import aes, ALG_NULL, digest, digest_bytes, DIGEST_BYTES, Fields, frames, kdfa
+from tpmsim.standard import KEYEDHASH, mac, number, SHA256, Short, sized, SYMCIPHER, trimmed
 from tpmsim.standard.aes_tables import encrypt_block
-from tpmsim.standard.frames import ALG_NULL, KEYEDHASH, SHA256, SYMCIPHER, number, sized
 from tpmsim.standard.objects import Attribute, NAMED, Public
-from tpmsim.standard.reading import Fields, Short
-from tpmsim.standard.sessions import DIGEST_BYTES, digest, digest_bytes, kdfa, mac, trimmed
 
 AES_KEY_BYTES = 16
 

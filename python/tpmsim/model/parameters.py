@@ -6,10 +6,7 @@ from dataclasses import dataclass
 from typing import Callable, Iterable, TypeVar
 
 from tpmsim.model.general import Refusal
-from tpmsim.standard import frames
-from tpmsim.standard.handle_kinds import PCRS
-from tpmsim.standard.reading import Fields, Short
-from tpmsim.standard.sessions import DIGEST_BYTES, HASHES
+from tpmsim.standard import DIGEST_BYTES, Fields, frames, HASHES, PCRS, Short
 
 T = TypeVar("T")
 

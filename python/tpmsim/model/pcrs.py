@@ -2,17 +2,13 @@
 17; Part 3, section 22). What of these sections is left to each TPM is that of docs/table.
 """
 
-from __future__ import annotations
-
 from typing import Sequence
 
 from tpmsim.model.general import Answer, Refusal
 from tpmsim.model.held import Held
 from tpmsim.model.parameters import Request
-from tpmsim.standard import frames
-from tpmsim.standard.frames import RH_NULL, SHA1, SHA256, number, sized
-from tpmsim.standard.handle_kinds import PCRS
-from tpmsim.standard.sessions import HASHES, digest, digest_bytes
+from tpmsim.standard import digest, digest_bytes, frames, HASHES, number, PCRS, RH_NULL, SHA1
+from tpmsim.standard import SHA256, sized
 
 DYNAMIC_PCRS = range(17, 23)
 LOCALITIES = range(5)

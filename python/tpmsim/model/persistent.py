@@ -1,13 +1,10 @@
 """TPM2_EvictControl: objects that outlive power cycles (TPM 2.0 Library, Part 3, section 28.5)."""
 
-from __future__ import annotations
-
 from tpmsim.model.general import Answer, Refusal
 from tpmsim.model.held import Held
 from tpmsim.model.object_rules import Object
 from tpmsim.model.parameters import Request
-from tpmsim.standard.frames import PERSISTENT, RH_ENDORSEMENT, RH_OWNER, RH_PLATFORM
-from tpmsim.standard.handle_kinds import first_byte
+from tpmsim.standard import first_byte, PERSISTENT, RH_ENDORSEMENT, RH_OWNER, RH_PLATFORM
 from tpmsim.standard.objects import Attribute
 
 # How many there may be, and the first handle of those that are the platform's.

@@ -2,8 +2,6 @@
 anything; expected.py reads the scripts of tests/, which have comments that say what must come.
 """
 
-from __future__ import annotations
-
 import re
 from typing import Iterable
 

@@ -3,16 +3,12 @@
 A trial session is told what need not be so.
 """
 
-from __future__ import annotations
-
 from tpmsim.model import nv_commands, policy_state
 from tpmsim.model.general import Answer, Refusal
 from tpmsim.model.held import Held
 from tpmsim.model.parameters import Request
-from tpmsim.standard import frames, policy
-from tpmsim.standard.commands import NUMBERED
-from tpmsim.standard.frames import number, sized
-from tpmsim.standard.sessions import DIGEST_BYTES, digest, digest_bytes
+from tpmsim.standard import digest, digest_bytes, DIGEST_BYTES, frames, number, NUMBERED, policy
+from tpmsim.standard import sized
 
 
 class Commands(Held):

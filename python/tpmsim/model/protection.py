@@ -4,8 +4,6 @@ and forgiven, and the commands that say how (TPM 2.0 Library, Part 1, section 19
 lockoutAuth, the value of TPM_RH_LOCKOUT, is protected in a way of its own: one wrong try closes it.
 """
 
-from __future__ import annotations
-
 from dataclasses import dataclass
 
 from tpmsim.model.general import Answer

@@ -3,17 +3,13 @@ starts, and the commands that start, shut down, and clear (TPM 2.0 Library, Part
 and 14; Part 3, sections 9, 10, 24 and 29).
 """
 
-from __future__ import annotations
-
 import enum
 
 from tpmsim.model import nv_commands
 from tpmsim.model.general import Answer, Refusal
 from tpmsim.model.held import Held
 from tpmsim.model.parameters import Request
-from tpmsim.standard import nv
-from tpmsim.standard.frames import RH_ENDORSEMENT, RH_LOCKOUT, RH_NULL, RH_OWNER, RH_PLATFORM
-from tpmsim.standard.frames import number
+from tpmsim.standard import number, nv, RH_ENDORSEMENT, RH_LOCKOUT, RH_NULL, RH_OWNER, RH_PLATFORM
 
 CLEAR, STATE = 0, 1
 
