@@ -194,21 +194,16 @@ WRONG = (
 )
 
 
-def main() -> None:
-    texts = documents()
-    print(f"{len(CC)} COMMANDS: the lists of documents, and how many entries they have.")
-    for what, check in CHECKS.items():
-        listed = check(texts)
-        print(f"{what}: {len(listed.found)}")
-        for difference in listed.differences:
-            print(f"DIFFERS: {difference}")
-    print("CHANGED DOCUMENTS:")
-    for path, text, instead in WRONG:
-        assert text in texts[path], f"{path}: {text}"
-        changed = texts | {path: texts[path].replace(text, instead, 1)}
-        found = [what for what, check in CHECKS.items() if check(changed).differences]
-        print(f'{path}, "{instead}" for "{text}": found in {"; ".join(found) or "NOTHING"}')
-
-
-if __name__ == "__main__":
-    main()
+texts = documents()
+print(f"{len(CC)} COMMANDS: the lists of documents, and how many entries they have.")
+for what, check in CHECKS.items():
+    listed = check(texts)
+    print(f"{what}: {len(listed.found)}")
+    for difference in listed.differences:
+        print(f"DIFFERS: {difference}")
+print("CHANGED DOCUMENTS:")
+for path, text, instead in WRONG:
+    assert text in texts[path], f"{path}: {text}"
+    changed = texts | {path: texts[path].replace(text, instead, 1)}
+    found = [what for what, check in CHECKS.items() if check(changed).differences]
+    print(f'{path}, "{instead}" for "{text}": found in {"; ".join(found) or "NOTHING"}')
