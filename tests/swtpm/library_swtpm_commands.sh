@@ -138,6 +138,10 @@ label 'completing'
 for complete in 0 1 yes; do
     TPMSIM_COMPLETE=$complete
     export TPMSIM_COMPLETE
+<<<<<<< HEAD
+    printf 'on\ndo Startup 0\ncmd 80010000000e0000014600020102\noff\n' | caller
+=======
     printf 'on\noff\n' | play
+>>>>>>> origin/main
 done
 unset TPMSIM_COMPLETE
