@@ -13,6 +13,7 @@ struct kept {
     struct journal journal;
     struct draws draws;
     enum kept_force force;
+    bool completes;
     bool is_in_memory;
     uint8_t record[TPMSIM_RECORD_ROOM];
 };
@@ -106,6 +107,7 @@ struct kept *kept_open(const struct kept_options *options, struct reason *reason
     }
     kept->journal.folder.descriptor = kept->journal.folder.lock = kept->journal.file = -1;
     kept->force = options->force;
+    kept->completes = options->completes;
     kept->is_in_memory = !options->folder;
     if (open_all(kept, options, reason)) return kept;
     kept_close(kept);
@@ -119,7 +121,7 @@ static bool execute(struct kept *kept, const uint8_t *buffer, size_t size, uint8
     size_t record_size;
     if (!renew(kept, reason) || !tell_now(kept, &now_ms, reason)) return false;
     uint8_t told = tpmsim_journal_execute(&kept->journal.device, buffer, size, locality, now_ms,
-                                          0, kept->draws.bytes, response, answered,
+                                          kept->completes, kept->draws.bytes, response, answered,
                                           kept->record, &record_size);
     if (told != TPMSIM_DONE) return refuse_kept(kept, told_words(told), reason);
     kept->draws.drawn = answered->drawn;

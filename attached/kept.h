@@ -31,6 +31,8 @@ struct kept_options {
     const uint8_t *random;
     size_t random_size;
     enum kept_force force;
+    /* The completing layer is on. */
+    bool completes;
     /* A folder without a device is a fault; else a new device begins there. */
     bool is_there;
 };

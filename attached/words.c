@@ -3,9 +3,10 @@
 #include <stdlib.h>
 #include <string.h>
 
-enum word { STATE, LOCALITY, IMAGE, RANDOM, FORCE, WORDS };
+enum word { STATE, COMPLETE, LOCALITY, IMAGE, RANDOM, FORCE, WORDS };
 
-static const char *const NAMES[WORDS] = {"state=", "locality=", "image=", "random=", "force="};
+static const char *const NAMES[WORDS] = {"state=", "complete", "locality=",
+                                         "image=", "random=",  "force="};
 
 static bool read_locality(struct words *words, const char *value) {
     if (value[0] < '0' || value[0] > '4' || value[1]) return false;
@@ -49,6 +50,7 @@ static bool read_random(struct words *words, const char *value) {
 static bool read_value(struct words *words, enum word word, const char *value) {
     switch (word) {
     case STATE: words->options.folder = value; return *value != 0;
+    case COMPLETE: words->options.completes = true; return *value == 0;
     case LOCALITY: return read_locality(words, value);
     case IMAGE: words->options.image = value; return *value != 0;
     case RANDOM: return read_random(words, value);

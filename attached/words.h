@@ -1,11 +1,11 @@
-/* The words by which the module is told what to attach: `state=DIR,locality=3` and so on. */
+/* The words by which the module is told what to attach: `state=DIR,complete` and so on. */
 #ifndef WORDS_H
 #define WORDS_H
 #include "kept.h"
 
 /* What the words are, as a sentence has them that says what is wanted. */
 #define WORDS_WANTED                                                                               \
-    "state=DIR, locality=0 to 4, image=FILE, random=HEX, force=never, force=power or "   \
+    "state=DIR, complete, locality=0 to 4, image=FILE, random=HEX, force=never, force=power or " \
     "force=always"
 
 /* A text of words, and what they ask for. The options point into it. */

@@ -1,4 +1,3 @@
-#!/usr/bin/env python3
 """Prints a script that objects.sh measures: a command of objects, so many times.
 
     python3 bench/object_script.py Load 2000
@@ -11,9 +10,9 @@ TPM2_HMAC is over 1,024 bytes. Each is authorized by a password.
 import sys
 
 from tpmsim.caller import hmac_key, sealed, storage_key
-from tpmsim.standard import RH_OWNER, SHA256
-from tpmsim.caller.script_caller import ScriptCaller
 from tpmsim.caller.script import Script
+from tpmsim.caller.script_caller import ScriptCaller
+from tpmsim.standard import RH_OWNER, SHA256
 
 SECRET = bytes(range(32))
 

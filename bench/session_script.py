@@ -1,4 +1,3 @@
-#!/usr/bin/env python3
 """Prints the script that sessions.sh measures: TPM2_PCR_Reset of PCR 16 through an HMAC session.
 
     python3 bench/session_script.py 100000
@@ -11,9 +10,9 @@ sent.
 import sys
 
 from tpmsim.caller import Use
-from tpmsim.standard import RH_OWNER
-from tpmsim.caller.script_caller import ScriptCaller
 from tpmsim.caller.script import Script
+from tpmsim.caller.script_caller import ScriptCaller
+from tpmsim.standard import RH_OWNER
 
 script = Script("bench", "")
 caller = ScriptCaller(script)

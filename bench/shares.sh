@@ -8,7 +8,7 @@
 set -eu
 
 top=$(CDPATH='' cd "$(dirname "$0")/.." && pwd -P)
-program=$(cd "$top" && . tools/program.sh) || exit 1
+program=$(cd "$top" && . tools/lib/program.sh) || exit 1
 folder=$(mktemp -d)
 trap 'rm -rf "$folder"' EXIT
 

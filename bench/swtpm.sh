@@ -1,16 +1,16 @@
 #!/bin/sh
 # Measures commands over the socket of a swtpm: with its own libtpms, and as a tpmsim, in turn. Needs python3
-# and what tools/attached_swtpm.sh needs. Not part of the gate.
+# and what tools/interop/attached_swtpm.sh needs. Not part of the gate.
 #
 #   bench/swtpm.sh [STATES]    STATES is where the states are kept; else /dev/shm
 #
-# The folder of tools/attached_swtpm.sh is that of $ATTACHED, or it is made.
+# The folder of tools/interop/attached_swtpm.sh is that of $ATTACHED, or it is made.
 set -eu
 
 top=$(CDPATH='' cd "$(dirname "$0")/.." && pwd -P)
 work=$(mktemp -d -p "${1:-/dev/shm}")
 trap 'rm -rf "$work"' EXIT
 attached=${ATTACHED:-$work/attached}
-[ -n "${ATTACHED:-}" ] || "$top/tools/attached_swtpm.sh" "$attached"
+[ -n "${ATTACHED:-}" ] || "$top/tools/interop/attached_swtpm.sh" "$attached"
 cd "$work"
 PYTHONDONTWRITEBYTECODE=1 python3 "$top/bench/swtpm.py" "$attached"

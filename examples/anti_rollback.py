@@ -2,12 +2,12 @@
 
 import hashlib
 
-from tpmsim.caller import HERE, counter, sealed, storage_key
-from tpmsim.standard import CC, RH_OWNER, RH_PLATFORM, SHA256, digest, number, policy, selection
+from tpmsim.caller import counter, HERE, sealed, storage_key
+from tpmsim.caller.script import Script
+from tpmsim.caller.script_caller import ScriptCaller
+from tpmsim.standard import CC, digest, number, policy, RH_OWNER, RH_PLATFORM, selection, SHA256
 from tpmsim.standard.nv import Attribute
 from tpmsim.standard.objects import Attribute as ObjectAttribute
-from tpmsim.caller.script_caller import ScriptCaller
-from tpmsim.caller.script import Script
 
 MINIMUM = 0x0140_0001
 LESS_OR_EQUAL = 9

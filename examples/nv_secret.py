@@ -2,11 +2,11 @@
 
 import hashlib
 
-from tpmsim.caller import Use, area
-from tpmsim.standard import CC, CONTINUE_SESSION, DECRYPT, ENCRYPT, RH_OWNER, frames
-from tpmsim.standard.nv import Attribute
-from tpmsim.caller.script_caller import ScriptCaller
+from tpmsim.caller import area, Use
 from tpmsim.caller.script import Script
+from tpmsim.caller.script_caller import ScriptCaller
+from tpmsim.standard import CC, CONTINUE_SESSION, DECRYPT, ENCRYPT, frames, RH_OWNER
+from tpmsim.standard.nv import Attribute
 
 SECRET_INDEX = 0x0100_0020
 SECRET = hashlib.sha256(b"the volume key of a disk").digest()

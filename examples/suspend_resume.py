@@ -2,11 +2,11 @@
 
 import hashlib
 
-from tpmsim.caller import CLEAR, HERE, STATE, sealed, storage_key
+from tpmsim.caller import CLEAR, HERE, sealed, STATE, storage_key
+from tpmsim.caller.script import Script
+from tpmsim.caller.script_caller import ScriptCaller
 from tpmsim.standard import RH_OWNER, SHA256
 from tpmsim.standard.objects import Attribute
-from tpmsim.caller.script_caller import ScriptCaller
-from tpmsim.caller.script import Script
 
 KEY = hashlib.sha256(b"the key of a user's home directory").digest()
 BOOT = (

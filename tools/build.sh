@@ -4,8 +4,8 @@
 # command of the Rattle toolchain, and git.
 set -u
 cd "$(dirname "$0")/.." && top=$(pwd -P) || exit 3
-. tools/proved.sh
-. tools/proving.sh
+. tools/lib/proved.sh
+. tools/lib/proving.sh
 out=$top/crates/tpmsim/out
 log=$out/build.log
 

@@ -10,7 +10,7 @@
 #                           names
 set -u
 cd "$(dirname "$0")/.." || exit 1
-. tools/proved.sh
+. tools/lib/proved.sh
 
 # What is wrong with dist/, a fault a line.
 faults() {

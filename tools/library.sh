@@ -7,8 +7,8 @@
 # and Debian's binutils.
 set -u
 cd "$(dirname "$0")/.." && top=$(pwd -P) || exit 1
-. tools/proved.sh
-. tools/proving.sh
+. tools/lib/proved.sh
+. tools/lib/proving.sh
 exports=tpmsim_library
 below=$(crates_below "$exports") || exit 1
 work=$(mktemp -d) || exit 1

@@ -9,7 +9,7 @@
 #
 #   tools/scripts.sh                   all of them
 #   tools/scripts.sh pcr_extend files  these
-#   tools/scripts.sh 'nv/*' 'front*'   those of the folder tests/nv, and those whose names begin so
+#   tools/scripts.sh 'nv/*' 'torn*'    those of the folder tests/nv, and those whose names begin so
 #   JOBS=1 tools/scripts.sh            one after another, and not one on each processor
 #
 # NAME.tpm is run as `PROGRAM run NAME.tpm`, or as `tpmsim_lists <NAME.tpm`, and NAME.sh as `sh
@@ -39,7 +39,7 @@ export PYTHONPYCACHEPREFIX="$work/python"
 number=0
 
 # The tests that take longest begin first, then the other shell tests, and then the scripts.
-longest=' starved front library_scripts audit bent_lines images policy_audit torn launcher '
+longest=' starved library_scripts audit bent_lines images policy_audit torn launcher '
 
 # say WORDS: a line that stands between what is said of tests.
 say() {
@@ -99,7 +99,7 @@ is_of_library() {
 
 # Whether the program in dist/ is of the sources as they stand.
 shipped_is_of_sources() (
-    cd "$top" && . tools/proved.sh && is_proved sources "$(sources_checksum)"
+    cd "$top" && . tools/lib/proved.sh && is_proved sources "$(sources_checksum)"
 )
 
 # missing PROGRAM: says so, where others were built here.
@@ -154,7 +154,7 @@ done
 
 # Whether the library in dist/ is of the sources as they stand, and the one that was proved.
 library_is_proved() (
-    cd "$top" && . tools/proved.sh &&
+    cd "$top" && . tools/lib/proved.sh &&
         is_proved 'library sources' "$(sources_checksum tpmsim_library)" &&
         is_proved 'library archive' "$(checksum <"$library")"
 )

@@ -11,12 +11,15 @@
 #include <string.h>
 
 static tpmsim device;
+static uint8_t completing;
 /* Whether each command is in the journal. */
 static bool is_recorded;
 
 tpmsim *the_device(void) { return &device; }
 
 bool device_is_on(void) { return device.private_ != NULL; }
+
+void let_device_complete(bool completes) { completing = completes; }
 
 bool journal_is_whole(void) { return is_recorded; }
 
@@ -86,8 +89,9 @@ bool execute(const uint8_t *buffer, size_t size, uint8_t locality, struct respon
     tpmsim_answered answered;
     uint8_t *record = record_room();
     size_t record_size = 0;
-    uint8_t told = tpmsim_journal_execute(&device, buffer, size, locality, host_clock(), 0, random,
-                                          response->bytes, &answered, record, &record_size);
+    uint8_t told =
+        tpmsim_journal_execute(&device, buffer, size, locality, host_clock(), completing, random,
+                               response->bytes, &answered, record, &record_size);
     if (told != TPMSIM_DONE) {
         report("a command is not executed: %s", words_of_told(told));
         return false;

@@ -20,6 +20,9 @@ tpmsim *the_device(void);
 /* Whether there is one. */
 bool device_is_on(void);
 
+/* Whether the completing layer is on, from now on. */
+void let_device_complete(bool completes);
+
 /* Begins a new journal of the device, as its power comes on. */
 bool begin_journal(void);
 

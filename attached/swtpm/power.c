@@ -16,6 +16,19 @@
 /* Whether the last power on made a new device. */
 static bool was_manufactured;
 
+/* Whether the completing layer is asked for, by the environment. */
+static bool read_completing(void) {
+    const char *asked = getenv("TPMSIM_COMPLETE");
+    if (asked == NULL || *asked == 0 || strcmp(asked, "0") == 0) {
+        let_device_complete(false);
+        return true;
+    }
+    let_device_complete(true);
+    if (strcmp(asked, "1") == 0) return true;
+    report("TPMSIM_COMPLETE is neither 0 nor 1");
+    return false;
+}
+
 static bool manufacture(void) {
     const uint8_t *random = random_bytes();
     uint8_t told = random == NULL ? TPMSIM_NO_MEMORY : tpmsim_manufacture(the_device(), random);
@@ -53,7 +66,7 @@ static bool open_volatile(void) {
 
 static bool power_on(void) {
     bool is_to_be_stored = false;
-    return begin_callbacks() && open_permanent(&is_to_be_stored) &&
+    return read_completing() && begin_callbacks() && open_permanent(&is_to_be_stored) &&
            open_volatile() && (!is_to_be_stored || store_permanent(the_device()));
 }
 

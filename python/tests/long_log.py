@@ -5,7 +5,7 @@ HMAC.
 import random
 import sys
 
-from tpmsim.caller import BY_VALUE, Caller, FIRST, Refused, area, counter, hmac_key, wrong
+from tpmsim.caller import area, BY_VALUE, Caller, counter, FIRST, hmac_key, Refused, wrong
 from tpmsim.device import ModelDevice
 from tpmsim.standard import AES, RH_OWNER, SE_POLICY, SHA256, XOR
 

@@ -1,5 +1,5 @@
 """The sentences of all checks, as docs/table has them: `python3 -B table_rules.py` in this folder
-writes them to tpmsim/explain/rules.py, which ships without docs/table. A test compares the two.
+writes them to tpmsim/explain/rules.json, which ships without docs/table. A test compares the two.
 """
 
 import json
@@ -8,13 +8,7 @@ import re
 
 TOP = pathlib.Path(__file__).resolve().parents[2]
 TABLE = TOP / "docs" / "table"
-WRITTEN = TOP / "python" / "tpmsim" / "explain" / "rules.py"
-
-HEAD = '''"""The sentence of each check, with its place in docs/table. Written by tests/table_rules.py."""
-
-# fmt: off
-RULES: dict[str, tuple[str, str]] = {
-'''
+WRITTEN = TOP / "python" / "tpmsim" / "explain" / "rules.json"
 
 LINK = re.compile(r"\[([^\]]*)\]\(([^)]*)\)")
 OWN = re.compile(r"- A(\d)(?: to A(\d))?[.:] (.*)", re.DOTALL)
@@ -190,14 +184,11 @@ def rules():
 
 
 def text_of(found):
-    def said(text):
-        return json.dumps(text, ensure_ascii=False)
-
-    lines = [
-        f"    {said(key)}: ({said(words)}, {said(link)}),\n" for key, (words, link) in found.items()
-    ]
-    return HEAD + "".join(lines) + "}\n# fmt: on\n"
+    """JSON, a rule a line."""
+    said = [f" {json.dumps(it, ensure_ascii=False)}: " for it in found]
+    told = [json.dumps(list(it), ensure_ascii=False) for it in found.values()]
+    return "{\n" + ",\n".join(map("".join, zip(said, told))) + "\n}\n"
 
 
 if __name__ == "__main__":
-    WRITTEN.write_text(text_of(rules()))
+    WRITTEN.write_text(text_of(rules()), "utf-8")

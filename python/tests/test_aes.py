@@ -7,7 +7,7 @@ import subprocess
 import unittest
 
 from tpmsim.standard import aes, aes_tables
-from tpmsim.standard.aes import BLOCK, S_BOX, cfb_decrypt, cfb_encrypt
+from tpmsim.standard.aes import BLOCK, cfb_decrypt, cfb_encrypt, S_BOX
 
 of = bytes.fromhex
 KEY = of("2b7e151628aed2a6abf7158809cf4f3c")

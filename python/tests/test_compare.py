@@ -4,11 +4,11 @@ import pathlib
 import shutil
 import unittest
 
-from tpmsim.compare.known import cause_of
+from tpmsim.compare.differences import cause_of
 from tpmsim.compare.main import other_tpm, told
 from tpmsim.compare.play import Comparison
 from tpmsim.device import Answered, Device, StartedSwtpm
-from tpmsim.standard.frames import number
+from tpmsim.standard import number
 
 TESTS = pathlib.Path(__file__).resolve().parents[2] / "tests"
 

@@ -9,12 +9,12 @@ import unittest
 
 import table_rules
 from explained_logs import EXAMPLE, LOCKED, MOVED, TOP, events_of, lines_with
-from tpmsim.caller import BY_OWNER, BY_POLICY, Caller, area
+from tpmsim.caller import area, BY_OWNER, BY_POLICY, Caller
 from tpmsim.device import ModelDevice
 from tpmsim.explain import main as command_line
 from tpmsim.explain.own import CHECKS
 from tpmsim.explain.play import Play
-from tpmsim.explain.rules import RULES
+from tpmsim.explain.reason import RULES
 from tpmsim.model.image import image
 from tpmsim.standard import CC
 
@@ -33,7 +33,7 @@ def told(*words):
 
 class Sentences(unittest.TestCase):
     def test_rules_are_those_of_the_table(self):
-        self.assertEqual(RULES, table_rules.rules())
+        self.assertEqual(RULES, {key: list(it) for key, it in table_rules.rules().items()})
         self.assertEqual(table_rules.WRITTEN.read_text(), table_rules.text_of(table_rules.rules()))
 
     def test_links_lead_to_headings(self):

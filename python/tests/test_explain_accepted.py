@@ -3,8 +3,8 @@
 import random
 import unittest
 
-from tpmsim.caller import BY_VALUE, Caller, FIRST, HERE, Refused, Use, area, counter, hmac_key
-from tpmsim.caller import sealed, storage_key
+from tpmsim.caller import area, BY_VALUE, Caller, counter, FIRST, HERE, hmac_key, Refused, sealed
+from tpmsim.caller import storage_key, Use
 from tpmsim.device import ModelDevice
 from tpmsim.standard import AES, RH_OWNER, SHA256, XOR
 from tpmsim.standard.objects import Attribute

@@ -3,10 +3,9 @@
 import random
 import unittest
 
-from tpmsim.caller import Caller, FIRST, HERE, Refused, Use, counter, digest_of, sealed
+from tpmsim.caller import Caller, counter, digest_of, FIRST, HERE, Refused, sealed, Use
 from tpmsim.device import ModelDevice
-from tpmsim.standard import RH_OWNER, SHA256, digest, frames, policy
-from tpmsim.standard.frames import number
+from tpmsim.standard import digest, frames, number, policy, RH_OWNER, SHA256
 from tpmsim.standard.objects import Attribute
 from explained_logs import explained, last
 

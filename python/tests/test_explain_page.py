@@ -1,5 +1,5 @@
 """The page of a log: that its text is all there, that nothing of a log is markup, and that nothing is
-fetched. tools/page.sh opens it in a browser.
+fetched. tools/interop/page.sh opens it in a browser.
 """
 
 import html.parser

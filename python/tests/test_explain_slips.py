@@ -6,10 +6,10 @@ import random
 import unittest
 from dataclasses import replace
 
-from tpmsim.caller import BY_VALUE, Caller, HERE, Refused, Use, area, hmac_key, sealed
+from tpmsim.caller import area, BY_VALUE, Caller, HERE, hmac_key, Refused, sealed, Use
 from tpmsim.device import ModelDevice
-from tpmsim.standard import AES, RH_NULL, RH_OWNER, SHA1, SHA256, XOR, policy, sessions
-from tpmsim.standard.frames import ALG_NULL, CONTINUE_SESSION, DECRYPT, ENCRYPT, sized
+from tpmsim.standard import AES, ALG_NULL, CONTINUE_SESSION, DECRYPT, ENCRYPT, policy, RH_NULL
+from tpmsim.standard import RH_OWNER, sessions, SHA1, SHA256, sized, XOR
 from tpmsim.standard.objects import Attribute
 from explained_logs import explained, sessions_of, without_value
 

@@ -12,7 +12,7 @@ import unittest
 from programs import simulator
 from tpmsim.caller import Caller
 from tpmsim.device import SimulatorDevice
-from tpmsim.standard.frames import number
+from tpmsim.standard import number
 
 # PCR 17 behind a launch of abc, by sha1sum and sha256sum: of zeros and of the digest of abc.
 LAUNCHED = [

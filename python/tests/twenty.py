@@ -2,11 +2,11 @@
 
 from hashlib import sha256
 
-from tpmsim.caller import BY_OWNER, BY_POLICY, BY_VALUE, Caller, FIRST, HERE, Refused, STATE
-from tpmsim.caller import Use, WrongResponse, area, counter, digest_of, flipped, hmac_key, sealed
-from tpmsim.caller import storage_key, wrong
+from tpmsim.caller import area, BY_OWNER, BY_POLICY, BY_VALUE, Caller, counter, digest_of, FIRST
+from tpmsim.caller import flipped, HERE, hmac_key, Refused, sealed, STATE, storage_key, Use, wrong
+from tpmsim.caller import WrongResponse
 from tpmsim.device import Answered
-from tpmsim.standard import AES, RH_LOCKOUT, RH_OWNER, RH_PLATFORM, SHA1, SHA256, XOR, mac, nv
+from tpmsim.standard import AES, mac, nv, RH_LOCKOUT, RH_OWNER, RH_PLATFORM, SHA1, SHA256, XOR
 from tpmsim.standard.objects import Attribute
 
 

@@ -8,8 +8,6 @@ SIGTERM, SIGINT or a client's request to stop. The status is 2 for wrong words, 
 listen, or where the device cannot be had or saved.
 """
 
-from __future__ import annotations
-
 import argparse
 import asyncio
 import hashlib
@@ -21,9 +19,7 @@ import time
 from typing import Awaitable, Callable
 
 from tpmsim.device import BadImage, Device, DeviceEnded
-from tpmsim.standard import frames
-from tpmsim.standard.commands import CC
-from tpmsim.standard.frames import COMMAND_BYTES, HEADER_BYTES, SHA1, SHA256, number
+from tpmsim.standard import CC, COMMAND_BYTES, frames, HEADER_BYTES, number, SHA1, SHA256
 
 # The requests, by their numbers, and the version and the features that a handshake tells: commands
 # go as they are, and there is a platform.

@@ -1,4 +1,4 @@
-"""Compares a program with the device in Python, by what comes at random (tools/fuzz.sh):
+"""Compares a program with the device in Python, by what comes at random (tools/soak/fuzz.sh):
 
     fuzz.py PROGRAM SECONDS [SEED]     rounds of the seeds from SEED on, until the time is over
     fuzz.py PROGRAM --rounds N SEED    N rounds

@@ -3,7 +3,7 @@
     random_script.py SEED COUNT FOLDER
 
 writes FOLDER/SEED.tpm, with so many commands, and FOLDER/SEED.out. Most commands are such that they
-may succeed; in some a field is wrong, and in some the bytes. tools/random_scripts.sh compares the
+may succeed; in some a field is wrong, and in some the bytes. tools/soak/random_scripts.sh compares the
 program's answers with them.
 """
 

@@ -1,4 +1,4 @@
-# What tools/attached.sh makes: the same bytes each time, with two names that are seen, and a line
+# What tools/interop/attached.sh makes: the same bytes each time, with two names that are seen, and a line
 # where something is missing.
 tests=$(cd "$(dirname "$0")/.." && pwd -P)
 . "$tests/common/cases.sh"
@@ -10,7 +10,7 @@ echo '#include <tss2/tss2_tcti.h>' | cc -E - >"$room/header" 2>&1 ||
 
 # make TOP FOLDER: makes all of it in a folder, of the sources in another one.
 make() {
-    TPMSIM_ARCHIVE=$archive sh "$1/tools/attached.sh" "$2" 2>&1 |
+    TPMSIM_ARCHIVE=$archive sh "$1/tools/interop/attached.sh" "$2" 2>&1 |
         sed -e "s,^[^:]*attached.sh: ,," -e "s,$room,ROOM,g"
 }
 
@@ -43,7 +43,7 @@ done 2>&1
 ls empty
 "$room/ask" state=kept 80010000000c0000017b0000
 echo 'faults:'
-sh "$top/tools/attached.sh" 2>&1 | sed 's,^[^:]*attached.sh: ,,'
+sh "$top/tools/interop/attached.sh" 2>&1 | sed 's,^[^:]*attached.sh: ,,'
 archive=$room/none
 make "$top" third
 : >"$room/empty.a"

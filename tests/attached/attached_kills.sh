@@ -7,7 +7,7 @@ tests=$(cd "$(dirname "$0")/.." && pwd -P)
 needs python3
 
 attach kills kills
-extended 20000 >"$room/values"
+extended 4500 >"$room/values"
 "$room/kills" "$room/values" 300 2>"$room/counts"
 echo "status $?"
 ! grep WRONG "$room/counts" >&2

@@ -6,7 +6,7 @@ tests=$(cd "$(dirname "$0")/.." && pwd -P)
 echo '#include <tss2/tss2_tcti.h>' | cc -E - >"$room/header" 2>&1 ||
     skip 'there is no header tss2/tss2_tcti.h, which Debian has in libtss2-dev'
 
-TPMSIM_ARCHIVE=$archive sh "$tests/../tools/attached.sh" "$room/made" || exit 1
+TPMSIM_ARCHIVE=$archive sh "$tests/../tools/interop/attached.sh" "$room/made" || exit 1
 attach client client -ldl
 # shellcheck disable=SC2086 # they are words
 attach sanitized_client client $sanitizers -ldl

@@ -40,10 +40,10 @@ ask 'every word' locality=4,state=kept,image=none,random=00,force=power "$get_ra
 echo 'wrong words'
 ask 'a word that is none' colour=blue
 short='s/ is none of the words .* or force=always$/ is none of them/'
-for words in state stat=x state= image= complete locality= locality=5 \
+for words in state stat=x state= image= complete=1 completes locality= locality=5 \
     locality=-1 locality=00 locality=a random= random=0 random=0g "random=${many}00" force \
-    force= force=sometimes force=neverr force=never ',' 'locality=1,' ,locality=1 state=a,,image=b \
-    locality=1,locality=1 state=a,state=b ' locality=1' State=a; do
+    force= force=sometimes force=neverr force=never ',' 'complete,' ,complete state=a,,complete \
+    complete,complete state=a,state=b ' complete' State=a; do
     ask "'$(echo "$words" | cut -c 1-40)'" "$words"
 done
 ls

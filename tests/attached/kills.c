@@ -7,13 +7,17 @@
 
 static const char FOLDER[] = "state";
 
-/* Extends without an end, and writes a byte for each answer. */
+/* So many extends a process asks for at most, since its killer may have to wait for a processor. */
+enum { MOST_EXTENDS = 2000 };
+
+/* Extends, writes a byte for each answer, and waits to be killed. */
 static void extend_on(int told) {
     struct kept *kept = opened(FOLDER);
-    for (;;) {
+    for (int i = 0; i < MOST_EXTENDS; i++) {
         extend(kept);
         if (write(told, "x", 1) != 1) _exit(1);
     }
+    for (;;) pause();
 }
 
 /* Cycles the power without an end, and writes a byte for each cycle. */
@@ -58,7 +62,7 @@ static long killed_after(void (*run)(int told), unsigned microseconds, bool answ
     return answered;
 }
 
-/* Begins the PCR anew, before its value is none of those that were computed. */
+/* Begins the PCR anew, so that its value is one of those that were computed. */
 static void begin_anew(struct kept *kept) {
     struct reason reason;
     must(kept_power(kept, &reason), "the power cycle failed");
@@ -84,6 +88,7 @@ static void kill_cycles(struct kept *kept, const struct values *values, int roun
 int main(int count, char **words) {
     must(count == 3, "usage: kills VALUES COUNT");
     struct values values = values_of(words[1]);
+    must(values.count > 2 * MOST_EXTENDS, "there are too few values");
     int rounds = atoi(words[2]);
     struct kept *kept = opened(FOLDER);
     start(kept);
@@ -98,7 +103,7 @@ int main(int count, char **words) {
         ahead += there - before - told;
         answered += told;
         before = there;
-        if ((size_t)before < values.count / 8) continue;
+        if ((size_t)before + MOST_EXTENDS < values.count) continue;
         begin_anew(kept);
         before = 0;
     }

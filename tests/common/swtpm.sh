@@ -11,8 +11,8 @@ unset CFLAGS
 assemble=$tests/../dist/tpmsim
 sanitizers='-g -fsanitize=address,undefined -fno-sanitize-recover=all'
 
-"$tests/../tools/attached_swtpm.sh" "$room/swtpm" >"$room/built" 2>&1 || { cat "$room/built" && exit 1; }
-CFLAGS=$sanitizers "$tests/../tools/attached_swtpm.sh" "$room/sanitized" >"$room/built" 2>&1 ||
+"$tests/../tools/interop/attached_swtpm.sh" "$room/swtpm" >"$room/built" 2>&1 || { cat "$room/built" && exit 1; }
+CFLAGS=$sanitizers "$tests/../tools/interop/attached_swtpm.sh" "$room/sanitized" >"$room/built" 2>&1 ||
     { cat "$room/built" && exit 1; }
 for words in '' "$sanitizers"; do
     # shellcheck disable=SC2086 # they are words
@@ -35,10 +35,10 @@ spell() {
     '
 }
 
-# caller: plays the lines of standard input with libtpms.so.0, and prints what comes of them. Each is
+# play: plays the lines of standard input with libtpms.so.0, and prints what comes of them. Each is
 # played with sanitizers too, in a folder that was the same before, and what that prints has to be the
 # same.
-caller() {
+play() {
     spell >"$room/lines"
     rm -rf "$room/again"
     cp -r . "$room/again"

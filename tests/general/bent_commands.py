@@ -49,7 +49,7 @@ def bent(script, whole):
         yield f"With {what}", refused, [buffer]
 
 
-def main():
+def write_script():
     codes = {code_of(whole) for *_, cut in SCRIPTS for _, whole in commands_of(cut)}
     assert codes == set(CC), "a command that is served is not bent"
     for path, which, cut in SCRIPTS:
@@ -58,7 +58,3 @@ def main():
         for name, whole in commands_of(cut):
             script.refusals(name, whole, "SUCCESS", bent(script, whole))
         script.write()
-
-
-if __name__ == "__main__":
-    main()

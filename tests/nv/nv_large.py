@@ -1,18 +1,13 @@
-"""Writes nv_large.tpm: indices that are larger than a buffer."""
+"""Writes nv_large.tpm. 1,024 bytes are written and read at once; an index of 2,048 takes two
+commands.
+"""
 
 import hashlib
 
-from tpmsim.caller import BY_OWNER, area
-from tpmsim.standard import RH_OWNER, number
-from tpmsim.standard.nv import Attribute
-from tpmsim.caller.script_caller import FIRST, SECOND, ScriptCaller, THIRD
-from tpmsim.caller.script import Script
+from tests.common.vocabulary import area, BY_OWNER, FIRST, number, NvAttribute, RH_OWNER, SECOND
+from tests.common.vocabulary import Teller, THIRD
 
-script = Script(
-    "tests/nv/nv_large.tpm",
-    "1,024 bytes are written and read at once; an index of 2,048 takes two commands.",
-)
-tpm = ScriptCaller(script)
+tpm = Teller(__name__, __doc__, starts=False)
 
 
 def some(size, seed=b""):
@@ -22,22 +17,22 @@ def some(size, seed=b""):
 
 
 def write(what, index, data, offset=0):
-    tpm.does(what, tpm.writing(index, data, offset=offset, by=RH_OWNER))
+    tpm(what).writing(index, data, offset=offset, by=RH_OWNER)
 
 
 def read(what, index, data, offset=0):
     tpm.read(what, index, data, offset=offset, by=RH_OWNER)
 
 
-script.startup()
-script.chapter("An index of 1,024 bytes.")
+tpm.startup()
+tpm.chapter("An index of 1,024 bytes.")
 tpm.define("TPM2_NV_DefineSpace", area(FIRST, BY_OWNER, size=1024))
 data = some(1024)
 write("TPM2_NV_Write of all", FIRST, data)
 read("TPM2_NV_Read of all", FIRST, data)
 read("Of the second half", FIRST, data[512:], 512)
 
-script.chapter("An index of 2,048 bytes.")
+tpm.chapter("An index of 2,048 bytes.")
 tpm.define("TPM2_NV_DefineSpace", area(SECOND, BY_OWNER, size=2048))
 whole = some(2048, b"large")
 write("TPM2_NV_Write of the second half", SECOND, whole[1024:], 1024)
@@ -52,7 +47,7 @@ whole = whole[:512] + data + whole[1536:]
 read("TPM2_NV_Read of the first half", SECOND, whole[:1024])
 read("Of the second half", SECOND, whole[1024:], 1024)
 
-script.chapter("More than 1,024 bytes at once.")
+tpm.chapter("More than 1,024 bytes at once.")
 tpm.fails(
     "TPM2_NV_Write of 1,025 bytes: SIZE/p1",
     tpm.writing(SECOND, bytes(1025), by=RH_OWNER),
@@ -76,8 +71,8 @@ tpm.fails(
 )
 read("The first is as it was", FIRST, data)
 
-script.chapter("WRITEALL: all bytes at once.")
-public = area(THIRD, BY_OWNER | Attribute.WRITEALL, size=1024)
+tpm.chapter("WRITEALL: all bytes at once.")
+public = area(THIRD, BY_OWNER | NvAttribute.WRITEALL, size=1024)
 tpm.define("TPM2_NV_DefineSpace of 1,024 bytes", public)
 tpm.fails(
     "TPM2_NV_Write of fewer bytes, and at another offset: NV_RANGE",
@@ -86,32 +81,28 @@ tpm.fails(
     tpm.writing(THIRD, bytes(1024), offset=1, by=RH_OWNER),
     tpm.writing(THIRD, b"", offset=1024, by=RH_OWNER),
 )
-tpm.fails("It is not written: NV_UNINITIALIZED", tpm.reading(THIRD, 8, by=RH_OWNER))
+tpm("It is not written: NV_UNINITIALIZED").reading(THIRD, 8, by=RH_OWNER)
 write("TPM2_NV_Write of all", THIRD, data)
 read("A piece of it can be read", THIRD, data[100:200], 100)
-tpm.fails("TPM2_NV_Write of fewer bytes: NV_RANGE", tpm.writing(THIRD, b"x", by=RH_OWNER))
+tpm("TPM2_NV_Write of fewer bytes: NV_RANGE").writing(THIRD, b"x", by=RH_OWNER)
 write("TPM2_NV_Write of all again", THIRD, data[::-1])
 read("TPM2_NV_Read", THIRD, data[::-1])
-tpm.does("It is undefined", tpm.undefining(THIRD))
-tpm.define(
-    "One of 1,025 bytes, which cannot be written at all",
-    area(THIRD, BY_OWNER | Attribute.WRITEALL, size=1025),
-)
-tpm.fails("TPM2_NV_Write of 1,024 bytes: NV_RANGE", tpm.writing(THIRD, bytes(1024), by=RH_OWNER))
-tpm.does("It is undefined", tpm.undefining(THIRD))
-tpm.define("One of no bytes", area(THIRD, BY_OWNER | Attribute.WRITEALL, size=0))
-tpm.fails("TPM2_NV_Read: NV_UNINITIALIZED", tpm.reading(THIRD, 0, by=RH_OWNER))
-tpm.fails("TPM2_NV_Write of a byte: NV_RANGE", tpm.writing(THIRD, b"x", by=RH_OWNER))
+tpm("It is undefined").undefining(THIRD)
+said = tpm("One of 1,025 bytes, which cannot be written at all")
+said.define(area(THIRD, BY_OWNER | NvAttribute.WRITEALL, size=1025))
+tpm("TPM2_NV_Write of 1,024 bytes: NV_RANGE").writing(THIRD, bytes(1024), by=RH_OWNER)
+tpm("It is undefined").undefining(THIRD)
+tpm.define("One of no bytes", area(THIRD, BY_OWNER | NvAttribute.WRITEALL, size=0))
+tpm("TPM2_NV_Read: NV_UNINITIALIZED").reading(THIRD, 0, by=RH_OWNER)
+tpm("TPM2_NV_Write of a byte: NV_RANGE").writing(THIRD, b"x", by=RH_OWNER)
 write("TPM2_NV_Write of no bytes, which are all", THIRD, b"")
 tpm.is_now("It is written", THIRD)
 read("TPM2_NV_Read of no bytes", THIRD, b"")
-tpm.fails("Of one: NV_RANGE", tpm.reading(THIRD, 1, by=RH_OWNER))
+tpm("Of one: NV_RANGE").reading(THIRD, 1, by=RH_OWNER)
 
-script.chapter("After the next start.")
-script.power()
-script.startup()
+tpm.chapter("After the next start.")
+tpm.power_cycle()
 read("The first", FIRST, data)
 read("The second", SECOND, whole[:1024])
 read("Its second half", SECOND, whole[1024:], 1024)
 read("The third", THIRD, b"")
-script.write()

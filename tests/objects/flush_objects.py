@@ -1,20 +1,15 @@
-"""Writes flush_objects.tpm: TPM2_FlushContext of transient objects."""
+"""Writes flush_objects.tpm. TPM2_FlushContext takes a transient object out of the device. There are
+eight places, 80000000 to 80000007, and an object gets the lowest that is free.
+"""
 
 from dataclasses import replace
 
-from tpmsim.caller import hmac_key, sealed, storage_key
-from tpmsim.standard import CC, RH_NULL, RH_OWNER, command, frames, number
-from tpmsim.caller.script_caller import ScriptCaller
-from tpmsim.caller.script import Script
+from tests.common.vocabulary import CC, command, frames, hmac_key, number, RH_NULL, RH_OWNER, sealed
+from tests.common.vocabulary import storage_key, Teller
 
 FIRST, PLACES = 0x8000_0000, 8
 
-script = Script(
-    "tests/objects/flush_objects.tpm",
-    "TPM2_FlushContext takes a transient object out of the device. There are eight places, "
-    "80000000 to 80000007, and an object gets the lowest that is free.",
-)
-tpm = ScriptCaller(script)
+tpm = Teller(__name__, __doc__)
 
 
 def flush(handle):
@@ -25,12 +20,9 @@ def place_of(handle):
     return handle - FIRST
 
 
-script.startup()
 ABSENT = (0x8000_0000, 0x8000_0007, 0x8000_0008, 0x8000_0010, 0x8001_0000, 0x80FF_FFFF)
-script.command("While there is no object: HANDLE/p1", *map(flush, ABSENT))
-script.command(
-    "A persistent object is not flushed: VALUE/p1", *map(flush, (0x8100_0000, 0x81FF_FFFF))
-)
+tpm.raw("While there is no object: HANDLE/p1", *map(flush, ABSENT))
+tpm.raw("A persistent object is not flushed: VALUE/p1", *map(flush, (0x8100_0000, 0x81FF_FFFF)))
 parent = tpm.create_primary("A storage key, 80000000", RH_OWNER, storage_key())
 made = tpm.create("TPM2_Create of sealed data", parent, sealed(), data=b"secret")
 for place in range(1, PLACES):
@@ -38,43 +30,35 @@ for place in range(1, PLACES):
     assert place_of(handle) == place
 full = tpm.primary(RH_OWNER, storage_key())
 tpm.says("A ninth object: OBJECT_MEMORY", full)
-script.command("Numbers past the eight: HANDLE/p1", *map(flush, ABSENT[2:]))
-script.command(
-    "With sessions (tag 8002): AUTH_CONTEXT",
-    command(CC.FlushContext, frames.area(frames.entry()) + number(parent, 4), frames.SESSIONS),
-)
-script.command("Three bytes of a handle: INSUFFICIENT/p1", command(CC.FlushContext, b"\x80\0\0"))
-script.command("A byte behind it: SIZE", command(CC.FlushContext, number(parent, 4) + b"\0"))
+tpm.raw("Numbers past the eight: HANDLE/p1", *map(flush, ABSENT[2:]))
+said = tpm("With sessions (tag 8002): AUTH_CONTEXT")
+said.raw(command(CC.FlushContext, frames.area(frames.entry()) + number(parent, 4), frames.SESSIONS))
+tpm.raw("Three bytes of a handle: INSUFFICIENT/p1", command(CC.FlushContext, b"\x80\0\0"))
+tpm.raw("A byte behind it: SIZE", command(CC.FlushContext, number(parent, 4) + b"\0"))
 
-script.chapter("In any order. The lowest place that is free is taken first.")
+tpm.chapter("In any order. The lowest place that is free is taken first.")
 for places in ((7,), (0,), (3, 1), (2, 5, 4), (6, 0, 7)):
     for place in places:
         if place == 0:
             tpm.flush_objects("The storage key, which nothing under it needs any more", FIRST)
         else:
             tpm.flush_objects(f"8000000{place}", FIRST + place)
-        script.command("Once more: HANDLE/p1", flush(FIRST + place))
-        tpm.says("It is no more: REFERENCE_H0", tpm.public(FIRST + place))
+        tpm.raw("Once more: HANDLE/p1", flush(FIRST + place))
+        tpm("It is no more: REFERENCE_H0").public(FIRST + place)
     for place in sorted(places):
-        handle = tpm.create_primary(
-            f"TPM2_CreatePrimary: it is 8000000{place}", RH_NULL, hmac_key(), data=b"key"
-        )
+        said = tpm(f"TPM2_CreatePrimary: it is 8000000{place}")
+        handle = said.create_primary(RH_NULL, hmac_key(), data=b"key")
         assert place_of(handle) == place
-    tpm.says("And no more: OBJECT_MEMORY", tpm.primary(RH_NULL, hmac_key(), data=b"key"))
+    tpm("And no more: OBJECT_MEMORY").primary(RH_NULL, hmac_key(), data=b"key")
 
-script.chapter("All of them.")
+tpm.chapter("All of them.")
 tpm.flush_objects("From the last to the first", *range(FIRST + 7, FIRST - 1, -1))
-script.command("There is none: HANDLE/p1", *map(flush, range(FIRST, FIRST + PLACES)))
-script.chapter("A refused command leaves an object where it is, and a place free.")
+tpm.raw("There is none: HANDLE/p1", *map(flush, range(FIRST, FIRST + PLACES)))
+tpm.chapter("A refused command leaves an object where it is, and a place free.")
 parent = tpm.create_primary("A storage key, 80000000", RH_OWNER, storage_key())
-tpm.says(
-    "TPM2_CreatePrimary by a wrong password: BAD_AUTH/s1", tpm.primary(RH_OWNER, sealed(), b"x")
-)
-tpm.says(
-    "TPM2_Load with another private area: INTEGRITY/p1",
-    tpm.loading(parent, replace(made, private=bytes(60))),
-)
-tpm.says("80000001 is not there: REFERENCE_H0", tpm.public(FIRST + 1))
+tpm("TPM2_CreatePrimary by a wrong password: BAD_AUTH/s1").primary(RH_OWNER, sealed(), b"x")
+said = tpm("TPM2_Load with another private area: INTEGRITY/p1")
+said.loading(parent, replace(made, private=bytes(60)))
+tpm("80000001 is not there: REFERENCE_H0").public(FIRST + 1)
 assert place_of(tpm.load("TPM2_Load takes it", parent, made)) == 1
 tpm.unseal("TPM2_Unseal", FIRST + 1, b"secret")
-script.write()

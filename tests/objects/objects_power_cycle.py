@@ -1,10 +1,10 @@
-"""Writes objects_power_cycle.tpm: what a power cycle leaves of objects."""
+"""Writes objects_power_cycle.tpm. Transient objects are gone after a power cycle. The seeds of the
+owner's, the endorsement and the platform hierarchy stay, and so the same primary objects can be
+made again. The null hierarchy has a new seed and a new proof after each TPM2_Startup(CLEAR).
+"""
 
-from tpmsim.caller import hmac_key, sealed, storage_key
-from tpmsim.standard import CC, RH_ENDORSEMENT, RH_NULL, RH_OWNER, RH_PLATFORM, SHA1, frames
-from tpmsim.standard import number
-from tpmsim.caller.script_caller import ScriptCaller
-from tpmsim.caller.script import Script
+from tests.common.vocabulary import CC, frames, hmac_key, number, RH_ENDORSEMENT, RH_NULL, RH_OWNER
+from tests.common.vocabulary import RH_PLATFORM, sealed, SHA1, storage_key, Teller
 
 NAMES = (
     (RH_OWNER, "TPM_RH_OWNER"),
@@ -13,19 +13,13 @@ NAMES = (
     (RH_NULL, "TPM_RH_NULL"),
 )
 
-script = Script(
-    "tests/objects/objects_power_cycle.tpm",
-    "Transient objects are gone after a power cycle. The seeds of the owner's, the endorsement and "
-    "the platform hierarchy stay, and so the same primary objects can be made again. The null "
-    "hierarchy has a new seed and a new proof after each TPM2_Startup(CLEAR).",
-)
-tpm = ScriptCaller(script)
+tpm = Teller(__name__, __doc__, starts=False)
 
 
 def start(what, seed):
-    script.chapter(what)
-    script.entropy(seed)
-    script.startup()
+    tpm.chapter(what)
+    tpm.script.entropy(seed)
+    tpm.startup()
 
 
 def primaries():
@@ -34,9 +28,8 @@ def primaries():
     for hierarchy, name in NAMES:
         handle = tpm.create_primary(f"A storage key in {name}", hierarchy, storage_key())
         names[hierarchy] = tpm.names[handle]
-        children[hierarchy] = tpm.create(
-            "TPM2_Create of sealed data", handle, sealed(), data=b"secret"
-        )
+        said = tpm("TPM2_Create of sealed data")
+        children[hierarchy] = said.create(handle, sealed(), data=b"secret")
         tpm.flush_objects("It is flushed", handle)
     return names, children
 
@@ -58,14 +51,12 @@ handles = [
     tpm.create_primary(f"An object in {name}", hierarchy, hmac_key(SHA1), data=b"key")
     for hierarchy, name in NAMES
 ]
-script.power()
-tpm.says("Before TPM2_Startup: INITIALIZE", tpm.public(handles[0]))
-script.chapter("A refused TPM2_Startup draws nothing, and starts nothing.")
-script.entropy(bytes(range(128, 192)))
-script.command(
-    "TPM2_Startup(STATE), while no state is saved: VALUE/p1",
-    frames.command(CC.Startup, number(1, 2)),
-)
+tpm.power()
+tpm("Before TPM2_Startup: INITIALIZE").public(handles[0])
+tpm.chapter("A refused TPM2_Startup draws nothing, and starts nothing.")
+tpm.script.entropy(bytes(range(128, 192)))
+said = tpm("TPM2_Startup(STATE), while no state is saved: VALUE/p1")
+said.raw(frames.command(CC.Startup, number(1, 2)))
 start("The second start, with other random bytes.", bytes(range(64, 128)))
 tpm.forget(*handles)
 tpm.says("The objects are gone: REFERENCE_H0", *map(tpm.public, handles))
@@ -78,7 +69,7 @@ second_tickets = tickets()
 assert first_tickets[RH_OWNER] == second_tickets[RH_OWNER]
 assert first_tickets[RH_NULL] != second_tickets[RH_NULL]
 
-script.chapter("What was created before the power cycle is loaded under the same primary object.")
+tpm.chapter("What was created before the power cycle is loaded under the same primary object.")
 for hierarchy, name in NAMES:
     handle = tpm.create_primary(f"The storage key in {name}", hierarchy, storage_key())
     loading = tpm.loading(handle, children[hierarchy])
@@ -90,13 +81,12 @@ for hierarchy, name in NAMES:
         tpm.flush_objects("It is flushed", child)
     tpm.flush_objects("The parent is flushed", handle)
 
-script.power()
+tpm.power()
 start("The third start, with the random bytes of the first.", bytes(range(64)))
 third, _ = primaries()
 assert third == names
-script.chapter("The null hierarchy is that of the first start, as the same bytes were drawn.")
+tpm.chapter("The null hierarchy is that of the first start, as the same bytes were drawn.")
 handle = tpm.create_primary("A storage key in TPM_RH_NULL", RH_NULL, storage_key())
 child = tpm.load("TPM2_Load of what was created at the first start", handle, children[RH_NULL])
 tpm.unseal("TPM2_Unseal", child, b"secret")
 assert tickets() == first_tickets
-script.write()

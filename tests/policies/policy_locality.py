@@ -1,30 +1,23 @@
-"""Writes policy_locality.tpm: TPM2_PolicyLocality, and how its localities become fewer."""
+"""Writes policy_locality.tpm. TPM2_PolicyLocality: the policy is for some localities alone. Its
+parameter has a bit for each of the localities 0 to 4, and what is left is what all such parameters
+have in common.
+"""
 
-from tpmsim.standard import CC, policy
-from tpmsim.caller.script_caller import ScriptCaller, zeros
-from tpmsim.caller.script import Script
+from tests.common.vocabulary import CC, policy, Teller, zeros
 
-script = Script(
-    "tests/policies/policy_locality.tpm",
-    "TPM2_PolicyLocality: the policy is for some localities alone. Its parameter has a bit for "
-    "each of the localities 0 to 4, and what is left is what all such parameters have in common.",
-)
-tpm = ScriptCaller(script)
+tpm = Teller(__name__, __doc__)
 
 
 def says(words, session, *masks):
     tpm.says(words, *(tpm.locality(session, it) for it in masks))
 
 
-script.startup()
 for session in tpm.each_session():
     algorithm, digest = session.algorithm, zeros(session)
     says("No locality: RANGE/p1", session, 0)
-    says(
-        "Localities that there are not: bit 5, 6 and 7, alone and beside others: RANGE/p1",
-        *(session, 0x20, 0x21, 0x3F, 0x40, 0x5F, 0x80, 0x81, 0xE0, 0xFF),
-    )
-    tpm.says("No parameter: INSUFFICIENT/p1", tpm.told(CC.PolicyLocality, session, b""))
+    case = "Localities that there are not: bit 5, 6 and 7, alone and beside others: RANGE/p1"
+    says(case, *(session, 0x20, 0x21, 0x3F, 0x40, 0x5F, 0x80, 0x81, 0xE0, 0xFF))
+    tpm("No parameter: INSUFFICIENT/p1").told(CC.PolicyLocality, session, b"")
     tpm.says(
         "A byte behind it, also where it is 0: SIZE",
         tpm.told(CC.PolicyLocality, session, b"\1\0"),
@@ -32,7 +25,7 @@ for session in tpm.each_session():
     )
     tpm.digest_is("The digest is zeros", session, digest)
 
-    script.chapter("Step by step to locality 2 alone. What is hashed is the byte as it is given.")
+    tpm.chapter("Step by step to locality 2 alone. What is hashed is the byte as it is given.")
     for mask, absent in (
         (0x1F, ()),
         (0x1E, (0x01,)),
@@ -50,26 +43,21 @@ for session in tpm.each_session():
             tpm.digest_is("The digest is as it was", session, digest)
     says("Nothing, as ever: RANGE/p1", session, 0)
 
-    script.chapter("Each locality alone, from the start.")
+    tpm.chapter("Each locality alone, from the start.")
     for locality in range(5):
         mask = 1 << locality
-        tpm.says(
-            f"Locality {locality}: SUCCESS",
-            tpm.restart(session),
-            tpm.locality(session, mask),
-            tpm.locality(session, mask),
-        )
+        said = tpm(f"Locality {locality}: SUCCESS")
+        said.says(tpm.restart(session), tpm.locality(session, mask), tpm.locality(session, mask))
         says("The others: RANGE/p1", session, 0x1F & ~mask)
         once = policy.after_locality(algorithm, zeros(session), mask)
         twice = policy.after_locality(algorithm, once, mask)
         tpm.digest_is("Its digest, of twice the same", session, twice)
 
-script.chapter("From which locality it is told does not matter.")
+tpm.chapter("From which locality it is told does not matter.")
 session = tpm.policy("A policy session")
-script.locality_is(3)
+tpm.locality_is(3)
 says("For locality 0, from locality 3: SUCCESS", session, 1)
 once = policy.after_locality(session.algorithm, zeros(session), 1)
 tpm.digest_is("Its digest", session, once)
-script.locality_is(0)
+tpm.locality_is(0)
 says("For locality 3, from locality 0: RANGE/p1", session, 8)
-script.write()

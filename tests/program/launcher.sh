@@ -66,7 +66,7 @@ ship() {
 ship_library() (
     PATH=$room/rt:$room/tools
     cd "$copy" || exit 1
-    . tools/proved.sh
+    . tools/lib/proved.sh
     mkdir library
     for file in library/tpmsim.h library/tpmsim.pc "$archive" "$shared"; do
         echo "a stand-in for $file" >"$file"

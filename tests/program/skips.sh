@@ -74,7 +74,7 @@ without() {
 }
 without cc starved torn torn_scripts lists_starved serve_moved_clock
 without nm starved torn torn_scripts lists_starved
-without python3 serve images front
+without python3 serve images line
 without unshare serve_full_disk
 
 # The gate. Its stand-ins end well, and tools/scripts.sh says what it is told.
@@ -82,7 +82,8 @@ mkdir "$room/stubs"
 printf '#!/bin/sh\necho 3 passed, 0 failed\n' >"$room/stubs/rt"
 # shellcheck disable=SC2016 # the stand-in expands them
 printf '#!/bin/sh\necho "$SAID"; exit "$STATUS"\n' >"$copy/tools/scripts.sh"
-for stub in dist fuzz histories audits; do
+mkdir "$copy/tools/soak"
+for stub in dist soak/fuzz soak/histories soak/audits; do
     printf '#!/bin/sh\n' >"$copy/tools/$stub.sh"
 done
 ln -s "$program" "$copy/crates/tpmsim/out/tpmsim.by-rattle"
@@ -90,7 +91,7 @@ for crate in tpmsim tpmsim_lists; do
     echo >"$copy/crates/$crate/stdin"
     echo >"$copy/crates/$crate/stdout"
 done
-chmod +x "$room/stubs/rt" "$copy"/tools/*.sh
+chmod +x "$room/stubs/rt" "$copy"/tools/*.sh "$copy"/tools/soak/*.sh
 
 # gate LABEL SAID STATUS: what the gate says of failures, where tools/scripts.sh says and ends so.
 gate() {

@@ -1,5 +1,5 @@
 # A device that is served with --save-each: what a client was answered is in the image, wherever the
-# program is killed, as common/save_each.py says by the device in Python. tools/kills.sh kills it more
+# program is killed, as common/save_each.py says by the device in Python. tools/soak/kills.sh kills it more
 # often.
 tests=$(cd "$(dirname "$0")/.." && pwd -P)
 . "$tests/common/cases.sh"

@@ -1,14 +1,15 @@
-"""Writes grounds.tpm: each ground on which an entity is authorized, and one use of it."""
+"""Writes grounds.tpm. By what an entity may be authorized: each ground once, and accepted. The same
+grounds are lost in tests/sessions/lost_grounds.tpm. A ground is a password, the hmac of an HMAC
+session, or a policy session whose policy holds.
+"""
 
 from dataclasses import dataclass
 from typing import Callable
 
-from tpmsim.caller import BY_OWNER, BY_PLATFORM, BY_POLICY, HERE, Use, sealed
-from tpmsim.standard import CC, RH_ENDORSEMENT, RH_LOCKOUT, RH_NULL, RH_OWNER, RH_PLATFORM, SHA1
-from tpmsim.standard import SHA256, name_of, policy
-from tpmsim.standard.nv import Attribute
-from tpmsim.standard.objects import Attribute as ObjectAttribute
-from tpmsim.standard.policy import AUTH_VALUE, PASSWORD
+from tests.common.vocabulary import AUTH_VALUE, BY_OWNER, BY_PLATFORM, BY_POLICY, CC, ENDS, HERE
+from tests.common.vocabulary import name_of, NvAttribute, ObjectAttribute, PASSWORD, policy
+from tests.common.vocabulary import RH_ENDORSEMENT, RH_LOCKOUT, RH_NULL, RH_OWNER, RH_PLATFORM
+from tests.common.vocabulary import sealed, SHA1, SHA256, Use
 from tests.sessions.grounds_caller import (
     AFTER_AUTH_VALUE,
     AFTER_LOCALITY_1,
@@ -26,10 +27,8 @@ from tests.sessions.grounds_caller import (
     after_code,
 )
 from tests.sessions.grounds_caller import after_equal_data, after_secret
-from tpmsim.caller.script import Script
 
 USER = ObjectAttribute.USER_WITH_AUTH
-ENDS = 0x00
 KEPT = 0x8100_0001
 REF = b"disk"
 HIERARCHIES = {
@@ -39,14 +38,7 @@ HIERARCHIES = {
     RH_LOCKOUT: ("TPM_RH_LOCKOUT", b"lockout"),
 }
 
-script = Script(
-    "tests/sessions/grounds.tpm",
-    "By what an entity may be authorized: each ground once, and accepted. The same grounds are "
-    "lost in tests/sessions/lost_grounds.tpm. A ground is a password, the hmac of an HMAC session, "
-    "or a "
-    "policy session whose policy holds.",
-)
-tpm = GroundsCaller(script)
+tpm = GroundsCaller(__name__, __doc__)
 
 
 # Authorization values: by a password, and in the key of an HMAC session.
@@ -75,20 +67,19 @@ def hierarchy(handle):
 
 def entities():
     """All kinds of entities that have an authorization value."""
-    script.chapter('The entities of this script. The value of objects and indices is "pin".')
+    tpm.chapter('The entities of this script. The value of objects and indices is "pin".')
     for handle, (name, value) in HIERARCHIES.items():
         what = f'{name}, whose value is empty at first, and "{value.decode("ascii")}" from here on'
-        tpm.does(what, tpm.change_auth(handle, value, b""))
+        tpm(what).change_auth(handle, value, b"")
     loaded = tpm.sealed_object("An object with userWithAuth", attributes=HERE | USER, by=RH_OWNER)
     tpm.keep("A persistent copy of it", RH_OWNER, loaded, KEPT)
-    to_write = tpm.index("An index with AUTHWRITE", Attribute.AUTHWRITE | Attribute.OWNERREAD)
-    tpm.does("It is written", tpm.writing(to_write, DATA))
-    to_read = tpm.written_index(
-        "One with AUTHREAD, which the owner writes", Attribute.AUTHREAD | Attribute.OWNERWRITE
-    )
+    to_write = tpm.index("An index with AUTHWRITE", NvAttribute.AUTHWRITE | NvAttribute.OWNERREAD)
+    tpm("It is written").writing(to_write, DATA)
+    said = tpm("One with AUTHREAD, which the owner writes")
+    to_read = said.written_index(NvAttribute.AUTHREAD | NvAttribute.OWNERWRITE)
     of_owner = tpm.written_index("One with OWNERWRITE and OWNERREAD", BY_OWNER)
     of_platform = tpm.index("One with PPWRITE and PPREAD", BY_PLATFORM)
-    tpm.does("It is written", tpm.writing(of_platform, DATA, by=RH_PLATFORM))
+    tpm("It is written").writing(of_platform, DATA, by=RH_PLATFORM)
 
     def writes(words, asker, index):
         use = lambda by: tpm.writing(index, DATA, by, by=asker)
@@ -119,20 +110,8 @@ def at_null(*uses):
     return tpm.primary(RH_NULL, sealed(), *uses, data=SECRET)
 
 
-def by_passwords(found):
-    script.chapter("PASSWORDS. The password is the authorization value of the entity.")
-    for entity in found:
-        tpm.does(f"{entity.words}: {entity.command}", entity.prepare(entity.value))
-    tpm.does("A PCR, whose value is always empty: TPM2_PCR_Reset", tpm.reset(b""))
-    tpm.flushed_new("TPM_RH_NULL, whose is too: TPM2_CreatePrimary", at_null(b""))
-    for entity in found[:8]:
-        what = "With zeros behind the value, which do not count" if entity is found[0] else ""
-        tpm.does(what, entity.prepare(entity.value + bytes(2)))
-    tpm.does("And where it is empty", tpm.reset(bytes(32)))
-
-
 def by_hmac_sessions(found):
-    script.chapter(
+    tpm.chapter(
         "HMAC SESSIONS. The key of the hmac is the session key, which an unbound session has not, "
         "and the value of the entity; but where the session is bound to that very entity its value "
         "is left out."
@@ -140,24 +119,24 @@ def by_hmac_sessions(found):
     unbound = tpm.start("A session bound to nothing")
     other = tpm.start("One bound to PCR 16", 16)
     for entity in found:
-        script.chapter(f"{entity.words}: {entity.command}.")
+        tpm.chapter(f"{entity.words}: {entity.command}.")
         tpm.does("Bound to nothing: the key is the value", entity.prepare(unbound))
         tpm.does("Bound to another: the key is both", entity.prepare(other))
         bound = tpm.start("A session bound to the entity", entity.handle)
         tpm.does("The key is the session key|and it ends", entity.prepare(Use(bound, ENDS)))
 
     loaded, kept = found[4:6]
-    script.chapter("A session is bound by the Name, so that it may be a copy that is authorized.")
+    tpm.chapter("A session is bound by the Name, so that it may be a copy that is authorized.")
     bound = tpm.start("A session of SHA-1, bound to the object", loaded.handle, SHA1)
     tpm.does("TPM2_Unseal of the object, whose nameAlg is SHA-256", loaded.prepare(bound))
     tpm.does("Of the persistent object, and the key is the session key", kept.prepare(bound))
     tpm.flushed(bound)
 
-    script.chapter("Key and hmac are both empty: a session bound to nothing, and an empty value.")
+    tpm.chapter("Key and hmac are both empty: a session bound to nothing, and an empty value.")
     openly = tpm.sealed_object(
         "An object with userWithAuth, whose value is empty", attributes=HERE | USER, value=b""
     )
-    tpm.does("A PCR: TPM2_PCR_Reset", tpm.reset(unbound))
+    tpm("A PCR: TPM2_PCR_Reset").reset(unbound)
     tpm.flushed_new("TPM_RH_NULL: TPM2_CreatePrimary", at_null(unbound))
     tpm.unseal("The object: TPM2_Unseal", openly, SECRET, unbound)
     shown = Use(unbound, shows_empty_key=True)
@@ -200,39 +179,21 @@ def with_policy(auth_policy):
 
 def in_turn(session, condition):
     """An object and an index are authorized under a condition."""
-    script.chapter(condition.words)
+    tpm.chapter(condition.words)
     handle, index = with_policy(condition.auth_policy)
     if condition.locality:
-        script.locality_is(condition.locality)
+        tpm.locality_is(condition.locality)
     for name, prepare in uses_of(handle, index):
         prepared = prepare(Use(session, demand=condition.demand))
         tpm.asserts(f"{condition.told}, and {name}", *condition.assertions(session, prepared))
         tpm.does("", prepared)
     if condition.locality:
-        script.locality_is(0)
+        tpm.locality_is(0)
     tpm.flushed(handle)
-
-
-def demanding_nothing(session, bound):
-    script.chapter(
-        "Nothing is demanded: the key of the hmac is the session key alone. Here the policy has no "
-        "assertion either: authPolicy is the digest that a session starts with, 32 zeros."
-    )
-    handle, index = with_policy(ZEROS)
-    for name, prepare in uses_of(handle, index):
-        tpm.does(f"{name}: key and hmac are both empty", prepare(session))
-        shown = Use(session, shows_empty_key=True)
-        tpm.does("Or it is the hmac of the empty key", prepare(shown))
-        tpm.does("Or by the session that has a key", prepare(bound))
-    tpm.flushed(handle)
-    both = tpm.sealed_object("An object with userWithAuth and this policy", ZEROS, HERE | USER)
-    tpm.unseal("TPM2_Unseal by the policy", both, SECRET, session)
-    tpm.unseal("And by the password", both, SECRET, PIN)
-    tpm.flushed(both)
 
 
 def demanding_the_value(bound):
-    script.chapter("What is demanded, with other keys and other values.")
+    tpm.chapter("What is demanded, with other keys and other values.")
     handle = tpm.sealed_object("An object whose policy is either of the two", AFTER_AUTH_VALUE)
     tpm.asserts_value(bound)
     demanded = Use(bound, demand=AUTH_VALUE)
@@ -242,16 +203,11 @@ def demanding_the_value(bound):
     tpm.unseal("TPM2_Unseal by the value, and by no key", handle, SECRET, demanded)
     to_it = tpm.policy("A policy session bound to the object", bind=handle)
     tpm.asserts_value(to_it)
-    tpm.unseal(
-        "TPM2_Unseal: here the value is in the key all the same",
-        handle,
-        SECRET,
-        Use(to_it, demand=AUTH_VALUE),
-    )
+    said = tpm("TPM2_Unseal: here the value is in the key all the same")
+    said.unseal(handle, SECRET, Use(to_it, demand=AUTH_VALUE))
     tpm.flushed(to_it, handle)
-    openly = tpm.sealed_object(
-        "An object with this policy, whose value is empty", AFTER_AUTH_VALUE, value=b""
-    )
+    said = tpm("An object with this policy, whose value is empty")
+    openly = said.sealed_object(AFTER_AUTH_VALUE, value=b"")
     unbound = tpm.policy("A policy session bound to nothing")
     for told, demand in ((tpm.asserts_value, AUTH_VALUE), (tpm.asserts_password, PASSWORD)):
         told(unbound)
@@ -260,20 +216,16 @@ def demanding_the_value(bound):
 
 
 def command_codes(session):
-    script.chapter(
+    tpm.chapter(
         "TPM2_PolicyCommandCode: the command is the one that is recorded. So an object and two "
         "indices have each a policy of their own. All three are in the USER role."
     )
     handle = tpm.sealed_object("An object for TPM2_Unseal", after_code(CC.Unseal))
-    written = tpm.index(
-        "An index for TPM2_NV_Write",
-        Attribute.POLICYWRITE | Attribute.OWNERREAD,
-        after_code(CC.NV_Write),
-    )
-    read = tpm.written_index(
-        "One for TPM2_NV_Read, which the owner writes",
-        Attribute.POLICYREAD | Attribute.OWNERWRITE,
-        after_code(CC.NV_Read),
+    said = tpm("An index for TPM2_NV_Write")
+    written = said.index(NvAttribute.POLICYWRITE | NvAttribute.OWNERREAD, after_code(CC.NV_Write))
+    said = tpm("One for TPM2_NV_Read, which the owner writes")
+    read = said.written_index(
+        NvAttribute.POLICYREAD | NvAttribute.OWNERWRITE, after_code(CC.NV_Read)
     )
     for name, code, prepared in (
         ("TPM2_Unseal", CC.Unseal, lambda: tpm.unsealing(handle, session)),
@@ -286,7 +238,7 @@ def command_codes(session):
 
 
 def admin_role(session):
-    script.chapter(
+    tpm.chapter(
         "The ADMIN role, in which TPM2_NV_ChangeAuth alone authorizes: the command is recorded. No "
         "attribute of the index is asked for."
     )
@@ -294,21 +246,16 @@ def admin_role(session):
     recorded = after_code(code)
     index = tpm.index("An index whose policy is that command", BY_OWNER, recorded)
     tpm.asserts_code(session, code, name)
-    tpm.does(name, tpm.changing_auth(index, b"new", session))
-    index = tpm.index(
-        "One whose policy has TPM2_PolicyAuthValue or TPM2_PolicyPassword behind it",
-        BY_OWNER,
-        policy.after_auth_value(SHA256, recorded),
-    )
+    tpm(name).changing_auth(index, b"new", session)
+    said = tpm("One whose policy has TPM2_PolicyAuthValue or TPM2_PolicyPassword behind it")
+    index = said.index(BY_OWNER, policy.after_auth_value(SHA256, recorded))
     tpm.asserts_code(session, code, name)
     tpm.asserts_value(session)
-    tpm.does(
-        f"{name} by the value, and its answer is by the new one",
-        tpm.changing_auth(index, b"new", Use(session, demand=AUTH_VALUE)),
-    )
+    said = tpm(f"{name} by the value, and its answer is by the new one")
+    said.changing_auth(index, b"new", Use(session, demand=AUTH_VALUE))
     tpm.asserts_code(session, code, name)
     tpm.asserts_password(session)
-    tpm.does(f"{name} by it", tpm.changing_auth(index, PIN, Use(session, demand=PASSWORD)))
+    tpm(f"{name} by it").changing_auth(index, PIN, Use(session, demand=PASSWORD))
 
 
 def conditions():
@@ -412,7 +359,7 @@ def conditions():
 
 
 def all_at_once(session):
-    script.chapter("All at once: a PCR, a locality, a command, a cpHash and the value.")
+    tpm.chapter("All at once: a PCR, a locality, a command, a cpHash and the value.")
     auth_policy = AFTER_PCR_16
     auth_policy = policy.after_locality(SHA256, auth_policy, AT_LOCALITY_1)
     auth_policy = policy.after_command_code(SHA256, auth_policy, CC.NV_Write)
@@ -420,7 +367,7 @@ def all_at_once(session):
     auth_policy = policy.after_auth_value(SHA256, auth_policy)
     index = tpm.index("An index with this policy", BY_POLICY, auth_policy)
     prepared = tpm.writing(index, DATA, Use(session, demand=AUTH_VALUE))
-    script.locality_is(1)
+    tpm.locality_is(1)
     tpm.asserts(
         "What the policy says, in its order",
         tpm.pcrs(session, PCR_16),
@@ -430,30 +377,51 @@ def all_at_once(session):
         tpm.auth_value_told(session),
     )
     tpm.does("TPM2_NV_Write", prepared)
-    script.locality_is(0)
+    tpm.locality_is(0)
 
 
-def by_policy_sessions():
-    script.chapter(
-        "POLICY SESSIONS, on objects and NV indices: nothing else has a policy. The session is no "
-        "trial session, its hash is the nameAlg of the entity, and its policy digest the "
-        "authPolicy. What it was told holds as the command comes, and counts for one command."
-    )
-    session = tpm.policy("A policy session, which is bound to nothing and so has no key")
-    bound = tpm.policy("One bound to the owner, which has a key", bind=RH_OWNER)
-    demanding_nothing(session, bound)
-    for condition in conditions():
-        in_turn(session, condition)
-    demanding_the_value(bound)
-    command_codes(session)
-    admin_role(session)
-    all_at_once(session)
-    tpm.flushed(session, bound)
-
-
-script.startup()
 found = entities()
-by_passwords(found)
+
+tpm.chapter("PASSWORDS. The password is the authorization value of the entity.")
+for entity in found:
+    tpm.does(f"{entity.words}: {entity.command}", entity.prepare(entity.value))
+tpm("A PCR, whose value is always empty: TPM2_PCR_Reset").reset(b"")
+tpm.flushed_new("TPM_RH_NULL, whose is too: TPM2_CreatePrimary", at_null(b""))
+for entity in found[:8]:
+    what = "With zeros behind the value, which do not count" if entity is found[0] else ""
+    tpm.does(what, entity.prepare(entity.value + bytes(2)))
+tpm("And where it is empty").reset(bytes(32))
+
 by_hmac_sessions(found)
-by_policy_sessions()
-script.write()
+
+tpm.chapter(
+    "POLICY SESSIONS, on objects and NV indices: nothing else has a policy. The session is no "
+    "trial session, its hash is the nameAlg of the entity, and its policy digest the "
+    "authPolicy. What it was told holds as the command comes, and counts for one command."
+)
+session = tpm.policy("A policy session, which is bound to nothing and so has no key")
+bound = tpm.policy("One bound to the owner, which has a key", bind=RH_OWNER)
+
+tpm.chapter(
+    "Nothing is demanded: the key of the hmac is the session key alone. Here the policy has no "
+    "assertion either: authPolicy is the digest that a session starts with, 32 zeros."
+)
+handle, index = with_policy(ZEROS)
+for name, prepare in uses_of(handle, index):
+    tpm.does(f"{name}: key and hmac are both empty", prepare(session))
+    shown = Use(session, shows_empty_key=True)
+    tpm.does("Or it is the hmac of the empty key", prepare(shown))
+    tpm.does("Or by the session that has a key", prepare(bound))
+tpm.flushed(handle)
+both = tpm.sealed_object("An object with userWithAuth and this policy", ZEROS, HERE | USER)
+tpm.unseal("TPM2_Unseal by the policy", both, SECRET, session)
+tpm.unseal("And by the password", both, SECRET, PIN)
+tpm.flushed(both)
+
+for condition in conditions():
+    in_turn(session, condition)
+demanding_the_value(bound)
+command_codes(session)
+admin_role(session)
+all_at_once(session)
+tpm.flushed(session, bound)

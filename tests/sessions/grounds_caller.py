@@ -6,7 +6,7 @@ from tpmsim.caller import HERE, area, sealed
 from tpmsim.model.capability import LOCKOUT_COUNTER, PROPERTIES
 from tpmsim.standard import CC, RH_OWNER, RH_PLATFORM, SHA256, digest, digest_bytes, frames, number
 from tpmsim.standard import policy
-from tpmsim.caller.script_caller import ScriptCaller
+from tests.common.teller import Teller
 
 OWNER, PIN, SECRET, DATA = b"owner", b"pin", b"secret", b"8 bytes."
 PCR_16 = [(SHA256, [16])]
@@ -33,9 +33,9 @@ def after_equal_data(name, old=ZEROS):
     return policy.after_nv(SHA256, old, compared, name)
 
 
-class GroundsCaller(ScriptCaller):
-    def __init__(self, script):
-        super().__init__(script)
+class GroundsCaller(Teller):
+    def __init__(self, name, told, **choices):
+        super().__init__(name, told, **choices)
         self.free_indices = iter(range(0x0100_0001, 0x0100_0020))
 
     # Entities.
@@ -72,9 +72,6 @@ class GroundsCaller(ScriptCaller):
         self.forget(*objects)
 
     # What a policy session is told.
-
-    def restarts(self, session):
-        self.does("TPM2_PolicyRestart", self.restart(session))
 
     def asserts(self, what, *told):
         """Assertions, in their order."""

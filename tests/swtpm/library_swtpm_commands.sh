@@ -6,7 +6,7 @@ tests=$(cd "$(dirname "$0")/.." && pwd -P)
 one=0000000000000000000000000000000000000000000000000000000000000001
 
 label 'without power'
-caller <<END
+play <<END
 cmd 80010000000c000001440000
 hash start
 hash data 61
@@ -21,7 +21,7 @@ validate 7
 END
 
 label 'a new device'
-caller <<END
+play <<END
 on
 wasmanufactured
 do PCR_Read sha256:16
@@ -42,7 +42,7 @@ do PCR_Read sha256:16
 END
 
 label 'what is stored, and when'
-caller <<END
+play <<END
 on
 head 80010000000c0000017b0008
 do Startup 0
@@ -61,7 +61,7 @@ do NV_Read 01000002 01000002 pw:61 8 0
 END
 
 label 'a store that fails'
-caller <<END
+play <<END
 on
 do Startup 0
 do PCR_Extend 00000010 pw:- sha256:$one
@@ -79,7 +79,7 @@ END
 
 label 'no store for a new device, and no load'
 mkdir other && mv permall other
-caller <<END
+play <<END
 store fails
 on
 do Startup 0
@@ -104,7 +104,7 @@ sort -u random | grep -c '^80010000001400000000'
 
 label 'localities'
 for locality in 0 1 2 3 4 5 255 none; do
-    caller <<END
+    play <<END
 on
 do Startup 0
 loc $locality
@@ -114,7 +114,7 @@ END
 done
 
 label 'what is told of the TPM'
-caller <<END
+play <<END
 version 0
 version 1
 version 2
@@ -133,3 +133,11 @@ profile {"Name":"default-v1"}
 cancel
 blob
 END
+
+label 'completing'
+for complete in 0 1 yes; do
+    TPMSIM_COMPLETE=$complete
+    export TPMSIM_COMPLETE
+    printf 'on\noff\n' | play
+done
+unset TPMSIM_COMPLETE

@@ -7,7 +7,7 @@ tests=$(cd "$(dirname "$0")/.." && pwd -P)
 one=0000000000000000000000000000000000000000000000000000000000000001
 
 label 'before TPM2_Startup'
-caller <<END
+play <<END
 on
 hash start
 hash data 61
@@ -16,7 +16,7 @@ established
 END
 
 label 'a launch, which is told until it is taken back from locality 3 or 4'
-caller <<END
+play <<END
 on
 do Startup 0
 established
@@ -48,7 +48,7 @@ established
 END
 
 label 'it is told in another process, and that it was taken back'
-caller <<END
+play <<END
 set permanent permanent
 set volatile launched
 on
@@ -63,7 +63,7 @@ established
 END
 
 label 'a command of no bytes from locality 4 is no launch'
-caller <<END
+play <<END
 on
 do Startup 0
 loc 4
@@ -76,7 +76,7 @@ established
 END
 
 label 'a state that is not written'
-caller <<END
+play <<END
 on
 store fails
 do Startup 0

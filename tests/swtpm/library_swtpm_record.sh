@@ -15,7 +15,7 @@ power_on_of() {
 }
 
 label 'three times of power, the last one from a volatile state'
-caller <<END
+play <<END
 on
 do Startup 0
 do PCR_Extend 00000010 pw:- sha256:$one
@@ -45,12 +45,22 @@ cmp boot-3.tpm volatile 2>&1 | sed 's/:.*//'
 
 label 'no folder'
 TPMSIM_RECORD=nowhere
-printf 'on\n' | caller
+printf 'on\n' | play
 TPMSIM_RECORD=$(printf '%05000d' 1)
-printf 'on\n' | caller | tr -s 0 | cut -c 1-40
+printf 'on\n' | play | tr -s 0 | cut -c 1-40
 TPMSIM_RECORD=
-printf 'on\ncmd 80010000000c000001440000\n' | caller
-ls | grep -c boot
+printf 'on\ncmd 80010000000c000001440000\n' | play
+find . -name "*boot*" | wc -l
+
+label 'links at the names of records, which are not followed'
+mkdir links && cd links || exit 1
+TPMSIM_RECORD=.
+ln -s "$room/elsewhere" boot-1.tpm
+mkfifo boot-2.tpm
+printf 'on\noff\n' | play
+find . -name 'boot-*' -printf '%y %P\n' | sort
+[ -e "$room/elsewhere" ] || echo 'nothing is made behind the link'
+cd .. || exit 1
 
 label 'a file that has no more room: what is not recorded is not done'
 mkdir full && cd full || exit 1

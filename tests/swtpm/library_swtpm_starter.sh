@@ -1,5 +1,5 @@
 # tpmsim-swtpm, which is swtpm for libvirt too, and swtpm_setup: with a program in swtpm's place that
-# tells how it was started. What tools/attached_swtpm.sh makes is made of the same bytes each time, and
+# tells how it was started. What tools/interop/attached_swtpm.sh makes is made of the same bytes each time, and
 # what it lacks is told.
 tests=$(cd "$(dirname "$0")/.." && pwd -P)
 . "$tests/common/cases.sh"
@@ -59,8 +59,8 @@ setup --tpm2 --pcr-banks sha384
 setup --tpm2 --reconfigure
 setup --tpm2 --profile-name default-v1
 
-label 'tools/attached_swtpm.sh'
-build=$tests/../tools/attached_swtpm.sh
+label 'tools/interop/attached_swtpm.sh'
+build=$tests/../tools/interop/attached_swtpm.sh
 "$build" "$room/twice" && cmp "$room/twice/libtpms.so.0" "$room/swtpm/libtpms.so.0" && echo 'the same bytes'
 stat -c '%a %n' "$room"/twice/* | sed "s|$room|ROOM|"
 "$build" 2>&1 | sed "s|$build|tool|"

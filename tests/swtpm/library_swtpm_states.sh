@@ -7,7 +7,7 @@ tests=$(cd "$(dirname "$0")/.." && pwd -P)
 one=0000000000000000000000000000000000000000000000000000000000000001
 
 label 'a device that is left as it runs'
-caller <<END
+play <<END
 on
 do Startup 0
 do NV_DefineSpace OWNER pw:- 61 01000002000b0004000400000008
@@ -25,7 +25,7 @@ cp permall permanent
 
 label 'it goes on in another process, by the states that swtpm keeps'
 cp volatile volatilestate
-caller <<END
+play <<END
 on
 do PCR_Read sha256:16,20
 do PolicyPCR 03000000 - sha256:16
@@ -36,7 +36,7 @@ END
 rm volatilestate permall
 
 label 'by states that are set'
-caller <<END
+play <<END
 set permanent permanent
 set volatile volatile
 on
@@ -64,13 +64,13 @@ sed -n '2s/^# //p' volatile | python3 -c \
 
 label 'another permanent state'
 mkdir other
-(cd other && caller <<END
+(cd other && play <<END
 on
 do Startup 0
 END
 )
 cp permall before
-caller <<END
+play <<END
 set permanent other/permall
 set volatile volatile
 on
@@ -78,19 +78,19 @@ do Startup 0
 on
 END
 cmp permall before && echo 'what was kept is as it was'
-caller <<END
+play <<END
 on
 do Startup 0
 do NV_Write 01000002 01000002 pw:61 4141414141414141 0
 END
 cp permall before
 cp volatile volatilestate
-printf 'on\nvalidate 7\n' | caller
+printf 'on\nvalidate 7\n' | play
 cmp permall before && echo 'what was kept is as it was'
 rm volatilestate
 
 label 'each byte of a state'
-caller <<END
+play <<END
 turn permanent permanent
 cut permanent permanent
 turn volatile volatile
@@ -101,23 +101,23 @@ cmp permall before && echo 'what was kept is as it was'
 
 label 'damage in what swtpm keeps'
 head -c 100 before >permall
-printf 'on\nvalidate 1\nvalidate 2\n' | caller
+printf 'on\nvalidate 1\nvalidate 2\n' | play
 : >permall
-printf 'on\n' | caller
+printf 'on\n' | play
 cp before permall
 head -c 1000 volatile >volatilestate
-printf 'on\nvalidate 1\nvalidate 2\n' | caller
+printf 'on\nvalidate 1\nvalidate 2\n' | play
 sed '$d' volatile >volatilestate
-printf 'on\n' | caller
+printf 'on\n' | play
 { sed '$d' volatile | head -c -30 && echo '# the end'; } >volatilestate
-printf 'on\nvalidate 2\n' | caller
+printf 'on\nvalidate 2\n' | play
 sed '/^wait/s/[0-9]*$/7/' volatile >volatilestate
-printf 'on\n' | caller
+printf 'on\n' | play
 cmp permall before && echo 'what was kept is as it was'
 rm volatilestate
 
 label 'a bad state takes the others with it'
-caller <<END
+play <<END
 set permanent other/permall
 set volatile permanent
 on
@@ -127,7 +127,7 @@ do NV_Read 01000002 01000002 pw:61 8 0
 END
 
 label 'a state at the wrong time'
-caller <<END
+play <<END
 on
 set permanent permanent
 set saved permanent

@@ -2,30 +2,31 @@
 the history alone tells.
 """
 
-from tpmsim.audit.counter_lines import CounterLines
+from typing import Sequence
+
 from tpmsim.audit.entities import Entities
 from tpmsim.audit.ground import Grounds
 from tpmsim.audit.guesses import Guesses
-from tpmsim.audit.log import Disagreement
-from tpmsim.audit.pcr_lines import PcrLines
+from tpmsim.audit.lines import CounterLines, PcrLines, Repeats, ValueLines
+from tpmsim.audit.log import Disagreement, Log
 from tpmsim.audit.policy_lines import Policies
-from tpmsim.audit.repeats import Repeats
 from tpmsim.audit.session_lines import SessionLines
-from tpmsim.audit.uses import Uses
-from tpmsim.audit.value_lines import ValueLines
-from tpmsim.audit.watch import Watch
+from tpmsim.audit.start import Start
+from tpmsim.audit.uses import Refusals, Uses
+from tpmsim.audit.watch import Seen, Watch
 from tpmsim.model.player import BadLine, LINES, Player
-from tpmsim.standard.commands import NUMBERED
+from tpmsim.policies.policy_file import PolicyFile
+from tpmsim.standard import NUMBERED
 
 
 class Counts:
     """How many events there were, of each kind."""
 
-    def __init__(self):
+    def __init__(self) -> None:
         self.accepted = self.refused = self.power_cycles = 0
 
     @property
-    def events(self):
+    def events(self) -> int:
         return self.accepted + self.refused + self.power_cycles
 
 
@@ -34,7 +35,7 @@ class Auditor:
     the line of its latest event.
     """
 
-    def __init__(self, start, log, policy_files=()):
+    def __init__(self, start: Start, log: Log, policy_files: Sequence[PolicyFile] = ()) -> None:
         device, history = start.device, start.history
         self.start, self.log, self.history = start, log, history
         self.player, self.watch = Player(device), Watch(device)
@@ -44,17 +45,17 @@ class Auditor:
         self.sessions = SessionLines(history)
         self.entities, self.counters = Entities(device), CounterLines(device, history)
         self.guesses = Guesses(device, self.sessions)
-        self.repeats = Repeats(self.sessions)
+        self.repeats, self.refusals = Repeats(self.sessions), Refusals()
         self.grounds = Grounds(history, self.sessions, self.pcrs, self.values)
         self.policies = Policies(policy_files, self.entities, self.grounds)
         self.uses = Uses(*(self.grounds, self.entities, self.guesses, self.repeats, self.policies))
 
-    def read(self, script):
+    def read(self, script: bytes) -> None:
         """Judges all lines of a script; the first Disagreement ends it."""
         lines = script.removesuffix(b"\n").split(b"\n") if script else []
         for number, line in enumerate(lines[:LINES], 1):
+            self.watch.seen, self.watch.line = None, number
             try:
-                self.watch.seen = None
                 printed = self.player.play(line)
             except BadLine:
                 self.log.end()
@@ -67,9 +68,8 @@ class Auditor:
             words = f"the script has more than {LINES} lines; up to there the log agrees"
             raise Disagreement(words)
 
-    def judge(self, number, printed):
-        """An event, by what was printed of it."""
-        seen = self.watch.seen
+    def judge(self, number: int, printed: list[str]) -> None:
+        seen = self.watch.latest
         seen.line = self.last = number
         try:
             self.compare(seen, printed)
@@ -81,38 +81,44 @@ class Auditor:
         except Disagreement as fault:
             raise Disagreement(f"{named(seen)}: {fault}") from None
 
-    def compare(self, seen, printed):
+    def compare(self, seen: Seen, printed: list[str]) -> None:
         try:
             self.log.check(printed)
         except Disagreement as fault:
             raise Disagreement(f"{fault}{self.uses.reason(seen)}") from None
 
-    def refuse(self, seen):
+    def refuse(self, seen: Seen) -> None:
         self.counts.refused += 1
         self.guesses.refuse(seen, self.grounds)
         self.uses.refuse(seen)
+        self.refusals.note(seen)
 
-    def accept(self, seen):
+    def accept(self, seen: Seen) -> None:
         """First its entries, by the history before it; then what the history tells with it."""
         if seen.is_power_cycle:
             self.counts.power_cycles += 1
+            self.watch.past.power(seen.line)
         else:
             self.counts.accepted += 1
             self.uses.accept(seen)
             self.sessions.assert_on(seen)
+        assert seen.event is not None
         self.history.add(seen.event)
-        for part in (self.pcrs, self.values, self.sessions, self.entities, self.counters):
-            part.note(seen)
+        self.pcrs.note(seen)
+        self.values.note(seen)
+        self.sessions.note(seen)
+        self.entities.note(seen)
+        self.counters.note(seen)
         self.guesses.note(seen)
 
-    def follow(self):
+    def follow(self) -> None:
         """The device follows its history."""
         told = ", ".join(self.history.differences(self.device))
         if told:
             raise Disagreement(f"the device is not what its history tells: {told}")
 
 
-def named(seen):
+def named(seen: Seen) -> str:
     """An event, in words: the line, and the command where it is known."""
     if seen.is_power_cycle:
         return f"script line {seen.line}, power"

@@ -3,13 +3,16 @@ one of the ways that tpm_policy_meaning has (Meaning, BreaksHash), or the device
 TPM2_PolicyOR that none takes.
 """
 
-from tpmsim.audit.asserted import PolicyOr
-from tpmsim.policies.policy_texts import policy_digest, policy_texts, texts_after, zeros
+from typing import Iterator, Sequence
+
+from tpmsim.audit.session_lines import Asserted, PolicyOr
+from tpmsim.policies.policy_texts import Policy, policy_digest, policy_texts, texts_after, zeros
 from tpmsim.standard.sessions import digest
 
+Told = Sequence[Asserted]
 
-def explanation(algorithm, policy, told):
-    """It, in words."""
+
+def explanation(algorithm: int, policy: Policy, told: Told) -> str:
     for find in (wrong_or, collision, hash_of_zeros, astride):
         found = find(algorithm, policy, told)
         if found:
@@ -17,7 +20,7 @@ def explanation(algorithm, policy, told):
     return "nothing tells how the session came to the digest of the policy"
 
 
-def wrong_or(algorithm, policy, told):
+def wrong_or(algorithm: int, policy: Policy, told: Told) -> str | None:
     """A TPM2_PolicyOR that no device accepts."""
     for it in told:
         if isinstance(it.said, PolicyOr) and it.before not in it.said.digests:
@@ -25,7 +28,7 @@ def wrong_or(algorithm, policy, told):
     return None
 
 
-def session_texts(algorithm, told):
+def session_texts(algorithm: int, told: Told) -> Iterator[tuple[bytes, int]]:
     """The texts that a session hashed, each with the line of its assertion."""
     for it in told:
         old = zeros(algorithm) if isinstance(it.said, PolicyOr) else it.before
@@ -33,7 +36,7 @@ def session_texts(algorithm, told):
             yield text, it.line
 
 
-def collision(algorithm, policy, told):
+def collision(algorithm: int, policy: Policy, told: Told) -> str | None:
     """Two texts with one hash, one of the policy and one of the session."""
     written = [(it, digest(algorithm, it)) for it in policy_texts(algorithm, policy)]
     for text, line in session_texts(algorithm, told):
@@ -45,7 +48,7 @@ def collision(algorithm, policy, told):
     return None
 
 
-def hash_of_zeros(algorithm, policy, told):
+def hash_of_zeros(algorithm: int, policy: Policy, told: Told) -> str | None:
     of_policy = [(it, "the policy") for it in policy_texts(algorithm, policy)]
     of_session = [(text, f"line {line}") for text, line in session_texts(algorithm, told)]
     for text, whose in of_policy + of_session:
@@ -54,22 +57,21 @@ def hash_of_zeros(algorithm, policy, told):
     return None
 
 
-def branch_lists(algorithm, policy):
+def branch_lists(algorithm: int, policy: Policy) -> Iterator[tuple[int, list[bytes]]]:
     """The digests of the branches of each PolicyOR, with the line of its `either`."""
     if policy.branches:
         yield policy.line, [policy_digest(algorithm, it) for it in policy.branches]
-        for branch in policy.branches:
-            yield from branch_lists(algorithm, branch)
+    for branch in policy.branches:
+        yield from branch_lists(algorithm, branch)
 
 
-def astride(algorithm, policy, told):
+def astride(algorithm: int, policy: Policy, told: Told) -> str | None:
     """A digest that is none of the branches', but the end of one and the beginning of the next."""
     had = [(zeros(algorithm), "the start"), *((it.digest, f"line {it.line}") for it in told)]
     for line, digests in branch_lists(algorithm, policy):
-        for found, since in had:
-            for place, (first, second) in enumerate(zip(digests, digests[1:]), 1):
-                inner = (first + second)[1:-1]
-                if found not in digests and found in inner:
-                    branches = f"branches {place} and {place + 1} of policy line {line}"
-                    return f"the digest {found.hex()} of {since} is astride {branches}"
+        pairs = list(enumerate(zip(digests, digests[1:]), 1))
+        for (found, since), (place, both) in ((it, pair) for it in had for pair in pairs):
+            if found not in digests and found in b"".join(both)[1:-1]:
+                branches = f"branches {place} and {place + 1} of policy line {line}"
+                return f"the digest {found.hex()} of {since} is astride {branches}"
     return None

@@ -1,13 +1,17 @@
 """Failed guesses at protected values, and how many there may be between two resets."""
 
 from dataclasses import dataclass, field
+from typing import Iterator
 
+from tpmsim.audit.ground import Grounds, Use
 from tpmsim.audit.log import Disagreement
+from tpmsim.audit.session_lines import SessionLines
+from tpmsim.audit.watch import Seen
+from tpmsim.model.machine import Model
 from tpmsim.model.protection import MILLISECONDS, TRIES
-from tpmsim.standard.commands import CC
+from tpmsim.standard import CC
 
 RESETS = (CC.DictionaryAttackLockReset, CC.DictionaryAttackParameters, CC.Clear)
-
 
 # How a wrong entry is answered that is a guess at what is protected, and any other.
 COUNTED, NOT_COUNTED = "AUTH_FAIL", "BAD_AUTH"
@@ -23,17 +27,17 @@ class Stretch:
     most: int
     recovery: int
     elapsed: int = 0
-    failed: list = field(default_factory=list)
+    failed: list[int] = field(default_factory=list)
 
     @property
-    def bound(self):
+    def bound(self) -> int | None:
         """How many may fail; where recoveryTime is 0, there is no protection, and no bound."""
         period = MILLISECONDS * self.recovery
         return self.most + self.elapsed // period if period else None
 
-    def words(self, last):
+    def words(self, last: int) -> str:
         lines = "line " if len(self.failed) == 1 else "lines "
-        lines += ", ".join(str(it) for it in self.failed)
+        lines += ", ".join(map(str, self.failed))
         head = f"  lines {self.first} to {last}: {len(self.failed)}"
         if self.bound is None:
             return f"{head}, and recoveryTime is 0, so that any number may fail; {lines}"
@@ -42,19 +46,18 @@ class Stretch:
 
 
 class Guesses:
-    def __init__(self, device, sessions):
-        self.sessions, self.told = sessions, []
+    def __init__(self, device: Model, sessions: SessionLines) -> None:
+        self.sessions, self.told = sessions, list[str]()
         lockout = device.lockout
         self.stretch = Stretch(1, lockout.max_tries, lockout.recovery_time)
 
-    def refuse(self, seen, grounds):
+    def refuse(self, seen: Seen, grounds: Grounds) -> None:
         """A refused command; Disagreement where it is one guess too many, or answered as none."""
         self.stretch.elapsed += seen.elapsed
-        name, _, place = seen.outcome.refused.partition("/s")
+        name, _, place = (seen.outcome.refused or "").partition("/s")
         if name not in (COUNTED, NOT_COUNTED) or not place:
             return
-        use = list(grounds.uses(seen))[int(place) - 1]
-        touched = self.touched(use)
+        touched = self.touched(list(grounds.uses(seen))[int(place) - 1])
         if (touched is None) != (name == NOT_COUNTED):
             protected = "something" if touched else "nothing"
             words = f"{name} for entry {place}, which is a guess at {protected} that is protected"
@@ -66,30 +69,29 @@ class Guesses:
                 words = f"more failed guesses than {bound} since line {self.stretch.first}"
                 raise Disagreement(words)
 
-    def touched(self, use):
+    def touched(self, use: Use) -> str | None:
         """What is protected that an entry is a try at: the value in its key or its password, or
         else the one that its session was bound to.
         """
         own = use.view.protection if use.takes_value else None
         return own or self.sessions.protection(use.entry.handle)
 
-    def note(self, seen):
-        """An accepted event."""
-        if seen.is_power_cycle or seen.event.code not in RESETS:
+    def note(self, seen: Seen) -> None:
+        if seen.is_power_cycle or seen.accepted.code not in RESETS:
             self.stretch.elapsed += seen.elapsed
             return
         self.close(seen.line)
         most, recovery = self.stretch.most, self.stretch.recovery
-        if seen.event.code == CC.DictionaryAttackParameters:
-            fields = seen.event.read()
+        if seen.accepted.code == CC.DictionaryAttackParameters:
+            fields = seen.accepted.read()
             most, recovery = fields.next().number(4), fields.next().number(4)
         self.stretch = Stretch(seen.line, most, recovery)
 
-    def close(self, last):
+    def close(self, last: int) -> None:
         if self.stretch.failed:
             self.told.append(self.stretch.words(last))
 
-    def report(self, last):
+    def report(self, last: int) -> Iterator[str]:
         self.close(last)
         if not self.told:
             yield "Failed guesses: none."

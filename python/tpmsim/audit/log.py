@@ -7,7 +7,7 @@ class Disagreement(Exception):
     """Where a log is not what it ought to be, in words."""
 
 
-def shown(text, first):
+def shown(text: str, first: int) -> str:
     """A text in quotation marks; of a long one, what stands around a place."""
     plain = "".join(it if it.isprintable() else "?" for it in text)
     begin = max(0, first - BEFORE) if len(plain) > SHOWN else 0
@@ -15,7 +15,7 @@ def shown(text, first):
     return f'"{".." if begin else ""}{cut}{".." if begin + SHOWN < len(plain) else ""}"'
 
 
-def both(given, wanted):
+def both(given: str, wanted: str) -> str:
     """Two texts that differ, in words."""
     pairs = zip(given, wanted)
     first = next((at for at, (a, b) in enumerate(pairs) if a != b), min(len(given), len(wanted)))
@@ -26,7 +26,7 @@ def both(given, wanted):
 class Log:
     """The lines of an output, each ended by a newline but the last one, which may be cut."""
 
-    def __init__(self, text):
+    def __init__(self, text: bytes) -> None:
         self.lines = text.decode("latin-1").split("\n")
         self.is_whole = self.lines[-1] == ""
         if self.is_whole:
@@ -34,10 +34,10 @@ class Log:
         self.at = 0
 
     @property
-    def left(self):
+    def left(self) -> int:
         return len(self.lines) - self.at
 
-    def check(self, printed):
+    def check(self, printed: list[str]) -> None:
         """Compares the next lines with those that are due; Disagreement where they differ."""
         for wanted in printed:
             if not self.left:
@@ -49,7 +49,7 @@ class Log:
                     raise Disagreement("the log is cut: what is printed of this line is not whole")
                 raise Disagreement(both(given, wanted))
 
-    def end(self):
+    def end(self) -> None:
         """Nothing may be left once the script has ended."""
         if self.left:
             lines = "a line" if self.left == 1 else f"{self.left} lines"

@@ -18,6 +18,7 @@ program.
 import os
 import pathlib
 import sys
+from dataclasses import dataclass, field
 
 from tpmsim.audit import start
 from tpmsim.audit.auditor import Auditor
@@ -38,48 +39,55 @@ class Usage(Exception):
     """Why nothing can be judged."""
 
 
-def read(name):
+@dataclass
+class Asked:
+    """The names of the script and of its output, that of the image, if there is one, and those of
+    policies.
+    """
+
+    names: list[str] = field(default_factory=list)
+    images: list[str] = field(default_factory=list)
+    policies: list[str] = field(default_factory=list)
+
+
+def asked_of(words: list[str]) -> Asked:
+    asked, left = Asked(), iter(words)
+    given = {"--image": asked.images, "--policy": asked.policies}
+    for word in left:
+        if word in given:
+            given[word].append(next(left, "--"))
+        else:
+            asked.names.append(word)
+    wrong = [it for it in (*asked.names, *asked.images, *asked.policies) if it.startswith("--")]
+    if len(asked.names) != 2 or len(asked.images) > 1 or wrong:
+        raise Usage(USAGE)
+    if "-" in (asked.names[0], *asked.policies):
+        raise Usage(USAGE)
+    return asked
+
+
+def read(name: str) -> bytes:
     try:
         return sys.stdin.buffer.read() if name == "-" else pathlib.Path(name).read_bytes()
     except OSError:
         raise Usage(f"{name} cannot be read") from None
 
 
-def parsed(words):
-    """The names of the script and of its output, that of the image, if there is one, and those of
-    policies.
-    """
-    names, given, words = [], {"--image": [], "--policy": []}, iter(words)
-    for word in words:
-        of_option = given.get(word)
-        if of_option is None:
-            names.append(word)
-        else:
-            of_option.append(next(words, "--"))
-    images, policies = given.values()
-    wrong = [it for it in (*names, *images, *policies) if it.startswith("--")]
-    if len(names) != 2 or len(images) > 1 or wrong or "-" in (names[0], *policies):
-        raise Usage(USAGE)
-    return *names, *(images or [None]), policies
-
-
-def policy_of(name):
+def policy_of(name: str) -> PolicyFile:
     try:
         return PolicyFile(name, read(name))
     except PolicyFault as fault:
         raise Usage(f"{name} {fault}") from None
 
 
-def start_of(image):
-    if image is None:
-        return start.new()
+def start_of(images: list[str]) -> start.Start:
     try:
-        return start.of_image(read(image))
+        return start.of_image(read(images[0])) if images else start.new()
     except Fault as fault:
         raise Usage(f"image {fault}") from None
 
 
-def tell(auditor, last):
+def tell(auditor: Auditor, last: str) -> None:
     """Prints the report; who reads it may close it before it ends."""
     try:
         print(*report(auditor), last, sep="\n", flush=True)
@@ -87,14 +95,14 @@ def tell(auditor, last):
         os.dup2(os.open(os.devnull, os.O_WRONLY), sys.stdout.fileno())
 
 
-def main(*words):
+def main(*words: str) -> int:
+    if "--help" in words:
+        print((__doc__ or "").strip())
+        return 0
     try:
-        if "--help" in words:
-            print(__doc__.strip())
-            return 0
-        script_name, output_name, image, policies = parsed(words)
-        script, log = read(script_name), Log(read(output_name))
-        auditor = Auditor(start_of(image), log, [policy_of(it) for it in policies])
+        asked = asked_of(list(words))
+        script, log = read(asked.names[0]), Log(read(asked.names[1]))
+        auditor = Auditor(start_of(asked.images), log, [policy_of(it) for it in asked.policies])
     except Usage as wrong:
         print(f"audit: {wrong}", file=sys.stderr)
         return 2
@@ -110,5 +118,5 @@ def main(*words):
     return 1 if faults else 0
 
 
-def run():
+def run() -> None:
     sys.exit(main(*sys.argv[1:]))

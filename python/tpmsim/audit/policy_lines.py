@@ -1,13 +1,152 @@
 """Policies that a reviewer has in words: which entities have them, and whether each use by a policy
-session met the policy of its entity.
+session met the policy of its entity. It has to have told, one after another and along one branch at
+each PolicyOR, what is written, as tpm_policy_meaning has it (Meaning); what is written later has to be
+told later too, which the digest sees to. And what the policy says has to hold at the use.
 """
 
+from dataclasses import dataclass
+from typing import Iterator, Sequence
+
 from tpmsim.audit import broken
-from tpmsim.audit.held import finding
-from tpmsim.audit.met import Choice, NotMet, steps_of
-from tpmsim.audit.words import command_name
-from tpmsim.standard import frames, handle_kinds
+from tpmsim.audit.conditions import Finding
+from tpmsim.audit.entities import Entities, Entity
+from tpmsim.audit.ground import Grounds, Use
+from tpmsim.audit.session_lines import Asserted, PolicyOr
+from tpmsim.explain.words import command_words
+from tpmsim.model.parameters import Parameters
+from tpmsim.policies.policy_file import PolicyFile
+from tpmsim.policies.policy_texts import Policy, policy_digest, Written
+from tpmsim.policies.written import Said
+from tpmsim.standard import CC, nv, policy, SE_POLICY
 from tpmsim.standard.lines import handle_word
+
+
+class NotMet(Exception):
+    """What of a policy a session did not assert, in words."""
+
+
+@dataclass(frozen=True)
+class Step:
+    """What is written, with the assertion that says it."""
+
+    written: Written
+    asserted: Asserted
+
+
+@dataclass(frozen=True)
+class Choice:
+    """The branch that was met at `either` of a line, from 1, of how many, and the TPM2_PolicyOR."""
+
+    line: int
+    place: int
+    count: int
+    asserted: Asserted
+
+    @property
+    def words(self) -> str:
+        branch = f"branch {self.place} of {self.count}"
+        return f"policy line {self.line}, either: {branch}, by line {self.asserted.line} (PolicyOR)"
+
+
+def steps_of(algorithm: int, of: Policy, told: Sequence[Asserted]) -> list[Step | Choice]:
+    """The steps by which assertions meet a policy, in their order; NotMet where they do not."""
+    earlier, steps = list(told), list[Step | Choice]()
+    for written in reversed(of.assertions):
+        head = f"policy line {written.line}, {written.said.words}"
+        if not earlier:
+            raise NotMet(f"{head}: it was not asserted")
+        latest = earlier.pop()
+        if not latest.says(written.said):
+            raise NotMet(f"{head}: line {latest.line} asserts {latest.said.words} in its place")
+        steps.insert(0, Step(written, latest))
+    return [*(steps_at_or(algorithm, of, earlier) if of.branches else []), *steps]
+
+
+def steps_at_or(algorithm: int, of: Policy, told: Sequence[Asserted]) -> list[Step | Choice]:
+    """Those of the branch whose digest TPM2_PolicyOR found."""
+    head = f"policy line {of.line}, either"
+    if not told or not isinstance(told[-1].said, PolicyOr):
+        raise NotMet(f"{head}: TPM2_PolicyOR was not asserted")
+    *earlier, latest = told
+    fault = NotMet(f"{head}: before line {latest.line} (PolicyOR) the digest is that of no branch")
+    for place, branch in enumerate(of.branches, 1):
+        if policy_digest(algorithm, branch) == latest.before:
+            choice = Choice(of.line, place, len(of.branches), latest)
+            try:
+                return [*steps_of(algorithm, branch, earlier), choice]
+            except NotMet as of_branch:
+                fault = of_branch
+    raise fault
+
+
+# At a use.
+
+
+def finding(step: Step, use: Use, grounds: Grounds) -> Finding:
+    """That of a step, with the lines of the policy and of the assertion."""
+    written, asserted = step.written, step.asserted
+    name, other = written.said.code.name, asserted.said.code.name
+    found = of_assertion(written.said, asserted, use, grounds)
+    by = f"line {asserted.line}" if other == name else f"line {asserted.line} ({other})"
+    joined = "and" if found.holds else "but"
+    words = f"policy line {written.line}, {name}: {by} asserts it, {joined} {found.words}"
+    return Finding(found.holds, words)
+
+
+def of_assertion(said: Said, asserted: Asserted, use: Use, grounds: Grounds) -> Finding:
+    locality = use.seen.locality
+    match said.code, *said.values:
+        case CC.PolicyPCR, selection, digest:
+            return of_pcrs(selection, digest, asserted.line, use, grounds)
+        case CC.PolicyCommandCode, code:
+            return Finding(use.code == code, f"the command is {command_words(use.code)}")
+        case CC.PolicyLocality, localities:
+            holds = bool(localities >> locality & 1)
+            return Finding(holds, f"the command comes from locality {locality}")
+        case CC.PolicyCpHash, cp_hash:
+            words = f"the cpHash of the command is {use.cp_hash.hex()}"
+            return Finding(use.cp_hash == cp_hash, words)
+        case CC.PolicyNvWritten, wanted:
+            return of_written(wanted, use)
+        case CC.PolicySecret, *_:
+            return Finding(True, f"{asserted.of} authorized that command")
+        case CC.PolicyNV, *_:
+            return Finding(True, f"the comparison held then, of the data of {asserted.of}")
+    return of_value(use, grounds)
+
+
+def of_pcrs(selection: bytes, digest: bytes, line: int, use: Use, grounds: Grounds) -> Finding:
+    """The PCRs have the digest that is written, and have had it since the assertion."""
+    selected = Parameters(selection).next().selection()
+    now, lines = grounds.history.pcrs.digest(use.session.algorithm, selected), grounds.pcrs
+    if now != digest:
+        return Finding(False, f"the PCRs have the digest {now.hex()} at the use")
+    if lines.last_change > line:
+        return Finding(False, f"line {lines.last_change} {lines.last_words} after that")
+    return Finding(True, "the PCRs have that digest: none was written since then")
+
+
+def of_value(use: Use, grounds: Grounds) -> Finding:
+    """The authorization value is in the key of the hmac, or it is the password."""
+    if use.demand is None:
+        return Finding(False, "the session asks for no authorization value")
+    asks_password = use.demand == policy.PASSWORD
+    found = grounds.password(use) if asks_password else grounds.hmac(use)
+    if use.value or asks_password:
+        return found
+    return Finding(found.holds, f"{found.words}; the authorization value is the empty one")
+
+
+def of_written(wanted: bool, use: Use) -> Finding:
+    if use.view.index is None:
+        return Finding(False, "what is used is no NV index")
+    is_written = use.view.index.has(nv.Attribute.WRITTEN)
+    words = f"the index is {'' if is_written else 'not '}written before the command"
+    return Finding(is_written == wanted, words)
+
+
+# What a use lacks of its policy, if anything, and all that is told of it.
+Judgement = tuple[str | None, list[str]]
 
 
 class Judged:
@@ -15,32 +154,32 @@ class Judged:
     that do not meet it.
     """
 
-    def __init__(self, file):
-        self.file, self.uses, self.unmet = file, {}, []
+    def __init__(self, file: PolicyFile) -> None:
+        self.file, self.unmet = file, list[str]()
+        self.uses: dict[int, list[str]] = {}
 
-    def note(self, use, entity, grounds):
-        """A use that is accepted."""
-        told = self.uses.setdefault(id(entity), [])
-        words = f"line {use.seen.line}: {command_name(use.code)} {grounds.title(use)}"
-        if use.is_password or not handle_kinds.is_policy(use.entry.handle):
+    def note(self, use: Use, entity: Entity, grounds: Grounds) -> None:
+        told, line = self.uses.setdefault(id(entity), []), use.seen.line
+        name = command_words(use.code)
+        words = f"line {line}: {name} {grounds.title(use)}"
+        if not use.is_policy:
             told.append(f"    {words} asks for no policy")
             return
-        asserted = grounds.sessions.assertions(use.entry.handle)
+        asserted = grounds.sessions.live[use.entry.handle].asserted
         lacks, conditions = self.judged(use, asserted, grounds)
         told.append(f"    {words} {'does not meet it' if lacks else 'meets it'}")
         told += [f"        {it}" for it in conditions]
         if lacks:
-            name = f"{command_name(use.code)} of {handle_word(use.handle)}"
-            words = f"script line {use.seen.line}, {name}, does not meet it: {lacks}"
-            self.unmet.append(f"{self.file.name}: {words}")
+            named = f"script line {line}, {name} of {handle_word(use.authorized)}"
+            self.unmet.append(f"{self.file.name}: {named}, does not meet it: {lacks}")
 
-    def judged(self, use, asserted, grounds):
-        """What a use lacks of the policy, if anything, and all that is told of it."""
-        algorithm, digest = use.view.public.name_algorithm, use.session.policy.digest
-        if use.session.kind != frames.SE_POLICY:
+    def judged(self, use: Use, asserted: Sequence[Asserted], grounds: Grounds) -> Judgement:
+        public, digest = use.view.public, use.session.policy.digest
+        assert public is not None
+        if use.session.kind != SE_POLICY:
             lacks = "its session is a trial session, which authorizes nothing"
             return lacks, [lacks]
-        has_digest = digest == use.view.public.auth_policy
+        algorithm, has_digest = public.name_algorithm, digest == public.auth_policy
         other = f"its session has another digest, {digest.hex()}"
         try:
             steps = steps_of(algorithm, self.file.policy, asserted)
@@ -50,7 +189,7 @@ class Judged:
             return "; ".join(told), told
         return held(steps, use, grounds) if has_digest else (other, [other])
 
-    def report(self, entities):
+    def report(self, entities: list[Entity]) -> Iterator[str]:
         """The policy, who has it, and the uses of those."""
         yield from self.file.report()
         having = [it for it in entities if self.is_of(it)]
@@ -60,12 +199,12 @@ class Judged:
             yield f"  {entity.title}"
             yield from self.uses.get(id(entity), ["    it was not used"])
 
-    def is_of(self, entity):
+    def is_of(self, entity: Entity) -> bool:
         return entity.public is not None and self.file.is_of(entity.public)
 
 
-def held(steps, use, grounds):
-    """The first condition that does not hold at a use, if any, and all of them in words."""
+def held(steps: list[Step | Choice], use: Use, grounds: Grounds) -> Judgement:
+    """The first condition that does not hold at a use is what it lacks."""
     lacks, told = None, []
     for step in steps:
         if isinstance(step, Choice):
@@ -81,19 +220,17 @@ def held(steps, use, grounds):
 class Policies:
     """Those that are given."""
 
-    def __init__(self, files, entities, grounds):
+    def __init__(self, files: Sequence[PolicyFile], entities: Entities, grounds: Grounds) -> None:
         self.all = [Judged(it) for it in files]
         self.entities, self.grounds = entities, grounds
 
-    def note(self, use):
+    def note(self, use: Use) -> None:
         """A use of an entity that is accepted, before the history has it."""
-        if use.view.public is None:
-            return
-        for judged in self.all:
-            if judged.file.is_of(use.view.public):
-                judged.note(use, self.entities.of(use.handle), self.grounds)
+        for judged in self.all if use.view.public is not None else []:
+            if use.view.public and judged.file.is_of(use.view.public):
+                judged.note(use, self.entities.of(use.authorized), self.grounds)
 
-    def report(self):
+    def report(self) -> Iterator[str]:
         for judged in self.all:
             yield from judged.report(self.entities.all)
             yield ""
@@ -104,16 +241,16 @@ class Policies:
         yield "Entities whose policy is none of these"
         yield from (f"  {it.title}" for it in others)
 
-    def is_other(self, entity):
+    def is_other(self, entity: Entity) -> bool:
         """Whether an entity has a policy, and none of these."""
         has_policy = entity.public is not None and bool(entity.public.auth_policy)
         return has_policy and not any(it.is_of(entity) for it in self.all)
 
-    def unmet(self):
+    def unmet(self) -> list[str]:
         """The uses that do not meet the policy of their entity."""
         return [words for judged in self.all for words in judged.unmet]
 
-    def faults(self):
+    def faults(self) -> list[str]:
         """What of a whole log is not as a reviewer who gives these policies takes it to be."""
         missing = [it for it in self.all if not any(map(it.is_of, self.entities.all))]
         words = [f"{it.file.name}: no entity of the log has this policy" for it in missing]

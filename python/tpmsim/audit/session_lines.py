@@ -1,14 +1,80 @@
-"""Where each session began, what it was told, and for what it was used."""
+"""Where each session began, what it was told, in the terms of a written policy as tpm_policy_meaning has
+it (Asserted), and for what it was used.
+"""
 
 from dataclasses import dataclass, field
+from typing import Iterator
 
-from tpmsim.audit.asserted import asserted_by
-from tpmsim.audit.words import KINDS, asserted_words, command_name
+from tpmsim.audit.watch import Seen
+from tpmsim.explain.past import said_words
+from tpmsim.explain.words import command_words, handle_words, SESSIONS
 from tpmsim.model import history
-from tpmsim.standard import frames
-from tpmsim.standard.commands import CC
+from tpmsim.model.history import Accepted, History, LiveSession, Pcrs
+from tpmsim.policies.policy_texts import or_update
+from tpmsim.policies.written import Said, Update
+from tpmsim.standard import CC, frames, HASH_WORDS, SE_HMAC, values
 from tpmsim.standard.lines import handle_word
-from tpmsim.standard.sessions import HASH_WORDS
+
+
+@dataclass(frozen=True)
+class PolicyOr:
+    """The digest before it is one of these."""
+
+    digests: tuple[bytes, ...]
+    code = CC.PolicyOR
+    words = "PolicyOR"
+
+    def update(self, algorithm: int) -> Update:
+        return or_update(self.digests)
+
+
+@dataclass(frozen=True)
+class Asserted:
+    """An accepted assertion: its line of the script, what it says, the entity of TPM2_PolicySecret
+    or the index of TPM2_PolicyNV in words, and the digest before and after it.
+    """
+
+    line: int
+    said: Said | PolicyOr
+    of: str
+    before: bytes
+    digest: bytes
+
+    def says(self, said: Said) -> bool:
+        """Whether it says what is written. TPM2_PolicyAuthValue and TPM2_PolicyPassword have one
+        digest, so that each of them stands for both.
+        """
+        ask_value = self.said.code in ASK_VALUE and said.code in ASK_VALUE
+        return ask_value or self.said == said
+
+
+ASK_VALUE = CC.PolicyAuthValue, CC.PolicyPassword
+
+
+def asserted_by(seen: Seen, before: LiveSession, after: LiveSession, pcrs: Pcrs) -> Asserted:
+    """The assertion of an event, with its session before and after it, and the PCRs."""
+    event, of = seen.accepted, ""
+    if event.code in (CC.PolicySecret, CC.PolicyNV):
+        of = handle_words(event.handles[0 if event.code == CC.PolicySecret else 1])
+    said = said_by(event, before.algorithm, pcrs)
+    return Asserted(seen.line, said, of, before.policy.digest, after.policy.digest)
+
+
+def said_by(event: Accepted, algorithm: int, pcrs: Pcrs) -> Said | PolicyOr:
+    """Of a policy session TPM2_PolicyPCR asserts the values of now."""
+    code = CC(event.code)
+    given = values.read_all(code.parameters, event.parameters)
+    match code:
+        case CC.PolicyPCR:
+            of_now = pcrs.digest(algorithm, given["pcrs"])
+            return Said(code, (frames.selection(*given["pcrs"]), of_now))
+        case CC.PolicyOR:
+            return PolicyOr(tuple(given["pHashList"]))
+        case CC.PolicySecret:
+            return Said(code, (event.names[0], given["policyRef"]))
+        case CC.PolicyNV:
+            return Said(code, (event.names[1], *given.values()))
+    return Said(code, tuple(given.values()))
 
 
 @dataclass
@@ -21,38 +87,36 @@ class Begun:
     line: int
     protection: str | None = None
     first_pcr: int | None = None
-    asserted: list = field(default_factory=list)
+    asserted: list[Asserted] = field(default_factory=list)
     title: str = ""
-    told: list = field(default_factory=list)
-    accepted: dict = field(default_factory=dict)
+    told: list[str] = field(default_factory=list)
+    accepted: dict[bytes, tuple[int, bytes]] = field(default_factory=dict)
 
-    def tell(self, line, words):
+    def tell(self, line: int, words: str) -> None:
         self.told.append(f"    line {line}: {words}")
+
+    def restart(self) -> None:
+        self.first_pcr, self.asserted = None, []
 
 
 class SessionLines:
     """Those that live by their handles, and all that have a policy."""
 
-    def __init__(self, told):
-        self.history, self.live, self.all = told, {}, []
+    def __init__(self, told: History) -> None:
+        self.history = told
+        self.live: dict[int, Begun] = {}
+        self.all: list[Begun] = []
 
-    def words(self, handle):
+    def words(self, handle: int) -> str:
         return f"line {self.live[handle].line}"
 
-    def first_pcr(self, handle):
-        return self.live[handle].first_pcr
-
-    def assertions(self, handle):
-        """What was asserted on a policy session since its policy began."""
-        return self.live[handle].asserted
-
-    def protection(self, handle):
+    def protection(self, handle: int) -> str | None:
         """What wrong entries of a session count at by its binding, if at anything."""
         return self.live[handle].protection if handle in self.live else None
 
-    def assert_on(self, seen):
+    def assert_on(self, seen: Seen) -> None:
         """An assertion, before the history has it."""
-        event = seen.event
+        event = seen.accepted
         if event.code not in history.ASSERTIONS:
             return
         handle = event.handles[-1]
@@ -61,59 +125,52 @@ class SessionLines:
         if event.code == CC.PolicyPCR and begun.first_pcr is None:
             begun.first_pcr = seen.line
         begun.asserted.append(asserted_by(seen, session, made, self.history.pcrs))
-        begun.tell(seen.line, f"{asserted_words(event)}: {made.policy.digest.hex()}")
+        said = said_words(CC(event.code), event.handles, event.parameters)
+        begun.tell(seen.line, f"{said}: {made.policy.digest.hex()}")
 
-    def use_for(self, use):
+    def use_for(self, line: int, session: int, code: CC, handle: int) -> None:
         """A policy session that authorizes, before the history has that."""
-        digest = use.session.policy.digest.hex()
-        words = f"authorizes {command_name(use.code)} of {handle_word(use.handle)} by {digest}"
-        self.live[use.entry.handle].tell(use.seen.line, words)
+        digest = self.history.sessions.live[session].policy.digest.hex()
+        words = f"authorizes {command_words(code)} of {handle_word(handle)} by {digest}"
+        self.live[session].tell(line, words)
 
-    def note(self, seen):
+    def note(self, seen: Seen) -> None:
         """An event, once the history has it."""
-        event = seen.event
         if seen.is_power_cycle:
             for begun in self.live.values():
                 begun.tell(seen.line, "the power cycle ends it")
             self.live = {}
-        elif event.code == CC.StartAuthSession:
+            return
+        event = seen.accepted
+        if event.code == CC.StartAuthSession:
             self.start(seen)
         elif event.code == CC.PolicyRestart:
-            self.restart(event.handles[0])
+            self.live[event.handles[0]].restart()
             self.live[event.handles[0]].tell(seen.line, "PolicyRestart takes all assertions back")
         elif event.code == CC.PolicyGetDigest:
             self.live[event.handles[0]].tell(seen.line, "PolicyGetDigest tells its digest")
         elif event.code == CC.FlushContext:
             self.end(seen, event.read().next().number(4), "FlushContext ends it")
-        if not seen.is_power_cycle:
-            self.note_uses(seen)
-
-    def note_uses(self, seen):
-        for use in seen.event.uses:
+        for use in event.uses:
             if not use.continues:
-                self.end(seen, use.handle, f"{command_name(seen.event.code)} ends it")
+                self.end(seen, use.handle, f"{command_words(event.code)} ends it")
             elif use.authorizes and use.handle in self.live:
-                self.restart(use.handle)
+                self.live[use.handle].restart()
 
-    def start(self, seen):
-        handle = seen.event.answered
-        session, bind = self.history.sessions.live[handle], seen.views[1] if seen.views else None
-        begun = Begun(seen.line, bind and bind.protection)
-        self.live[handle] = begun
-        if session.kind != frames.SE_HMAC:
-            kind, algorithm = KINDS[session.kind], HASH_WORDS[session.algorithm]
+    def start(self, seen: Seen) -> None:
+        handle, bind = seen.accepted.handle, seen.views[1]
+        session = self.history.sessions.live[handle]
+        begun = self.live[handle] = Begun(seen.line, bind.protection)
+        if session.kind != SE_HMAC:
+            kind, algorithm = SESSIONS[session.kind], HASH_WORDS[session.algorithm]
             begun.title = f"{kind} {handle_word(handle)} of line {seen.line}, {algorithm}"
             self.all.append(begun)
 
-    def restart(self, handle):
-        self.live[handle].first_pcr = None
-        self.live[handle].asserted = []
-
-    def end(self, seen, handle, words):
+    def end(self, seen: Seen, handle: int, words: str) -> None:
         if handle in self.live:
             self.live.pop(handle).tell(seen.line, words)
 
-    def report(self):
+    def report(self) -> Iterator[str]:
         if not self.all:
             yield "Policy sessions: none."
             return

@@ -9,9 +9,8 @@ from tpmsim.model import state
 from tpmsim.model.history import History
 from tpmsim.model.image import open_image
 from tpmsim.model.machine import Model
-from tpmsim.standard import nv
+from tpmsim.standard import nv, RH_ENDORSEMENT, RH_LOCKOUT, RH_OWNER, RH_PLATFORM
 from tpmsim.standard.aes_tables import encrypt_block
-from tpmsim.standard.frames import RH_ENDORSEMENT, RH_LOCKOUT, RH_OWNER, RH_PLATFORM
 
 HIERARCHIES = RH_OWNER, RH_ENDORSEMENT, RH_PLATFORM, RH_LOCKOUT
 
@@ -24,11 +23,11 @@ class Start:
     has_image: bool = False
 
 
-def new():
+def new() -> Start:
     return Start(Model(block_cipher=encrypt_block), History(), "a new device")
 
 
-def of_image(text):
+def of_image(text: bytes) -> Start:
     """The device of an image; one that is none is image.Fault."""
     device, history = open_image(text, encrypt_block), History()
     for handle in (*HIERARCHIES, *device.objects, *device.indices):

@@ -1,36 +1,42 @@
-"""The entries of commands, each judged by the history before it; what each use of an entity was."""
+"""The entries of commands, each judged by the history before it; what each use of an entity was; and
+why commands were refused for none of their entries.
+"""
 
-from tpmsim.audit import hmacs
+from typing import Iterator
+
+from tpmsim.audit.conditions import Finding
+from tpmsim.audit.entities import Entities
+from tpmsim.audit.ground import Grounds, Use
+from tpmsim.audit.guesses import Guesses
+from tpmsim.audit.lines import Repeats
 from tpmsim.audit.log import Disagreement
-from tpmsim.audit.words import command_name
-from tpmsim.standard import handle_kinds
+from tpmsim.audit.policy_lines import Policies
+from tpmsim.audit.watch import Seen
+from tpmsim.explain import text
+from tpmsim.explain.words import command_words
 
-# The checks of entries, of those that authorize and of the others; what else the second one
-# refuses; and how a guess is answered that is not looked at.
-AUTHORIZES, OTHERS = "G9", "G10"
-OF_PARAMETERS, LOCKED = "INSUFFICIENT/p1", "LOCKOUT"
-
-
-def is_of_entry(seen):
-    """Whether a command is refused for one of its entries."""
-    if seen.outcome is None or seen.event is not None:
-        return False
-    outcome = seen.outcome
-    return outcome.row.check in (AUTHORIZES, OTHERS) and outcome.refused != OF_PARAMETERS
+# How a guess is answered that is not looked at.
+LOCKED = "LOCKOUT"
 
 
 class Uses:
     """How many uses had a ground, how many were refused, and how many entries authorize nothing."""
 
-    def __init__(self, grounds, entities, guesses, repeats, policies):
+    def __init__(
+        self,
+        grounds: Grounds,
+        entities: Entities,
+        guesses: Guesses,
+        repeats: Repeats,
+        policies: Policies,
+    ) -> None:
         self.grounds, self.entities, self.guesses = grounds, entities, guesses
         self.repeats, self.policies = repeats, policies
-        self.history, self.sessions = grounds.history, grounds.sessions
         self.allowed = self.refused = self.others = 0
 
-    def accept(self, seen):
+    def accept(self, seen: Seen) -> None:
         """Each entry of an accepted command has a ground; Disagreement where one has none."""
-        if hmacs.plain_parameters(seen.command, self.history) != seen.event.parameters:
+        if self.grounds.plain_parameters(seen.command) != seen.accepted.parameters:
             raise Disagreement("its parameters are others once they are decrypted")
         for use in self.grounds.uses(seen):
             findings = list(self.grounds.findings(use))
@@ -46,23 +52,23 @@ class Uses:
                 self.tell(use, findings)
                 self.policies.note(use)
 
-    def tell(self, use, findings):
+    def tell(self, use: Use, findings: list[Finding]) -> None:
         """A use with its ground: of a policy session each condition, of all else what was shown."""
-        used, told = self.entities.of(use.handle).used, self.words(use)
-        if use.session and handle_kinds.is_policy(use.entry.handle):
-            self.sessions.use_for(use)
+        used, told = self.entities.of(use.authorized).used, self.words(use)
+        if use.live and use.is_policy:
+            self.grounds.sessions.use_for(use.seen.line, use.entry.handle, use.code, use.authorized)
             used.append(told)
             used += [f"        {it.words}" for it in findings]
         else:
             used.append(f"{told}: {findings[-1].words}")
 
-    def words(self, use):
-        name, title = command_name(use.code), self.grounds.title(use)
-        return f"    line {use.seen.line}: {name} {title}"
+    def words(self, use: Use) -> str:
+        title = self.grounds.title(use)
+        return f"    line {use.seen.line}: {command_words(use.code)} {title}"
 
-    def refuse(self, seen):
+    def refuse(self, seen: Seen) -> None:
         """An entry that is refused lacks a ground; Disagreement where none does."""
-        if not is_of_entry(seen):
+        if not seen.is_refused_entry:
             return
         lacking = self.lacking(seen)
         if lacking is None:
@@ -73,7 +79,7 @@ class Uses:
             told = f"{self.words(use)} is refused by {seen.outcome.refused}: {words}"
             self.entities.of(use.handle).used.append(told)
 
-    def lacking(self, seen):
+    def lacking(self, seen: Seen) -> tuple[Use, str] | None:
         """The first entry that has no ground, with what it lacks; None where there is none."""
         for use in self.grounds.uses(seen):
             if seen.outcome.refused == LOCKED and self.guesses.touched(use):
@@ -83,12 +89,15 @@ class Uses:
                     return use, finding.words
         return None
 
-    def reason(self, seen):
-        """What an entry lacks that the device refuses; it follows what a log says of it."""
-        lacking = self.lacking(seen) if is_of_entry(seen) else None
-        return f": of entry {lacking[0].place}, {lacking[1]}" if lacking else ""
+    def reason(self, seen: Seen) -> str:
+        """Why the device refuses; it follows what a log says of it."""
+        if seen.is_refused_entry:
+            lacking = self.lacking(seen)
+            return f": of entry {lacking[0].place}, {lacking[1]}" if lacking else ""
+        reason = seen.explained.reason if seen.explained else None
+        return f": {reason.words.removesuffix('.')}" if reason else ""
 
-    def report(self):
+    def report(self) -> Iterator[str]:
         if not self.allowed + self.refused:
             yield "Uses: none."
             return
@@ -96,3 +105,23 @@ class Uses:
         yield from self.entities.report()
         if self.others:
             yield f"  {self.others} entries authorize nothing, and each has a ground too"
+
+
+class Refusals:
+    """Those that are for none of a command's entries, as tpmsim.explain says them."""
+
+    def __init__(self) -> None:
+        self.told: list[str] = []
+
+    def note(self, seen: Seen) -> None:
+        event = seen.explained
+        if event is not None and event.reason is not None:
+            self.told.append(f"  line {event.line}: {text.title(event)}")
+            self.told += text.told_words(event.reason)
+
+    def report(self) -> Iterator[str]:
+        if not self.told:
+            yield "Refusals that are no entry's: none."
+            return
+        yield "Refusals that are no entry's, each with the reason"
+        yield from self.told

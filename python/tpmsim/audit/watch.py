@@ -3,13 +3,19 @@
 from dataclasses import dataclass, field
 from functools import cached_property
 
+from tpmsim.explain.play import Event, OF_ENTRIES, Watched
+from tpmsim.explain.scene import Scene
 from tpmsim.model import nv_commands
-from tpmsim.model.history import PowerCycle
+from tpmsim.model.general import Command
+from tpmsim.model.history import Accepted, PowerCycle
+from tpmsim.model.machine import Model, Outcome
 from tpmsim.model.protection import LOCKOUT_AUTH, TRIES
-from tpmsim.standard import nv
-from tpmsim.standard.frames import RH_LOCKOUT
-from tpmsim.standard.objects import Attribute
-from tpmsim.standard.sessions import name_of
+from tpmsim.standard import CC, RH_LOCKOUT, name_of, nv, objects
+
+Public = nv.Public | objects.Public
+
+# What else the check of the entries that authorize nothing refuses.
+OF_PARAMETERS = "INSUFFICIENT/p1"
 
 
 class View:
@@ -17,38 +23,39 @@ class View:
     index; of all else there is none.
     """
 
-    def __init__(self, handle, public=None):
+    def __init__(self, handle: int, public: Public | None = None) -> None:
         self.handle, self.public = handle, public
 
     @cached_property
-    def name(self):
+    def name(self) -> bytes:
         return self.public.name if self.public else name_of(self.handle)
 
     @property
-    def is_index(self):
-        return isinstance(self.public, nv.Public)
+    def index(self) -> nv.Public | None:
+        """The public area of an NV index."""
+        return self.public if isinstance(self.public, nv.Public) else None
 
     @property
-    def protection(self):
+    def protection(self) -> str | None:
         """What wrong authorization values count at, if at anything."""
         if self.public is None:
             return LOCKOUT_AUTH if self.handle == RH_LOCKOUT else None
-        free = nv.Attribute.NO_DA if self.is_index else Attribute.NO_DA
+        free = nv.Attribute.NO_DA if self.index else objects.Attribute.NO_DA
         return None if self.public.has(free) else TRIES
 
-    def takes_auth_value(self, code):
+    def takes_auth_value(self, code: CC) -> bool:
         """Whether its authorization value authorizes it for a command."""
-        if self.is_index:
-            return nv_commands.takes_auth_value(self.public, code)
-        return self.public is None or self.public.has(Attribute.USER_WITH_AUTH)
+        if self.index:
+            return nv_commands.takes_auth_value(self.index, code)
+        return self.public is None or self.public.has(objects.Attribute.USER_WITH_AUTH)
 
-    def takes_policy(self, code):
+    def takes_policy(self, code: CC) -> bool:
         if self.public is None or not self.public.auth_policy:
             return False
-        return not self.is_index or nv_commands.takes_policy(self.public, code)
+        return self.index is None or nv_commands.takes_policy(self.index, code)
 
 
-def view_of(device, handle):
+def view_of(device: Model, handle: int) -> View:
     held = device.objects.get(handle) or device.indices.get(handle)
     return View(handle, held.public if held else None)
 
@@ -57,51 +64,88 @@ def view_of(device, handle):
 class Seen:
     """An event: a command's buffer, what it was told and what came of it; the command, where it
     passed the general checks, with a view of each handle before it; what is told of the event,
-    where it was accepted; and the number of the script's line.
+    where it was accepted; why it was refused, where that is for none of its entries; and the number
+    of the script's line.
     """
 
     buffer: bytes = b""
     locality: int = 0
     elapsed: int = 0
-    outcome: object = None
-    command: object = None
-    views: list = field(default_factory=list)
-    event: object = None
+    explained: Event | None = None
+    known: Command | None = None
+    views: list[View] = field(default_factory=list)
+    event: Accepted | PowerCycle | None = None
     line: int = 0
 
     @property
-    def names(self):
+    def command(self) -> Command:
+        assert self.known is not None
+        return self.known
+
+    @property
+    def accepted(self) -> Accepted:
+        assert isinstance(self.event, Accepted)
+        return self.event
+
+    @property
+    def outcome(self) -> Outcome:
+        assert self.explained is not None and self.explained.outcome is not None
+        return self.explained.outcome
+
+    @property
+    def names(self) -> list[bytes]:
         return [it.name for it in self.views]
 
     @property
-    def is_power_cycle(self):
+    def is_power_cycle(self) -> bool:
         return isinstance(self.event, PowerCycle)
 
-    def view(self, handle):
-        """That of one of the command's handles."""
+    @property
+    def is_refused_entry(self) -> bool:
+        """Whether a command is refused for one of its entries."""
+        is_refused = self.event is None and self.explained is not None
+        return is_refused and is_of_entry(self.outcome.row.check, self.outcome.refused)
+
+    def view(self, handle: int) -> View:
         return self.views[self.command.handles.index(handle)]
 
 
-class Watch:
+def is_of_entry(check: str, refused: str | None) -> bool:
+    return check in OF_ENTRIES and refused != OF_PARAMETERS
+
+
+def is_explained(scene: Scene) -> bool:
+    """A refusal for an entry is judged by the history."""
+    return not is_of_entry(scene.check, scene.refused)
+
+
+class Watch(Watched):
     """Stands between a device and who calls it; `seen` is the event that was seen last, if any."""
 
-    def __init__(self, device):
-        self.device, self.seen = device, None
-        self.execute, self.authorize = device.execute, device.authorize
-        device.execute, device.authorize = self.executed, self.authorized
-        device.tell = self.told
+    def __init__(self, device: Model) -> None:
+        super().__init__(device, is_explained)
+        self.seen: Seen | None = None
+        setattr(device, "execute", self.executed)
+        setattr(device, "tell", self.told)
 
-    def executed(self, buffer, locality, random, elapsed=0, is_starved=False):
+    @property
+    def latest(self) -> Seen:
+        assert self.seen is not None
+        return self.seen
+
+    def executed(
+        self, buffer: bytes, locality: int, random: bytes, elapsed: int, _: bool
+    ) -> Outcome:
         self.seen = Seen(buffer, locality, elapsed)
-        self.seen.outcome = self.execute(buffer, locality, random, elapsed, is_starved)
+        self.seen.explained = self.command(buffer, locality, random, elapsed)
         return self.seen.outcome
 
-    def authorized(self, command, locality):
-        self.seen.command = command
-        self.seen.views = [view_of(self.device, it) for it in command.handles]
-        self.authorize(command, locality)
+    def authorize(self, command: Command, locality: int) -> None:
+        self.latest.known = command
+        self.latest.views = [view_of(self.model, it) for it in command.handles]
+        super().authorize(command, locality)
 
-    def told(self, event):
+    def told(self, event: Accepted | PowerCycle) -> None:
         if isinstance(event, PowerCycle):
             self.seen = Seen()
-        self.seen.event = event
+        self.latest.event = event

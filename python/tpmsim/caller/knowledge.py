@@ -11,13 +11,10 @@ import secrets
 from typing import Any, Callable, Iterator, Sequence
 
 from tpmsim.caller.entries import Means, Prepared, Session, Use
-from tpmsim.standard import frames, handle_kinds, nv, policy, sessions, values
+from tpmsim.standard import CC, CONTINUE_SESSION, DECRYPT, ENCRYPT, Entry, Fields, frames
+from tpmsim.standard import handle_kinds, nv, policy, RH_ENDORSEMENT, RH_LOCKOUT, RH_NULL, RH_OWNER
+from tpmsim.standard import RH_PLATFORM, RS_PW, sessions, TRANSIENT, trimmed, values
 from tpmsim.standard.aes_tables import encrypt_block
-from tpmsim.standard.commands import CC
-from tpmsim.standard.frames import CONTINUE_SESSION, DECRYPT, ENCRYPT, Entry, RH_ENDORSEMENT
-from tpmsim.standard.frames import RH_LOCKOUT, RH_NULL, RH_OWNER, RH_PLATFORM, RS_PW, TRANSIENT
-from tpmsim.standard.reading import Fields
-from tpmsim.standard.sessions import trimmed
 
 NONCE_BYTES = 16
 

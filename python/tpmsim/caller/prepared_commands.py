@@ -6,9 +6,8 @@ from typing import Any, Sequence
 
 from tpmsim.caller.entries import Made, Means, Prepared, Session
 from tpmsim.caller.knowledge import Knowledge
-from tpmsim.standard import frames, nv, objects
-from tpmsim.standard.commands import CC
-from tpmsim.standard.frames import RH_ENDORSEMENT, RH_LOCKOUT, RH_OWNER, SHA1, SHA256, sized
+from tpmsim.standard import CC, frames, nv, objects, RH_ENDORSEMENT, RH_LOCKOUT, RH_OWNER, SHA1
+from tpmsim.standard import SHA256, sized
 from tpmsim.standard.values import write_all, write_in_order
 
 # A selection: for each bank its hash algorithm and the numbers of its PCRs.

@@ -7,10 +7,10 @@ from typing import Any, Iterator, Sequence
 
 from tpmsim.caller import CLEAR, Made, Means, NONCE_BYTES, Prepared, Session, Use
 from tpmsim.caller.prepared_commands import PreparedCommands
-from tpmsim.caller.script import SUCCESS, Script
-from tpmsim.standard import AES, ALG_NULL, CC, Fields, RH_NULL, RH_OWNER, SE_HMAC, SE_POLICY
-from tpmsim.standard import SE_TRIAL, SHA1, SHA256, XOR, digest, digest_bytes, frames, nv, sized
-from tpmsim.standard import trimmed
+from tpmsim.caller.script import Script, SUCCESS
+from tpmsim.standard import AES, ALG_NULL, CC, digest, digest_bytes, Fields, frames, nv, RH_NULL
+from tpmsim.standard import RH_OWNER, SE_HMAC, SE_POLICY, SE_TRIAL, SHA1, SHA256, sized, trimmed
+from tpmsim.standard import XOR
 from tpmsim.standard.objects import Public
 
 HASHES = ((SHA1, "SHA-1"), (SHA256, "SHA-256"))

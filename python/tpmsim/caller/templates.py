@@ -2,11 +2,9 @@
 
 from typing import Any
 
-from tpmsim.standard import nv
-from tpmsim.standard.frames import KEYEDHASH, SHA256, SYMCIPHER
+from tpmsim.standard import digest_bytes, KEYEDHASH, nv, SHA256, SYMCIPHER
 from tpmsim.standard.nv import Type
 from tpmsim.standard.objects import Attribute, Public
-from tpmsim.standard.sessions import digest_bytes
 
 # What most objects are: bound to this device and to their parent, usable by their value, and not
 # protected from guessing.

@@ -2,21 +2,18 @@
 
 from dataclasses import dataclass, field
 
-from tpmsim.compare.differences import Difference, between, code_word
-from tpmsim.compare.reference import Received, Reference, parsed
-from tpmsim.compare.translation import NotComparable, Translation
 from tpmsim.caller.entries import Prepared
+from tpmsim.compare.differences import between, code_word, Difference
+from tpmsim.compare.reference import parsed, Received, Reference
+from tpmsim.compare.translation import NotComparable, Translation
 from tpmsim.device import FileDevice, SimulatorDevice, Transport, Unsupported
 from tpmsim.device.base import Executed
 from tpmsim.device.told import MOST_MILLISECONDS
 from tpmsim.model.general import Command
 from tpmsim.model.player import Player
-from tpmsim.standard import frames
-from tpmsim.standard.commands import CC, NUMBERED
-from tpmsim.standard.frames import COMMAND_BYTES, CONTINUE_SESSION, Entry, HEADER_BYTES, NV
-from tpmsim.standard.frames import PERSISTENT, POLICY_SESSION, SHA1
-from tpmsim.standard.frames import SHA256, TRANSIENT
-from tpmsim.standard.handle_kinds import is_policy, is_session
+from tpmsim.standard import CC, COMMAND_BYTES, CONTINUE_SESSION, Entry, frames, HEADER_BYTES
+from tpmsim.standard import is_policy, is_session, NUMBERED, NV, PERSISTENT, POLICY_SESSION, SHA1
+from tpmsim.standard import SHA256, TRANSIENT
 from tpmsim.standard.values import read_all
 
 # What a command changes beside its handles, so that a later difference follows from it.
@@ -139,7 +136,6 @@ class Comparison:
         self.compare(asked, prepared, here, event, response)
 
     def skip(self, asked: Command | None, event: Executed, words: str, line: int) -> None:
-        """What cannot be compared was executed here alone."""
         self.report.not_comparable.append((self.line, words, line))
         self.lose(asked, event, line)
 

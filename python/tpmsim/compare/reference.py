@@ -10,11 +10,10 @@ from tpmsim.device.library import LibraryDevice
 from tpmsim.device.told import Device
 from tpmsim.model.general import Command
 from tpmsim.model.machine import MANUFACTURED, Model, Session
-from tpmsim.standard import sessions
+from tpmsim.standard import ALG_NULL, DECRYPT, ENCRYPT, Entry, Fields, NUMBERED, SESSIONS, sessions
+from tpmsim.standard import Short
 from tpmsim.standard.aes_tables import encrypt_block
-from tpmsim.standard.commands import NUMBERED
-from tpmsim.standard.frames import ALG_NULL, DECRYPT, ENCRYPT, NO_SESSIONS, SESSIONS, Entry
-from tpmsim.standard.reading import Fields, Short
+from tpmsim.standard.frames import NO_SESSIONS
 from tpmsim.standard.values import read_all
 
 
@@ -126,7 +125,6 @@ class Reference:
         return self.model.sessions.get(found[1].handle) if found else None
 
     def received(self, command: Command, response: bytes, session: Session | None) -> Received:
-        """What a success of the device here tells."""
         fields = Fields(response[10:])
         handle = fields.number(4) if command.code.answers_handle else None
         is_sized = command.entries is not None

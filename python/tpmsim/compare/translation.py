@@ -1,17 +1,12 @@
 """A command of the script, made anew for another TPM: by its handles, its nonces and its keys."""
 
-from __future__ import annotations
-
-from tpmsim.caller.entries import Prepared, Session, Use, flipped
+from tpmsim.caller.entries import flipped, Prepared, Session, Use
 from tpmsim.caller.knowledge import Knowledge, WrongResponse
-from tpmsim.compare.reference import Received, Reference, parsed
+from tpmsim.compare.reference import parsed, Received, Reference
 from tpmsim.model.general import Command
-from tpmsim.standard import frames, nv, sessions
-from tpmsim.standard.commands import CC, Kind
-from tpmsim.standard.frames import ALG_NULL, CONTINUE_SESSION, DECRYPT, RS_PW, Entry
-from tpmsim.standard.handle_kinds import first_byte, is_policy, is_session
-from tpmsim.standard.reading import Fields, Short
-from tpmsim.standard.values import VALUES, read_all
+from tpmsim.standard import ALG_NULL, CC, CONTINUE_SESSION, DECRYPT, Entry, Fields, first_byte
+from tpmsim.standard import frames, is_policy, is_session, Kind, nv, RS_PW, sessions, Short
+from tpmsim.standard.values import read_all, VALUES
 
 # A value that is shorter could stand in a command by chance.
 LEAST_VALUE = 8

@@ -5,8 +5,7 @@ from dataclasses import dataclass
 from types import TracebackType
 from typing import Self
 
-from tpmsim.standard import lines
-from tpmsim.standard.commands import NUMBERED
+from tpmsim.standard import lines, NUMBERED
 
 
 class Unsupported(Exception):

@@ -6,9 +6,9 @@ import shutil
 import subprocess
 import tempfile
 
-from tpmsim.device.base import DeviceEnded, Executed, Unsupported, line_in_bytes
+from tpmsim.device.base import DeviceEnded, Executed, line_in_bytes, Unsupported
 from tpmsim.device.told import Device, Path, Snapshot
-from tpmsim.standard.commands import CC
+from tpmsim.standard import CC
 
 
 def program_found() -> str:

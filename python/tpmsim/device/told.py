@@ -8,7 +8,7 @@ import pathlib
 from dataclasses import dataclass
 from typing import ClassVar, Self, cast
 
-from tpmsim.device.base import Answered, BadImage, Executed, Transport, checked_locality
+from tpmsim.device.base import Answered, BadImage, checked_locality, Executed, Transport
 from tpmsim.model import image as images
 from tpmsim.model.machine import MANUFACTURED, Model
 from tpmsim.standard.aes_tables import encrypt_block

@@ -1,15 +1,12 @@
 """What a log says was answered, held against what the model answers."""
 
-from __future__ import annotations
-
 import re
 from dataclasses import dataclass
 
 from tpmsim.explain import dissection
 from tpmsim.explain.scene import Scene
 from tpmsim.model.machine import Outcome
-from tpmsim.standard import lines
-from tpmsim.standard.commands import NUMBERED
+from tpmsim.standard import lines, NUMBERED
 
 TRACE = re.compile(r"\S+ L\d \+\d+ \S+ [0-9a-f]{8}")
 CODE_DIGITS = 8
@@ -41,7 +38,7 @@ class Answers:
         self.at += 1
         return self.left[self.at - 1]
 
-    def power(self, differences: list[Difference]) -> None:
+    def power(self) -> None:
         """A trace says `power`; without one nothing is printed."""
         if self.at < len(self.left) and self.left[self.at] == "power":
             self.at += 1

@@ -1,16 +1,12 @@
 """The first parameter of a command as it would be, had its caller encrypted it in another way."""
 
-from __future__ import annotations
-
 from dataclasses import dataclass
 from typing import Iterator
 
 from tpmsim.explain.ingredients import Use, use_of
 from tpmsim.explain.scene import Scene
-from tpmsim.standard import frames, sessions
+from tpmsim.standard import DECRYPT, Fields, frames, sessions, Short
 from tpmsim.standard.aes_tables import encrypt_block
-from tpmsim.standard.frames import DECRYPT
-from tpmsim.standard.reading import Fields, Short
 
 
 @dataclass(frozen=True)
@@ -24,8 +20,8 @@ class Otherwise:
 
 def decrypting_use(scene: Scene) -> Use | None:
     """The entry whose session decrypts, of a command whose first parameter is whole."""
-    found = scene.command.with_attribute(DECRYPT) if scene.command else None
-    if found is None or scene.command is None:
+    found = scene.known.with_attribute(DECRYPT) if scene.known else None
+    if found is None:
         return None
     try:
         Fields(scene.command.parameters).sized()
@@ -39,7 +35,6 @@ def otherwise(scene: Scene) -> Iterator[Otherwise]:
     use = decrypting_use(scene)
     if use is None:
         return
-    assert scene.command is not None
     sent, seen = scene.command.parameters, {scene.plain}
     for name, words, plain in mistakes(use, sent):
         if plain not in seen:

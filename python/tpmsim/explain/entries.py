@@ -1,47 +1,42 @@
 """Why an entry is refused: by what it was to authorize, by a lockout, or as it is wrong (G9, G10)."""
 
-from __future__ import annotations
+from typing import Iterator
 
-from tpmsim.explain import ingredients, means, passwords, policies, slips
+from tpmsim.explain import ingredients, policies, slips
 from tpmsim.explain.ingredients import Use
+from tpmsim.explain.policies import unavailable
 from tpmsim.explain.reason import HAD, Reason, WANTED
 from tpmsim.explain.scene import Scene
 from tpmsim.explain.words import bytes_words, handle_words, seconds_words
 from tpmsim.model.protection import LOCKOUT_AUTH, MILLISECONDS, TRIES
-from tpmsim.standard import handle_kinds, policy
-from tpmsim.standard.frames import Entry
+from tpmsim.standard import Entry, is_policy, policy, trimmed
 
 Place = tuple[int, Entry, int | None]
 
 
 def reason(scene: Scene) -> Reason:
     """That of a refusal by G9 or G10."""
-    assert scene.command is not None
     if scene.name == "INSUFFICIENT":
         words = "The first parameter, which a session is to decrypt, is cut."
         return Reason("G10/INSUFFICIENT", words, at=scene.parameters_at)
     place, entry, handle = refused_place(scene)
-    is_policy = handle is not None and handle_kinds.is_policy(entry.handle)
-    if is_policy and scene.name not in ("LOCKOUT", "AUTH_FAIL", "BAD_AUTH"):
+    of_policy = handle is not None and is_policy(entry.handle)
+    if of_policy and scene.name not in ("LOCKOUT", "AUTH_FAIL", "BAD_AUTH"):
         use = ingredients.use_of(scene, place)
         assert use is not None
         return policies.reason(use)
     if scene.name == "AUTH_UNAVAILABLE":
         assert handle is not None
-        return means.unavailable(scene, handle)
-    if scene.name == "LOCKOUT":
-        return locked(scene, place, entry, handle)
-    return wrong(scene, place, entry, handle)
+        return unavailable(scene, handle)
+    return (locked if scene.name == "LOCKOUT" else wrong)(scene, place, entry, handle)
 
 
 def refused_place(scene: Scene) -> Place:
     """The entry that is refused: the one of the code, or else the first that a check refuses."""
-    assert scene.command is not None
-    places = list(scene.command.places())
+    places, model = list(scene.command.places()), scene.model
     if scene.place:
         return places[scene.place - 1]
     if scene.name == "LOCKOUT":
-        model = scene.model
         return next(it for it in places if model.lockout.refuses(model.touched(it[1], it[2])))
     return places[0]
 
@@ -51,29 +46,20 @@ def refused_place(scene: Scene) -> Place:
 
 def locked(scene: Scene, place: int, entry: Entry, handle: int | None) -> Reason:
     model, lockout = scene.model, scene.model.lockout
-    touched = model.touched(entry, handle)
-    assert scene.command is not None
-    is_right = model.accepts(scene.command, place, entry, handle)
-    found = Reason("lockoutAuth" if touched == LOCKOUT_AUTH else "tries", "")
-    if touched == LOCKOUT_AUTH:
+    found = Reason("tries", "", at=scene.entry_at(place))
+    if model.touched(entry, handle) == LOCKOUT_AUTH:
         left = MILLISECONDS * lockout.lockout_recovery - lockout.closed_time
-        until = (
-            f"it opens in {seconds_words(left)}"
-            if lockout.lockout_recovery
-            else "a TPM Reset opens it"
-        )
+        opens = f"it opens in {seconds_words(left)}"
+        until = opens if lockout.lockout_recovery else "a TPM Reset opens it"
+        found.rule = "lockoutAuth"
         found.words = f"A wrong try has closed lockoutAuth; {until}."
     else:
-        found.words = (
-            f"Something protected is locked out: {lockout.failed_tries} failed tries >= maxTries "
-            f"{lockout.max_tries}. " + recovery_words(scene)
-        )
+        tries = f"{lockout.failed_tries} failed tries >= maxTries {lockout.max_tries}"
+        found.words = f"Something protected is locked out: {tries}. {recovery_words(scene)}"
         recent = scene.past.tries[-lockout.failed_tries :] if lockout.failed_tries else []
         found.add("failed tries", ", ".join(f"line {it}" for it in recent) or "before the log")
-    found.add(
-        "the entry itself", "right, and not looked at" if is_right else "wrong, and not looked at"
-    )
-    found.at = scene.entry_at(place)
+    is_right = model.accepts(scene.command, place, entry, handle)
+    found.add("the entry itself", f"{'right' if is_right else 'wrong'}, and not looked at")
     return found
 
 
@@ -91,7 +77,9 @@ def recovery_words(scene: Scene) -> str:
 
 
 def wrong(scene: Scene, place: int, entry: Entry, handle: int | None) -> Reason:
-    found = Reason(f"{scene.check}/{scene.name}", "", at=hmac_at(scene, place, entry))
+    # The HMAC or the password begins behind its size.
+    at = scene.entry_at(place) + 4 + 2 + len(entry.nonce) + 1 + 2
+    found = Reason(f"{scene.check}/{scene.name}", "", at=at)
     use = ingredients.use_of(scene, place)
     if use is None or entry.demand == policy.PASSWORD:
         assert handle is not None
@@ -104,26 +92,17 @@ def wrong(scene: Scene, place: int, entry: Entry, handle: int | None) -> Reason:
     return found
 
 
-def hmac_at(scene: Scene, place: int, entry: Entry) -> int:
-    """The byte at which the HMAC or the password begins, behind its size."""
-    return scene.entry_at(place) + 4 + 2 + len(entry.nonce) + 1 + 2
-
-
 def wrong_hmac(use: Use, found: Reason) -> None:
-    explained = slips.found(use)
-    found.words = (
-        f"The HMAC of entry {use.place} is not the one that session {use.entry.handle:08x} wants."
-    )
+    session = f"{use.entry.handle:08x}"
+    found.words = f"The HMAC of entry {use.place} is not the one that session {session} wants."
     found.facts += ingredients.facts(use)
     found.add("HMAC wanted", use.right().hmac.hex(), WANTED)
     found.add("HMAC given", use.entry.hmac.hex() or "empty", HAD)
-    found.slips += [it.name for it in explained]
-    for it in explained:
-        found.add("slip", it.words)
-    if not explained:
-        found.add(
-            "slip", "none that is known makes this HMAC: another value or another key went into it"
-        )
+    for it in slips.found(use):
+        found.slip(it.name, it.words)
+    if not found.slips:
+        none = "none that is known makes this HMAC: another value or another key went into it"
+        found.add("slip", none)
 
 
 def wrong_password(scene: Scene, found: Reason, entry: Entry, handle: int) -> None:
@@ -133,9 +112,31 @@ def wrong_password(scene: Scene, found: Reason, entry: Entry, handle: int) -> No
     line = f" (since line {since[-1].line})" if since and since[-1].line else ""
     found.add("authValue wanted", bytes_words(value) + line, WANTED)
     found.add("password given", bytes_words(entry.hmac), HAD)
-    for name, words in passwords.found(scene, entry.hmac, handle):
-        found.slips.append(name)
-        found.add("slip", words)
+    for name, words, password in passwords(scene, handle):
+        if trimmed(password) == trimmed(entry.hmac):
+            found.slip(name, words)
+            break
+
+
+def passwords(scene: Scene, handle: int) -> Iterator[tuple[str, str, bytes]]:
+    """Usual mistakes, each with the password that it makes of the right one."""
+    value, said = scene.model.auth_value(handle), handle_words(handle)
+    if value:
+        yield "password left out", f"the password is empty, and {said} has a value", b""
+        yield "password with a line break", "a line break stands behind the password", value + b"\n"
+        yield "password as hex", "the password is the text of its hex", value.hex().encode()
+        wide = b"".join(bytes([it, 0]) for it in value)
+        yield "password in UTF-16", "the password is in UTF-16", wide
+        for size in range(len(value) + 1, 33):
+            front = f"the password has zeros in front, to {size} bytes"
+            yield "zeros", f"{front}; those at its end alone do not count", value.rjust(size, b"\0")
+    for past in scene.past.values.get(handle, [])[:-1]:
+        words = f"that is the value that {said} had since line {past.line}, which is past"
+        yield "old password", words, past.value
+    for other in scene.past.values:
+        its = scene.model.auth_value(other)
+        if other != handle and its:
+            yield "another's password", f"that is the authValue of {handle_words(other)}", its
 
 
 def as_hmac(use: Use, found: Reason) -> None:
@@ -145,8 +146,9 @@ def as_hmac(use: Use, found: Reason) -> None:
     is_hmac = use.entry.hmac == use.right().hmac
     use.entry.demand = policy.PASSWORD
     if is_hmac:
-        found.slips.append("HMAC in place of a password")
-        found.add("slip", "it is the HMAC that PolicyAuthValue would ask for")
+        found.slip(
+            "HMAC in place of a password", "it is the HMAC that PolicyAuthValue would ask for"
+        )
 
 
 def counted_words(scene: Scene, entry: Entry, handle: int | None) -> str:
@@ -160,11 +162,9 @@ def counted_words(scene: Scene, entry: Entry, handle: int | None) -> str:
     if not lockout.recovery_time:
         return "It counts no try, as recoveryTime is 0."
     left = max(0, lockout.max_tries - lockout.failed_tries)
-    closes = (
-        "which locks out what is protected"
-        if not left
-        else f"{left} more {'locks' if left == 1 else 'lock'} it out"
-    )
+    closes = f"{left} more {'locks' if left == 1 else 'lock'} it out"
+    if not left:
+        closes = "which locks out what is protected"
     return f"It counted as failed try {lockout.failed_tries} of {lockout.max_tries}; {closes}."
 
 

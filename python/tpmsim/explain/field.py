@@ -1,7 +1,5 @@
 """The fields of a command or a response, each with its place, its name and what it says."""
 
-from __future__ import annotations
-
 from contextlib import contextmanager
 from dataclasses import dataclass
 from typing import Callable, Iterator

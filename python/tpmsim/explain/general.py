@@ -1,21 +1,18 @@
 """Why the general checks of a buffer, its handles and its entries refuse a command (G1 to G8)."""
 
-from __future__ import annotations
-
 from typing import Callable
 
 from tpmsim.explain.reason import HAD, Reason
 from tpmsim.explain.scene import Scene
-from tpmsim.explain.words import attribute_words, command_words, handle_words, KINDS, kind_words
+from tpmsim.explain.words import attribute_words, command_words, handle_words, kind_words
 from tpmsim.explain.words import plural
 from tpmsim.model.general import LEAST_AREA, MOST_NONCE_OR_HMAC
-from tpmsim.standard import frames, handle_kinds
-from tpmsim.standard.commands import CC
-from tpmsim.standard.frames import COMMAND_BYTES, DECRYPT, ENCRYPT, Entry, HEADER_BYTES
-from tpmsim.standard.frames import MOST_ENTRIES, RS_PW
-from tpmsim.standard.reading import Fields, Short
+from tpmsim.standard import CC, COMMAND_BYTES, DECRYPT, ENCRYPT, Entry, Fields, HEADER_BYTES
+from tpmsim.standard import MOST_ENTRIES, RS_PW, Short, frames, is_session
+from tpmsim.standard.handle_kinds import HANDLES
 
 PLACE_BITS = 0xFF_FFFF
+AUDITS = frames.AUDIT_EXCLUSIVE | frames.AUDIT_RESET | frames.AUDIT
 
 
 def reason(scene: Scene) -> Reason:
@@ -27,36 +24,34 @@ def reason(scene: Scene) -> Reason:
 
 def length(scene: Scene) -> Reason:
     size = len(scene.buffer)
+    words = f"The buffer has {size:,} bytes: {size} > {COMMAND_BYTES}."
     if size < HEADER_BYTES:
-        return Reason(
-            "G1", f"The buffer has {plural(size, 'byte')}: {size} < {HEADER_BYTES}.", at=0
-        )
-    return Reason("G1", f"The buffer has {size:,} bytes: {size} > {COMMAND_BYTES}.", at=0)
+        words = f"The buffer has {plural(size, 'byte')}: {size} < {HEADER_BYTES}."
+    return Reason("G1", words, at=0)
 
 
 def tag(scene: Scene) -> Reason:
     found = Reason("G2", f"The tag is {scene.buffer[:2].hex()}.", at=0)
-    found.wanted_and_had("8001 (no sessions) or 8002 (sessions)", scene.buffer[:2].hex())
+    found.compare("8001 (no sessions) or 8002 (sessions)", scene.buffer[:2].hex())
     return found
 
 
 def command_size(scene: Scene) -> Reason:
     said, size = int.from_bytes(scene.buffer[2:6], "big"), len(scene.buffer)
     found = Reason("G3", f"commandSize says {said:,}, and the buffer has {size:,} bytes.", at=2)
-    found.wanted_and_had(f"{size:08x}", f"{said:08x}")
+    found.compare(f"{size:08x}", f"{said:08x}")
     return found
 
 
 def command(scene: Scene) -> Reason:
-    words = f"No command {scene.number:08x} is served."
-    return Reason("G4", words, at=6)
+    return Reason("G4", f"No command {scene.number:08x} is served.", at=6)
 
 
 def startup(scene: Scene) -> Reason:
-    if scene.model.started:
-        words = "The device is started already; a power cycle comes before the next Startup."
-    else:
-        words = f"{command_words(scene.number)} came before Startup; nothing else comes first after power on."
+    words = "The device is started already; a power cycle comes before the next Startup."
+    if not scene.model.started:
+        first = "nothing else comes first after power on"
+        words = f"{command_words(scene.number)} came before Startup; {first}."
     return Reason("G5", words, at=6)
 
 
@@ -74,7 +69,7 @@ def handles(scene: Scene) -> Reason:
     said = f"Handle {place}, {wanted.name}, is {handle:08x}, {kind_words(handle)}"
     if scene.name == "VALUE":
         found = Reason("G6/VALUE", f"{said}; {scene.code.name} takes none such there.", at=at)
-        found.wanted_and_had(KINDS[wanted.kind], f"{handle:08x}")
+        found.compare(HANDLES[wanted.kind].words, f"{handle:08x}")
         return found
     rule = "G6/REFERENCE" if scene.name.startswith("REFERENCE") else "G6/HANDLE"
     return Reason(rule, f"{said}. It is not there: {missing_words(scene, handle)}.", at=at)
@@ -82,10 +77,9 @@ def handles(scene: Scene) -> Reason:
 
 def missing_words(scene: Scene, handle: int) -> str:
     """Why nothing has a handle now."""
-    if handle_kinds.is_session(handle):
-        for other, session in scene.model.sessions.items():
-            if other & PLACE_BITS == handle & PLACE_BITS and other != handle:
-                return f"its place has {kind_words(other)}, {other:08x}"
+    for other in scene.model.sessions if is_session(handle) else []:
+        if other & PLACE_BITS == handle & PLACE_BITS and other != handle:
+            return f"its place has {kind_words(other)}, {other:08x}"
     return scene.past.gone_words(handle)
 
 
@@ -110,96 +104,69 @@ def entries(scene: Scene) -> Reason:
     entry, at = those[place - 1], scene.entry_at(place)
     if scene.name == "SIZE":
         return entry_size(place, entry, at)
+    if scene.name == "HANDLE":
+        return entry_handle(scene, those, place, at)
     if scene.name == "VALUE":
         words = f"Entry {place} has the handle {entry.handle:08x}, {kind_words(entry.handle)}."
         found = Reason("G8/VALUE", words, at=at)
-        found.wanted_and_had(
-            "40000009 (a password), 02.. or 03.. (a session)", f"{entry.handle:08x}"
-        )
+        found.compare("40000009 (a password), 02.. or 03.. (a session)", f"{entry.handle:08x}")
         return found
     if scene.name.startswith("REFERENCE"):
-        words = (
-            f"Entry {place} has session {entry.handle:08x}, which is not there: "
-            f"{missing_words(scene, entry.handle)}."
-        )
-        return Reason("G8/REFERENCE", words, at=at)
-    if scene.name == "HANDLE":
-        return entry_handle(scene, those, place, at)
+        said = f"Entry {place} has session {entry.handle:08x}, which is not there"
+        return Reason("G8/REFERENCE", f"{said}: {missing_words(scene, entry.handle)}.", at=at)
     return entry_attributes(scene, those, place, at)
 
 
 def entries_of(scene: Scene) -> list[Entry]:
     """Those of an area that can be divided."""
-    fields, found = Fields(scene.buffer[scene.area_at :]), list[Entry]()
-    left = Fields(fields.take(fields.number(4)))
-    while left.data:
-        found.append(Entry(left.number(4), left.sized(), left.number(1), left.sized()))
-    return found
+    fields = Fields(scene.buffer[scene.area_at :])
+    return list(frames.entries_of(fields.take(fields.number(4))))
 
 
 def area(scene: Scene) -> Reason:
     """An authorization area that cannot be divided into entries."""
-    at, found = scene.area_at, Reason("G8/AUTHSIZE", "", at=scene.area_at)
-    left = len(scene.buffer) - at
+    at = scene.area_at
+    found, left = Reason("G8/AUTHSIZE", "", at=at), len(scene.buffer) - at
+    size, behind = int.from_bytes(scene.buffer[at : at + 4], "big"), left - 4
+    said = f"authorizationSize is {size:,}"
     if left < 4:
         found.words = f"authorizationSize is cut: {left} of 4 bytes are left."
-        return found
-    size = int.from_bytes(scene.buffer[at : at + 4], "big")
-    behind = left - 4
-    if size < LEAST_AREA:
-        found.words = (
-            f"authorizationSize is {size}: {size} < {LEAST_AREA}, which the shortest entry has."
-        )
+    elif size < LEAST_AREA:
+        found.words = f"{said}: {size} < {LEAST_AREA}, which the shortest entry has."
     elif size > behind:
-        found.words = (
-            f"authorizationSize is {size:,}, and {behind:,} bytes follow: {size} > {behind}."
-        )
+        found.words = f"{said}, and {behind:,} bytes follow: {size} > {behind}."
     else:
         divided(scene, at + 4, size, found)
     return found
 
 
 def divided(scene: Scene, at: int, size: int, found: Reason) -> None:
-    fields, count = Fields(scene.buffer[at : at + size]), 0
-    begin = at
+    """An area of its size that has too many entries, or one that is cut."""
+    fields, count, begin = Fields(scene.buffer[at : at + size]), 0, at
     try:
         while fields.data:
             begin = at + size - len(fields.data)
-            for take in (
-                lambda: fields.take(4),
-                fields.sized,
-                lambda: fields.take(1),
-                fields.sized,
-            ):
-                take()
+            frames.read_entry(fields)
             count += 1
     except Short:
-        found.at = begin
-        left = at + size - begin
-        found.words = (
-            f"Entry {count + 1} is cut: its sizes ask for more than the {left} bytes of it."
-        )
+        found.at, asked = begin, "its sizes ask for more than"
+        found.words = f"Entry {count + 1} is cut: {asked} the {at + size - begin} bytes of it."
         return
     found.words = f"There are {count} entries: {count} > {MOST_ENTRIES}."
 
 
 def entry_size(place: int, entry: Entry, at: int) -> Reason:
-    which = "nonce" if len(entry.nonce) > MOST_NONCE_OR_HMAC else "HMAC or password"
-    size = max(len(entry.nonce), len(entry.hmac)) if which == "nonce" else len(entry.hmac)
-    size = len(entry.nonce) if which == "nonce" else size
+    is_nonce = len(entry.nonce) > MOST_NONCE_OR_HMAC
+    which, size = ("nonce", len(entry.nonce)) if is_nonce else ("HMAC or password", len(entry.hmac))
     words = f"The {which} of entry {place} has {size} bytes: {size} > {MOST_NONCE_OR_HMAC}."
-    place_at = at + 4 if which == "nonce" else at + 4 + 2 + len(entry.nonce) + 1
-    return Reason("G8/SIZE", words, at=place_at)
+    return Reason("G8/SIZE", words, at=at + 4 if is_nonce else at + 4 + 2 + len(entry.nonce) + 1)
 
 
 def entry_handle(scene: Scene, those: list[Entry], place: int, at: int) -> Reason:
     entry = those[place - 1]
     if entry.handle == RS_PW:
-        authorized = scene.code.authorized
-        words = (
-            f"Entry {place} is a password, and {scene.code.name} has "
-            f"{plural(authorized, 'handle')} to authorize: another entry is a session's."
-        )
+        has = f"{scene.code.name} has {plural(scene.code.authorized, 'handle')} to authorize"
+        words = f"Entry {place} is a password, and {has}: another entry is a session's."
     else:
         before = [it.handle for it in those].index(entry.handle) + 1
         words = f"Entry {place} has the session of entry {before}, {entry.handle:08x}."
@@ -208,26 +175,24 @@ def entry_handle(scene: Scene, those: list[Entry], place: int, at: int) -> Reaso
 
 def entry_attributes(scene: Scene, those: list[Entry], place: int, at: int) -> Reason:
     entry = those[place - 1]
-    found = Reason("", "", at=at + 4 + 2 + len(entry.nonce))
-    found.add("attributes", attribute_words(entry.attributes), HAD)
-    said = f"The attributes of entry {place} are {entry.attributes:02x}: "
     if scene.name == "RESERVED_BITS":
-        found.rule, found.words = "G8/RESERVED_BITS", said + "bits 3 and 4 are reserved."
+        rule, words = "G8/RESERVED_BITS", "bits 3 and 4 are reserved."
     elif scene.name == "SYMMETRIC":
-        found.rule = "G8/SYMMETRIC"
         begun = scene.past.sessions.get(entry.handle)
         line = f" in line {begun.line}" if begun else ""
-        found.words = said + f"session {entry.handle:08x} was started without a cipher{line}."
+        started = f"session {entry.handle:08x} was started without a cipher"
+        rule, words = "G8/SYMMETRIC", f"{started}{line}."
     else:
-        found.rule, words = wrong_attributes(scene.code, those, place)
-        found.words = said + words
+        rule, words = wrong_attributes(scene.code, those, place)
+    said = f"The attributes of entry {place} are {entry.attributes:02x}: "
+    found = Reason(rule, said + words, at=at + 4 + 2 + len(entry.nonce))
+    found.add("attributes", attribute_words(entry.attributes), HAD)
     return found
 
 
 def wrong_attributes(code: CC, those: list[Entry], place: int) -> tuple[str, str]:
     entry = those[place - 1]
-    audits = frames.AUDIT_EXCLUSIVE | frames.AUDIT_RESET | frames.AUDIT
-    if entry.attributes & audits:
+    if entry.attributes & AUDITS:
         return "G8/ATTRIBUTES.1", "no session audits."
     if entry.handle == RS_PW:
         return "G8/ATTRIBUTES.2", "a password neither decrypts nor encrypts."
@@ -246,12 +211,6 @@ def wrong_attributes(code: CC, those: list[Entry], place: int) -> tuple[str, str
 
 
 CHECKS: dict[str, Callable[[Scene], Reason]] = {
-    "G1": length,
-    "G2": tag,
-    "G3": command_size,
-    "G4": command,
-    "G5": startup,
-    "G6": handles,
-    "G7": sessions_or_none,
-    "G8": entries,
+    **{"G1": length, "G2": tag, "G3": command_size, "G4": command, "G5": startup},
+    **{"G6": handles, "G7": sessions_or_none, "G8": entries},
 }

@@ -1,19 +1,15 @@
 """What goes into the HMAC of an entry."""
 
-from __future__ import annotations
-
 import hmac
 from dataclasses import dataclass
 
 from tpmsim.explain.past import Begun
+from tpmsim.explain.reason import Fact
 from tpmsim.explain.scene import Scene
 from tpmsim.explain.words import attribute_words, bytes_words, handle_words
-from tpmsim.explain.reason import Fact
+from tpmsim.model.general import Command
 from tpmsim.model.machine import Session
-from tpmsim.standard import handle_kinds, policy
-from tpmsim.standard.commands import CC
-from tpmsim.standard.frames import Entry, number
-from tpmsim.standard.sessions import HASH_WORDS, digest
+from tpmsim.standard import CC, digest, Entry, handle_kinds, HASH_WORDS, number, policy
 
 
 @dataclass(frozen=True)
@@ -68,6 +64,16 @@ class Use:
         return self.scene.code
 
     @property
+    def command(self) -> Command:
+        return self.scene.command
+
+    @property
+    def authorized(self) -> int:
+        """What it authorizes, of an entry that does."""
+        assert self.handle is not None
+        return self.handle
+
+    @property
     def is_policy(self) -> bool:
         return handle_kinds.is_policy(self.entry.handle)
 
@@ -89,21 +95,14 @@ class Use:
 
     def right(self) -> Ingredients:
         """The parts that the device takes."""
-        model, command = self.scene.model, self.scene.command
-        assert command is not None
-        algorithm = self.session.algorithm
+        model, command, algorithm = self.scene.model, self.command, self.session.algorithm
+        value = self.auth_value if self.takes_value else b""
+        names = tuple(model.names(command))
+        others = tuple(model.nonces_of_others(command, self.place, self.handle))
+        nonces = self.entry.nonce, self.session.nonce_tpm, others
         return Ingredients(
-            algorithm,
-            self.session.key,
-            self.auth_value if self.takes_value else b"",
-            algorithm,
-            number(command.code, 4),
-            tuple(model.names(command)),
-            command.parameters,
-            self.entry.nonce,
-            self.session.nonce_tpm,
-            tuple(model.nonces_of_others(command, self.place, self.handle)),
-            self.entry.attributes,
+            *(algorithm, self.session.key, value, algorithm, number(command.code, 4), names),
+            *(command.parameters, *nonces, self.entry.attributes),
         )
 
     def value_words(self) -> str:
@@ -123,21 +122,17 @@ class Use:
 
     def lapse_words(self) -> str:
         """Why a binding does not hold any more."""
-        past, handle = self.scene.past, self.handle
-        assert handle is not None
-        words = []
+        past, handle, words = self.scene.past, self.authorized, []
         if self.session.bind != self.scene.model.name(handle):
             words.append(f"as its Name is another one since {past.last_change.get(handle, '?')}")
         if self.session.bind_auth != self.auth_value:
-            words.append(
-                f"as its authValue is another one since line {past.values[handle][-1].line}"
-            )
+            line = past.values[handle][-1].line
+            words.append(f"as its authValue is another one since line {line}")
         return " and ".join(words)
 
 
 def use_of(scene: Scene, place: int) -> Use | None:
     """That of an entry's place; None where it is a password's."""
-    assert scene.command is not None
     for at, entry, handle in scene.command.places():
         if at == place and entry.handle in scene.model.sessions:
             session = scene.model.sessions[entry.handle]
@@ -147,34 +142,28 @@ def use_of(scene: Scene, place: int) -> Use | None:
 
 def facts(use: Use) -> list[Fact]:
     """Each thing that goes into the HMAC, as it is right."""
-    right, command = use.right(), use.scene.command
-    assert command is not None
+    right = use.right()
     since = use.begun.nonces[-1].line if use.begun and use.begun.nonces else 0
-    found = [
+    names = zip(use.command.handles, right.names)
+    return [
         Fact("hash", HASH_WORDS[right.algorithm]),
         Fact("session key", bytes_words(right.session_key) + key_words(use)),
         Fact("authValue", f"{bytes_words(use.auth_value)}; {use.value_words()}"),
         Fact("key", right.key.hex() or "empty"),
         Fact("commandCode", right.code.hex()),
-    ]
-    for handle, name in zip(command.handles, right.names):
-        found.append(Fact(f"Name of {handle_words(handle)}", name.hex()))
-    found += [
+        *(Fact(f"Name of {handle_words(handle)}", name.hex()) for handle, name in names),
         Fact("parameters as sent", right.parameters.hex() or "empty"),
         Fact("cpHash", right.cp_hash.hex()),
         Fact("nonceCaller", right.newer.hex() or "empty"),
         Fact("nonceTPM", right.older.hex() + (f" (line {since})" if since else "")),
+        *(Fact("nonceTPM of another session", other.hex()) for other in right.others),
+        Fact("attributes", attribute_words(right.attributes)),
     ]
-    for other in right.others:
-        found.append(Fact("nonceTPM of another session", other.hex()))
-    found.append(Fact("attributes", attribute_words(right.attributes)))
-    return found
 
 
 def key_words(use: Use) -> str:
     """What the session key was made of."""
     if use.begun is None or not use.session.key:
         return ""
-    return (
-        f" (of {handle_words(use.begun.bind)}'s authValue and the nonces of line {use.begun.line})"
-    )
+    bind, line = handle_words(use.begun.bind), use.begun.line
+    return f" (of {bind}'s authValue and the nonces of line {line})"

@@ -1,7 +1,5 @@
 """Explanations as values that JSON has."""
 
-from __future__ import annotations
-
 from typing import Any
 
 from tpmsim.explain import dissection
@@ -9,7 +7,7 @@ from tpmsim.explain.field import Field
 from tpmsim.explain.play import Event
 from tpmsim.explain.reason import Fact, Reason
 from tpmsim.explain.text import Counts, name_of
-from tpmsim.standard.commands import NUMBERED
+from tpmsim.standard import NUMBERED
 
 VERSION = 1
 

@@ -1,43 +1,34 @@
 """What the own checks of a command look at: its handles and its parameters in plain."""
 
-from __future__ import annotations
-
 from functools import cached_property
 from typing import Any, Callable
 
-from tpmsim.explain.field import Field
 from tpmsim.explain import dissection
-from tpmsim.explain.reason import HAD, Reason, WANTED
+from tpmsim.explain.field import Field
+from tpmsim.explain.reason import Reason
 from tpmsim.explain.scene import Scene
 from tpmsim.explain.words import handle_words
 from tpmsim.model.machine import Model, Session
 from tpmsim.model.nv_commands import Index
 from tpmsim.model.object_rules import Object
-from tpmsim.standard import nv, values
-from tpmsim.standard.frames import number
-from tpmsim.standard.handle_kinds import is_policy
+from tpmsim.standard import is_policy, nv, values
 
 
 class Look:
     """A command that passed the checks of its parameters, and the reason that is being found."""
 
     def __init__(self, scene: Scene, found: Reason) -> None:
-        self.scene, self.found = scene, found
-
-    @property
-    def model(self) -> Model:
-        return self.scene.model
-
-    @cached_property
-    def handles(self) -> list[int]:
-        assert self.scene.command is not None
-        return self.scene.command.handles
+        self.scene, self.found, self.past = scene, found, scene.past
+        self.model: Model = scene.model
+        self.handles, self.code = scene.command.handles, scene.code
 
     @cached_property
     def values(self) -> dict[str, Any]:
-        """The parameters by their names in Part 3."""
         assert self.scene.plain is not None
-        return values.read_all(self.scene.code.parameters, self.scene.plain)
+        return values.read_all(self.code.parameters, self.scene.plain)
+
+    def __getitem__(self, name: str) -> Any:
+        return self.values[name]
 
     @cached_property
     def session(self) -> Session:
@@ -61,19 +52,17 @@ class Look:
         """A handle by its place, from 0."""
         return handle_words(self.handles[place])
 
-    def say(self, words: str) -> None:
+    def since(self, handle: int, words: str) -> str:
+        """The words with the line at which what has a handle began, or none where that is unknown."""
+        line = self.past.begun.get(handle, 0)
+        return f"{words} {line}" if line else ""
+
+    def say(self, words: str, at: str = "") -> None:
+        """Why it is refused, and the field that is at fault, of the parameters in plain."""
         self.found.words = words
-
-    def compare(self, wanted: str, had: str, of: str = "") -> None:
-        """Both values, with what they are."""
-        space = " " if of else ""
-        self.found.add(f"{of}{space}wanted", wanted, WANTED)
-        self.found.add(f"{of}{space}had", had, HAD)
-
-    def at(self, name: str) -> None:
-        """The byte is the one at which a field begins, of the parameters in plain."""
-        field = self.field(name)
-        self.found.at = field.at if field else None
+        if at:
+            field = self.field(at)
+            self.found.at = field.at if field else None
 
     def field(self, name: str) -> Field | None:
         fields = dissection.fields_of_command(self.scene.buffer, self.scene.plain)
@@ -83,5 +72,6 @@ class Look:
 Check = Callable[[Look], None]
 
 
-def hexed(value: int, size: int) -> str:
-    return number(value, size).hex()
+def said(words: Callable[[Look], str], at: str = "") -> Check:
+    """A check that is told by its words alone, and its field."""
+    return lambda look: look.say(words(look), at)

@@ -20,8 +20,6 @@ file or the image is not what it should be, or a line is none of a script's: wha
 told. It needs python3, and no program.
 """
 
-from __future__ import annotations
-
 import json
 import os
 import pathlib

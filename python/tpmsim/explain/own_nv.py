@@ -1,234 +1,199 @@
 """The numbers of the own checks of commands on NV indices."""
 
-from __future__ import annotations
-
-from tpmsim.explain.look import Check, Look
+from tpmsim.explain.look import Check, Look, said
 from tpmsim.explain.words import bytes_words, flag_words, plural
 from tpmsim.model import nv_commands
 from tpmsim.model.nv_commands import ALL_BYTES, BUFFER_BYTES, INDEX_BYTES, INDICES, LARGEST
-from tpmsim.standard import nv
-from tpmsim.standard.commands import CC
-from tpmsim.standard.frames import RH_OWNER, RH_PLATFORM
+from tpmsim.standard import CC, RH_OWNER, RH_PLATFORM, digest_bytes, nv, trimmed
 from tpmsim.standard.nv import Attribute, NUMBER_BYTES, READS, Type, WRITES
-from tpmsim.standard.sessions import digest_bytes, trimmed
 
 TYPES = {int(it): it.name.lower() for it in Type}
 
-# What each command that writes an index writes.
+# What each command that writes an index writes, and who reads one.
 WRITTEN_TYPES = {
     CC.NV_Write: Type.ORDINARY,
     CC.NV_Increment: Type.COUNTER,
     CC.NV_SetBits: Type.BITS,
     CC.NV_Extend: Type.EXTEND,
 }
+READERS = CC.NV_Read, CC.NV_ReadLock, CC.PolicyNV
 
 
 def type_words(kind: int) -> str:
     return TYPES.get(kind, f"type {kind}")
 
 
+def flags_of(public: nv.Public, those: int = ~(nv.TYPE_MASK << nv.TYPE_SHIFT)) -> str:
+    """The names of an index's attributes, of those that are asked for."""
+    return flag_words(public.attributes & those, Attribute)
+
+
+def add_attributes(look: Look, public: nv.Public) -> None:
+    look.found.add("attributes", flags_of(public))
+
+
 # Definition.
 
 
 def defined(look: Look) -> nv.Public:
-    return nv.Public.read(look.values["publicInfo"])
+    return nv.Public.read(look["publicInfo"])
+
+
+def too_long(look: Look, name: str, value: bytes, algorithm: int) -> None:
+    """An authorization value that is longer than the digests of a hash algorithm."""
+    size, most = len(trimmed(value)), digest_bytes(algorithm)
+    words = f"{name} has {size} bytes, and nameAlg has digests of {most}: {size} > {most}."
+    look.say(words, name)
+
+
+def wrong_policy(look: Look, name_algorithm: int, auth_policy: bytes) -> None:
+    wanted, had = digest_bytes(name_algorithm), len(auth_policy)
+    has = f"authPolicy has {had} bytes; a digest by nameAlg has {wanted}"
+    look.say(f"{has}: {had} is neither 0 nor {wanted}.", "authPolicy")
 
 
 def define_auth(look: Look) -> None:
-    size, most = len(trimmed(look.values["auth"])), digest_bytes(defined(look).name_algorithm)
-    look.say(f"auth has {size} bytes, and nameAlg has digests of {most}: {size} > {most}.")
-    look.at("auth")
+    too_long(look, "auth", look["auth"], defined(look).name_algorithm)
 
 
 def define_policy(look: Look) -> None:
     public = defined(look)
-    wanted, had = digest_bytes(public.name_algorithm), len(public.auth_policy)
-    look.say(
-        f"authPolicy has {had} bytes; a digest by nameAlg has {wanted}: {had} is neither 0 nor {wanted}."
-    )
-    look.at("authPolicy")
+    wrong_policy(look, public.name_algorithm, public.auth_policy)
 
 
 def define_attributes(look: Look) -> None:
-    public = defined(look)
-    hierarchy = look.handles[0]
-    wrong = []
+    public, by_platform = defined(look), look.handles[0] == RH_PLATFORM
+    wrong, not_defined = [], flags_of(public, nv_commands.NOT_DEFINED)
+    is_platforms = public.has(Attribute.PLATFORMCREATE)
     if public.kind not in list(Type):
         wrong.append(f"the type is {public.kind}, which is none of 0, 1, 2 and 4")
     if public.has(nv_commands.NOT_DEFINED):
-        named = flag_words(public.attributes & nv_commands.NOT_DEFINED, Attribute)
-        wrong.append(f"it has {named}, with which nothing is defined")
-    if not public.has(WRITES):
-        wrong.append(
-            "nobody may write it: PPWRITE, OWNERWRITE, AUTHWRITE and POLICYWRITE are missing"
-        )
-    if not public.has(READS):
-        wrong.append("nobody may read it: PPREAD, OWNERREAD, AUTHREAD and POLICYREAD are missing")
+        wrong.append(f"it has {not_defined}, with which nothing is defined")
+    for verb, those, what in (("write", WRITES, "WRITE"), ("read", READS, "READ")):
+        if not public.has(those):
+            names = f"PP{what}, OWNER{what}, AUTH{what} and POLICY{what} are missing"
+            wrong.append(f"nobody may {verb} it: {names}")
     if public.kind == Type.COUNTER and public.has(Attribute.CLEAR_STCLEAR):
         wrong.append("a counter has CLEAR_STCLEAR")
-    if public.has(Attribute.PLATFORMCREATE) and hierarchy != RH_PLATFORM:
+    if is_platforms and not by_platform:
         wrong.append("it has PLATFORMCREATE, and OWNER defines it")
-    if not public.has(Attribute.PLATFORMCREATE) and hierarchy == RH_PLATFORM:
+    if by_platform and not is_platforms:
         wrong.append("it has no PLATFORMCREATE, and PLATFORM defines it")
-    look.say(f"The attributes are {public.attributes:08x}: {'; '.join(wrong)}.")
-    look.found.add("attributes", flag_words(public.attributes & ~0xF0, Attribute))
-    look.at("attributes")
+    look.say(f"The attributes are {public.attributes:08x}: {'; '.join(wrong)}.", "attributes")
+    add_attributes(look, public)
 
 
 def define_size(look: Look) -> None:
     public = defined(look)
-    size = public.data_size
+    size, words = public.data_size, f"dataSize is {public.data_size:,}"
     if public.kind == Type.ORDINARY:
-        look.say(f"dataSize is {size:,}: {size} > {INDEX_BYTES}.")
+        words += f": {size} > {INDEX_BYTES}."
     else:
         is_digest = public.kind == Type.EXTEND
         wanted = digest_bytes(public.name_algorithm) if is_digest else NUMBER_BYTES
-        look.say(
-            f"dataSize is {size:,}, and one of {type_words(public.kind)} has {wanted}: {size} != {wanted}."
-        )
-    look.at("dataSize")
+        words += f", and one of {type_words(public.kind)} has {wanted}: {size} != {wanted}."
+    look.say(words, "dataSize")
 
 
 def define_twice(look: Look) -> None:
     index = defined(look).index
-    since = look.scene.past.begun.get(index, 0)
-    line = f" since line {since}" if since else ""
-    look.say(f"There is an index {index:08x}{line}.")
-    look.at("nvIndex")
+    look.say(f"There is an index {index:08x}{look.since(index, ' since line')}.", "nvIndex")
 
 
 def define_space(look: Look) -> None:
-    public, indices = defined(look), look.model.indices
+    size, indices = defined(look).data_size, look.model.indices
     taken = sum(it.public.data_size for it in indices.values())
+    words = f"All indices would have {taken + size:,} bytes: {taken} + {size} > {ALL_BYTES}."
     if len(indices) == INDICES:
-        look.say(f"There are {len(indices)} indices, and there may be {INDICES}.")
-        return
-    both = taken + public.data_size
-    look.say(f"All indices would have {both:,} bytes: {taken} + {public.data_size} > {ALL_BYTES}.")
-
-
-def undefine(look: Look) -> None:
-    look.say(f"{look.said(1)} has PLATFORMCREATE, and OWNER removes it: PLATFORM alone may.")
+        words = f"There are {len(indices)} indices, and there may be {INDICES}."
+    look.say(words)
 
 
 # Who may.
 
 
 def asker(look: Look) -> None:
-    code, public, by = look.scene.code, look.public, look.handles[0]
-    reads = code in (CC.NV_Read, CC.NV_ReadLock, CC.PolicyNV)
-    verb = "read" if reads else "write"
+    public, by, reads = look.public, look.handles[0], look.code in READERS
+    verb, index = "read" if reads else "write", f"{public.index:08x}"
+    words = f"{look.said(0)} is authorized, and may {verb} itself alone, not {index}."
     if by in (RH_OWNER, RH_PLATFORM):
         wanted = ("OWNER" if by == RH_OWNER else "PP") + ("READ" if reads else "WRITE")
-        look.say(f"{look.said(0)} may not {verb} {public.index:08x}, which has no {wanted}.")
-    else:
-        look.say(
-            f"{look.said(0)} is authorized, and may {verb} itself alone, not {public.index:08x}."
-        )
-    look.found.add("attributes", flag_words(public.attributes & (READS | WRITES), Attribute))
+        words = f"{look.said(0)} may not {verb} {index}, which has no {wanted}."
+    look.say(words)
+    look.found.add("attributes", flags_of(public, READS | WRITES))
 
 
 def locked(look: Look) -> None:
-    reads = look.scene.code in (CC.NV_Read, CC.PolicyNV)
+    reads, index = look.code in READERS, look.public.index
     attribute = Attribute.READLOCKED if reads else Attribute.WRITELOCKED
-    since = look.scene.past.last_change.get(look.public.index, "the start")
     verb = "reading" if reads else "writing"
-    look.say(
-        f"{look.public.index:08x} is locked against {verb}: it has {attribute.name}, and its "
-        f"attributes changed last with {since}."
-    )
-    look.found.add("attributes", flag_words(look.public.attributes & ~0xF0, Attribute))
+    has = f"{index:08x} is locked against {verb}: it has {attribute.name}"
+    since = look.past.last_change.get(index, "the start")
+    look.say(f"{has}, and its attributes changed last with {since}.")
+    add_attributes(look, look.public)
 
 
 def type_written(look: Look) -> None:
-    kind, wanted = look.public.kind, WRITTEN_TYPES[look.scene.code]
-    had = type_words(kind)
-    look.say(
-        f"{look.scene.code.name} writes an index of {wanted.name.lower()}, and {look.public.index:08x} is of {had}."
-    )
-    look.compare(f"type {int(wanted)} ({wanted.name.lower()})", f"type {kind} ({had})")
-
-
-def unwritten(look: Look) -> None:
-    look.say(f"{look.public.index:08x} is not written: it has no WRITTEN, and no data.")
+    kind, wanted = look.public.kind, WRITTEN_TYPES[look.code]
+    name, had, index = wanted.name.lower(), type_words(kind), f"{look.public.index:08x}"
+    look.say(f"{look.code.name} writes an index of {name}, and {index} is of {had}.")
+    look.found.compare(f"type {int(wanted)} ({name})", f"type {kind} ({had})")
 
 
 def lockable(look: Look) -> None:
-    reads = look.scene.code == CC.NV_ReadLock
-    wanted = "READ_STCLEAR" if reads else "neither WRITEDEFINE nor WRITE_STCLEAR"
-    words = f"has no {wanted}" if reads else f"has {wanted}"
+    words = "has neither WRITEDEFINE nor WRITE_STCLEAR"
+    if look.code == CC.NV_ReadLock:
+        words = "has no READ_STCLEAR"
     look.say(f"{look.public.index:08x} {words}, so that it cannot be locked so.")
-    look.found.add("attributes", flag_words(look.public.attributes & ~0xF0, Attribute))
+    add_attributes(look, look.public)
+
+
+unwritten = said(
+    lambda it: f"{it.public.index:08x} is not written: it has no WRITTEN, and no data."
+)
+undefine = said(
+    lambda it: f"{it.said(1)} has PLATFORMCREATE, and OWNER removes it: PLATFORM alone may."
+)
+increment_range = said(lambda it: f"The counter is at its largest value, {LARGEST}.")
+read_size = said(lambda it: f"size is {it['size']:,}: {it['size']} > {BUFFER_BYTES}.", "size")
 
 
 # Ranges.
 
 
-def range_words(look: Look, offset: int, size: int) -> None:
-    most = look.public.data_size
-    look.say(
-        f"offset {offset} and {plural(size, 'byte')} are over dataSize: {offset} + {size} > {most}."
-    )
+def range_words(look: Look, size: int) -> str:
+    offset, most = look["offset"], look.public.data_size
+    over = f"offset {offset} and {plural(size, 'byte')} are over dataSize"
+    return f"{over}: {offset} + {size} > {most}."
 
 
 def write_range(look: Look) -> None:
-    offset, size, all_of_it = look.values["offset"], len(look.values["data"]), look.public.data_size
-    if offset + size > all_of_it:
-        range_words(look, offset, size)
-    else:
-        look.say(
-            f"The index has WRITEALL, and data are {size} of its {all_of_it} bytes: {size} != {all_of_it}."
-        )
-    look.at("data")
+    size, whole = len(look["data"]), look.public.data_size
+    all_of_it = f"The index has WRITEALL, and data are {size} of its {whole} bytes"
+    is_over = look["offset"] + size > whole
+    look.say(range_words(look, size) if is_over else f"{all_of_it}: {size} != {whole}.", "data")
 
 
-def increment_range(look: Look) -> None:
-    look.say(f"The counter is at its largest value, {LARGEST}.")
-
-
-def read_size(look: Look) -> None:
-    size = look.values["size"]
-    look.say(f"size is {size:,}: {size} > {BUFFER_BYTES}.")
-    look.at("size")
-
-
-def read_range(look: Look) -> None:
-    range_words(look, look.values["offset"], look.values["size"])
-    look.at("size")
+read_range = said(lambda it: range_words(it, it["size"]), "size")
 
 
 def change_auth(look: Look) -> None:
-    size, most = len(trimmed(look.values["newAuth"])), digest_bytes(look.public.name_algorithm)
-    look.say(f"newAuth has {size} bytes, and nameAlg has digests of {most}: {size} > {most}.")
-    look.found.add("newAuth", bytes_words(look.values["newAuth"]))
-    look.at("newAuth")
+    too_long(look, "newAuth", look["newAuth"], look.public.name_algorithm)
+    look.found.add("newAuth", bytes_words(look["newAuth"]))
 
 
-WRITE_CHECKS: dict[str, Check] = {
-    f"{code.name}/A{at}": check
-    for code in WRITTEN_TYPES
-    for at, check in enumerate((asker, locked, type_written), 1)
-}
-
-CHECKS: dict[str, Check] = {
-    "NV_DefineSpace/A1": define_auth,
-    "NV_DefineSpace/A2": define_policy,
-    "NV_DefineSpace/A3": define_attributes,
-    "NV_DefineSpace/A4": define_size,
-    "NV_DefineSpace/A5": define_twice,
-    "NV_DefineSpace/A6": define_space,
-    "NV_UndefineSpace/A1": undefine,
-    **WRITE_CHECKS,
-    "NV_Write/A4": write_range,
-    "NV_Increment/A4": increment_range,
-    "NV_Read/A1": asker,
-    "NV_Read/A2": locked,
-    "NV_Read/A3": unwritten,
-    "NV_Read/A4": read_size,
-    "NV_Read/A5": read_range,
-    "NV_WriteLock/A1": asker,
-    "NV_WriteLock/A2": lockable,
-    "NV_ReadLock/A1": asker,
-    "NV_ReadLock/A2": lockable,
-    "NV_ChangeAuth/A1": change_auth,
+WRITING = asker, locked, type_written
+CHECKS: dict[str, tuple[Check, ...]] = {
+    "NV_DefineSpace": (
+        *(define_auth, define_policy, define_attributes, define_size, define_twice, define_space),
+    ),
+    "NV_UndefineSpace": (undefine,),
+    "NV_Write": (*WRITING, write_range),
+    "NV_Increment": (*WRITING, increment_range),
+    "NV_SetBits": WRITING,
+    "NV_Extend": WRITING,
+    "NV_Read": (asker, locked, unwritten, read_size, read_range),
+    "NV_WriteLock": (asker, lockable),
+    "NV_ReadLock": (asker, lockable),
+    "NV_ChangeAuth": (change_auth,),
 }

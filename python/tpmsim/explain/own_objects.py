@@ -1,36 +1,31 @@
 """The numbers of the own checks of commands on objects."""
 
-from __future__ import annotations
-
 from tpmsim.explain import encryption
-from tpmsim.explain.look import Check, Look
+from tpmsim.explain.look import Check, Look, said
+from tpmsim.explain.own_nv import too_long, wrong_policy
 from tpmsim.explain.words import algorithm_words, flag_words, handle_words
 from tpmsim.model import object_rules
 from tpmsim.model.general import Refusal
 from tpmsim.model.object_commands import OBJECTS
-from tpmsim.model.object_rules import Object
 from tpmsim.model.parameters import Parameters
 from tpmsim.model.persistent import PERSISTENT_OBJECTS, is_persistent
-from tpmsim.standard import aes
-from tpmsim.standard.commands import CC
-from tpmsim.standard.frames import ALG_NULL, KEYEDHASH, RH_PLATFORM
+from tpmsim.standard import ALG_NULL, CC, Fields, KEYEDHASH, RH_PLATFORM, Short, aes, digest_bytes
+from tpmsim.standard import trimmed
 from tpmsim.standard.objects import Attribute, Public
-from tpmsim.standard.reading import Fields, Short
-from tpmsim.standard.sessions import digest_bytes, trimmed
 
 
 def template(look: Look) -> Public:
-    return Public.read(look.values["inPublic"])
+    return Public.read(look["inPublic"])
 
 
 def sensitive(look: Look) -> tuple[bytes, bytes]:
     """userAuth and data."""
-    fields = Fields(look.values["inSensitive"])
+    fields = Fields(look["inSensitive"])
     return fields.sized(), fields.sized()
 
 
-def parent_of(look: Look) -> Object | None:
-    return None if look.scene.code == CC.CreatePrimary else look.object
+def add_attributes(look: Look, public: Public) -> None:
+    look.found.add("attributes", flag_words(public.attributes, Attribute))
 
 
 # Parents and templates.
@@ -38,84 +33,72 @@ def parent_of(look: Look) -> Object | None:
 
 def parent(look: Look) -> None:
     public = look.object.public
-    look.say(
-        f"{look.said(0)} is no storage parent: a SYMCIPHER with restricted and decrypt, and without "
-        f"sign. It is a {algorithm_words(public.kind)}."
-    )
-    look.found.add("attributes", flag_words(public.attributes, Attribute))
+    storage = "a SYMCIPHER with restricted and decrypt, and without sign"
+    kind = algorithm_words(public.kind)
+    look.say(f"{look.said(0)} is no storage parent: {storage}. It is a {kind}.")
+    add_attributes(look, public)
 
 
 def auth_policy(look: Look) -> None:
     public = template(look)
-    wanted, had = digest_bytes(public.name_algorithm), len(public.auth_policy)
-    look.say(
-        f"authPolicy has {had} bytes; a digest by nameAlg has {wanted}: {had} is neither 0 nor {wanted}."
-    )
-    look.at("authPolicy")
+    wrong_policy(look, public.name_algorithm, public.auth_policy)
 
 
 def attributes(look: Look) -> None:
-    public, of_parent = template(look), parent_of(look)
-    wrong = []
-    if public.has(Attribute.FIXED_TPM) and public.has(Attribute.ENCRYPTED_DUPLICATION):
-        wrong.append("fixedTPM with encryptedDuplication")
-    if of_parent is not None and not of_parent.public.has(Attribute.FIXED_TPM):
-        if public.has(Attribute.FIXED_TPM):
-            wrong.append("fixedTPM, and the parent has none")
-    elif public.has(Attribute.FIXED_TPM) != public.has(Attribute.FIXED_PARENT):
-        wrong.append("one of fixedTPM and fixedParent without the other")
+    public, wrong = template(look), []
+    is_keyed_hash, is_fixed = public.kind == KEYEDHASH, public.has(Attribute.FIXED_TPM)
+    is_primary = look.code == CC.CreatePrimary
     signs, decrypts = public.has(Attribute.SIGN), public.has(Attribute.DECRYPT)
-    if public.has(Attribute.RESTRICTED) and signs == decrypts:
+    is_restricted = public.has(Attribute.RESTRICTED)
+    if is_fixed and public.has(Attribute.ENCRYPTED_DUPLICATION):
+        wrong.append("fixedTPM with encryptedDuplication")
+    if not is_primary and not look.object.public.has(Attribute.FIXED_TPM):
+        wrong += ["fixedTPM, and the parent has none"] if is_fixed else []
+    elif is_fixed != public.has(Attribute.FIXED_PARENT):
+        wrong.append("one of fixedTPM and fixedParent without the other")
+    if is_restricted and signs == decrypts:
         wrong.append(f"restricted with {'both' if signs else 'none'} of sign and decrypt")
-    if public.kind == KEYEDHASH and decrypts:
+    if is_keyed_hash and decrypts:
         wrong.append("a KEYEDHASH with decrypt")
-    if public.kind != KEYEDHASH and not signs and not decrypts:
+    if not is_keyed_hash and not signs and not decrypts:
         wrong.append("a SYMCIPHER with neither sign nor decrypt")
-    if public.kind != KEYEDHASH and public.has(Attribute.RESTRICTED) and signs:
+    if not is_keyed_hash and is_restricted and signs:
         wrong.append("a SYMCIPHER with restricted and sign")
-    look.say(f"objectAttributes are {public.attributes:08x}: {'; '.join(wrong)}.")
-    look.found.add("attributes", flag_words(public.attributes, Attribute))
-    look.at("objectAttributes")
+    words = f"objectAttributes are {public.attributes:08x}: {'; '.join(wrong)}."
+    look.say(words, "objectAttributes")
+    add_attributes(look, public)
 
 
 def scheme(look: Look) -> None:
-    public = template(look)
-    if public.scheme == ALG_NULL:
-        look.say("The KEYEDHASH has the scheme NULL and restricted; a restricted one has a scheme.")
-    else:
-        look.say("The KEYEDHASH has the scheme HMAC, and no sign.")
-    look.at("scheme")
+    words = "The KEYEDHASH has the scheme HMAC, and no sign."
+    if template(look).scheme == ALG_NULL:
+        words = "The KEYEDHASH has the scheme NULL and restricted; a restricted one has a scheme."
+    look.say(words, "scheme")
 
 
 # Creations.
 
 
 def user_auth(look: Look) -> None:
-    size, most = len(trimmed(sensitive(look)[0])), digest_bytes(template(look).name_algorithm)
-    look.say(f"userAuth has {size} bytes, and nameAlg has digests of {most}: {size} > {most}.")
-    look.at("userAuth")
+    too_long(look, "userAuth", sensitive(look)[0], template(look).name_algorithm)
     misread(look)
 
 
 def origin(look: Look) -> None:
     public, data = template(look), sensitive(look)[1]
+    words = "There is sensitiveDataOrigin, and sealed data are given and not made by the device"
     if not public.has(Attribute.SENSITIVE_DATA_ORIGIN):
-        words = (
-            "data are empty, and there is no sensitiveDataOrigin: nobody gives the key or the data"
-        )
+        nobody = "nobody gives the key or the data"
+        words = f"Data are empty, and there is no sensitiveDataOrigin: {nobody}"
     elif data:
-        words = f"there is sensitiveDataOrigin, and {len(data)} bytes of data are given"
-    else:
-        words = "there is sensitiveDataOrigin, and sealed data are given and not made by the device"
-    look.say(words[0].upper() + words[1:] + ".")
-    look.found.add("attributes", flag_words(public.attributes, Attribute))
-    look.at("objectAttributes")
+        words = f"There is sensitiveDataOrigin, and {len(data)} bytes of data are given"
+    look.say(f"{words}.", "objectAttributes")
+    add_attributes(look, public)
 
 
 def key_size(look: Look) -> None:
     size = len(sensitive(look)[1])
-    look.say(f"data have {size} bytes; a key of a SYMCIPHER has 16: {size} != 16.")
-    look.at("data")
+    look.say(f"data have {size} bytes; a key of a SYMCIPHER has 16: {size} != 16.", "data")
 
 
 def misread(look: Look) -> None:
@@ -128,8 +111,7 @@ def misread(look: Look) -> None:
         except Refusal:
             continue
         if len(trimmed(value)) <= digest_bytes(template(look).name_algorithm):
-            look.found.slips.append(other.name)
-            look.found.add("slip", other.words)
+            look.found.slip(other.name, other.words)
             return
 
 
@@ -137,36 +119,36 @@ def no_place(look: Look) -> None:
     held = [it for it in look.model.objects if not is_persistent(it)]
     look.say(f"{len(held)} transient objects are there, and there is place for {OBJECTS}.")
     for it in sorted(held):
-        look.found.add(handle_words(it), f"since line {look.scene.past.begun.get(it, 0)}")
+        look.found.add(handle_words(it), f"since line {look.past.begun.get(it, 0)}")
 
 
 # TPM2_Load.
 
 
 def integrity(look: Look) -> None:
-    private, public, held = look.values["inPrivate"], template(look), look.object
-    look.at("inPrivate")
+    private, name, held = look["inPrivate"], template(look).name, look.object
     fields = Fields(private)
     try:
         given = fields.sized()
     except Short:
-        look.say("The integrity of inPrivate is cut.")
+        look.say("The integrity of inPrivate is cut.", "inPrivate")
         return
-    wanted = object_rules.integrity(held, fields.data, public.name)
+    wanted = object_rules.integrity(held, fields.data, name)
     if given == wanted:
-        look.say("The integrity is right, and what it protects is no private area of this kind.")
+        right = "The integrity is right, and what it protects is no private area of this kind."
+        look.say(right, "inPrivate")
         inner(look, fields)
         return
-    look.say(
-        f"The integrity of inPrivate is not the one that {look.said(0)} makes for this inPublic: the "
-        "two areas belong to different objects, to another parent, or one of them was changed."
+    other = (
+        "the two areas belong to different objects, to another parent, or one of them was changed"
     )
-    look.compare(wanted.hex(), given.hex(), "integrity")
-    look.found.add("Name of inPublic", public.name.hex())
-    for handle, other in look.model.objects.items():
-        if other is not held and object_rules.integrity(other, fields.data, public.name) == given:
-            look.found.slips.append("another parent")
-            look.found.add("slip", f"it is right under {handle_words(handle)}")
+    makes = f"The integrity of inPrivate is not the one that {look.said(0)} makes for this inPublic"
+    look.say(f"{makes}: {other}.", "inPrivate")
+    look.found.compare(wanted.hex(), given.hex(), "integrity")
+    look.found.add("Name of inPublic", name.hex())
+    for handle, it in look.model.objects.items():
+        if it is not held and object_rules.integrity(it, fields.data, name) == given:
+            look.found.slip("another parent", f"it is right under {handle_words(handle)}")
 
 
 def inner(look: Look, fields: Fields) -> None:
@@ -183,90 +165,70 @@ def inner(look: Look, fields: Fields) -> None:
 
 def no_keyed_hash(look: Look) -> None:
     kind = algorithm_words(look.object.public.kind)
-    look.say(f"{look.said(0)} is a {kind}, and {look.scene.code.name} takes a KEYEDHASH.")
+    look.say(f"{look.said(0)} is a {kind}, and {look.code.name} takes a KEYEDHASH.")
 
 
-def unseal_sign(look: Look) -> None:
-    look.say(f"{look.said(0)} has sign, so that it is an HMAC key and no sealed data.")
-
-
-def hmac_restricted(look: Look) -> None:
-    look.say(f"{look.said(0)} has restricted, so that it makes no HMAC of what a caller gives.")
-
-
-def hmac_sign(look: Look) -> None:
-    look.say(f"{look.said(0)} has no sign, so that it is sealed data and no HMAC key.")
+unseal_sign = said(
+    lambda it: f"{it.said(0)} has sign, so that it is an HMAC key and no sealed data."
+)
+hmac_restricted = said(
+    lambda it: f"{it.said(0)} has restricted, so that it makes no HMAC of what a caller gives."
+)
+hmac_sign = said(lambda it: f"{it.said(0)} has no sign, so that it is sealed data and no HMAC key.")
 
 
 def hmac_scheme(look: Look) -> None:
-    own, given = look.object.public.scheme, look.values["hashAlg"]
-    if own == ALG_NULL:
-        look.say("The key's scheme is NULL, and hashAlg is NULL too: one of them names the hash.")
-    else:
-        said = algorithm_words(own)
-        look.say(f"The key's scheme is HMAC by {said}, and hashAlg is {algorithm_words(given)}.")
-    look.at("hashAlg")
+    own, given = look.object.public.scheme, algorithm_words(look["hashAlg"])
+    words = "The key's scheme is NULL, and hashAlg is NULL too: one of them names the hash."
+    if own != ALG_NULL:
+        words = f"The key's scheme is HMAC by {algorithm_words(own)}, and hashAlg is {given}."
+    look.say(words, "hashAlg")
 
 
 # TPM2_EvictControl.
 
+PLACE = "persistentHandle"
+
 
 def evict_hierarchy(look: Look) -> None:
-    held = look.model.objects[look.handles[1]]
-    look.say(
-        f"{look.said(1)} is of the hierarchy {handle_words(held.hierarchy)}, and {look.said(0)} asks: "
-        "the owner has what is the owner's and the endorsement hierarchy's, the platform its own."
-    )
-
-
-def evict_clear(look: Look) -> None:
-    look.say(f"{look.said(1)} has stClear, so that it does not outlive a start.")
+    of = handle_words(look.model.objects[look.handles[1]].hierarchy)
+    may = "the owner has what is the owner's and the endorsement hierarchy's, the platform its own"
+    look.say(f"{look.said(1)} is of the hierarchy {of}, and {look.said(0)} asks: {may}.")
 
 
 def evict_range(look: Look) -> None:
-    wanted = look.values["persistentHandle"]
     of = "81800000 to 81ffffff" if look.handles[0] == RH_PLATFORM else "81000000 to 817fffff"
-    look.say(f"persistentHandle is {wanted:08x}; those of {look.said(0)} are {of}.")
-    look.at("persistentHandle")
+    look.say(f"{PLACE} is {look[PLACE]:08x}; those of {look.said(0)} are {of}.", PLACE)
 
 
 def evict_other(look: Look) -> None:
-    wanted = look.values["persistentHandle"]
-    look.say(
-        f"{look.said(1)} is persistent, and is removed by its own handle, not by {wanted:08x}."
-    )
-    look.at("persistentHandle")
+    by = f"is removed by its own handle, not by {look[PLACE]:08x}"
+    look.say(f"{look.said(1)} is persistent, and {by}.", PLACE)
 
 
 def evict_taken(look: Look) -> None:
-    wanted = look.values["persistentHandle"]
-    line = look.scene.past.begun.get(wanted, 0)
-    look.say(f"There is an object {wanted:08x} already{f', since line {line}' if line else ''}.")
-    look.at("persistentHandle")
+    handle = look[PLACE]
+    since = look.since(handle, ", since line")
+    look.say(f"There is an object {handle:08x} already{since}.", PLACE)
 
 
 def evict_space(look: Look) -> None:
-    held = len([it for it in look.model.objects if is_persistent(it)])
+    held = sum(map(is_persistent, look.model.objects))
     look.say(f"{held} persistent objects are there, and there is place for {PERSISTENT_OBJECTS}.")
 
+
+evict_clear = said(lambda it: f"{it.said(1)} has stClear, so that it does not outlive a start.")
 
 TEMPLATE = auth_policy, attributes, scheme
 CREATION = user_auth, origin, key_size
 
-CHECKS: dict[str, Check] = {
-    **{f"CreatePrimary/A{at}": it for at, it in enumerate((*TEMPLATE, *CREATION, no_place), 1)},
-    **{f"Create/A{at}": it for at, it in enumerate((parent, *TEMPLATE, *CREATION), 1)},
-    **{f"Load/A{at}": it for at, it in enumerate((parent, *TEMPLATE, integrity, no_place), 1)},
-    "Unseal/A1": no_keyed_hash,
-    "Unseal/A2": unseal_sign,
-    "HMAC/A1": no_keyed_hash,
-    "HMAC/A2": hmac_restricted,
-    "HMAC/A3": hmac_sign,
-    "HMAC/A4": hmac_scheme,
-    "EvictControl/A1": evict_hierarchy,
-    "EvictControl/A2": evict_clear,
-    "EvictControl/A3": evict_range,
-    "EvictControl/A4": evict_other,
-    "EvictControl/A5": evict_taken,
-    "EvictControl/A6": evict_space,
+CHECKS: dict[str, tuple[Check, ...]] = {
+    "CreatePrimary": (*TEMPLATE, *CREATION, no_place),
+    "Create": (parent, *TEMPLATE, *CREATION),
+    "Load": (parent, *TEMPLATE, integrity, no_place),
+    "Unseal": (no_keyed_hash, unseal_sign),
+    "HMAC": (no_keyed_hash, hmac_restricted, hmac_sign, hmac_scheme),
+    "EvictControl": (
+        *(evict_hierarchy, evict_clear, evict_range, evict_other, evict_taken, evict_space),
+    ),
 }

@@ -1,21 +1,16 @@
 """At which byte the parameters of a command went wrong, and what was wanted there (G11)."""
 
-from __future__ import annotations
-
 from typing import Callable, Iterable, TypeVar
 
 from tpmsim.explain import dissection, encryption
 from tpmsim.explain.field import Field
-from tpmsim.explain.reason import HAD, Reason, WANTED
-from tpmsim.explain.rules import RULES
+from tpmsim.explain.reason import Reason, RULES
 from tpmsim.explain.scene import Scene
 from tpmsim.explain.words import algorithm_words, plural
 from tpmsim.model.general import Refusal
 from tpmsim.model.machine import ROWS
 from tpmsim.model.parameters import Parameters, Request
-from tpmsim.standard import nv, objects
-from tpmsim.standard.commands import CC
-from tpmsim.standard.sessions import DIGEST_BYTES
+from tpmsim.standard import CC, DIGEST_BYTES, nv, objects
 
 T = TypeVar("T")
 
@@ -134,12 +129,11 @@ def name_words(value: int, size: int) -> str:
 
 def read_again(scene: Scene, plain: bytes) -> tuple[Trace, str]:
     """Where the reading of these parameters stops, and the code; none where they are whole."""
-    assert scene.command is not None
-    trace = Trace()
+    trace, command = Trace(), scene.command
     parameters = Traced(plain, scene.parameters_at, trace)
-    request = Request(scene.command.handles, parameters, scene.locality, scene.random)
+    request = Request(command.handles, parameters, scene.locality, scene.random)
     try:
-        ROWS[scene.command.code](scene.model, request)
+        ROWS[command.code](scene.model, request)
     except Refusal as refusal:
         return trace, refusal.name
     except Whole:
@@ -150,24 +144,18 @@ def read_again(scene: Scene, plain: bytes) -> tuple[Trace, str]:
 def reason(scene: Scene) -> Reason:
     assert scene.plain is not None
     trace, _ = read_again(scene, scene.plain)
-    field = field_at(scene, trace.at)
-    found = Reason(rule_of(scene, trace, field), "", at=trace.at)
-    said = place_words(scene, field)
-    wanted, had = trace.wanted or wanted_by_code(scene, field), trace.had
-    if not trace.wanted:
-        size = trace.last_size
-        had = scene_bytes(scene)[trace.at : trace.at + size].hex()
-    found.words = f"At byte {trace.at} (0x{trace.at:x}){said}: wanted {wanted}, and there is {had}."
-    found.add("wanted", wanted, WANTED)
-    found.add("had", had, HAD)
+    at, field = trace.at, field_at(scene, trace.at)
+    found = Reason(rule_of(scene, trace, field), "", at=at)
+    wanted, had = trace.wanted, trace.had
+    if not wanted:
+        wanted = wanted_by_code(scene, field)
+        buffer = scene.buffer[: scene.parameters_at] + scene.plain
+        had = buffer[at : at + trace.last_size].hex()
+    place = place_words(scene, field)
+    found.words = f"At byte {at} (0x{at:x}){place}: wanted {wanted}, and there is {had}."
+    found.compare(wanted, had)
     misread(scene, found)
     return found
-
-
-def scene_bytes(scene: Scene) -> bytes:
-    """The buffer with its parameters in plain."""
-    assert scene.plain is not None
-    return scene.buffer[: scene.parameters_at] + scene.plain
 
 
 def field_at(scene: Scene, at: int) -> Field | None:
@@ -175,17 +163,14 @@ def field_at(scene: Scene, at: int) -> Field | None:
     fields = dissection.fields_of_command(scene.buffer, scene.plain)
     those = [it for it in fields if not it.is_group and it.at <= at <= it.at + it.size]
     exact = [it for it in those if it.at == at and it.size]
-    return exact[-1] if exact else those[-1] if those else None
+    found = exact or those
+    return found[-1] if found else None
 
 
 def place_words(scene: Scene, field: Field | None) -> str:
-    place = scene.place
-    parameters = scene.code.parameters
-    of = (
-        f" of parameter {place}, {parameters[place - 1].name}"
-        if 0 < place <= len(parameters)
-        else ""
-    )
+    place, parameters, of = scene.place, scene.code.parameters, ""
+    if 0 < place <= len(parameters):
+        of = f" of parameter {place}, {parameters[place - 1].name}"
     if field is None or field.name == "left over":
         return of
     is_whole = place and parameters[place - 1].name == field.name
@@ -195,8 +180,7 @@ def place_words(scene: Scene, field: Field | None) -> str:
 def wanted_by_code(scene: Scene, field: Field | None) -> str:
     """What a reader of its own wanted, by the code with which it refused."""
     if scene.name == "RESERVED_BITS":
-        is_nv = scene.code == CC.NV_DefineSpace
-        named = nv.NAMED if is_nv else objects.NAMED
+        named = nv.NAMED if scene.code == CC.NV_DefineSpace else objects.NAMED
         return f"no bit but those of {named:08x}"
     if scene.code == CC.EvictControl:
         return "a handle that begins with 81"
@@ -204,29 +188,22 @@ def wanted_by_code(scene: Scene, field: Field | None) -> str:
 
 
 def rule_of(scene: Scene, trace: Trace, field: Field | None) -> str:
-    if scene.refused == "SIZE":
-        return "G11/SIZE"
-    if scene.name == "INSUFFICIENT":
-        return "G11/INSUFFICIENT"
+    if scene.refused == "SIZE" or scene.name == "INSUFFICIENT":
+        return f"G11/{scene.name}"
     if trace.ends_structure:
         return "structure/SIZE"
     name = field.name if field else ""
     family = "nvPublic" if scene.code == CC.NV_DefineSpace else "public"
     is_public = scene.place == 2 and scene.code in PUBLIC_SECOND
-    for key in (name, IN_PARAMETERS.get(name, "")) if is_public else ():
-        if f"{family}/{key}" in RULES:
-            return f"{family}/{key}"
-    key = f"{scene.code.name}/parameters"
-    return key if key in RULES else "buffer/SIZE"
+    of_public = [f"{family}/{it}" for it in (name, IN_PARAMETERS.get(name, ""))]
+    keys = [*(of_public if is_public else []), f"{scene.code.name}/parameters"]
+    return next((it for it in keys if it in RULES), "buffer/SIZE")
 
 
 PUBLIC_SECOND = CC.NV_DefineSpace, CC.CreatePrimary, CC.Create, CC.Load
 IN_PARAMETERS = {
-    "scheme": "KEYEDHASH",
-    "hashAlg": "KEYEDHASH",
-    "symmetric": "SYMCIPHER",
-    "keyBits": "SYMCIPHER",
-    "mode": "SYMCIPHER",
+    **dict.fromkeys(("scheme", "hashAlg"), "KEYEDHASH"),
+    **dict.fromkeys(("symmetric", "keyBits", "mode"), "SYMCIPHER"),
 }
 
 
@@ -235,12 +212,9 @@ def misread(scene: Scene, found: Reason) -> None:
     use = encryption.decrypting_use(scene)
     if use is None:
         return
-    found.add(
-        "decrypted",
-        f"by session {use.entry.handle:08x}, to {scene.plain.hex() if scene.plain else ''}",
-    )
+    plain = scene.plain.hex() if scene.plain else ""
+    found.add("decrypted", f"by session {use.entry.handle:08x}, to {plain}")
     for other in encryption.otherwise(scene):
         if not read_again(scene, other.plain)[1]:
-            found.slips.append(other.name)
-            found.add("slip", other.words)
+            found.slip(other.name, other.words)
             return

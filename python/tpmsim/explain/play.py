@@ -1,12 +1,10 @@
 """A log that is played: each event with what came of it, and why."""
 
-from __future__ import annotations
-
 import re
 from dataclasses import dataclass, field
 from typing import Callable, Iterator
 
-from tpmsim.explain import accepted, entries, ingredients, why
+from tpmsim.explain import accepted, entries, general, ingredients, own, parameters
 from tpmsim.explain.answers import Answers, Difference
 from tpmsim.explain.past import Past
 from tpmsim.explain.reason import Fact, Reason, WANTED
@@ -23,6 +21,7 @@ GIVEN = re.compile(
     rb"# (\d\d:\d\d:\d\d\.\d{3} )?"
     rb"(\S+ L\d \+\d+ \S+ [0-9a-f]{8}|[0-9a-f]{8}|(?:8001|8002|00c4)[0-9a-f]{16,})"
 )
+OF_ENTRIES = "G9", "G10"
 
 
 @dataclass
@@ -56,6 +55,86 @@ class Event:
         return self.outcome.refused or "" if self.outcome else ""
 
 
+def reason_of(scene: Scene) -> Reason:
+    """Why a command was refused, whichever check it was."""
+    if scene.check in general.CHECKS:
+        return general.reason(scene)
+    if scene.check in OF_ENTRIES:
+        return entries.reason(scene)
+    return parameters.reason(scene) if scene.check == "G11" else own.reason(scene)
+
+
+class Watched:
+    """A device whose commands are looked at as it executes them. Each that is refused is explained
+    where `explains` holds of its scene.
+    """
+
+    def __init__(
+        self, model: Model, explains: Callable[[Scene], bool] = lambda scene: True
+    ) -> None:
+        self.model, self.explains, self.past = model, explains, Past(model)
+        self.line, self.at, self.is_whole = 0, -1, False
+        self.event: Event | None = None
+        setattr(model, "authorize", self.authorize)
+        setattr(model, "answered_parameters", self.answered_parameters)
+        setattr(model, "plain_parameters", self.plain_parameters)
+
+    @property
+    def now(self) -> Event:
+        assert self.event is not None
+        return self.event
+
+    def power(self) -> Event:
+        self.model.power_cycle()
+        self.past.power(self.line)
+        self.event = Event(self.line, Scene(self.model, self.past, self.line, b"", 0, b"", 0))
+        return self.event
+
+    def command(self, buffer: bytes, locality: int, random: bytes, elapsed: int) -> Event:
+        scene = Scene(self.model, self.past, self.line, buffer, locality, random, elapsed)
+        event = self.event = Event(self.line, scene)
+        outcome = event.outcome = Model.execute(self.model, buffer, locality, random, elapsed)
+        scene.check, scene.refused = outcome.row.check, outcome.refused or ""
+        if not outcome.refused:
+            self.follow(event, outcome)
+            return event
+        if entries.is_try(scene):
+            self.past.tries.append(self.line)
+        if self.explains(scene):
+            event.reason = reason_of(scene)
+        event.notes = accepted.of_refusal(scene)
+        return event
+
+    def follow(self, event: Event, outcome: Outcome) -> None:
+        scene, answered = event.scene, None
+        assert scene.plain is not None
+        if scene.code.answers_handle:
+            answered = int.from_bytes(outcome.response[10:14], "big")
+        event.notes += accepted.after(scene)
+        if scene.has_entries:
+            self.past.accepted_buffers[scene.buffer] = self.line
+        self.past.accepted(self.line, scene.command, scene.plain, answered, event.names)
+
+    # What the model is asked while it executes.
+
+    def authorize(self, command: Command, locality: int) -> None:
+        self.now.scene.known = command
+        self.now.names = self.model.names(command)
+        Model.authorize(self.model, command, locality)
+
+    def plain_parameters(self, command: Command) -> bytes:
+        plain, event = Model.plain_parameters(self.model, command), self.now
+        event.scene.plain = plain
+        event.notes = accepted.before(event.scene)
+        if self.is_whole or self.line == self.at:
+            event.entries = list(entry_facts(event.scene))
+        return plain
+
+    def answered_parameters(self, command: Command, parameters: bytes) -> bytes:
+        self.now.answered = parameters
+        return Model.answered_parameters(self.model, command, parameters)
+
+
 class Stage(Player):
     """A player of lines, that hands each command on."""
 
@@ -69,7 +148,7 @@ class Stage(Player):
         return []
 
 
-class Play:
+class Play(Watched):
     """A device that plays the lines of a log. `bad_line` is the number of the line that is none.
     `watch` is called with each event at once, while the device is as it left it.
     """
@@ -84,26 +163,12 @@ class Play:
         """image.Fault where the image is none. The event of the line `at`, or with `is_whole` each,
         is looked at as a whole.
         """
-        if image is None:
-            self.model = Model(block_cipher=encrypt_block)
-        else:
-            self.model = open_image(image, encrypt_block)
-        self.past, self.at, self.is_whole = Past(self.model), at, is_whole
-        self.answers = Answers(answers)
-        self.stage = Stage(self.model, self.command)
+        super().__init__(Model(block_cipher=encrypt_block) if image is None else open_image(image))
+        self.at, self.is_whole = -1 if at is None else at, is_whole
+        self.answers, self.stage = Answers(answers), Stage(self.model, self.executed)
         self.bad_line: int | None = None
-        self.event: Event | None = None
-        self.scene: Scene | None = None
-        self.names: list[bytes] = []
-        self.line = 0
         self.comments = list[str]()
         self.watch: Callable[[Event], None] = lambda event: None
-        self.accepted_notes: list[Reason] = []
-        self.entries: list[tuple[int, list[Fact]]] = []
-        self.answered: bytes | None = None
-        setattr(self.model, "authorize", self.authorize)
-        setattr(self.model, "answered_parameters", self.answered_parameters)
-        setattr(self.model, "plain_parameters", self.plain_parameters)
 
     def events(self, log: bytes) -> Iterator[Event]:
         """Each event, once all that the log says of its answer was read."""
@@ -117,11 +182,7 @@ class Play:
                 self.comment(text[1:].decode("latin-1").strip())
                 continue
             before, self.event = self.event, None
-            try:
-                self.stage_line(text)
-            except BadLine:
-                self.bad_line = self.line
-            self.note(text)
+            self.stage_line(text)
             if self.event is None:
                 self.event = before
             elif before is not None:
@@ -142,22 +203,26 @@ class Play:
         elif self.comments and self.comments[-1]:
             self.comments.append("")
 
-    def note(self, text: bytes) -> None:
-        """The line of an event, and the comments before it."""
+    def stage_line(self, text: bytes) -> None:
+        """An event has its line, and the comments before it."""
+        try:
+            if text == b"power":
+                self.power()
+                self.answers.power()
+            else:
+                self.stage.play(text)
+        except BadLine:
+            self.bad_line = self.line
         if self.event is not None:
             self.event.text = text.decode("latin-1")
             self.event.comments = [it for it in self.comments if it]
             self.comments = []
             self.watch(self.event)
 
-    def stage_line(self, text: bytes) -> None:
-        if text == b"power":
-            self.model.power_cycle()
-            self.past.power(self.line)
-            self.event = Event(self.line, Scene(self.model, self.past, self.line, b"", 0, b"", 0))
-            self.answers.power(self.event.differences)
-        else:
-            self.stage.play(text)
+    def executed(self, buffer: bytes, locality: int, random: bytes, elapsed: int) -> None:
+        event = self.command(buffer, locality, random, elapsed)
+        assert event.outcome is not None
+        event.answers += self.answers.command(event.scene, event.outcome, event.differences)
 
     def given(self, text: str, is_before: bool) -> None:
         """An answer in a comment, behind its command, or with the time of day before it."""
@@ -167,62 +232,9 @@ class Play:
             self.event.answers += 1
             self.answers.compare(text, self.event.scene, self.event.outcome, self.event.differences)
 
-    # A command.
-
-    def command(self, buffer: bytes, locality: int, random: bytes, elapsed: int) -> None:
-        scene = Scene(self.model, self.past, self.line, buffer, locality, random, elapsed)
-        self.scene, self.names, self.accepted_notes = scene, [], []
-        self.entries, self.answered = [], None
-        outcome = self.model.execute(buffer, locality, random, elapsed)
-        scene.check, scene.refused = outcome.row.check, outcome.refused or ""
-        event = Event(self.line, scene, outcome, names=self.names, answered=self.answered)
-        event.entries = self.entries
-        if outcome.refused:
-            if entries.is_try(scene):
-                self.past.tries.append(self.line)
-            event.reason = why.reason(scene)
-            event.notes = accepted.of_refusal(scene)
-        else:
-            self.follow(event, outcome)
-        event.answers += self.answers.command(scene, outcome, event.differences)
-        self.event = event
-
-    def follow(self, event: Event, outcome: Outcome) -> None:
-        scene = event.scene
-        assert scene.command is not None and scene.plain is not None
-        answered = None
-        if scene.code.answers_handle:
-            answered = int.from_bytes(outcome.response[10:14], "big")
-        event.notes = self.accepted_notes + accepted.after(scene, outcome)
-        if scene.has_entries:
-            self.past.accepted_buffers[scene.buffer] = self.line
-        self.past.accepted(self.line, scene.command, scene.plain, answered, self.names)
-
-    # What the model is asked while it executes.
-
-    def authorize(self, command: Command, locality: int) -> None:
-        assert self.scene is not None
-        self.scene.command = command
-        self.names = self.model.names(command)
-        Model.authorize(self.model, command, locality)
-
-    def plain_parameters(self, command: Command) -> bytes:
-        plain = Model.plain_parameters(self.model, command)
-        assert self.scene is not None
-        self.scene.plain = plain
-        self.accepted_notes = accepted.before(self.scene)
-        if self.is_whole or self.line == self.at:
-            self.entries = list(entry_facts(self.scene))
-        return plain
-
-    def answered_parameters(self, command: Command, parameters: bytes) -> bytes:
-        self.answered = parameters
-        return Model.answered_parameters(self.model, command, parameters)
-
 
 def entry_facts(scene: Scene) -> Iterator[tuple[int, list[Fact]]]:
     """What the HMACs of an accepted command's entries are of."""
-    assert scene.command is not None
     for place, entry, _ in scene.command.places():
         use = ingredients.use_of(scene, place)
         if use is not None and entry.hmac and entry.demand != policy.PASSWORD:

@@ -1,10 +1,13 @@
 """Why a command was refused, or what is told of one that was accepted."""
 
-from __future__ import annotations
-
+import json
+import pathlib
 from dataclasses import dataclass, field
 
-from tpmsim.explain.rules import RULES
+# The sentence of each check, with its place in docs/table. Written by tests/table_rules.py.
+RULES: dict[str, list[str]] = json.loads(
+    pathlib.Path(__file__).with_name("rules.json").read_text("utf-8")
+)
 
 # What a fact shows: what was wanted, what was had in its place, or neither.
 WANTED, HAD, PLAIN = "wanted", "had", ""
@@ -34,7 +37,6 @@ class Reason:
 
     @property
     def sentence(self) -> str:
-        """The check's sentence in docs/table."""
         return RULES[self.rule][0]
 
     @property
@@ -45,6 +47,10 @@ class Reason:
     def add(self, label: str, value: str, sort: str = PLAIN) -> None:
         self.facts.append(Fact(label, value, sort))
 
-    def wanted_and_had(self, wanted: str, had: str) -> None:
-        self.add("wanted", wanted, WANTED)
-        self.add("had", had, HAD)
+    def compare(self, wanted: str, had: str, of: str = "") -> None:
+        self.add(f"{of} wanted".strip(), wanted, WANTED)
+        self.add(f"{of} had".strip(), had, HAD)
+
+    def slip(self, name: str, words: str) -> None:
+        self.slips.append(name)
+        self.add("slip", words)

@@ -1,22 +1,18 @@
 """A command that is looked at: what it is, and the device that it came to."""
 
-from __future__ import annotations
-
 from dataclasses import dataclass
 
 from tpmsim.explain.past import Past
 from tpmsim.model.general import Command
 from tpmsim.model.machine import Model
-from tpmsim.standard import frames
-from tpmsim.standard.commands import CC, NUMBERED
-from tpmsim.standard.frames import HEADER_BYTES
+from tpmsim.standard import CC, frames, HEADER_BYTES, NUMBERED
 
 
 @dataclass
 class Scene:
     """A command with the model, which is as it was before the command where that was refused.
-    `refused` names the response code, as VALUE/p1, and `check` the check. `command` is there where
-    the general checks passed, and `plain`, its parameters in plain, where the entries did.
+    `refused` names the response code, as VALUE/p1, and `check` the check. `known` is the command
+    where the general checks passed, and `plain`, its parameters in plain, where the entries did.
     `elapsed` is in milliseconds.
     """
 
@@ -29,8 +25,13 @@ class Scene:
     elapsed: int
     refused: str = ""
     check: str = "ok"
-    command: Command | None = None
+    known: Command | None = None
     plain: bytes | None = None
+
+    @property
+    def command(self) -> Command:
+        assert self.known is not None
+        return self.known
 
     @property
     def name(self) -> str:
@@ -55,12 +56,8 @@ class Scene:
     @property
     def handles(self) -> list[int]:
         """Those that the buffer has, as far as it has them."""
-        found, at = [], HEADER_BYTES
-        for _ in self.code.handles:
-            if at + 4 <= len(self.buffer):
-                found.append(int.from_bytes(self.buffer[at : at + 4], "big"))
-            at += 4
-        return found
+        places = range(HEADER_BYTES, min(self.area_at, len(self.buffer) - 3), 4)
+        return [int.from_bytes(self.buffer[at : at + 4], "big") for at in places]
 
     @property
     def has_entries(self) -> bool:
@@ -74,11 +71,10 @@ class Scene:
     @property
     def parameters_at(self) -> int:
         """Where the parameters begin, of a command whose entries could be read."""
+        at = self.area_at
         if not self.has_entries:
-            return self.area_at
-        return (
-            self.area_at + 4 + int.from_bytes(self.buffer[self.area_at : self.area_at + 4], "big")
-        )
+            return at
+        return at + 4 + int.from_bytes(self.buffer[at : at + 4], "big")
 
     def entry_at(self, place: int) -> int:
         """Where an entry begins, counted from 1, of a command whose entries could be read."""

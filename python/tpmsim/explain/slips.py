@@ -5,25 +5,151 @@ told only where its HMAC is the one that was given, so that none is told of an H
 explains. Two slips of different groups are tried together, too.
 """
 
-from __future__ import annotations
-
 from dataclasses import replace
-from typing import Iterator
+from itertools import chain
+from typing import Any, Iterator
 
 from tpmsim.explain import encryption
 from tpmsim.explain.ingredients import Ingredients, Use
-from tpmsim.explain.slip import Change, Slip
-from tpmsim.explain.slips_of_keys import auth_values, session_keys, zeros
 from tpmsim.explain.words import ALGORITHMS, attribute_words, handle_words
-from tpmsim.standard import sessions
-from tpmsim.standard.frames import DECRYPT, ENCRYPT, SHA1, SHA256
-from tpmsim.standard.sessions import name_of
+from tpmsim.standard import DECRYPT, ENCRYPT, name_of, sessions, SHA1, SHA256, sized, trimmed
 
-# How many old nonces are tried together with another slip.
-PAIRED = 3
 
-# How many old nonces of a session are tried, beside its first one.
-MOST_NONCES = 100
+class Slip:
+    """A mistake, with the ingredients that it changes. Two of one group exclude each other, and one
+    that is not paired comes alone.
+    """
+
+    def __init__(
+        self, name: str, words: str, group: str = "", is_paired: bool = True, **changes: Any
+    ) -> None:
+        self.name, self.words, self.group, self.is_paired = name, words, group, is_paired
+        self.changes = changes
+
+    def change(self, right: Ingredients) -> Ingredients:
+        return replace(right, **self.changes)
+
+
+def other_hash_words(own: int) -> tuple[int, str]:
+    """The hash algorithm that a session has not, and how a slip by it is said."""
+    other = SHA1 if own == SHA256 else SHA256
+    return other, f"by {ALGORITHMS[other]}, and the session has {ALGORITHMS[own]}"
+
+
+# The bytes of a block of both hashes: an HMAC's key is padded with zeros to it.
+BLOCK, MOST_PADDED = 64, 128
+
+
+def value_slip(name: str, words: str, value: bytes) -> Slip:
+    return Slip(name, words, "authValue", auth_value=value)
+
+
+def auth_values(use: Use) -> Iterator[Slip]:
+    if use.handle is None:
+        yield from values_put_in(use)
+        return
+    value, said = use.auth_value, handle_words(use.handle)
+    if use.takes_value and value:
+        if use.was_bound:
+            lapsed = f"the binding to {said} has lapsed, {use.lapse_words()}"
+            yield value_slip("binding lapsed", f"the authValue was left out; {lapsed}", b"")
+        else:
+            words = f"the authValue of {said} was left out of the key: {use.value_words()}"
+            yield value_slip("authValue left out", words, b"")
+        yield from bent_values(value)
+    if not use.takes_value and value:
+        words = f"the authValue of {said} was put into the key: {use.value_words()}"
+        yield value_slip("authValue put in", words, value)
+    for past in use.scene.past.values.get(use.handle, [])[:-1]:
+        if past.value:
+            words = (
+                f"the key has the authValue that {said} had since line {past.line}, which is past"
+            )
+            yield value_slip("old authValue", words, past.value)
+    new = new_value(use)
+    if new:
+        words = "the key has the new authValue; a command has the old one, its response the new one"
+        yield value_slip("new authValue", words, new)
+
+
+def new_value(use: Use) -> bytes:
+    """That which a command sets and has in plain, or none."""
+    is_change = use.code.name in ("HierarchyChangeAuth", "NV_ChangeAuth")
+    if not is_change or encryption.decrypting_use(use.scene) is not None:
+        return b""
+    size = int.from_bytes(use.command.parameters[:2], "big")
+    return trimmed(use.command.parameters[2 : 2 + size])
+
+
+def values_put_in(use: Use) -> Iterator[Slip]:
+    """Of an entry that authorizes nothing: the value of a handle of the command, or of its bind."""
+    bind = [] if use.begun is None else [use.begun.bind]
+    for handle in dict.fromkeys([*use.scene.handles, *bind]):
+        value = use.scene.model.auth_value(handle)
+        if value:
+            put_in = f"the authValue of {handle_words(handle)} was put into the key"
+            words = f"{put_in}, and the entry authorizes nothing"
+            yield value_slip("authValue put in", words, value)
+
+
+def bent_values(value: bytes) -> Iterator[Slip]:
+    words = "the authValue has a line break behind it in the key"
+    yield value_slip("authValue with a line break", words, value + b"\n")
+    words = "the authValue is in the key as the text of its hex"
+    yield value_slip("authValue as hex", words, value.hex().encode())
+    words = "the authValue is in the key with its size in front"
+    yield value_slip("authValue with its size", words, sized(value))
+
+
+def zeros(use: Use) -> Iterator[Slip]:
+    """Zeros at the end of a key count where it is longer than a block; in front they always do."""
+    value = use.auth_value if use.takes_value else b""
+    if not value:
+        return
+    for size in range(BLOCK - len(use.session.key) + 1, MOST_PADDED + 1):
+        words = f"the authValue was padded with zeros to {size} bytes, and counts without them"
+        yield value_slip("zeros", words, value.ljust(size, b"\0"))
+    for size in range(len(value) + 1, BLOCK + 1):
+        words = f"the authValue has zeros in front, to {size} bytes"
+        yield value_slip("zeros", words, value.rjust(size, b"\0"))
+
+
+def session_keys(use: Use) -> Iterator[Slip]:
+    session, begun = use.session, use.begun
+    if begun is None or not session.key:
+        return
+    first, caller, own = begun.nonces[0].value, begun.nonce_caller, session.algorithm
+
+    def slip(name: str, words: str, key: bytes) -> Slip:
+        return Slip(name, f"the session key was {words}", "session key", session_key=key)
+
+    yield slip("session key left out", "left out: a bound session has one", b"")
+    swapped = sessions.session_key(own, session.bind_auth, caller, first)
+    words = "made with the nonces swapped: nonceTPM comes first"
+    yield slip("session key, nonces swapped", words, swapped)
+    other, said = other_hash_words(own)
+    key = sessions.session_key(other, session.bind_auth, first, caller)
+    yield slip("wrong hash", f"made {said}", key)
+    for value, said in bind_values(use):
+        key = sessions.session_key(own, value, first, caller)
+        yield slip("session key, other authValue", f"made of {said}", key)
+
+
+def bind_values(use: Use) -> Iterator[tuple[bytes, str]]:
+    """Values that a caller may take for the one of the entity at the session's start."""
+    begun = use.begun
+    assert begun is not None
+    said = handle_words(begun.bind)
+    if use.session.bind_auth:
+        yield b"", f"the empty authValue, and {said} had another one at line {begun.line}"
+    for past in use.scene.past.values.get(begun.bind, []):
+        if past.value not in (b"", use.session.bind_auth):
+            yield past.value, f"the authValue that {said} has since line {past.line}"
+
+
+# How many old nonces are tried together with another slip, and how many of a session are tried at
+# all, beside its first one.
+PAIRED, MOST_NONCES = 3, 100
 
 
 def slips(use: Use) -> list[Slip]:
@@ -35,235 +161,152 @@ def slips(use: Use) -> list[Slip]:
 def found(use: Use) -> list[Slip]:
     """What makes the HMAC that was given; a whole command that is sent again is a slip of its own."""
     if not use.entry.hmac:
-        return [left_out()]
+        words = "the HMAC was left out, which is right only where the key is empty"
+        return [Slip("HMAC left out", words)]
     explained = by_trying(use)
     line = use.scene.past.accepted_buffers.get(use.scene.buffer)
     is_past = any(it.name == "old nonceTPM" for it in explained)
     if line is None or explained and not is_past:
         return explained
     words = f"the same command was accepted in line {line}, and its nonceTPM is past since then"
-    return [Slip("sent again", words, "", lambda it: it)]
+    return [Slip("sent again", words)]
 
 
 def by_trying(use: Use) -> list[Slip]:
     """The first slip, or the first pair of them, whose HMAC is the one that was given."""
     given, right = use.entry.hmac, use.right()
     those = slips(use)
-    for one in [*those, *zeros(use)]:
-        if matches(given, one.change(right)):
+    for one in chain(those, zeros(use), other_attributes(use)):
+        if given == one.change(right).hmac:
             return [one]
-    attributes = other_attributes(use, right)
-    if attributes is not None:
-        return [attributes]
     pairs = [it for it in those if it.is_paired]
     for first in pairs:
         changed = first.change(right)
         for second in pairs:
-            if first.group < second.group and matches(given, second.change(changed)):
+            if first.group < second.group and given == second.change(changed).hmac:
                 return [first, second]
     return plain_value(use)
 
 
-def matches(given: bytes, ingredients: Ingredients) -> bool:
-    return given == ingredients.hmac
-
-
-def left_out() -> Slip:
-    words = "the HMAC was left out, which is right only where the key is empty"
-    return Slip("HMAC left out", words, "", lambda it: it)
-
-
 def plain_value(use: Use) -> list[Slip]:
     """The authorization value itself, where an HMAC by it was wanted."""
-    value = use.auth_value
-    if not value or sessions.trimmed(use.entry.hmac) != value:
+    if not use.auth_value or trimmed(use.entry.hmac) != use.auth_value:
         return []
     words = "the authValue was sent in plain, where its HMAC is wanted"
     if use.is_policy:
         words += "; after PolicyPassword it would be right"
-    return [Slip("authValue in plain", words, "", lambda it: it)]
-
-
-# Nonces.
+    return [Slip("authValue in plain", words)]
 
 
 def nonces(use: Use) -> Iterator[Slip]:
-    yield Slip(
-        "nonces swapped",
-        "nonceTPM was put before nonceCaller, which is a response's order; a command has nonceCaller first",
-        "nonces",
-        lambda it: replace(it, newer=it.older, older=it.newer),
+    right, begun = use.right(), use.begun
+    words = (
+        "nonceTPM was put before nonceCaller, which is a response's order; a command has nonceCaller "
+        "first"
     )
-    begun = use.begun
+    yield Slip("nonces swapped", words, "nonces", newer=right.older, older=right.newer)
     if begun is None:
         return
+    latest = begun.nonces[-1].line
     for at, past in enumerate(reversed([begun.nonces[0], *begun.nonces[:-1][-MOST_NONCES:]])):
-        words = (
-            f"nonceTPM was that of line {past.line}; the latest is that of line "
-            f"{begun.nonces[-1].line}"
-        )
-        yield Slip("old nonceTPM", words, "nonces", older_is(past.value), at < PAIRED)
+        words = f"nonceTPM was that of line {past.line}; the latest is that of line {latest}"
+        yield Slip("old nonceTPM", words, "nonces", at < PAIRED, older=past.value)
     words = "nonceCaller was that of the session's start, and not the one that the entry has"
-    yield Slip("old nonceCaller", words, "nonces", newer_is(begun.nonce_caller))
+    yield Slip("old nonceCaller", words, "nonces", newer=begun.nonce_caller)
     if begun.last_nonce is not None:
         words = "nonceCaller was that of the entry before, and not the one that this entry has"
-        yield Slip("old nonceCaller", words, "nonces", newer_is(begun.last_nonce))
-
-
-def older_is(value: bytes) -> Change:
-    return lambda it: replace(it, older=value)
-
-
-def newer_is(value: bytes) -> Change:
-    return lambda it: replace(it, newer=value)
-
-
-# Names, in cpHash.
+        yield Slip("old nonceCaller", words, "nonces", newer=begun.last_nonce)
 
 
 def names(use: Use) -> Iterator[Slip]:
-    assert use.scene.command is not None
-    handles, past = use.scene.command.handles, use.scene.past
-    for at, handle in enumerate(handles):
+    handles, past, right = use.command.handles, use.scene.past, use.right().names
+
+    def renamed(handle: int, name: bytes) -> tuple[bytes, ...]:
+        """The same with another Name for a handle, wherever it stands."""
+        return tuple(name if at == handle else old for at, old in zip(handles, right))
+
+    def slip(name: str, words: str, *those: bytes) -> Slip:
+        return Slip(name, f"cpHash {words}", "Names", names=those)
+
+    for handle in handles:
+        until = past.last_change.get(handle, "?")
         for old in past.names.get(handle, [])[:-1]:
-            words = (
-                f"cpHash has the Name that {handle_words(handle)} had until "
-                f"{past.last_change.get(handle, '?')}"
-            )
-            yield Slip("old Name", words, "Names", names_are(handles, handle, old.value))
+            words = f"has the Name that {handle_words(handle)} had until {until}"
+            yield slip("old Name", words, *renamed(handle, old.value))
         if past.names.get(handle):
-            words = f"cpHash has the handle {handle:08x} in place of its Name"
-            slip = Slip(
-                "handle as Name", words, "Names", names_are(handles, handle, name_of(handle))
-            )
-            yield slip
+            words = f"has the handle {handle:08x} in place of its Name"
+            yield slip("handle as Name", words, *renamed(handle, name_of(handle)))
     if handles:
-        words = "cpHash was made without the Names of the handles"
-        yield Slip("Names left out", words, "Names", lambda it: replace(it, names=()))
+        yield slip("Names left out", "was made without the Names of the handles")
     if len(handles) > 1:
-        words = "cpHash has the Names in another order than the handles"
-        reverse: Change = lambda it: replace(it, names=it.names[::-1])
-        yield Slip("Names in another order", words, "Names", reverse)
-        words = "cpHash has the Name of the first handle alone"
-        yield Slip("Names left out", words, "Names", lambda it: replace(it, names=it.names[:1]))
-
-
-def names_are(handles: list[int], handle: int, name: bytes) -> Change:
-    """The same with another Name for a handle, wherever it stands."""
-
-    def changed(it: Ingredients) -> Ingredients:
-        pairs = zip(handles, it.names)
-        return replace(it, names=tuple(name if at == handle else old for at, old in pairs))
-
-    return changed
-
-
-# Parameters, in cpHash.
+        words = "has the Names in another order than the handles"
+        yield slip("Names in another order", words, *right[::-1])
+        yield slip("Names left out", "has the Name of the first handle alone", right[0])
 
 
 def parameters(use: Use) -> Iterator[Slip]:
-    scene = use.scene
-    assert scene.command is not None
+    def slip(name: str, words: str, **changes: Any) -> Slip:
+        return Slip(name, words, "parameters", **changes)
+
     words = (
         "the parameters were hashed as a response's: 00000000 before the command code, and no Names"
     )
-    response: Change = lambda it: replace(it, code=bytes(4) + it.code, names=())
-    yield Slip("response's hash", words, "parameters", response)
-    words = "the command code was left out of cpHash"
-    yield Slip("command code left out", words, "parameters", lambda it: replace(it, code=b""))
-    if scene.command.parameters:
-        words = "the parameters were left out of cpHash"
-        yield Slip("parameters left out", words, "parameters", parameters_are(b""))
-    decrypting = encryption.decrypting_use(scene)
+    yield slip("response's hash", words, code=bytes(4) + use.right().code, names=())
+    yield slip("command code left out", "the command code was left out of cpHash", code=b"")
+    sent = use.command.parameters
+    if sent:
+        yield slip("parameters left out", "the parameters were left out of cpHash", parameters=b"")
+    decrypting = encryption.decrypting_use(use.scene)
     if decrypting is None:
         return
+    session, key = decrypting.session, decrypting.session.key + decrypting.auth_value
+    plain = encryption.plain_by(decrypting, sent, key, decrypting.entry.nonce, session.nonce_tpm)
     words = "cpHash has the parameters in plain; it is of the encrypted ones, as they are sent"
-    plain = plain_of(decrypting)
-    yield Slip("parameters hashed plain", words, "parameters", parameters_are(plain))
-    for _, mistake, otherwise in encryption.mistakes(decrypting, scene.command.parameters):
+    yield slip("parameters hashed plain", words, parameters=plain)
+    for _, mistake, otherwise in encryption.mistakes(decrypting, sent):
         words = f"cpHash has the parameters in plain, and {mistake}"
-        slip = Slip("parameters hashed plain", words, "parameters", parameters_are(otherwise))
-        yield slip
-
-
-def plain_of(use: Use) -> bytes:
-    assert use.scene.command is not None
-    key = use.session.key + use.auth_value
-    nonces = use.entry.nonce, use.session.nonce_tpm
-    return encryption.plain_by(use, use.scene.command.parameters, key, *nonces)
-
-
-def parameters_are(value: bytes) -> Change:
-    return lambda it: replace(it, parameters=value)
-
-
-# Hash algorithms.
+        yield slip("parameters hashed plain", words, parameters=otherwise)
 
 
 def hashes(use: Use) -> Iterator[Slip]:
-    own = use.session.algorithm
-    other = SHA1 if own == SHA256 else SHA256
-    said = f"by {ALGORITHMS[other]}, and the session has {ALGORITHMS[own]}"
-    changes: dict[str, Change] = {
-        "cpHash": lambda it: replace(it, hash_algorithm=other),
-        "the HMAC": lambda it: replace(it, algorithm=other),
-        "cpHash and the HMAC": lambda it: replace(it, hash_algorithm=other, algorithm=other),
+    other, said = other_hash_words(use.session.algorithm)
+    changes: dict[str, dict[str, int]] = {
+        "cpHash was": {"hash_algorithm": other},
+        "the HMAC was": {"algorithm": other},
+        "cpHash and the HMAC were": {"hash_algorithm": other, "algorithm": other},
     }
     for what, change in changes.items():
-        verb = "were" if " and " in what else "was"
-        yield Slip("wrong hash", f"{what} {verb} made {said}", "hash", change)
+        yield Slip("wrong hash", f"{what} made {said}", "hash", True, **change)
 
 
-# Attributes.
-
-
-def other_attributes(use: Use, right: Ingredients) -> Slip | None:
+def other_attributes(use: Use) -> Iterator[Slip]:
     """Any others than those that were sent; of those before the words say so."""
-    last = use.begun.last_attributes if use.begun else None
+    last, sent = use.begun.last_attributes if use.begun else None, use.entry.attributes
     for value in range(0x100):
-        change = attributes_are(value)
-        if matches(use.entry.hmac, change(right)):
-            of_before = ", which are those of the entry before" if value == last else ""
-            sent = attribute_words(use.entry.attributes)
-            words = f"the attributes were {attribute_words(value)}{of_before}; sent were {sent}"
-            return Slip("other attributes", words, "attributes", change)
-    return None
-
-
-def attributes_are(value: int) -> Change:
-    return lambda it: replace(it, attributes=value)
-
-
-# The nonces of sessions that decrypt and encrypt, in the first entry, and other sessions.
+        of_before = ", which are those of the entry before" if value == last else ""
+        words = f"the attributes were {attribute_words(value)}{of_before}; sent were "
+        yield Slip(
+            "other attributes", words + attribute_words(sent), "attributes", attributes=value
+        )
 
 
 def others(use: Use) -> Iterator[Slip]:
-    assert use.scene.command is not None
-    model, command = use.scene.model, use.scene.command
-    right = tuple(model.nonces_of_others(command, use.place, use.handle))
+    """The nonces of sessions that decrypt and encrypt, in the first entry; and other sessions."""
+    model, right = use.scene.model, use.right().others
     if right:
         words = "the nonceTPM of the session that decrypts or encrypts was left out"
-        yield Slip("other nonces left out", words, "others", others_are(()))
+        yield Slip("other nonces left out", words, "others", others=())
     if len(right) > 1:
         words = "the nonceTPMs of the sessions that decrypt and encrypt are in the other order"
-        yield Slip("other nonces in another order", words, "others", others_are(right[::-1]))
+        yield Slip("other nonces in another order", words, "others", others=right[::-1])
     for attribute, what in ((DECRYPT, "decrypts"), (ENCRYPT, "encrypts")):
-        found = command.with_attribute(attribute)
-        if found and not right:
-            nonce = model.sessions[found[1].handle].nonce_tpm
+        encrypting = use.command.with_attribute(attribute)
+        if encrypting and not right:
+            nonce = model.sessions[encrypting[1].handle].nonce_tpm
             words = f"the nonceTPM of the session that {what} was put in, as only another one's is"
-            yield Slip("other nonces put in", words, "others", others_are((nonce,)))
-    for handle, session in model.sessions.items():
-        if session is not use.session:
+            yield Slip("other nonces put in", words, "others", others=(nonce,))
+    for handle, it in model.sessions.items():
+        if it is not use.session:
             words = f"it is by the key and the nonceTPM of another session, {handle:08x}"
-            yield Slip(
-                "another session", words, "session key", session_is(session.key, session.nonce_tpm)
-            )
-
-
-def others_are(value: tuple[bytes, ...]) -> Change:
-    return lambda it: replace(it, others=value)
-
-
-def session_is(key: bytes, nonce: bytes) -> Change:
-    return lambda it: replace(it, session_key=key, older=nonce)
+            changes = {"session_key": it.key, "older": it.nonce_tpm}
+            yield Slip("another session", words, "session key", True, **changes)

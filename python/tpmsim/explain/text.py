@@ -1,7 +1,5 @@
 """Explanations as lines of text."""
 
-from __future__ import annotations
-
 import textwrap
 from dataclasses import dataclass, field
 from typing import Iterable, Iterator
@@ -11,7 +9,7 @@ from tpmsim.explain.field import Field
 from tpmsim.explain.play import Event
 from tpmsim.explain.reason import Fact, Reason
 from tpmsim.explain.words import command_words, plural
-from tpmsim.standard.commands import NUMBERED
+from tpmsim.standard import NUMBERED
 
 WIDTH = 100
 INDENT = "    "
@@ -73,7 +71,6 @@ def told(event: Event) -> Iterator[str]:
 
 
 def title(event: Event) -> str:
-    """What came of a command."""
     assert event.outcome is not None
     if not event.refused:
         return f"{name_of(event)} is accepted"
@@ -83,9 +80,13 @@ def title(event: Event) -> str:
     )
 
 
-def of_reason(reason: Reason) -> Iterator[str]:
+def told_words(reason: Reason) -> Iterator[str]:
     yield from wrapped(reason.words)
     yield from facts_words(reason.facts)
+
+
+def of_reason(reason: Reason) -> Iterator[str]:
+    yield from told_words(reason)
     yield from wrapped(f"By the table: {reason.sentence}")
     yield f"{INDENT}{reason.link}"
     yield ""

@@ -1,13 +1,10 @@
 """How numbers, handles, codes and bytes are said."""
 
-from __future__ import annotations
-
 import enum
 from typing import Iterable
 
-from tpmsim.standard import frames, handle_kinds, lines
-from tpmsim.standard.commands import CC, HandleKind, NUMBERED
-from tpmsim.standard.frames import HMAC_SESSION, NV, PERSISTENT, POLICY_SESSION, TRANSIENT
+from tpmsim.standard import CC, frames, handle_kinds, HMAC_SESSION, lines, NUMBERED, NV
+from tpmsim.standard import PERSISTENT, POLICY_SESSION, TRANSIENT
 
 ALGORITHMS = {
     frames.SHA1: "SHA-1",
@@ -40,25 +37,6 @@ OPERATIONS = (
     *("EQ", "NEQ", "SIGNED_GT", "UNSIGNED_GT", "SIGNED_LT", "UNSIGNED_LT", "SIGNED_GE"),
     *("UNSIGNED_GE", "SIGNED_LE", "UNSIGNED_LE", "BITSET", "BITCLEAR"),
 )
-
-# What a handle of each kind has to be.
-KINDS = {
-    HandleKind.PCR: "a PCR, 00000000 to 00000017",
-    HandleKind.PCR_OR_NULL: "a PCR, 00000000 to 00000017, or NULL",
-    HandleKind.NULL: "NULL, 40000007",
-    HandleKind.HIERARCHY_OR_NULL: "OWNER, ENDORSEMENT, PLATFORM or NULL",
-    HandleKind.HIERARCHY_AUTH: "OWNER, ENDORSEMENT, PLATFORM or LOCKOUT",
-    HandleKind.LOCKOUT: "LOCKOUT, 4000000a",
-    HandleKind.CLEAR: "LOCKOUT or PLATFORM",
-    HandleKind.PROVISION: "OWNER or PLATFORM",
-    HandleKind.ENTITY: "a PCR, a hierarchy, LOCKOUT, an object or an NV index",
-    HandleKind.ENTITY_OR_NULL: "a PCR, a hierarchy, LOCKOUT, an object, an NV index or NULL",
-    HandleKind.OBJECT: "an object, 80.. or 81..",
-    HandleKind.NV_AUTH: "OWNER, PLATFORM or an NV index",
-    HandleKind.NV_INDEX: "an NV index, 01..",
-    HandleKind.POLICY: "a policy or trial session, 03..",
-    HandleKind.SESSION: "a session, 02.. or 03..",
-}
 
 OF_FIRST_BYTE = {
     NV: "an NV index",
@@ -112,8 +90,8 @@ def plural(count: int, word: str) -> str:
 
 def listed(words: Iterable[str]) -> str:
     """a, b and c."""
-    those = list(words)
-    return those[0] if len(those) == 1 else ", ".join(those[:-1]) + " and " + those[-1]
+    *before, last = list(words) or [""]
+    return f"{', '.join(before)} and {last}" if before else last
 
 
 def bit_words(value: int, names: dict[int, str]) -> str:
@@ -125,12 +103,11 @@ def bit_words(value: int, names: dict[int, str]) -> str:
     return ", ".join(found) or "none"
 
 
-def flag_words(value: int, of: type[enum.IntFlag]) -> str:
+def flag_words(value: int, of: type[enum.IntEnum]) -> str:
     return bit_words(value, {int(it): str(it.name) for it in of})
 
 
 def attribute_words(attributes: int) -> str:
-    """The attributes of an entry."""
     return f"{attributes:02x} ({bit_words(attributes, ATTRIBUTES)})"
 
 

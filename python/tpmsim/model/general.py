@@ -7,13 +7,11 @@ from __future__ import annotations
 from dataclasses import dataclass
 from typing import Iterator, TYPE_CHECKING
 
-from tpmsim.standard import frames
-from tpmsim.standard.commands import CC, Fact, Handle, NUMBERED
-from tpmsim.standard.frames import AUDIT, AUDIT_EXCLUSIVE, AUDIT_RESET, COMMAND_BYTES, DECRYPT
-from tpmsim.standard.frames import ENCRYPT, Entry, HEADER_BYTES, MOST_ENTRIES, PERSISTENT, RESERVED
-from tpmsim.standard.frames import RS_PW, TRANSIENT
-from tpmsim.standard.handle_kinds import IS_OF_KIND, first_byte, is_index, is_policy, is_session
-from tpmsim.standard.reading import Fields, Short
+from tpmsim.standard import CC, COMMAND_BYTES, DECRYPT, ENCRYPT, Entry, Fact, Fields, first_byte
+from tpmsim.standard import frames, Handle, HEADER_BYTES, is_index, is_policy, is_session
+from tpmsim.standard import MOST_ENTRIES, NUMBERED, PERSISTENT, RS_PW, Short, TRANSIENT
+from tpmsim.standard.frames import AUDIT, AUDIT_EXCLUSIVE, AUDIT_RESET, RESERVED
+from tpmsim.standard.handle_kinds import IS_OF_KIND
 
 if TYPE_CHECKING:
     from tpmsim.model.machine import Session
@@ -50,8 +48,10 @@ class Command:
 
     def places(self) -> Iterator[tuple[int, Entry, int | None]]:
         """Each entry with its number and the handle that it authorizes, if any."""
+        if not self.entries:
+            return
         authorized = self.handles[: self.code.authorized]
-        for place, entry in enumerate(self.entries or [], 1):
+        for place, entry in enumerate(self.entries, 1):
             yield place, entry, authorized[place - 1] if place <= len(authorized) else None
 
     def with_attribute(self, attribute: int) -> tuple[int, Entry, int | None] | None:

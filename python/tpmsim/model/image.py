@@ -5,8 +5,6 @@ all before. The body has the fields of docs/table in their order. Version 2 is w
 limits on NV indices before the body; version 1 is read, too, within limits of its own.
 """
 
-from __future__ import annotations
-
 from dataclasses import dataclass
 
 from tpmsim.model import nv_commands, object_rules, persistent, protection, state
@@ -14,12 +12,10 @@ from tpmsim.model.general import Refusal
 from tpmsim.model.machine import Model
 from tpmsim.model.parameters import Parameters
 from tpmsim.model.protection import Lockout
-from tpmsim.standard import aes, nv
+from tpmsim.standard import aes, digest, digest_bytes, DIGEST_BYTES, Fields, number, nv
+from tpmsim.standard import RH_ENDORSEMENT, RH_LOCKOUT, RH_NULL, RH_OWNER, RH_PLATFORM, SHA1, SHA256
+from tpmsim.standard import Short, sized, trimmed
 from tpmsim.standard.aes_tables import encrypt_block
-from tpmsim.standard.frames import RH_ENDORSEMENT, RH_LOCKOUT, RH_NULL, RH_OWNER, RH_PLATFORM, SHA1
-from tpmsim.standard.frames import SHA256, number, sized
-from tpmsim.standard.reading import Fields, Short
-from tpmsim.standard.sessions import DIGEST_BYTES, digest, digest_bytes, trimmed
 
 MAGIC = b"TPMI"
 HEAD_BYTES, DIGEST_AT_END = 10, 32

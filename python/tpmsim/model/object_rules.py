@@ -5,18 +5,14 @@ and creation of objects); Part 2, section 12. A primary object has no parent: wh
 for, `parent` is None.
 """
 
-from __future__ import annotations
-
 from dataclasses import dataclass, replace
 
 from tpmsim.model.general import Refusal
-from tpmsim.model.parameters import Parameters
-from tpmsim.standard import aes, frames
+from tpmsim.model.parameters import Parameters, buffer, structure
+from tpmsim.standard import aes, ALG_NULL, digest, digest_bytes, DIGEST_BYTES, Fields, frames, kdfa
+from tpmsim.standard import KEYEDHASH, mac, number, SHA256, Short, sized, SYMCIPHER, trimmed
 from tpmsim.standard.aes_tables import encrypt_block
-from tpmsim.standard.frames import ALG_NULL, KEYEDHASH, SHA256, SYMCIPHER, number, sized
 from tpmsim.standard.objects import Attribute, NAMED, Public
-from tpmsim.standard.reading import Fields, Short
-from tpmsim.standard.sessions import DIGEST_BYTES, digest, digest_bytes, kdfa, mac, trimmed
 
 AES_KEY_BYTES = 16
 
@@ -74,11 +70,18 @@ def loaded(
 class Template:
     """What TPM2_CreatePrimary and TPM2_Create are asked for; `pcrs` are the PCRs to be noted."""
 
-    user_auth: bytes
-    data: bytes
+    values: tuple[bytes, bytes]
     public: Public
     outside_info: bytes
     pcrs: list[tuple[int, list[int]]]
+
+    @property
+    def user_auth(self) -> bytes:
+        return self.values[0]
+
+    @property
+    def data(self) -> bytes:
+        return self.values[1]
 
     @property
     def sensitive_text(self) -> bytes:
@@ -111,11 +114,14 @@ def read_public(fields: Parameters) -> Public:
     return Public(kind, name_algorithm, attributes, auth_policy, scheme, unique)
 
 
+TEMPLATE = (
+    *(structure(read_sensitive_create), structure(read_public)),
+    *(buffer(NAME_BYTES), Parameters.selection),
+)
+
+
 def read_template(parameters: Parameters) -> Template:
-    user_auth, data = parameters.next().structure(read_sensitive_create)
-    public = parameters.next().structure(read_public)
-    outside_info = parameters.next().sized(NAME_BYTES)
-    return Template(user_auth, data, public, outside_info, parameters.next().selection())
+    return Template(*(read(parameters.next()) for read in TEMPLATE))
 
 
 # Templates, as they are checked.

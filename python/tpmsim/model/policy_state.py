@@ -11,8 +11,8 @@ from dataclasses import dataclass
 from typing import TYPE_CHECKING
 
 from tpmsim.model.general import Refusal
+from tpmsim.standard import digest_bytes
 from tpmsim.standard.policy import ALL_LOCALITIES
-from tpmsim.standard.sessions import digest_bytes
 
 if TYPE_CHECKING:
     from tpmsim.model.machine import Session

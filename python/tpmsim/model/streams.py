@@ -9,16 +9,12 @@ another on one image. What happens is said in lines:
     dry            for no further command of this run there are random bytes
 """
 
-from __future__ import annotations
-
 import hashlib
 from typing import Iterable, Iterator
 
 from tpmsim.model.image import Fault, image, open_image
 from tpmsim.model.machine import Model, Outcome
-from tpmsim.standard import frames
-from tpmsim.standard.commands import CC
-from tpmsim.standard.frames import COMMAND_BYTES, HEADER_BYTES
+from tpmsim.standard import CC, COMMAND_BYTES, frames, HEADER_BYTES
 
 RANDOM_BYTES = 256
 

@@ -1,21 +1,72 @@
-"""The policy in a file, as docs/USING.md has it: a line an assertion, and branches that stand
-further in below `either` and `or`.
+"""The policy in a file, as docs/USING.md has it: a line an assertion, and branches that stand further in
+below `either` and `or`; and what a session is told of it, in order.
 """
 
+from __future__ import annotations
+
+from dataclasses import dataclass
 from typing import Iterator, Protocol
 
-from tpmsim.policies.policy_rows import EITHER, Fault, NOTHING, NO_DEMAND, OR, STEP, Row, rows_of
-from tpmsim.policies.policy_texts import Policy, Written, policy_digest
-from tpmsim.policies.policy_words import Unsaid, read_assertion
-from tpmsim.policies.written import PolicyCpHash, PolicyPcr
-from tpmsim.standard.frames import SHA1, SHA256
+from tpmsim.policies.policy_texts import Policy, policy_digest, Written
+from tpmsim.policies.written import read_assertion, Unsaid
+from tpmsim.standard import CC, digest_bytes, frames, HASH_WORDS, SHA1, SHA256
 from tpmsim.standard.policy import LEAST_BRANCHES, MOST_BRANCHES
-from tpmsim.standard.sessions import HASH_WORDS, digest_bytes
 
 ALGORITHMS = SHA256, SHA1
 
-# How many steps in a branch may stand.
+EITHER, OR, NOTHING = b"either", b"or", b"nothing"
+
+NO_DEMAND = "one that asks for nothing is the word nothing"
+
+# How far in a branch stands, in spaces.
+STEP = 4
+
+
+class Fault(Exception):
+    """Why a file is no policy: the line, and words."""
+
+    def __init__(self, line: int, words: object) -> None:
+        super().__init__(f"line {line}: {words}")
+
+
+@dataclass(frozen=True)
+class Row:
+    """A line that says something: its number, how many steps in it stands, and its words."""
+
+    number: int
+    depth: int
+    text: bytes
+
+
+def row_of(number: int, line: bytes) -> Row:
+    text = line.lstrip(b" ")
+    spaces = len(line) - len(text)
+    if spaces % STEP:
+        raise Fault(number, f"{spaces} spaces stand before it, which is no multiple of {STEP}")
+    if b"" in text.split(b" "):
+        raise Fault(number, "between two words stands one space, and none stands at the end")
+    first, space, _ = text.partition(b" ")
+    if first in (EITHER, OR, NOTHING) and space:
+        raise Fault(number, f"{first.decode('ascii')} stands alone in its line")
+    return Row(number, spaces // STEP, text)
+
+
+def rows_of(text: bytes) -> list[Row]:
+    """Those that are neither empty nor a comment."""
+    lines = text.removesuffix(b"\n").split(b"\n")
+    told = [it for it in enumerate(lines, 1) if it[1] and not it[1].lstrip(b" ").startswith(b"#")]
+    if not told:
+        raise Fault(1, f"the file has no policy; {NO_DEMAND}")
+    return [row_of(*it) for it in told]
+
+
+# How many steps in a branch may stand, and why what opens or fills a block is out of place.
 MOST_STEPS = 16
+OUT_OF_PLACE = {
+    EITHER: "either stands first in its block",
+    OR: "or stands behind the branches of an either alone",
+    NOTHING: "nothing stands alone in its block",
+}
 
 
 class Reader:
@@ -54,7 +105,7 @@ class Reader:
         if self.text == NOTHING:
             row = self.take()
             if self.goes_on(depth):
-                raise Fault(row.number, "nothing stands alone in its block")
+                raise Fault(row.number, OUT_OF_PLACE[NOTHING])
             return Policy()
         line, branches = self.branches(depth) if self.text == EITHER else (0, ())
         assertions = []
@@ -77,22 +128,17 @@ class Reader:
         return opener, tuple(found)
 
     def assertion(self, row: Row) -> Written:
-        if row.text == EITHER:
-            raise Fault(row.number, "either stands first in its block")
-        if row.text == OR:
-            raise Fault(row.number, "or stands behind the branches of an either alone")
-        if row.text == NOTHING:
-            raise Fault(row.number, "nothing stands alone in its block")
+        if row.text in OUT_OF_PLACE:
+            raise Fault(row.number, OUT_OF_PLACE[row.text])
         try:
             said = read_assertion(row.text)
         except Unsaid as fault:
             raise Fault(row.number, fault) from None
-        if isinstance(said, (PolicyPcr, PolicyCpHash)):
-            self.note_size(row.number, said)
+        if said.code in (CC.PolicyPCR, CC.PolicyCpHash):
+            self.note_size(row.number, len(said.values[-1]))
         return Written(row.number, said)
 
-    def note_size(self, line: int, said: PolicyPcr | PolicyCpHash) -> None:
-        size = len(said.digest if isinstance(said, PolicyPcr) else said.cp_hash)
+    def note_size(self, line: int, size: int) -> None:
         if self.size is None:
             self.size, self.size_line = size, line
         if self.size != size:
@@ -103,8 +149,13 @@ class Reader:
 class HasPolicy(Protocol):
     """The public area of an object or an index."""
 
-    name_algorithm: int
-    auth_policy: bytes
+    @property
+    def name_algorithm(self) -> int:
+        ...
+
+    @property
+    def auth_policy(self) -> bytes:
+        ...
 
 
 class PolicyFile:
@@ -126,7 +177,6 @@ class PolicyFile:
         return found is not None and found == public.auth_policy
 
     def report(self) -> Iterator[str]:
-        """What is written in it, and its digests."""
         yield f"Policy {self.name}"
         width = len(str(self.rows[-1].number))
         for row in self.rows:
@@ -136,3 +186,35 @@ class PolicyFile:
             found = self.digests.get(algorithm)
             none = f"none, as the digest of policy line {self.size_line} has {self.size} bytes"
             yield f"  its digest by {HASH_WORDS[algorithm]}: {found.hex() if found else none}"
+
+
+@dataclass(frozen=True)
+class Step:
+    """An assertion with its parameters; of TPM2_PolicyOR with the steps of each branch, and of one
+    about an entity with its Name.
+    """
+
+    code: CC
+    parameters: bytes = b""
+    name: bytes = b""
+    branches: tuple[tuple[Step, ...], ...] = ()
+
+
+def policy_of(words: str) -> Policy:
+    """The policy that words say; policy_file.Fault where they say none."""
+    return PolicyFile("policy", words.encode()).policy
+
+
+def digest_of(words: str, algorithm: int = SHA256) -> bytes:
+    """The digest of a policy in words, for an authPolicy."""
+    return policy_digest(algorithm, policy_of(words))
+
+
+def steps_of(policy: Policy, algorithm: int) -> tuple[Step, ...]:
+    """All steps of a policy, those of its branches within the first."""
+    steps = [Step(it.said.code, it.said.parameters, it.said.name) for it in policy.assertions]
+    if policy.branches:
+        digests = [policy_digest(algorithm, it) for it in policy.branches]
+        branches = tuple(steps_of(it, algorithm) for it in policy.branches)
+        steps.insert(0, Step(CC.PolicyOR, frames.sized_list(*digests), branches=branches))
+    return tuple(steps)

@@ -5,35 +5,10 @@ begins with the hash of the one before, as tpm_policy_meaning has it (PolicyDige
 from __future__ import annotations
 
 from dataclasses import dataclass
-from typing import Protocol
+from typing import Iterable
 
-from tpmsim.standard.commands import CC
-from tpmsim.standard.frames import number
-from tpmsim.standard.sessions import digest, digest_bytes
-
-
-@dataclass(frozen=True)
-class Update:
-    """What an assertion puts into the digest: the code of its command, what it is about, and
-    policyRef, where it has one; and the text that is hashed apart, where it is about the hash of
-    one.
-    """
-
-    code: CC
-    about: bytes = b""
-    reference: bytes | None = None
-    apart: tuple[bytes, ...] = ()
-
-
-class Assertion(Protocol):
-    """What a line of a policy says: its words, and what it puts into the digest."""
-
-    @property
-    def words(self) -> str:
-        ...
-
-    def update(self, algorithm: int) -> Update:
-        ...
+from tpmsim.policies.written import Said, Update
+from tpmsim.standard import CC, digest, digest_bytes, number
 
 
 @dataclass(frozen=True)
@@ -41,7 +16,7 @@ class Written:
     """An assertion, and the line of the policy on which it stands."""
 
     line: int
-    said: Assertion
+    said: Said
 
 
 @dataclass(frozen=True)
@@ -60,7 +35,7 @@ def zeros(algorithm: int) -> bytes:
     return bytes(digest_bytes(algorithm))
 
 
-def or_update(digests: list[bytes]) -> Update:
+def or_update(digests: Iterable[bytes]) -> Update:
     """TPM2_PolicyOR is about the joined digests of its branches, without their sizes."""
     return Update(CC.PolicyOR, b"".join(digests))
 

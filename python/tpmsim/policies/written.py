@@ -1,152 +1,231 @@
-"""Policies as they are written down, in the terms of tpm_policy_meaning (Expression, PolicyDigest):
-what each assertion demands of a use, its words in docs/USING.md, and what it puts into the digest.
+"""Assertions as they are written down, in the terms of tpm_policy_meaning (Expression, PolicyDigest):
+their words in docs/USING.md, what they put into the digest, and what a session is told of them.
 """
 
 from dataclasses import dataclass
-from typing import ClassVar
+from typing import Any, Callable
 
-from tpmsim.policies.policy_texts import Update
-from tpmsim.standard import lines
-from tpmsim.standard.commands import CC, NUMBERED
-from tpmsim.standard.frames import number
-from tpmsim.standard.handle_kinds import HIERARCHIES
-from tpmsim.standard.lines import handle_word, hex_word
-from tpmsim.standard.reading import Fields
-from tpmsim.standard.sessions import digest, name_of
+from tpmsim.standard import (
+    CC,
+    DIGEST_BYTES,
+    Fields,
+    HIERARCHIES,
+    Kind,
+    NUMBERED,
+    PCRS,
+    SHA1,
+    SHA256,
+)
+from tpmsim.standard import digest, digest_bytes, name_of, number, sized, values
+from tpmsim.standard.lines import HANDLE_NAMES, Wrong, bytes_of, handle_word, hex_word
+from tpmsim.standard.lines import WORDS, number_up_to
 
 # How TPM2_PolicyNV compares, by the numbers of its operations.
 OPERATIONS = "eq neq sgt ugt slt ult sge uge sle ule bs bc".split()
+LOCALITIES = {b"0", b"1", b"2", b"3", b"4"}
+
+# How the Name of an object or an index begins, and how long it is.
+HASHED_NAMES = {number(it, 2): 2 + digest_bytes(it) for it in (SHA1, SHA256)}
 
 
 @dataclass(frozen=True)
-class PolicyPcr:
-    """The values of the selected PCRs have this digest; the selection is its text."""
+class Update:
+    """What an assertion puts into the digest: the code of its command, what it is about, and
+    policyRef, where it has one; and the text that is hashed apart, where it is about the hash of
+    one.
+    """
 
-    selection: bytes
-    digest: bytes
-
-    @property
-    def words(self) -> str:
-        selection = lines.selection_word(Fields(self.selection))
-        return f"PolicyPCR {selection} {hex_word(self.digest)}"
-
-    def update(self, algorithm: int) -> Update:
-        return Update(CC.PolicyPCR, self.selection + self.digest)
+    code: CC
+    about: bytes = b""
+    reference: bytes | None = None
+    apart: tuple[bytes, ...] = ()
 
 
-@dataclass(frozen=True)
-class PolicyAuthValue:
-    """The key of the use's HMAC has the authorization value of what is used."""
-
-    words: ClassVar[str] = "PolicyAuthValue"
-
-    def update(self, algorithm: int) -> Update:
-        return Update(CC.PolicyAuthValue)
+class Unsaid(Exception):
+    """Why words say no assertion, in words."""
 
 
-@dataclass(frozen=True)
-class PolicyPassword:
-    """The use has the authorization value as its password. The code is TPM2_PolicyAuthValue's."""
-
-    words: ClassVar[str] = "PolicyPassword"
-
-    def update(self, algorithm: int) -> Update:
-        return Update(CC.PolicyAuthValue)
+def shown(word: bytes) -> str:
+    """A word in quotation marks, whatever its bytes are."""
+    plain = "".join(chr(it) if 0x20 < it < 0x7F else "?" for it in word)
+    return f'"{plain}"'
 
 
-@dataclass(frozen=True)
-class PolicyCommandCode:
-    """The command is the one of this number."""
-
-    number: int
-
-    @property
-    def words(self) -> str:
-        served = self.number in NUMBERED
-        return f"PolicyCommandCode {CC(self.number).name if served else hex(self.number)}"
-
-    def update(self, algorithm: int) -> Update:
-        return Update(CC.PolicyCommandCode, number(self.number, 4))
+# What each word says; one that says nothing is Wrong.
 
 
-@dataclass(frozen=True)
-class PolicyLocality:
-    """The command comes from one of these localities, bit n for locality n."""
-
-    localities: int
-
-    @property
-    def words(self) -> str:
-        allowed = [str(it) for it in range(8) if self.localities >> it & 1]
-        return f"PolicyLocality {','.join(allowed)}"
-
-    def update(self, algorithm: int) -> Update:
-        return Update(CC.PolicyLocality, number(self.localities, 1))
+def held_to(holds: bool) -> None:
+    if not holds:
+        raise Wrong
 
 
-@dataclass(frozen=True)
-class PolicyCpHash:
-    """The command, its handles' Names and its parameters have this hash."""
-
-    cp_hash: bytes
-
-    @property
-    def words(self) -> str:
-        return f"PolicyCpHash {hex_word(self.cp_hash)}"
-
-    def update(self, algorithm: int) -> Update:
-        return Update(CC.PolicyCpHash, self.cp_hash)
+def read_index_name(word: bytes) -> bytes:
+    name = bytes_of(word)
+    held_to(HASHED_NAMES.get(name[:2]) == len(name))
+    return name
 
 
-@dataclass(frozen=True)
-class PolicyNvWritten:
-    """What is used is an NV index that is written, or one that is not."""
-
-    is_written: bool
-
-    @property
-    def words(self) -> str:
-        return f"PolicyNvWritten {int(self.is_written)}"
-
-    def update(self, algorithm: int) -> Update:
-        return Update(CC.PolicyNvWritten, number(self.is_written, 1))
-
-
-@dataclass(frozen=True)
-class PolicySecret:
-    """The entity of this Name was authorized for this policyRef."""
-
-    name: bytes
-    reference: bytes
-
-    @property
-    def words(self) -> str:
-        return f"PolicySecret {name_word(self.name)} {hex_word(self.reference)}"
-
-    def update(self, algorithm: int) -> Update:
-        return Update(CC.PolicySecret, self.name, self.reference)
-
-
-@dataclass(frozen=True)
-class PolicyNv:
-    """The bytes of the NV index of this Name, from this offset on, compared so with an operand."""
-
-    name: bytes
-    operand: bytes
-    offset: int
-    operation: int
-
-    @property
-    def words(self) -> str:
-        said = hex_word(self.name), hex_word(self.operand), self.offset, OPERATIONS[self.operation]
-        return " ".join(["PolicyNV", *map(str, said)])
-
-    def update(self, algorithm: int) -> Update:
-        arguments = self.operand + number(self.offset, 2) + number(self.operation, 2)
-        return Update(CC.PolicyNV, digest(algorithm, arguments) + self.name, apart=(arguments,))
+def read_name(word: bytes) -> bytes:
+    """The Name of what TPM2_PolicySecret may name: of a hierarchy or a PCR it is the handle."""
+    name = name_of(HANDLE_NAMES[word]) if word in HANDLE_NAMES else bytes_of(word)
+    is_handle = name in [name_of(it) for it in (*HIERARCHIES, *PCRS)]
+    return name if is_handle else read_index_name(word)
 
 
 def name_word(name: bytes) -> str:
     """A Name, which of a hierarchy is its handle."""
     hierarchies = {name_of(it): handle_word(it) for it in HIERARCHIES}
     return hierarchies.get(name) or hex_word(name)
+
+
+def read_buffer(word: bytes) -> bytes:
+    data = bytes_of(word)
+    held_to(len(data) <= DIGEST_BYTES)
+    return data
+
+
+def read_digest(word: bytes) -> bytes:
+    found = bytes_of(word)
+    held_to(len(found) in (digest_bytes(SHA1), digest_bytes(SHA256)))
+    return found
+
+
+def read_code(word: bytes) -> int:
+    name = word.decode("latin-1")
+    return int(CC[name]) if name in CC.__members__ else number_up_to(2**32 - 1, word)
+
+
+def code_word(code: int) -> str:
+    return CC(code).name if code in NUMBERED else hex(code)
+
+
+def read_localities(word: bytes) -> int:
+    """Their numbers, and not the bits of a `do` line."""
+    allowed = set(word.split(b","))
+    held_to(allowed <= LOCALITIES)
+    return sum(1 << int(it) for it in allowed)
+
+
+def localities_word(bits: int) -> str:
+    return ",".join(str(it) for it in range(8) if bits >> it & 1)
+
+
+def read_operation(word: bytes) -> int:
+    name = word.decode("latin-1")
+    held_to(name in OPERATIONS)
+    return OPERATIONS.index(name)
+
+
+@dataclass(frozen=True)
+class Word:
+    """A word behind an assertion's name: what it is, how it is read, and how it is written."""
+
+    name: str
+    read: Callable[[bytes], Any]
+    written: Callable[[Any], str] = hex_word
+
+
+PCR_WORDS = WORDS[Kind.SELECTION]
+SELECTION = Word(
+    "a selection of PCRs", PCR_WORDS.spelled, lambda text: PCR_WORDS.word(Fields(text))
+)
+DIGEST = Word("a digest of 20 or 32 bytes in hex", read_digest)
+CODE = Word("a command", read_code, code_word)
+LOCALITY_LIST = Word("a list of localities from 0 to 4", read_localities, localities_word)
+IS_WRITTEN = Word("0 or 1", lambda word: number_up_to(1, word), str)
+NAME = Word("a Name", read_name, name_word)
+INDEX_NAME = Word("the Name of an NV index", read_index_name)
+REFERENCE = Word("a policyRef of at most 32 bytes in hex", read_buffer)
+OPERAND = Word("an operand of at most 32 bytes in hex", read_buffer)
+OFFSET = Word("an offset up to 65535", lambda word: number_up_to(2**16 - 1, word), str)
+OPERATION = Word("a comparison", read_operation, lambda it: str(OPERATIONS[it]))
+
+# The assertions by their commands, each with the words behind its name.
+FORMS: dict[CC, tuple[Word, ...]] = {
+    CC.PolicyPCR: (SELECTION, DIGEST),
+    CC.PolicyAuthValue: (),
+    CC.PolicyPassword: (),
+    CC.PolicyCommandCode: (CODE,),
+    CC.PolicyLocality: (LOCALITY_LIST,),
+    CC.PolicyCpHash: (DIGEST,),
+    CC.PolicyNvWritten: (IS_WRITTEN,),
+    CC.PolicySecret: (NAME, REFERENCE),
+    CC.PolicyNV: (INDEX_NAME, OPERAND, OFFSET, OPERATION),
+}
+
+
+@dataclass(frozen=True)
+class Said:
+    """An assertion, with a value for each of its words. What it demands of a use: of PolicyPCR, that
+    the selected PCRs have this digest, the selection being its text; of PolicyAuthValue and
+    PolicyPassword, the authorization value in the HMAC's key or as the password; of
+    PolicyCommandCode, PolicyCpHash and PolicyLocality (bit n for locality n), such a command; of
+    PolicyNvWritten, an NV index that is written, or is not; of PolicySecret, that the entity of the
+    Name was authorized for the policyRef; and of PolicyNV, that the bytes of the index of the Name
+    from the offset on compare so with the operand.
+    """
+
+    code: CC
+    values: tuple[Any, ...] = ()
+
+    @property
+    def words(self) -> str:
+        pairs = zip(FORMS[self.code], self.values)
+        return " ".join([str(self.code.name), *(word.written(it) for word, it in pairs)])
+
+    def update(self, algorithm: int) -> Update:
+        match self.code, *self.values:
+            case CC.PolicyPassword, *_:
+                return Update(CC.PolicyAuthValue)
+            case CC.PolicyPCR, selection, values_digest:
+                return Update(self.code, selection + values_digest)
+            case CC.PolicySecret, name, reference:
+                return Update(self.code, name, reference)
+            case CC.PolicyNV, name, operand, offset, operation:
+                compared = operand + number(offset, 2) + number(operation, 2)
+                about = digest(algorithm, compared) + name
+                return Update(self.code, about, apart=(compared,))
+            case CC.PolicyCpHash, cp_hash:
+                return Update(self.code, cp_hash)
+        return Update(self.code, self.parameters)
+
+    @property
+    def parameters(self) -> bytes:
+        """Those of its command, which a session is told."""
+        match self.code, *self.values:
+            case CC.PolicyPCR, selection, values_digest:
+                return sized(values_digest) + bytes(selection)
+            case CC.PolicySecret, _, reference:
+                return values.write_in_order(self.code, b"", b"", reference, 0)
+            case CC.PolicyNV, _, *compared:
+                return values.write_in_order(self.code, *compared)
+        return values.write_in_order(self.code, *self.values)
+
+    @property
+    def name(self) -> bytes:
+        """The Name of the entity or the index that it is about, if it is about one."""
+        is_about = self.code in (CC.PolicySecret, CC.PolicyNV)
+        return bytes(self.values[0]) if is_about else b""
+
+
+def read_word(word: Word, given: bytes) -> Any:
+    try:
+        return word.read(given)
+    except Wrong:
+        raise Unsaid(f"{shown(given)} is not {word.name}") from None
+
+
+def read_assertion(text: bytes) -> Said:
+    """What the words of a line say. They have one form each."""
+    name, *given = text.split(b" ")
+    code = CC.__members__.get(name.decode("latin-1"))
+    if code not in FORMS:
+        raise Unsaid(f"{shown(name)} is no assertion")
+    words = FORMS[code]
+    if len(given) != len(words):
+        wanted = ", then ".join(it.name for it in words) or "nothing"
+        raise Unsaid(f"behind {code.name} stands {wanted}")
+    said = Said(code, tuple(map(read_word, words, given)))
+    if said.words.encode("ascii") != text:
+        raise Unsaid(f'this is written "{said.words}"')
+    return said

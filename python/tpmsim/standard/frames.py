@@ -1,9 +1,9 @@
 """Frames of TPM 2.0 commands and responses, byte by byte (TPM 2.0 Library, Part 1, section 18)."""
 
-from __future__ import annotations
-
 from dataclasses import dataclass
-from typing import Iterable
+from typing import Iterable, Iterator
+
+from tpmsim.standard.reading import Fields
 
 # PCRs of banks: the hash algorithm of each, and the numbers.
 Banks = Iterable[tuple[int, Iterable[int]]]
@@ -30,55 +30,20 @@ RESERVED, DECRYPT, ENCRYPT, AUDIT = 0x18, 0x20, 0x40, 0x80
 # The response codes of docs/table (Part 2, section 6.6.3), without their places; MEMORY, which no
 # script can ask for, is left out.
 CODES = {
-    "BAD_TAG": 0x01E,
-    "ATTRIBUTES": 0x082,
-    "HASH": 0x083,
-    "VALUE": 0x084,
-    "HIERARCHY": 0x085,
-    "MODE": 0x089,
-    "TYPE": 0x08A,
-    "HANDLE": 0x08B,
-    "RANGE": 0x08D,
-    "AUTH_FAIL": 0x08E,
-    "NONCE": 0x08F,
-    "SCHEME": 0x092,
-    "SIZE": 0x095,
-    "SYMMETRIC": 0x096,
-    "INSUFFICIENT": 0x09A,
-    "KEY": 0x09C,
-    "POLICY_FAIL": 0x09D,
-    "INTEGRITY": 0x09F,
-    "RESERVED_BITS": 0x0A1,
-    "BAD_AUTH": 0x0A2,
-    "POLICY_CC": 0x0A4,
-    "INITIALIZE": 0x100,
-    "FAILURE": 0x101,
-    "DISABLED": 0x120,
-    "AUTH_MISSING": 0x125,
-    "POLICY": 0x126,
-    "PCR_CHANGED": 0x128,
-    "AUTH_UNAVAILABLE": 0x12F,
-    "COMMAND_SIZE": 0x142,
-    "COMMAND_CODE": 0x143,
-    "AUTHSIZE": 0x144,
-    "AUTH_CONTEXT": 0x145,
-    "NV_RANGE": 0x146,
-    "NV_LOCKED": 0x148,
-    "NV_AUTHORIZATION": 0x149,
-    "NV_UNINITIALIZED": 0x14A,
-    "NV_SPACE": 0x14B,
-    "NV_DEFINED": 0x14C,
-    "CPHASH": 0x151,
-    "OBJECT_MEMORY": 0x902,
-    "SESSION_MEMORY": 0x903,
-    "LOCALITY": 0x907,
-    "REFERENCE_H0": 0x910,
-    "REFERENCE_H1": 0x911,
-    "REFERENCE_H2": 0x912,
-    "REFERENCE_S0": 0x918,
-    "REFERENCE_S1": 0x919,
-    "REFERENCE_S2": 0x91A,
-    "LOCKOUT": 0x921,
+    name: int(code, 16)
+    for name, code in (
+        it.split(":")
+        for it in """
+        BAD_TAG:01E ATTRIBUTES:082 HASH:083 VALUE:084 HIERARCHY:085 MODE:089 TYPE:08A HANDLE:08B
+        RANGE:08D AUTH_FAIL:08E NONCE:08F SCHEME:092 SIZE:095 SYMMETRIC:096 INSUFFICIENT:09A KEY:09C
+        POLICY_FAIL:09D INTEGRITY:09F RESERVED_BITS:0A1 BAD_AUTH:0A2 POLICY_CC:0A4 INITIALIZE:100
+        FAILURE:101 DISABLED:120 AUTH_MISSING:125 POLICY:126 PCR_CHANGED:128 AUTH_UNAVAILABLE:12F
+        COMMAND_SIZE:142 COMMAND_CODE:143 AUTHSIZE:144 AUTH_CONTEXT:145 NV_RANGE:146 NV_LOCKED:148
+        NV_AUTHORIZATION:149 NV_UNINITIALIZED:14A NV_SPACE:14B NV_DEFINED:14C CPHASH:151
+        OBJECT_MEMORY:902 SESSION_MEMORY:903 LOCALITY:907 REFERENCE_H0:910 REFERENCE_H1:911
+        REFERENCE_H2:912 REFERENCE_S0:918 REFERENCE_S1:919 REFERENCE_S2:91A LOCKOUT:921
+        """.split()
+    )
 }
 
 # What the first of a kind of places adds to a code, before 0x100 for its number (section 6.6.2).
@@ -125,10 +90,31 @@ def entry(
     return number(session, 4) + sized(nonce) + number(attributes, 1) + sized(hmac)
 
 
+def read_entry(fields: Fields) -> Entry:
+    """The next entry of an authorization area; Short where it is cut."""
+    return Entry(fields.number(4), fields.sized(), fields.number(1), fields.sized())
+
+
+def entries_of(area: bytes) -> Iterator[Entry]:
+    """Those of an area behind its size; Short where it cannot be divided into entries."""
+    fields = Fields(area)
+    while fields.data:
+        yield read_entry(fields)
+
+
 def area(*entries: bytes, size: int | None = None) -> bytes:
     """An authorization area; authorizationSize is right where no other is given."""
     text = b"".join(entries)
     return number(len(text) if size is None else size, 4) + text
+
+
+def buffer_of(code: int, handles: Iterable[int], entries: list[Entry], parameters: bytes) -> bytes:
+    """A command with handles and entries, which has sessions where it has an entry."""
+    text = b"".join(number(it, 4) for it in handles)
+    if not entries:
+        return command(code, text + parameters)
+    those = [entry(it.handle, it.nonce, it.attributes, it.hmac) for it in entries]
+    return command(code, text + area(*those) + parameters, SESSIONS)
 
 
 def on_handles(
@@ -143,7 +129,6 @@ def on_handles(
 def on_handle(
     code: int, handle: int, parameters: bytes = b"", entries: list[bytes] | None = None
 ) -> bytes:
-    """A command with one handle."""
     return on_handles(code, [handle], parameters, entries)
 
 
@@ -195,17 +180,14 @@ def sized_list(*values: bytes, count: int | None = None) -> bytes:
 def policy_secret(
     nonce_tpm: bytes = b"", cp_hash: bytes = b"", policy_ref: bytes = b"", expiration: int = 0
 ) -> bytes:
-    """The parameters of TPM2_PolicySecret."""
     return sized(nonce_tpm) + sized(cp_hash) + sized(policy_ref) + number(expiration, 4)
 
 
 def attack_parameters(max_tries: int, recovery_time: int, lockout_recovery: int) -> bytes:
-    """The parameters of TPM2_DictionaryAttackParameters."""
     return b"".join(number(it, 4) for it in (max_tries, recovery_time, lockout_recovery))
 
 
 def policy_nv(operand: bytes = b"", offset: int = 0, operation: int = 0) -> bytes:
-    """The parameters of TPM2_PolicyNV."""
     return sized(operand) + number(offset, 2) + number(operation, 2)
 
 
@@ -223,12 +205,10 @@ def nv_define_space(public: bytes, auth: bytes = b"") -> bytes:
 
 
 def nv_write(data: bytes, offset: int = 0) -> bytes:
-    """The parameters of TPM2_NV_Write."""
     return sized(data) + number(offset, 2)
 
 
 def nv_read(size: int, offset: int = 0) -> bytes:
-    """The parameters of TPM2_NV_Read."""
     return number(size, 2) + number(offset, 2)
 
 

@@ -9,14 +9,16 @@ from __future__ import annotations
 
 import re
 from dataclasses import dataclass
-from typing import Any, Callable, Iterator, TYPE_CHECKING, TypeVar
+from typing import Any, Callable, Iterable, TYPE_CHECKING, TypeVar
 
-from tpmsim.standard import frames, handle_kinds
-from tpmsim.standard.commands import CC, HandleKind, Kind, NUMBERED
-from tpmsim.standard.frames import AES, ALG_NULL, CONTINUE_SESSION, Entry, NO_SESSIONS, RS_PW
-from tpmsim.standard.frames import SESSIONS, SHA1, SHA256, XOR, number, sized
+from tpmsim.standard import frames
+from tpmsim.standard.commands import CC, Kind, NUMBERED
+from tpmsim.standard.frames import AES, ALG_NULL, CONTINUE_SESSION, Entry, RS_PW, SESSIONS, SHA1
+from tpmsim.standard.frames import SHA256, XOR
+from tpmsim.standard.handle_kinds import HANDLES, PCRS
 from tpmsim.standard.reading import Fields, Short
 from tpmsim.standard.sessions import digest_bytes
+from tpmsim.standard.values import Bank, Cipher, Digest, VALUES
 
 if TYPE_CHECKING:
     from tpmsim.model.machine import Outcome
@@ -81,7 +83,6 @@ def number_up_to(most: int, token: bytes) -> int:
 
 
 def bytes_of(token: bytes) -> bytes:
-    """The bytes of a buffer."""
     if token == NOTHING:
         return b""
     return bytes.fromhex(of_form(HEX, token)[0].decode("ascii"))
@@ -122,69 +123,58 @@ def word_in(words: dict[bytes, Any], value: bytes | int, other: str | None = Non
 HASHES = {b"sha1": SHA1, b"sha256": SHA256}
 HASHES_OR_NULL = {**HASHES, b"null": ALG_NULL}
 CIPHERS = {
-    b"null": frames.symmetric(),
-    b"aes": frames.symmetric(aes=True),
-    b"xor-sha1": frames.symmetric(xor=SHA1),
-    b"xor-sha256": frames.symmetric(xor=SHA256),
+    b"null": Cipher(),
+    b"aes": Cipher(AES),
+    b"xor-sha1": Cipher(XOR, SHA1),
+    b"xor-sha256": Cipher(XOR, SHA256),
 }
-
-# How many bytes stand behind the algorithm of a cipher.
-BEHIND_CIPHER = {ALG_NULL: 0, AES: 4, XOR: 2}
 
 
 @dataclass(frozen=True)
 class Words:
-    """How a kind of parameter is said: its name in docs/table, the bytes that a token spells, and
-    the token of what stands in front of fields.
+    """How a kind of parameter is said: its name in docs/table, the value of a token, and the token
+    of a value.
     """
 
+    kind: Kind
     name: str
-    spelled: Callable[..., bytes]
-    word: Callable[..., str]
+    parsed: Callable[[bytes], Any]
+    shown: Callable[[Any], str]
+
+    def spelled(self, token: bytes) -> bytes:
+        """The bytes of a token; Wrong where it is none of this kind."""
+        return VALUES[self.kind].write(self.parsed(token))
+
+    def word(self, fields: Fields) -> str:
+        """The token of what stands in front of fields; NoWords where there is none."""
+        try:
+            return self.shown(VALUES[self.kind].read(fields))
+        except KeyError:
+            raise NoWords from None
 
 
-def integer(size: int, shown: str = "{}") -> Words:
+def integer(kind: Kind, size: int, shown: str = "{}") -> Words:
     most = 2 ** (8 * size) - 1
-    return Words(
-        f"u{8 * size}",
-        lambda token: number(number_up_to(most, token), size),
-        lambda fields: shown.format(fields.number(size)),
-    )
+    return Words(kind, f"u{8 * size}", lambda token: number_up_to(most, token), shown.format)
 
 
-def spelled_buffer(token: bytes) -> bytes:
-    data = bytes_of(token)
-    # A longer one makes the command too long in any case.
-    return number(min(len(data), 0xFFFF), 2) + data
+def buffer_of(token: bytes) -> bytes:
+    """One that is longer than its size can say makes the command too long in any case."""
+    return bytes_of(token)[:0xFFFF]
 
 
-def pieces(token: bytes) -> list[bytes]:
-    return token.split(JOIN)
+def listed(
+    kind: Kind, parsed: Callable[[bytes], Any], shown: Callable[..., str], is_empty: bool = True
+) -> Words:
+    """Values with JOIN between them, which may be NOTHING where the list may be empty."""
 
+    def all_parsed(token: bytes) -> list[Any]:
+        return [] if is_empty and token == NOTHING else [parsed(it) for it in token.split(JOIN)]
 
-def joined(words: list[str]) -> str:
-    return JOIN.decode("ascii").join(words) or NOTHING.decode("ascii")
+    def all_shown(values: Iterable[Any]) -> str:
+        return JOIN.decode("ascii").join(map(shown, values)) or NOTHING.decode("ascii")
 
-
-def counted(spelled: list[bytes]) -> bytes:
-    return number(len(spelled), 4) + b"".join(spelled)
-
-
-def items(fields: Fields, word: Callable[..., Any]) -> list[str]:
-    """The words of a list that has its count in front."""
-    return [word(fields) for _ in range(fields.number(4))]
-
-
-def spelled_list(token: bytes) -> bytes:
-    return counted([spelled_buffer(it) for it in pieces(token)])
-
-
-def buffer_word(fields: Fields) -> str:
-    return hex_word(fields.sized())
-
-
-def list_word(fields: Fields) -> str:
-    return joined(items(fields, buffer_word))
+    return Words(kind, kind.value, all_parsed, all_shown)
 
 
 def hash_and_rest(piece: bytes) -> tuple[int, bytes]:
@@ -193,109 +183,67 @@ def hash_and_rest(piece: bytes) -> tuple[int, bytes]:
     return value_in(HASHES, name), rest
 
 
-def spelled_bank(piece: bytes) -> bytes:
+def bank_of(piece: bytes) -> Bank:
     algorithm, rest = hash_and_rest(piece)
-    pcrs = [number_up_to(handle_kinds.PCRS[-1], it) for it in rest.split(b",")]
-    return frames.selection((algorithm, pcrs))[4:]
+    return Bank(algorithm, tuple(number_up_to(PCRS[-1], it) for it in rest.split(b",")))
 
 
-def spelled_selection(token: bytes) -> bytes:
-    return counted([] if token == NOTHING else [spelled_bank(it) for it in pieces(token)])
+def bank_word(bank: Bank) -> str:
+    return f"{word_in(HASHES, bank.algorithm)}:{','.join(map(str, bank.pcrs))}"
 
 
-def bank_word(fields: Fields) -> str:
-    name = word_in(HASHES, fields.number(2))
-    fields.take(1)
-    bits = int.from_bytes(fields.take(3), "little")
-    return f"{name}:" + ",".join(str(pcr) for pcr in handle_kinds.PCRS if bits >> pcr & 1)
-
-
-def selection_word(fields: Fields) -> str:
-    return joined(items(fields, bank_word))
-
-
-def spelled_digest(piece: bytes) -> bytes:
+def digest_of(piece: bytes) -> Digest:
     algorithm, rest = hash_and_rest(piece)
     digest = bytes_of(rest)
     if len(digest) != digest_bytes(algorithm):
         raise Wrong(BAD_FIELD)
-    return number(algorithm, 2) + digest
+    return Digest(algorithm, digest)
 
 
-def spelled_digests(token: bytes) -> bytes:
-    return counted([] if token == NOTHING else [spelled_digest(it) for it in pieces(token)])
+def digest_word(value: Digest) -> str:
+    return f"{word_in(HASHES, value.algorithm)}:{value.digest.hex()}"
 
 
-def digest_word(fields: Fields) -> str:
-    algorithm = fields.number(2)
-    name = word_in(HASHES, algorithm)
-    return f"{name}:{fields.take(digest_bytes(algorithm)).hex()}"
-
-
-def digests_word(fields: Fields) -> str:
-    return joined(items(fields, digest_word))
-
-
-def spelled_cipher(token: bytes) -> bytes:
-    return value_in(CIPHERS, token)
-
-
-def cipher_word(fields: Fields) -> str:
-    algorithm = fields.number(2)
-    behind = fields.take(BEHIND_CIPHER.get(algorithm, 0))
-    return word_in(CIPHERS, number(algorithm, 2) + behind)
+def one_of(kind: Kind, words: dict[bytes, Any]) -> Words:
+    return Words(
+        kind, kind.value, lambda token: value_in(words, token), lambda it: word_in(words, it)
+    )
 
 
 # The words of each kind; sets of bits, codes and handles are shown in hex. A structure that is only
 # answered has none.
 WORDS: dict[Kind, Words] = {
-    Kind.U8: integer(1),
-    Kind.U16: integer(2),
-    Kind.U32: integer(4),
-    Kind.BITS8: integer(1, "{:#x}"),
-    Kind.BITS64: integer(8, "{:#x}"),
-    Kind.CODE: integer(4, "{:#x}"),
-    Kind.HANDLE: integer(4, "{:#010x}"),
-    Kind.BUFFER: Words("Buffer", spelled_buffer, buffer_word),
-    Kind.BUFFERS: Words("Buffers", spelled_list, list_word),
-    Kind.SELECTION: Words("Selection", spelled_selection, selection_word),
-    Kind.DIGESTS: Words("Digests", spelled_digests, digests_word),
-    Kind.CIPHER: Words("Cipher", spelled_cipher, cipher_word),
-    Kind.HASH: Words(
-        "Hash",
-        lambda token: number(value_in(HASHES_OR_NULL, token), 2),
-        lambda fields: word_in(HASHES_OR_NULL, fields.number(2)),
-    ),
-}
-
-
-# How docs/LINES.md names a handle of each kind.
-HANDLE_WORDS: dict[HandleKind, str] = {
-    HandleKind.PCR: "PCR",
-    HandleKind.PCR_OR_NULL: "PCR",
-    HandleKind.NULL: "NULL",
-    HandleKind.HIERARCHY_OR_NULL: "Hierarchy",
-    HandleKind.HIERARCHY_AUTH: "Hierarchy",
-    HandleKind.LOCKOUT: "LOCKOUT",
-    HandleKind.CLEAR: "Hierarchy",
-    HandleKind.PROVISION: "Hierarchy",
-    HandleKind.ENTITY: "Entity",
-    HandleKind.ENTITY_OR_NULL: "Entity",
-    HandleKind.OBJECT: "Object",
-    HandleKind.NV_AUTH: "Entity",
-    HandleKind.NV_INDEX: "Index",
-    HandleKind.POLICY: "Policy",
+    it.kind: it
+    for it in (
+        integer(Kind.U8, 1),
+        integer(Kind.U16, 2),
+        integer(Kind.U32, 4),
+        integer(Kind.BITS8, 1, "{:#x}"),
+        integer(Kind.BITS64, 8, "{:#x}"),
+        integer(Kind.CODE, 4, "{:#x}"),
+        integer(Kind.HANDLE, 4, "{:#010x}"),
+        Words(Kind.BUFFER, "Buffer", buffer_of, hex_word),
+        listed(Kind.BUFFERS, buffer_of, hex_word, is_empty=False),
+        listed(Kind.SELECTION, bank_of, bank_word),
+        listed(Kind.DIGESTS, digest_of, digest_word),
+        one_of(Kind.CIPHER, CIPHERS),
+        one_of(Kind.HASH, HASHES_OR_NULL),
+    )
 }
 
 
 def form_of(code: CC) -> str:
     """The form of a command's line, as its section in docs/table has it."""
-    marks = ["@" * it.is_authorized + HANDLE_WORDS[it.kind] for it in code.handles]
+    marks = ["@" * it.is_authorized + HANDLES[it.kind].mark for it in code.handles]
     return " ".join([code.name, *marks, *(it.name for it in words_of_parameters(code))])
 
 
 def words_of_parameters(code: CC) -> list[Words]:
     return [WORDS[it.kind] for it in code.parameters]
+
+
+def parameter_words(code: CC, fields: Fields) -> list[str]:
+    return [it.word(fields) for it in words_of_parameters(code)]
 
 
 # Entries.
@@ -307,18 +255,18 @@ def is_entry(token: bytes) -> bool:
     return token.startswith((PASSWORD_PREFIX, SESSION_PREFIX))
 
 
-def spelled_entry(token: bytes) -> bytes:
+def entry_of(token: bytes) -> Entry:
     if token.startswith(PASSWORD_PREFIX):
-        password = spelled_buffer(token.removeprefix(PASSWORD_PREFIX))
-        return number(RS_PW, 4) + sized(b"") + number(CONTINUE_SESSION, 1) + password
+        password = buffer_of(token.removeprefix(PASSWORD_PREFIX))
+        return Entry(RS_PW, b"", CONTINUE_SESSION, password)
     parts = token.removeprefix(SESSION_PREFIX).split(b":")
     if len(parts) != 4:
         raise Wrong(BAD_FIELD)
     handle, nonce, attributes, hmac = parts
     if len(attributes) != 2:
         raise Wrong(BAD_FIELD)
-    head = number(handle_of(handle), 4) + spelled_buffer(nonce)
-    return head + bytes_of(attributes) + spelled_buffer(hmac)
+    head = handle_of(handle), buffer_of(nonce)
+    return Entry(*head, bytes_of(attributes)[0], buffer_of(hmac))
 
 
 def entry_word(entry: Entry) -> str:
@@ -360,7 +308,6 @@ class Tokens:
 
 
 def code_of(token: bytes) -> CC:
-    """The command of a line's first token."""
     name = token.decode("ascii", "replace")
     if name not in CC.__members__:
         raise Fault(BAD_NAME)
@@ -368,19 +315,15 @@ def code_of(token: bytes) -> CC:
 
 
 def assemble(line: bytes) -> bytes:
-    """The buffer of a line."""
     tokens = Tokens(line)
     code = tokens.take(code_of)
-    handles = [number(tokens.take(handle_of), 4) for _ in code.handles]
-    entries: list[bytes] = []
+    handles = [tokens.take(handle_of) for _ in code.handles]
+    entries: list[Entry] = []
     while len(entries) < frames.MOST_ENTRIES and tokens.is_next(is_entry):
-        entries.append(tokens.take(spelled_entry))
-    parameters = [tokens.take(it.spelled) for it in words_of_parameters(code)]
+        entries.append(tokens.take(entry_of))
+    parameters = b"".join(tokens.take(it.spelled) for it in words_of_parameters(code))
     tokens.end()
-
-    area = frames.area(*entries) if entries else b""
-    body = b"".join(handles) + area + b"".join(parameters)
-    buffer = frames.command(code, body, SESSIONS if entries else NO_SESSIONS)
+    buffer = frames.buffer_of(code, handles, entries, parameters)
     if len(buffer) > frames.COMMAND_BYTES:
         raise Fault(TOO_LONG)
     return buffer
@@ -404,15 +347,9 @@ def words_of(fields: Fields) -> list[str]:
     handles = [handle_word(fields.number(4)) for _ in code.handles]
     entries = []
     if tag == SESSIONS:
-        entries = list(entry_words(Fields(fields.take(fields.number(4)))))
-    parameters = [it.word(fields) for it in words_of_parameters(code)]
-    return [code.name, *handles, *entries, *parameters]
-
-
-def entry_words(area: Fields) -> Iterator[str]:
-    while area.data:
-        entry = frames.Entry(area.number(4), area.sized(), area.number(1), area.sized())
-        yield entry_word(entry)
+        area = fields.take(fields.number(4))
+        entries = [entry_word(it) for it in frames.entries_of(area)]
+    return [code.name, *handles, *entries, *parameter_words(code, fields)]
 
 
 # The trace.

@@ -81,6 +81,11 @@ class Public:
         return self.attributes >> TYPE_SHIFT & TYPE_MASK
 
     @property
+    def means(self) -> list[str]:
+        """The names of the attributes by which it may be read and written."""
+        return [it.name for it in Attribute if it & (WRITES | READS) & self.attributes]
+
+    @property
     def text(self) -> bytes:
         return frames.nv_public_area(
             self.index, self.name_algorithm, self.attributes, self.auth_policy, self.data_size

@@ -4,7 +4,7 @@ import enum
 from dataclasses import dataclass
 
 from tpmsim.standard import frames
-from tpmsim.standard.frames import ALG_NULL, KEYEDHASH, SYMCIPHER, number
+from tpmsim.standard.frames import ALG_NULL, KEYEDHASH, number, SYMCIPHER
 from tpmsim.standard.reading import Fields
 from tpmsim.standard.sessions import digest
 

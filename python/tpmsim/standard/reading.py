@@ -18,7 +18,11 @@ class Fields:
         return taken
 
     def number(self, size: int) -> int:
-        return int.from_bytes(self.take(size), "big")
+        data = self.data
+        if size > len(data):
+            raise Short
+        self.data = data[size:]
+        return int.from_bytes(data[:size], "big")
 
     def sized(self) -> bytes:
         return self.take(self.number(2))

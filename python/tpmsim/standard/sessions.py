@@ -7,7 +7,7 @@ from typing import Callable, Iterable
 from tpmsim.standard import aes
 from tpmsim.standard.aes_tables import encrypt_block
 from tpmsim.standard.commands import CC
-from tpmsim.standard.frames import SHA1, SHA256, XOR, number
+from tpmsim.standard.frames import number, SHA1, SHA256, XOR
 
 HASHES = {SHA1: hashlib.sha1, SHA256: hashlib.sha256}
 HASH_WORDS = {SHA1: "sha1", SHA256: "sha256"}

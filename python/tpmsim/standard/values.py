@@ -5,7 +5,7 @@ from typing import Any, Callable, NamedTuple, Protocol
 
 from tpmsim.standard import frames
 from tpmsim.standard.commands import CC, Kind, Parameter
-from tpmsim.standard.frames import AES, ALG_NULL, XOR, number, sized
+from tpmsim.standard.frames import AES, ALG_NULL, number, sized, XOR
 from tpmsim.standard.reading import Fields
 from tpmsim.standard.sessions import digest_bytes
 

@@ -1,0 +1,212 @@
+"""Which line of the script wrote the value of each PCR, set each authorization value, and counted
+each NV counter; and which sent a command again.
+"""
+
+from __future__ import annotations
+
+import hashlib
+from dataclasses import dataclass
+from typing import Iterator, TYPE_CHECKING
+
+from tpmsim.audit.watch import Seen
+from tpmsim.explain.words import command_words
+from tpmsim.model import pcrs, state
+from tpmsim.model.history import Accepted, History, Pcrs, defined_index
+from tpmsim.model.machine import Model
+from tpmsim.standard import CC, HASH_WORDS, RH_ENDORSEMENT, RH_LOCKOUT, RH_OWNER, RH_PLATFORM
+from tpmsim.standard import SE_HMAC, SHA1, SHA256, is_pcr, nv
+from tpmsim.standard.lines import handle_word
+
+if TYPE_CHECKING:
+    from tpmsim.audit.ground import Use
+    from tpmsim.audit.session_lines import SessionLines
+
+BANKS = SHA1, SHA256
+OF_IMAGE = "written before the image"
+
+
+class PcrLines:
+    """The line that wrote each value last, in words; and the last line that wrote one, or was a
+    TPM2_Clear that was accepted, with words for that.
+    """
+
+    def __init__(self, history: History, has_image: bool) -> None:
+        self.pcrs, self.updates = history.pcrs, 0
+        self.last_change, self.last_words = 0, ""
+        self.written: dict[tuple[int, int], str] = {}
+        self.saved = dict.fromkeys(self.pcrs.saved, OF_IMAGE) if has_image else {}
+
+    def note(self, seen: Seen) -> None:
+        """An event, once the history has it."""
+        if self.pcrs.updates > self.updates:
+            is_clear = seen.accepted.code == CC.Clear
+            self.last_change = seen.line
+            self.last_words = "was an accepted TPM2_Clear" if is_clear else "wrote a PCR"
+        self.updates = self.pcrs.updates
+        if seen.is_power_cycle:
+            self.written = {}
+            return
+        event = seen.accepted
+        self.written |= dict.fromkeys(written_by(event), f"line {seen.line}")
+        if event.code == CC.Shutdown:
+            self.saved = dict(self.written)
+        if event.code == CC.Startup and event.read().next().number(2) == state.STATE:
+            for at, was in self.saved.items():
+                if at[1] < state.SAVED_PCRS:
+                    self.written[at] = f"{was}, and taken up by line {seen.line}"
+
+    def report(self) -> Iterator[str]:
+        values = self.pcrs.values.items()
+        changed = {at: value for at, value in values if value != pcrs.starting_value(*at)}
+        if not changed:
+            yield "PCRs: each has the value that a startup gives it."
+            return
+        yield "PCRs that are not as a startup leaves them, each with the line that wrote it last"
+        for at in sorted(changed, key=lambda it: BANKS.index(it[0])):
+            told = f"{HASH_WORDS[at[0]]} PCR {at[1]}: {changed[at].hex()}"
+            yield f"    {told}, {self.written[at]}"
+
+
+def written_by(event: Accepted) -> list[tuple[int, int]]:
+    """The banks and the PCR whose values a command writes."""
+    pcr = event.handles[0] if event.handles else -1
+    if not is_pcr(pcr):
+        return []
+    if event.code == CC.PCR_Extend:
+        return [(bank, pcr) for bank, _ in Pcrs.digests(event.read().next())]
+    is_write = event.code in (CC.PCR_Event, CC.PCR_Reset)
+    return [(bank, pcr) for bank in BANKS] if is_write else []
+
+
+class ValueLines:
+    """The line that set the value of each handle; what no line set is the start's."""
+
+    def __init__(self, has_image: bool) -> None:
+        self.at_first = "that the image has" if has_image else "of a new device"
+        self.set_by: dict[int, str] = {}
+
+    def note(self, seen: Seen) -> None:
+        if not seen.is_power_cycle:
+            handles = handles_set(seen.accepted)
+            self.set_by |= dict.fromkeys(handles, f"that line {seen.line} set")
+
+    def words(self, handle: int, value: bytes) -> str:
+        if not value:
+            return "the empty value"
+        return f"the value {self.set_by.get(handle, self.at_first)}"
+
+
+def handles_set(event: Accepted) -> list[int]:
+    if event.code in (CC.HierarchyChangeAuth, CC.NV_ChangeAuth):
+        return event.handles[:1]
+    if event.code == CC.NV_DefineSpace:
+        return [defined_index(event)]
+    if event.code in (CC.CreatePrimary, CC.Load):
+        return [event.handle]
+    if event.code == CC.EvictControl:
+        return [event.read().next().number(4)]
+    if event.code == CC.Startup and event.read().next().number(2) == state.CLEAR:
+        return [RH_PLATFORM]
+    return [RH_OWNER, RH_ENDORSEMENT, RH_LOCKOUT] if event.code == CC.Clear else []
+
+
+@dataclass
+class Counted:
+    """A counter: its first and its last value, each with its line, and how it ended, if it did."""
+
+    handle: int
+    since: str
+    values: tuple[int, ...] = ()
+    lines: tuple[str, ...] = ()
+    ended: str = ""
+
+    def count(self, value: int, line: str) -> None:
+        """A value is one more than that before it."""
+        self.values = (*self.values[:1], value)
+        self.lines = (*self.lines[:1], line)
+
+    def words(self) -> str:
+        told = [f"{value} ({line})" for value, line in zip(self.values, self.lines)]
+        values = "no value"
+        if len(told) == 1:
+            values = f"one value, {told[0]}"
+        elif told:
+            values = f"each value from {told[0]} to {told[1]}"
+        ended = f"; {self.ended}" if self.ended else ""
+        return f"  {handle_word(self.handle)} {self.since}: {values}{ended}"
+
+
+class CounterLines:
+    """Where each counter was defined, and the values that it had."""
+
+    def __init__(self, device: Model, history: History) -> None:
+        self.device, self.history = device, history
+        self.now: dict[int, Counted] = {}
+        self.all: list[Counted] = []
+        for handle in device.indices:
+            if self.is_counter(handle):
+                counted = self.begin(handle, "of the image")
+                if handle in history.counters.values:
+                    counted.count(history.counters.values[handle], "the image")
+
+    def is_counter(self, handle: int) -> bool:
+        return self.device.indices[handle].public.kind == nv.Type.COUNTER
+
+    def begin(self, handle: int, since: str) -> Counted:
+        counted = self.now[handle] = Counted(handle, since)
+        self.all.append(counted)
+        return counted
+
+    def note(self, seen: Seen) -> None:
+        """An event, once the history has it."""
+        if seen.is_power_cycle:
+            return
+        event, line = seen.accepted, f"line {seen.line}"
+        if event.code == CC.NV_DefineSpace and self.is_counter(defined_index(event)):
+            self.begin(defined_index(event), f"of {line}")
+        elif event.code == CC.NV_Increment:
+            handle = event.handles[1]
+            self.now[handle].count(self.history.counters.values[handle], line)
+        elif event.code in (CC.NV_UndefineSpace, CC.Clear):
+            for handle in [it for it in self.now if it not in self.device.indices]:
+                self.now.pop(handle).ended = f"undefined by {line}"
+
+    def report(self) -> Iterator[str]:
+        if not self.all:
+            yield "NV counters: none."
+            return
+        yield "NV counters, each with the values that it had"
+        yield from (it.words() for it in self.all)
+
+
+class Repeats:
+    """Commands with an hmac of an HMAC session that were accepted again, byte for byte, while the
+    session lived. What each had accepted: of a command, by its digest, the line and the nonceTPM of
+    then.
+    """
+
+    def __init__(self, sessions: SessionLines) -> None:
+        self.sessions, self.told = sessions, list[str]()
+
+    def note(self, use: Use) -> None:
+        """An entry with a ground, before the history has its command."""
+        if use.live is None or use.live.kind != SE_HMAC or not use.entry.hmac:
+            return
+        handle, nonce = use.entry.handle, use.live.nonce_tpm
+        accepted = self.sessions.live[handle].accepted
+        digest = hashlib.sha256(use.seen.buffer).digest()
+        if digest in accepted:
+            line, nonce_then = accepted[digest]
+            is_same = nonce == nonce_then
+            why = "its nonceTPM is that of then" if is_same else "two texts have one hmac"
+            session = f"HMAC session {handle_word(handle)} of {self.sessions.words(handle)}"
+            again = f"line {use.seen.line}: {command_words(use.code)} of line {line} again"
+            self.told.append(f"  {again}, by {session}: {why}")
+        accepted[digest] = use.seen.line, nonce
+
+    def report(self) -> Iterator[str]:
+        if not self.told:
+            yield "Commands accepted again with an hmac: none."
+            return
+        yield "Commands accepted again with an hmac, byte for byte"
+        yield from self.told

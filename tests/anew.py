@@ -1,0 +1,20 @@
+"""Writes scripts anew, and what they print, by the programs that stand beside them:
+
+    tools/python.sh tests/anew.py tests/objects/create.py ..
+
+A program has the caller `tpm`, whose script is written when the program has ended, or a function
+`write_script`; or it has written its own by then.
+"""
+
+import importlib
+import pathlib
+import sys
+
+
+names = sys.argv[1:]
+for name in names:
+    program = importlib.import_module(".".join(pathlib.Path(name).with_suffix("").parts))
+    if hasattr(program, "write_script"):
+        program.write_script()
+    elif hasattr(program, "tpm"):
+        program.tpm.script.write()

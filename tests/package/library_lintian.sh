@@ -1,0 +1,22 @@
+# lintian finds no error in the package, which has the modules where their headers are; and finds one
+# in a package that has no copyright file.
+tests=$(cd "$(dirname "$0")/.." && pwd -P)
+. "$tests/common/cases.sh"
+needs dpkg-deb python3 lintian
+top=${tests%/*}
+
+package=$(TPMSIM_PACKING=gzip "$top/tools/deb.sh" made 2>said) || cat said
+mkdir -p wrong/DEBIAN
+cat >wrong/DEBIAN/control <<'END'
+Package: wrong
+Version: 1
+Architecture: all
+Maintainer: Nobody <nobody@debian.org>
+Description: package without a copyright file
+ It has nothing in it.
+END
+dpkg-deb -Zgzip --root-owner-group -b wrong wrong.deb >said
+lintian --allow-root --no-cfg "$package" wrong.deb >found 2>&1
+echo "status $?"
+grep '^E: ' found
+echo "lines about the package: $(grep -c ': tpmsim: ' found | sed 's/^[1-9].*/some/')"

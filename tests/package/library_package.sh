@@ -1,0 +1,79 @@
+# The package for Debian: it is unpacked into an empty root, and what is in it runs from there.
+tests=$(cd "$(dirname "$0")/.." && pwd -P)
+. "$tests/common/cases.sh"
+needs dpkg-deb cc pkg-config man python3
+top=${tests%/*}
+root=$room/root
+
+# said COMMAND..: what a command prints, at its head, and its status where that is not 0.
+said() {
+    "$@" >said 2>&1 || echo "status $?" >>said
+    head -n "${lines:-3}" said | sed -e "s|$root|ROOT|g" -e "s|$top|TOP|g"
+}
+
+# A compiler that has no header of others, so that the modules are left out.
+mkdir headers
+cat >headers/cc <<END
+#!/bin/sh
+[ "\$1" != -E ] || exit 1
+exec $(command -v cc) "\$@"
+END
+chmod +x headers/cc
+
+echo '== it is made'
+version=$("$top/dist/tpmsim" --version | sed 's/.* //')
+said env PATH="$room/folder/headers:$PATH" TPMSIM_PACKING=none "$top/tools/deb.sh" "$room/made" |
+    sed -e "s/$version/VERSION/" -e "s|$room|ROOM|"
+package=$room/made/tpmsim_${version}_amd64.deb
+dpkg-deb -f "$package" Package Architecture Depends Description | head -n 4
+dpkg-deb -x "$package" "$root" && dpkg-deb -e "$package" control
+[ "$(cd "$root" && find usr -type f | wc -l)" -eq "$(wc -l <control/md5sums)" ] &&
+    (cd "$root" && md5sum -c --quiet "$room/folder/control/md5sums") && echo 'each file has its sum'
+
+PATH=$root/usr/bin:$PATH
+LD_LIBRARY_PATH=$root/usr/lib/x86_64-linux-gnu
+PKG_CONFIG_PATH=$LD_LIBRARY_PATH/pkgconfig
+PKG_CONFIG_SYSROOT_DIR=$root
+export LD_LIBRARY_PATH PKG_CONFIG_PATH PKG_CONFIG_SYSROOT_DIR
+unset PYTHONPATH TPMSIM TPMSIM_LIBRARY
+
+echo '== the program and the tools'
+printf 'do Startup 0\ndo NV_Read OWNER 01000001 pw:- 8 0\n' >log
+said sh -c 'cd / && command -v tpmsim'
+lines=4 said tpmsim run --trace log
+said tpmsim-explain log
+tpmsim run --trace log | tpmsim-audit log - | tail -n 2
+lines=1 said tpmsim-compare
+lines=1 said tpmsim-simulator --help
+
+echo '== the library, and the package in Python'
+cat >program.c <<'END'
+#include <tpmsim.h>
+int main(void) { return tpmsim_version() != TPMSIM_VERSION_NUMBER; }
+END
+# shellcheck disable=SC2046 # they are words
+cc -o shared program.c $(pkg-config --cflags --libs tpmsim) && ./shared && echo 'the shared object'
+# shellcheck disable=SC2046 # as above
+cc -o static program.c $(pkg-config --cflags tpmsim) "$LD_LIBRARY_PATH/libtpmsim.a" && ./static &&
+    echo 'the archive'
+cat >program.py <<'END'
+import importlib.metadata
+import tpmsim
+from tpmsim.caller import Caller
+from tpmsim.device import ChildDevice, LibraryDevice
+
+print(tpmsim.__version__ == importlib.metadata.version("tpmsim"))
+print([each.name for each in importlib.metadata.entry_points(group="pytest11")])
+for kind in LibraryDevice, ChildDevice:
+    with kind() as device:
+        tpm = Caller(device)
+        tpm.start_up()
+        print(kind.__name__, len(tpm.call("GetRandom", bytesRequested=4)["randomBytes"]))
+END
+PYTHONPATH=$root/usr/lib/python3/dist-packages lines=9 said python3 program.py
+
+echo '== man pages, documents and completion'
+man -M "$root/usr/share/man" -w tpmsim tpmsim-power libtpmsim | sed "s|$root|ROOT|"
+MANWIDTH=90 man -M "$root/usr/share/man" tpmsim-power 2>&1 | sed -n '3,5p'
+(cd "$root/usr/share/doc/tpmsim" && ls && cmp PROVED "$top/dist/PROVED")
+bash -c '. "$0" && complete -p tpmsim' "$root/usr/share/bash-completion/completions/tpmsim-audit"

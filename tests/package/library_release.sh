@@ -1,0 +1,44 @@
+# tools/release.sh, in a copy of the repository whose dist/ is said to be of its sources: what stands in
+# the way of a release, and what it makes.
+tests=$(cd "$(dirname "$0")/.." && pwd -P)
+. "$tests/common/cases.sh"
+needs git dpkg-deb python3
+top=${tests%/*}
+
+mkdir copy none
+printf '#!/bin/sh\nexit 1\n' >none/cc
+chmod +x none/cc
+(cd "$top" && tar cf - --exclude=out --exclude=must-fail --exclude=__pycache__ CHANGELOG.md Makefile \
+    README.md HANDLES crates crates.txt attached dist docs examples library packaging python/pyproject.toml \
+    python/tpmsim tools tpmsim .gitignore) | tar xf - -C copy
+cd copy || exit 1
+version=$(dist/tpmsim --version | sed 's/.* //')
+for of in '' tpmsim_library; do
+    # shellcheck disable=SC2086 # an empty word is none
+    sum=$(. tools/lib/proved.sh && sources_checksum $of)
+    sed -i "s/^${of:+library }sources: .*/${of:+library }sources: $sum/" dist/PROVED
+done
+printf '# Changelog\n\n## %s, 2026-11-27\n\n- All is new.\n\n## 0.0.1, 2025-01-01\n\n- Old.\n' "$version" >CHANGELOG.md
+export GIT_AUTHOR_NAME=Somebody GIT_AUTHOR_EMAIL=somebody@localhost
+export GIT_COMMITTER_NAME=Somebody GIT_COMMITTER_EMAIL=somebody@localhost TPMSIM_PACKING=none
+PATH=$room/folder/none:$PATH
+git init -q . && git add . && git commit -q -m 'Begin'
+
+# release LABEL: what is said of a release, with no version, no checksum of a file and no time.
+release() {
+    echo "== $1"
+    tools/release.sh "$room/made" 2>&1 | sed -e 's/[0-9a-f]\{64\}/SUM/' -e "s/$version/VERSION/g" \
+        -e 's/is at [0-9a-f]*;/is at COMMIT;/' -e 's/after [0-9]* ms/after some ms/' -e "s|$room|ROOM|"
+    [ -d "$room/made" ] || git tag
+}
+
+sed -i 's/^## .*, 2026-11-27/## Unreleased/' CHANGELOG.md
+echo '-- a comment' >>"crates/tpm_library/src/lib.rt"
+release 'something stands in the way'
+git checkout -q .
+release 'a release'
+(cd "$room/made" && sha256sum -c --quiet SHA256SUMS && cmp PROVED "$room/folder/copy/dist/PROVED" &&
+    dpkg-deb -f ./*.deb Package &&
+    tar tzf "tpmsim-$version.tar.gz" "tpmsim-$version/dist/tpmsim" | sed "s/$version/VERSION/g")
+git cat-file tag "v$version" | sed -e '1,/^$/d' -e "s/$version/VERSION/"
+release 'it is there'

@@ -1,0 +1,62 @@
+"""Reads the steps of the workflows for GitHub and GitLab, of the part of YAML that they use.
+
+    python3 tests/package/steps.py FOLDER [--run]
+
+It prints each command of .github/workflows/*.yml and .gitlab-ci.yml in FOLDER, and of each what it
+names that is not there: a path of the repository, or a target of the Makefile. The status is 1 where
+something is not there. With --run it runs the commands in FOLDER, but for those of apt-get and of
+git, each one once, and ends at the first that fails.
+"""
+
+import pathlib
+import re
+import subprocess
+import sys
+
+STEP = re.compile(r"^ *- run: (.+)$", re.M)
+LISTS = re.compile(r"^ +(?:before_script|script|after_script):\n((?: +- .+\n)+)", re.M)
+ITEM = re.compile(r"^ +- (.+)$", re.M)
+PATH = re.compile(r"(?<![\w$/.-])(?:\./)?((?:\.?[\w-]+/)+[\w.*-]+)")
+TARGET = re.compile(r"\bmake((?: +[a-z_]+)+)")
+
+
+def commands_of(text: str) -> list[str]:
+    """The commands of a workflow, in their order."""
+    if "on:" in text.split("\njobs:")[0]:
+        return STEP.findall(text)
+    return [command for items in LISTS.findall(text) for command in ITEM.findall(items)]
+
+
+def missing(folder: pathlib.Path, command: str) -> list[str]:
+    """What a command names and is not there."""
+    makefile = (folder / "Makefile").read_text()
+    targets = [target for found in TARGET.findall(command) for target in found.split()]
+    return [path for path in PATH.findall(command) if not (folder / path).exists()] + [
+        f"make {target}" for target in targets if not re.search(rf"^{target}:", makefile, re.M)
+    ]
+
+
+def main(folder: pathlib.Path, runs: bool) -> int:
+    status, done = 0, set()
+    for file in [*sorted(folder.glob(".github/workflows/*.yml")), folder / ".gitlab-ci.yml"]:
+        print(file.relative_to(folder))
+        commands = commands_of(file.read_text())
+        if not commands:
+            print("    has no command")
+            status = 1
+        for command in commands:
+            print(f"    {command}")
+            for name in missing(folder, command):
+                print(f"        {name} is not there")
+                status = 1
+            if runs and command not in done and not command.startswith(("apt-get ", "git ")):
+                done.add(command)
+                sys.stdout.flush()
+                if subprocess.run(command, shell=True, cwd=folder, check=False).returncode:
+                    print(f"        {command} fails")
+                    return 1
+    return status
+
+
+if __name__ == "__main__":
+    sys.exit(main(pathlib.Path(sys.argv[1]), sys.argv[2:] == ["--run"]))

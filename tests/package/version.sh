@@ -1,0 +1,34 @@
+# All places that say the version say the same one. In a copy where one of them says another, that is
+# told, whichever it is.
+tests=$(cd "$(dirname "$0")/.." && pwd -P)
+. "$tests/common/cases.sh"
+top=${tests%/*}
+
+echo '== this repository'
+"$top/tools/version.sh" "$program" | sed "s/^$("$program" --version | sed 's/.* //') /the same: /"
+"$top/tools/version.sh" "$program" >told
+echo "status $?"
+
+# turn FILE FROM TO: tells a copy in which this file says something else.
+turn() {
+    rm -rf copy
+    mkdir -p copy/tools copy/python/tpmsim
+    cp "$top/tools/version.sh" copy/tools/
+    (cd "$top" && tar cf - CHANGELOG.md library dist/tpmsim.h dist/tpmsim.pc python/pyproject.toml \
+        python/tpmsim/__init__.py) | tar xf - -C copy
+    sed "s/$2/$3/" "copy/$1" >turned
+    cmp -s turned "copy/$1" && echo "$1 is as it was"
+    cp turned "copy/$1"
+    copy/tools/version.sh "$program" >told
+    echo "$1: status $?, $(grep -c -v "^$version " told) otherwise"
+}
+
+echo '== one of them turned'
+version=$("$program" --version | sed 's/.* //')
+turn CHANGELOG.md "$version" 9.9.9
+turn library/tpmsim.h 'NUMBER 0x00' 'NUMBER 0x09'
+turn library/tpmsim.pc '^Version: .*' 'Version: 1'
+turn dist/tpmsim.h 'NUMBER 0x' 'NUMBER '
+turn dist/tpmsim.pc '^Version: .*' ''
+turn python/pyproject.toml '^version = ".*"' 'version = "9.9.9"'
+turn python/tpmsim/__init__.py '"[0-9.]*"$' '"9.9.9"'

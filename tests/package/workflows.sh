@@ -1,0 +1,21 @@
+# The workflows for GitHub and GitLab name files and targets that are there. steps.py runs their
+# commands by --run, which no test does.
+tests=$(cd "$(dirname "$0")/.." && pwd -P)
+. "$tests/common/cases.sh"
+needs python3
+top=${tests%/*}
+
+python3 "$tests/package/steps.py" "$top"
+echo "status $?"
+
+echo '== what they name is not there'
+mkdir -p copy/.github/workflows copy/tools
+for file in .github/workflows/checks.yml .gitlab-ci.yml; do
+    sed 's|tools/|tools/no_|' "$top/$file" >"copy/$file"
+done
+sed 's/^deb:/rpm:/' "$top/Makefile" >copy/Makefile
+python3 "$tests/package/steps.py" copy
+echo "status $?"
+
+echo '== the packages that they install'
+LC_ALL=C sort -c "$top/packaging/debian_packages" && grep -c . "$top/packaging/debian_packages"

@@ -1,0 +1,70 @@
+#!/bin/sh
+# Makes the package for Debian and its like, tpmsim_VERSION_amd64.deb, and prints its path. The same
+# commit makes the same bytes by the same tools.
+#
+#   tools/deb.sh [FOLDER]   in FOLDER; else in out/
+#
+# TPMSIM_MAINTAINER is whom the package names, else who wrote the last commit; TPMSIM_PACKING is how
+# dpkg-deb packs, else xz. tools/install.sh says what is in the package. Needs dpkg-deb and python3;
+# no proof is run.
+set -u
+umask 022
+folder=$(realpath -m "${1:-$(dirname "$0")/../out}") && cd "$(dirname "$0")/.." || exit 1
+
+# fail REASON: ends the script.
+fail() {
+    echo "$0: $1" >&2
+    exit 1
+}
+
+# How many KiB the files have that are installed, each rounded up, on whatever file system.
+size() {
+    find "$root/usr" -type f -printf '%s\n' | awk '{ sum += int(($1 + 1023) / 1024) } END { print sum }'
+}
+
+# Prints packaging/control with the facts of this package in the places of their names.
+control() {
+    sed -e "s|@VERSION@|$version|" -e "s|@MAINTAINER@|$maintainer|" -e "s|@SIZE@|$(size)|" \
+        -e "s|@PURPOSE@|$purpose|" packaging/control
+}
+
+# Puts what Debian wants of each package beside what is installed.
+describe() {
+    documents=$root/usr/share/doc/tpmsim
+    mkdir "$root/DEBIAN" || return 1
+    install -D -m 644 packaging/copyright "$documents/copyright"
+    printf 'tpmsim (%s) unstable; urgency=low\n\n  * As CHANGELOG.md says.\n\n -- %s  %s\n' \
+        "$version" "$maintainer" "$(LC_ALL=C date -u -R -d "@$SOURCE_DATE_EPOCH")" |
+        gzip -9n >"$documents/changelog.gz"
+    control >"$root/DEBIAN/control" || return 1
+    echo 'activate-noawait ldconfig' >"$root/DEBIAN/triggers"
+    for library in libtpmsim libtss2-tcti-tpmsim; do
+        [ ! -e "$root/usr/lib/x86_64-linux-gnu/$library.so.0" ] ||
+            echo "$library 0 tpmsim (>= $version)" >>"$root/DEBIAN/shlibs"
+    done
+    install -D -m 644 packaging/lintian "$root/usr/share/lintian/overrides/tpmsim"
+    (cd "$root" && find usr -type f -print0 | LC_ALL=C sort -z | xargs -0 md5sum) \
+        >"$root/DEBIAN/md5sums"
+}
+
+for tool in dpkg-deb python3; do
+    command -v "$tool" >/dev/null || fail "there is no $tool"
+done
+work=$(mktemp -d) || exit 1
+trap 'rm -rf "$work"' EXIT
+root=$work/root
+told=$(git log -1 --format='%ct %an <%ae>' 2>/dev/null) || told='0 tpmsim <tpmsim@localhost>'
+SOURCE_DATE_EPOCH=${SOURCE_DATE_EPOCH:-${told%% *}}
+export SOURCE_DATE_EPOCH
+maintainer=${TPMSIM_MAINTAINER:-${told#* }}
+version=$(dist/tpmsim --version) || fail 'dist/tpmsim does not run here'
+version=${version##* }
+purpose=$(dist/tpmsim --help | sed -n '1s/^A //p')
+DESTDIR=$root PREFIX=/usr LIBRARIES=lib/x86_64-linux-gnu PACKAGES=lib/python3/dist-packages \
+    FUNCTIONS=share/zsh/vendor-completions tools/install.sh || exit 1
+describe || fail 'the package is not described'
+package=$folder/tpmsim_${version}_amd64.deb
+mkdir -p "$folder" || fail "$folder is no folder"
+dpkg-deb --root-owner-group -Z"${TPMSIM_PACKING:-xz}" -b "$root" "$package" >"$work/said" ||
+    fail "$package is not made"
+echo "$package"

@@ -1,0 +1,114 @@
+#!/bin/sh
+# Puts the shipped program, and all that belongs to it, where software is installed. It builds no
+# proof: the program and the library are those of dist/.
+#
+#   tools/install.sh    with these variables:
+#     PREFIX     the folder that all is put in; /usr/local
+#     DESTDIR    what stands before that, as of a package that is made; nothing
+#     LIBRARIES  the folder of libraries in PREFIX; lib
+#     PACKAGES   the folder of Python packages in PREFIX; lib/tpmsim/python
+#     FUNCTIONS  the folder of zsh's functions in PREFIX; share/zsh/site-functions
+#
+# The modules for libtss2 and for swtpm are made where the headers are there that they need, and are
+# left out with a line else. Needs python3.
+set -u
+umask 022
+cd "$(dirname "$0")/.." || exit 1
+. tools/lib/proved.sh
+prefix=${PREFIX:-/usr/local}
+libraries=${LIBRARIES:-lib}
+packages=${PACKAGES:-lib/tpmsim/python}
+functions=${FUNCTIONS:-share/zsh/site-functions}
+root=${DESTDIR:-}$prefix
+
+# fail REASON: ends the script.
+fail() {
+    echo "$0: $1" >&2
+    exit 1
+}
+
+# put MODE SOURCE PLACE: a file, by its place in PREFIX.
+put() {
+    install -D -m "$1" "$2" "$root/$3" || fail "$root/$3 is not written"
+}
+
+# link TARGET PLACE: a link, which leads from its own place.
+link() {
+    if ! { mkdir -p "$root/$(dirname "$2")" && ln -sf "$1" "$root/$2"; }; then
+        fail "$root/$2 is not written"
+    fi
+}
+
+# has_header HEADER: whether the compiler finds it.
+has_header() {
+    echo "#include <$1>" | cc -E - >"$work/header" 2>&1
+}
+
+put_program() {
+    is_proved program "$(checksum <"$shipped")" || fail "$shipped is not the program of $proved"
+    put 755 "$shipped" bin/tpmsim
+    python3 packaging/python.py "$root" "$packages" bin || fail 'the Python package is not written'
+}
+
+put_library() {
+    is_proved 'library archive' "$(checksum <"$archive")" || fail "$archive is not that of $proved"
+    is_proved 'library shared object' "$(checksum <"$shared")" ||
+        fail "$shared is not that of $proved"
+    put 644 "$archive" "$libraries/libtpmsim.a"
+    put 644 "$shared" "$libraries/libtpmsim.so.0"
+    link libtpmsim.so.0 "$libraries/libtpmsim.so"
+    put 644 dist/tpmsim.h include/tpmsim.h
+    # shellcheck disable=SC2016 # pkg-config reads the names
+    sed -e "1iprefix=$prefix\nincludedir=\${prefix}/include\nlibdir=\${prefix}/$libraries\n" \
+        -e 's/-I[$]{pcfiledir}/-I${includedir}/' -e 's/-L[$]{pcfiledir}/-L${libdir}/' \
+        dist/tpmsim.pc >"$work/tpmsim.pc" && put 644 "$work/tpmsim.pc" "$libraries/pkgconfig/tpmsim.pc"
+}
+
+put_modules() {
+    if has_header tss2/tss2_tcti.h; then
+        tools/interop/attached.sh "$work/libtss2" || exit 1
+        for file in "$work"/libtss2/*; do
+            case $file in
+            *.so.0) put 644 "$file" "$libraries/${file##*/}" ;;
+            *) put 755 "$file" "bin/${file##*/}" ;;
+            esac
+        done
+    else
+        echo "$0: there is no module for libtss2, whose header libtss2-dev has" >&2
+    fi
+    if has_header libtpms/tpm_library.h; then
+        tools/interop/attached_swtpm.sh "$work/swtpm" || exit 1
+        put 644 "$work/swtpm/libtpms.so.0" lib/tpmsim/swtpm/libtpms.so.0
+        for file in tpmsim-swtpm swtpm_setup; do
+            put 755 "$work/swtpm/$file" "lib/tpmsim/swtpm/$file"
+        done
+        link tpmsim-swtpm lib/tpmsim/swtpm/swtpm
+        link ../lib/tpmsim/swtpm/tpmsim-swtpm bin/tpmsim-swtpm
+    else
+        echo "$0: there is no module for swtpm, whose header libtpms-dev has" >&2
+    fi
+}
+
+put_documents() {
+    tools/man/pages.py "$work/man" || fail 'the man pages are not made'
+    for page in "$work"/man/*; do
+        gzip -9n "$page" || fail "$page is not packed"
+        put 644 "$page.gz" "share/man/man${page##*.}/${page##*/}.gz"
+    done
+    put 644 packaging/tpmsim.bash share/bash-completion/completions/tpmsim
+    for tool in audit compare explain simulator; do
+        link tpmsim "share/bash-completion/completions/tpmsim-$tool"
+    done
+    put 644 packaging/_tpmsim "$functions/_tpmsim"
+    for file in README.md CHANGELOG.md docs/* docs/table/* examples/*; do
+        [ ! -f "$file" ] || put 644 "$file" "share/doc/tpmsim/$file"
+    done
+    put 644 "$proved" share/doc/tpmsim/PROVED
+}
+
+work=$(mktemp -d) || exit 1
+trap 'rm -rf "$work"' EXIT
+put_program
+put_library
+put_modules
+put_documents

@@ -1,0 +1,133 @@
+#!/bin/busybox sh
+# shellcheck shell=dash
+# What a guest of tools/interop/guest.sh does: it is the first process of its Linux. Each line that begins with
+# RESULT is read by tools/interop/guest.sh. What it does is said by `guest=` on the kernel's command line:
+#
+#   pcrs   tells the PCRs as firmware and kernel left them
+#   move   extends PCR 20 from locality 2 and PCR 15 from locality 0, waits as its machine moves to another
+#          QEMU, and does the same again there
+#   work   tells the PCRs too; then it makes an NV index and a sealed object, and reboots. Where they are there
+#          already, it opens them. With `sleep` it sleeps between (S3)
+/bin/busybox mkdir -p /proc /sys /dev /tmp /bin /sbin
+/bin/busybox --install -s /bin
+mount -t proc proc /proc
+mount -t sysfs sys /sys
+mount -t devtmpfs dev /dev
+mount -t securityfs security /sys/kernel/security
+export PATH=/bin:/usr/bin LD_LIBRARY_PATH=/lib HOME=/tmp TPM2TOOLS_TCTI=device:/dev/tpm0
+cd /tmp || exit 1
+what=$(sed -n 's/.*guest=\([a-z]*\).*/\1/p' /proc/cmdline)
+
+result() {
+    echo "RESULT $*" >/dev/ttyS0
+}
+
+# tool LABEL WORDS..: runs a tool of tpm2-tools, and tells whether it did what was asked.
+tool() {
+    label=$1
+    shift
+    if timeout 60 tpm2 "$@" >output 2>error </dev/null; then
+        result ok "$label"
+    else
+        result FAILED "$label: $(tail -n 1 error)"
+    fi
+}
+
+# same LABEL TEXT: what the tool before printed is this text.
+same() {
+    if [ "$(cat output)" = "$2" ]; then
+        result ok "$1"
+    else
+        result FAILED "$1: $(head -c 80 output)"
+    fi
+}
+
+off() {
+    sync
+    poweroff -f
+}
+
+# at_locality_2 HEX: a command by the registers of tpm-tis, which stays at locality 2. It tells the code of
+# the response.
+at_locality_2() {
+    base=0xFED42
+    devmem ${base}000 8 2
+    devmem ${base}018 32 0x40
+    for byte in $(echo "$1" | sed 's/../& /g'); do devmem ${base}024 8 "0x$byte"; done
+    devmem ${base}018 32 0x20
+    until [ $(($(devmem ${base}018 8) & 0x90)) -eq $((0x90)) ]; do sleep 0.1; done
+    code=
+    for place in 0 1 2 3 4 5 6 7 8 9; do
+        byte=$(devmem ${base}024 8)
+        [ "$place" -lt 6 ] || code=$code${byte#0x}
+    done
+    devmem ${base}018 32 0x40
+    result MOVE "locality 2 $code $(devmem ${base}000 8)"
+}
+
+move() {
+    digest=0000000000000000000000000000000000000000000000000000000000000007
+    extend=80020000004100000182000000140000000940000009000001000000000001000b$digest
+    at_locality_2 "$extend"
+    result READY
+    sleep 20
+    at_locality_2 "$extend"
+    devmem 0xFED42000 8 0x20
+    tpm2 pcrextend "15:sha256=$digest"
+    result MOVE "20 $(cat /sys/class/tpm/tpm0/pcr-sha256/20 2>&1)"
+    result MOVE "15 $(cat /sys/class/tpm/tpm0/pcr-sha256/15 2>&1)"
+    result MOVED
+}
+
+result 'VERSION' "$(cat /sys/class/tpm/tpm0/tpm_version_major 2>&1)"
+for bank in sha1 sha256; do
+    for pcr in 0 1 2 3 4 5 6 7 8 9 10 15 16 17 23; do
+        result PCR "$bank:$pcr" "$(cat "/sys/class/tpm/tpm0/pcr-$bank/$pcr" 2>&1)"
+    done
+done
+log=/sys/kernel/security/tpm0/binary_bios_measurements
+result LOG "$([ -s "$log" ] && echo 'is there' || echo 'is not there')"
+if [ "$what" = move ]; then
+    move
+    sleep 30
+fi
+[ "$what" = work ] || off
+
+digest=0000000000000000000000000000000000000000000000000000000000000007
+if tpm2 nvreadpublic 0x1500016 >output 2>&1; then
+    tool 'the NV index is read again' nvread 0x1500016 -C o -s 8
+    same 'it has its data' indexed1
+    tool 'the PCR is extended again' pcrextend "15:sha256=$digest"
+    tool 'what is sealed is opened again' unseal -c 0x81000002 -p pcr:sha256:15
+    same 'it is what was sealed' disk-key
+    off
+fi
+printf indexed1 >data
+printf disk-key >key
+tool 'an NV index is defined' nvdefine 0x1500016 -C o -s 8 -a 'ownerread|ownerwrite'
+tool 'it is written' nvwrite 0x1500016 -C o -i data
+tool 'a PCR is extended' pcrextend "15:sha256=$digest"
+tool 'a parent is made' createprimary -C o -G aes128cfb -g sha256 -c parent
+tool 'and kept' evictcontrol -C o -c parent 0x81000001
+tool 'a policy of the PCR' createpolicy --policy-pcr -l sha256:15 -L policy
+tool 'data are sealed to it' create -C 0x81000001 -i key -u public -r private -L policy -g sha256 \
+    -a 'fixedtpm|fixedparent'
+tool 'they are loaded' load -C 0x81000001 -u public -r private -c sealed
+tool 'and kept' evictcontrol -C o -c sealed 0x81000002
+tool 'they are opened' unseal -c 0x81000002 -p pcr:sha256:15
+same 'they are what was sealed' disk-key
+TPM2TOOLS_TCTI=device:/dev/tpmrm0
+tool 'they are opened by the resource manager' unseal -c 0x81000002 -p pcr:sha256:15
+same 'they are what was sealed' disk-key
+TPM2TOOLS_TCTI=device:/dev/tpm0
+
+if grep -q sleep /proc/cmdline; then
+    echo +3 >/sys/class/rtc/rtc0/wakealarm
+    echo deep >/sys/power/mem_sleep
+    if echo mem >/sys/power/state; then result ok 'it slept'; else result FAILED 'it slept'; fi
+    tool 'what is sealed is opened after that, by the PCR that was extended' \
+        unseal -c 0x81000002 -p pcr:sha256:15
+    same 'it is what was sealed' disk-key
+fi
+sync
+reboot -f

@@ -1,0 +1,353 @@
+#!/bin/sh
+# Uses a tpmsim under swtpm: with Debian's tpm2-tools, by libtss2's transport `swtpm`, policy tools
+# included, and with swtpm_ioctl; and says of each case whether it went as it should. It restarts swtpm, moves
+# the running device from one swtpm to another, kills it, fills its disk, and damages what it keeps. Not part
+# of the gate. It installs nothing, and leaves nothing.
+#
+#   tools/interop/swtpm_tools.sh
+#
+# Needs Debian's swtpm, swtpm-tools, libtpms-dev, tpm2-tools, libtss2-tcti-swtpm0, socat and busybox. The folder of
+# tools/interop/attached_swtpm.sh is that of $ATTACHED, or it is made. A case that cannot be tried is told as
+# skipped, with its reason.
+set -u
+
+top=$(CDPATH='' cd "$(dirname "$0")/../.." && pwd -P) || exit 1
+for needed in swtpm swtpm_ioctl tpm2 socat busybox; do
+    command -v "$needed" >/dev/null || {
+        echo "$0: $needed is not there; the head of this file says what is needed" >&2
+        exit 2
+    }
+done
+folder=$(mktemp -d)
+trap 'end_tpm; rm -rf "$folder"' EXIT
+cd "$folder" || exit 1
+port=${PORT:-24331}
+tpm=
+passed=0
+failed=0
+skipped=0
+
+ok() {
+    echo "ok: $1"
+    passed=$((passed + 1))
+}
+
+fail() {
+    echo "FAILED: $1"
+    failed=$((failed + 1))
+}
+
+skip() {
+    echo "skipped: $1: $2"
+    skipped=$((skipped + 1))
+}
+
+# begin_tpm FOLDER WORDS..: swtpm on the state of a folder, and waits until it is there.
+begin_tpm() {
+    state=$1
+    shift
+    "$attached/tpmsim-swtpm" socket --tpm2 --tpmstate "dir=$state" --ctrl "type=tcp,port=$((port + 1))" \
+        --server "type=tcp,port=$port" --log "file=$folder/log,level=1" "$@" &
+    tpm=$!
+    until swtpm_ioctl --tcp "127.0.0.1:$((port + 1))" -c >capability 2>&1; do
+        kill -0 "$tpm" 2>/dev/null || { fail 'swtpm does not start'; return 1; }
+        sleep 0.05
+    done
+}
+
+# end_tpm: ends swtpm, if there is one.
+end_tpm() {
+    [ -z "$tpm" ] || { kill "$tpm" 2>/dev/null && wait "$tpm" 2>/dev/null; }
+    tpm=
+}
+
+# ioctl WORDS..: a message by the control channel; what is told is in the file output.
+ioctl() {
+    timeout 20 swtpm_ioctl --tcp "127.0.0.1:$((port + 1))" "$@" >output 2>error
+}
+
+# succeeds NAME COMMAND..: a command that has to succeed.
+succeeds() {
+    name=$1
+    shift
+    if "$@"; then ok "$name"; else fail "$name: $(cat error)"; fi
+}
+
+# refused NAME COMMAND..: a command that must not succeed.
+refused() {
+    name=$1
+    shift
+    if "$@"; then fail "$name"; else ok "$name: $(tail -n 1 error)"; fi
+}
+
+# tool WORDS..: runs a tool of tpm2-tools, for at most twenty seconds.
+tool() {
+    succeeds "tpm2 $*" run_tool "$@"
+}
+
+run_tool() {
+    timeout 20 tpm2 "$@" >output 2>error
+}
+
+# same FILE: what the tool before printed is what stands in a file.
+same() {
+    cmp -s output "$1" || fail "other bytes than $1"
+}
+
+# Whether tools can hand objects and sessions on by contexts, for which the device needs TPM2_ContextSave.
+contexts=
+find_contexts() {
+    run_tool startauthsession -S found.context || return
+    contexts=yes
+    tool flushcontext found.context
+    tool getcap algorithms
+}
+
+# of_context WORDS..: runs a tool that takes a context or gives one.
+of_context() {
+    if [ -n "$contexts" ]; then
+        tool "$@"
+    else
+        skip "tpm2 $*" 'the device has no TPM2_ContextSave'
+    fi
+}
+
+simple() {
+    tool startup -c
+    find_contexts
+    tool getrandom --force --hex 16
+    for what in commands properties-fixed properties-variable pcrs handles-persistent; do
+        tool getcap "$what"
+    done
+    tool pcrread sha256:0,10
+    tool pcrextend 10:sha256=0000000000000000000000000000000000000000000000000000000000000001
+    tool pcrreset 16
+    tool pcrevent 16 event
+    tool readclock
+    tool changeauth -c o owner
+    tool changeauth -c o -p owner
+    tool nvdefine 0x1500016 -C o -s 8 -a 'ownerread|ownerwrite'
+    tool nvwrite 0x1500016 -C o -i data
+    tool nvread 0x1500016 -C o -s 8
+    same data
+    tool nvundefine 0x1500016 -C o
+}
+
+# A key that is sealed to PCR 10, by contexts that one tool gives to the next.
+sealing() {
+    of_context createprimary -C o -G aes128cfb -g sha256 -c primary.context
+    of_context startauthsession -S trial.context
+    of_context policypcr -S trial.context -l sha256:10 -L policy
+    of_context flushcontext trial.context
+    of_context create -C primary.context -i key -u key.public -r key.private -L policy -g sha256 \
+        -a 'fixedtpm|fixedparent'
+    of_context load -C primary.context -u key.public -r key.private -c key.context
+    of_context startauthsession --policy-session -S session.context
+    of_context policypcr -S session.context -l sha256:10
+    of_context unseal -c key.context -p session:session.context
+    [ -z "$contexts" ] || same key
+    of_context flushcontext session.context
+    of_context flushcontext -t
+    of_context unseal -c key.context -p pcr:sha256:10
+    [ -z "$contexts" ] || same key
+}
+
+policies() {
+    of_context startauthsession -S session.context
+    of_context policyauthvalue -S session.context -L first
+    of_context policyrestart -S session.context
+    of_context policycommandcode -S session.context -L second TPM2_CC_Unseal
+    of_context policyrestart -S session.context
+    of_context policysecret -S session.context -c o
+    of_context policyrestart -S session.context
+    of_context policypassword -S session.context
+    of_context policyrestart -S session.context
+    of_context policyor -S session.context sha256:first,second
+    of_context policyrestart -S session.context
+    of_context policylocality -S session.context three
+    of_context flushcontext session.context
+    of_context startauthsession --hmac-session -S session.context
+    of_context sessionconfig session.context --enable-encrypt
+    of_context nvdefine 0x1500017 -C o -s 8 -P session:session.context
+    of_context nvundefine 0x1500017 -C o
+    of_context flushcontext session.context
+    tool clear -c p
+    tool shutdown
+}
+
+# The PCR that a device that is moved has to have, and its policy session.
+extended=0000000000000000000000000000000000000000000000000000000000000007
+
+# The device moves while it runs: with a PCR, a session and an object.
+moves() {
+    mkdir from to
+    begin_tpm "$folder/from" --flags not-need-init || return
+    tool startup -c
+    tool nvdefine 0x1500016 -C o -s 8 -a 'ownerread|ownerwrite'
+    tool nvwrite 0x1500016 -C o -i data
+    tool pcrextend "10:sha256=$extended"
+    of_context createprimary -C o -G aes128cfb -g sha256 -c primary.context
+    of_context startauthsession --policy-session -S session.context
+    of_context policypcr -S session.context -l sha256:10 -L policy
+    run_tool pcrread sha256:10 && cp output pcrs
+    succeeds 'the permanent state is saved' ioctl --save permanent permanent
+    succeeds 'the volatile state is saved' ioctl --save volatile volatile
+    end_tpm
+    begin_tpm "$folder/to" || return
+    succeeds 'the permanent state is loaded' ioctl --load permanent permanent
+    succeeds 'the volatile state is loaded' ioctl --load volatile volatile
+    succeeds 'power' ioctl -i
+    tool pcrread sha256:10
+    same pcrs
+    of_context policypcr -S session.context -l sha256:10 -L policy
+    of_context flushcontext session.context
+    of_context readpublic -c primary.context
+    tool nvread 0x1500016 -C o -s 8
+    same data
+    succeeds 'the volatile state is stored' ioctl -v
+    end_tpm
+    begin_tpm "$folder/to" --flags not-need-init || return
+    tool pcrread sha256:10
+    same pcrs
+    tool nvundefine 0x1500016 -C o
+    end_tpm
+    if "$attached/tpmsim-swtpm" socket --tpm2 --print-states --tpmstate "dir=$folder/to" >output 2>error &&
+        grep -q permall output && grep -q volatilestate output; then
+        ok 'swtpm tells the states'
+    else
+        fail "swtpm does not tell the states: $(cat output error)"
+    fi
+    begin_tpm "$folder/to" || return
+    refused 'a volatile state from before a change is refused' ioctl -i
+    grep 'another permanent state' log | tail -n 1
+    end_tpm
+}
+
+# bent FILE: the file with a byte in its middle turned.
+bent() {
+    size=$(($(wc -c <"$1") / 2))
+    { head -c "$size" "$1"; printf '\377'; tail -c "+$((size + 2))" "$1"; } >bent_file
+}
+
+# States that are damaged are refused, and what is kept stays.
+damage() {
+    mkdir damaged
+    cp from/tpm2-00.permall damaged
+    begin_tpm "$folder/damaged" || return
+    for kind in permanent volatile; do
+        bent "$kind"
+        refused "a bent $kind state is refused" ioctl --load "$kind" bent_file
+    done
+    end_tpm
+    cmp -s from/tpm2-00.permall damaged/tpm2-00.permall || fail 'what was kept is not as it was'
+    bent from/tpm2-00.permall
+    cp bent_file damaged/tpm2-00.permall
+    begin_tpm "$folder/damaged" || return
+    refused 'no power on a bent state' ioctl -i
+    cmp -s bent_file damaged/tpm2-00.permall || fail 'the bent state is not as it was'
+    end_tpm
+}
+
+# swtpm is killed behind an answer, and the device has all that was answered.
+kills() {
+    mkdir killed
+    begin_tpm "$folder/killed" --flags not-need-init,startup-clear || return
+    run_tool nvdefine 0x1500016 -C o -s 8 -a 'ownerread|ownerwrite' || fail "$(cat error)"
+    lost=0
+    for round in $(seq 20); do
+        printf 'round%03d' "$round" >written
+        run_tool nvwrite 0x1500016 -C o -i written || fail "$(cat error)"
+        kill -9 "$tpm"
+        wait "$tpm" 2>/dev/null
+        begin_tpm "$folder/killed" --flags not-need-init,startup-clear || return
+        run_tool nvread 0x1500016 -C o -s 8
+        cmp -s output written || lost=$((lost + 1))
+    done
+    end_tpm
+    if [ "$lost" -eq 0 ]; then ok '20 kills, nothing lost'; else fail "$lost of 20 kills lost a write"; fi
+}
+
+# A disk with no room: the command fails, the device is as it was, and goes on when there is room again.
+full_disk() {
+    mkdir full
+    if ! mount -t tmpfs -o size=16k tmpfs full 2>error; then
+        skip 'a full disk' "no file system can be mounted: $(cat error)"
+        return
+    fi
+    begin_tpm "$folder/full" --flags not-need-init,startup-clear || return
+    tool nvdefine 0x1500016 -C o -s 8 -a 'ownerread|ownerwrite'
+    tool nvwrite 0x1500016 -C o -i data
+    cat /dev/zero >full/filler 2>error
+    printf 12345670 >other
+    refused 'no write where the disk has no room' run_tool nvwrite 0x1500016 -C o -i other
+    tool nvread 0x1500016 -C o -s 8
+    same data
+    rm full/filler
+    tool nvwrite 0x1500016 -C o -i other
+    end_tpm
+    begin_tpm "$folder/full" --flags not-need-init,startup-clear || return
+    tool nvread 0x1500016 -C o -s 8
+    same other
+    end_tpm
+    umount full
+}
+
+# extend_17: TPM2_PCR_Extend of PCR 17, at the locality that was set, since tpm2-tools set their own. The
+# response code is printed.
+extend_17() {
+    printf '%s' "80020000004100000182000000110000000940000009000001000000000001000b$extended" |
+        busybox xxd -r -p | socat -t 2 - "TCP:127.0.0.1:$port" | head -c 10 | busybox xxd -p | cut -c 13-20
+}
+
+# What the control channel does, beside the states.
+control() {
+    mkdir control
+    begin_tpm "$folder/control" || return
+    refused 'no launch without power' ioctl -h 1234
+    succeeds 'power' ioctl -i
+    tool startup -c
+    succeeds 'a launch' ioctl -h 1234
+    succeeds 'it is told' ioctl -e
+    grep -q 'is 1' output || fail "$(cat output)"
+    refused 'it is not taken back from locality 1' ioctl -r 1
+    succeeds 'it is taken back from locality 3' ioctl -r 3
+    succeeds 'cancel' ioctl -C
+    succeeds 'the buffer' ioctl -b 0
+    refused 'no other buffer with power' ioctl -b 1024
+    succeeds 'information' ioctl --info 1
+    for locality in 0 1 2 3 4; do
+        succeeds "locality $locality" ioctl -l "$locality"
+        case $locality,$(extend_17) in
+        [234],00000000 | [01],00000907) ok "PCR 17 at locality $locality" ;;
+        *) fail "PCR 17 at locality $locality: $(extend_17)" ;;
+        esac
+    done
+    refused 'locality 5' ioctl -l 5
+    succeeds 'stop' ioctl --stop
+    refused 'no command without power' run_tool getrandom 4
+    succeeds 'power again' ioctl -i
+    tool startup -c
+    succeeds 'shutdown' ioctl -s
+    wait "$tpm"
+    tpm=
+}
+
+echo 12345678 | head -c 8 >data
+echo event >event
+printf secret >key
+attached=${ATTACHED:-$folder/attached}
+[ -n "${ATTACHED:-}" ] || "$top/tools/interop/attached_swtpm.sh" "$attached" || exit 1
+export TPM2TOOLS_TCTI="swtpm:host=127.0.0.1,port=$port"
+mkdir state
+begin_tpm "$folder/state" --flags not-need-init || exit 1
+simple
+sealing
+policies
+end_tpm
+moves
+damage
+kills
+full_disk
+control
+echo "$passed passed, $failed failed, $skipped skipped"
+[ "$failed" -eq 0 ]

@@ -1,0 +1,228 @@
+#!/bin/sh
+# Uses a device with Debian's tpm2-tools, each tool a process of its own, and says of each whether
+# it did what was asked. Not part of the gate. It installs nothing, and leaves nothing behind.
+#
+#   tools/interop/tpm2_tools.sh            by each of the two ways
+#   tools/interop/tpm2_tools.sh WAY..      by these:
+#
+#   socket    a served device, which the tools reach by their `cmd` transport and socat. Needs
+#             tpm2-tools and socat, and rt where the program is not built yet
+#   module    a kept device, by the module that tools/interop/attached.sh makes. Needs tpm2-tools and what
+#             that script needs; TPMSIM_ARCHIVE names another archive here too
+set -u
+
+top=$(CDPATH='' cd "$(dirname "$0")/../.." && pwd -P)
+[ "$#" -gt 0 ] || set -- socket module
+folder=$(mktemp -d) || exit 1
+server=
+# shellcheck disable=SC2329 # the trap calls it
+end() {
+    [ -z "$server" ] || kill "$server"
+    rm -rf "$folder"
+}
+trap end EXIT
+cd "$folder" || exit 1
+tools=0
+failed=0
+
+# fail REASON: ends the script, as a way cannot be gone.
+fail() {
+    echo "$0: $1" >&2
+    exit 2
+}
+
+# has TOOL: ends the script where a tool of Debian's packages tpm2-tools and socat is not there.
+has() {
+    command -v "$1" >/dev/null || fail "there is no $1; Debian has it in tpm2-tools and socat"
+}
+
+# wrong REASON: counts what is not as it has to be.
+wrong() {
+    echo "FAILED: $1"
+    failed=$((failed + 1))
+}
+
+# run WORDS..: runs a tool of tpm2-tools, for at most ten seconds.
+run() {
+    tools=$((tools + 1))
+    timeout 10 tpm2 "$@" >output 2>error
+}
+
+# tool WORDS..: runs a tool that has to do what is asked.
+tool() {
+    if run "$@"; then
+        echo "ok: tpm2 $*"
+    else
+        wrong "tpm2 $*"
+        sed 's/^/    /' error
+    fi
+}
+
+# refused CODE WORDS..: runs a tool that has to fail with a response code.
+refused() {
+    code=$1
+    shift
+    if run "$@"; then
+        wrong "tpm2 $*: it is not refused"
+    elif grep -qi "0x0*$code)" error; then
+        echo "ok: tpm2 $*: refused, $code"
+    else
+        wrong "tpm2 $*: it is refused otherwise"
+        sed 's/^/    /' error
+    fi
+}
+
+# same FILE: the tool before has printed what stands in a file.
+same() {
+    cmp -s output "$1" || wrong "other bytes than $1"
+}
+
+# said TEXT: the tool before has printed a line with a text.
+said() {
+    grep -q -- "$1" output || wrong "it does not say $1"
+}
+
+# PCR 10 after an extend by a digest of zeros that ends with 1, as hashlib has it.
+extended=$(python3 -c 'import hashlib; print(hashlib.sha256(bytes(63) + b"\1").hexdigest())')
+
+# The tools that use the device alone.
+device() {
+    tool startup -c
+    tool selftest -f
+    tool getrandom --force --hex 16
+    for what in commands handles-persistent handles-pcr handles-permanent handles-transient \
+        handles-nv-index pcrs; do
+        tool getcap "$what"
+    done
+    tool pcrread sha256:0,10
+    tool pcrread sha1:0,16+sha256:all
+    tool pcrextend "10:sha256=$one"
+    tool pcrread sha256:10
+    said "$(echo "$extended" | tr a-f A-F)"
+    tool pcrevent 16 event
+    tool pcrreset 16
+    tool readclock
+    tool changeauth -c o owner
+    refused 9a2 changeauth -c o -p another owner
+    tool changeauth -c o -p owner
+    tool dictionarylockout -s -n 5 -t 10 -l 10
+    tool dictionarylockout -c
+}
+
+# NV indices of each type.
+indices() {
+    tool nvdefine 0x1500016 -C o -s 8 -a 'ownerread|ownerwrite|authread|authwrite' -p pass
+    refused 14a nvread 0x1500016 -C o -s 8
+    tool nvwrite 0x1500016 -C o -i data
+    tool nvread 0x1500016 -C o -s 8
+    same data
+    tool nvwrite 0x1500016 -P pass -i data
+    tool nvread 0x1500016 -P pass -s 8
+    same data
+    refused 98e nvread 0x1500016 -P other -s 8
+    tool nvreadpublic 0x1500016
+    tool nvreadpublic
+    tool nvdefine 0x1500017 -C o -a 'ownerread|ownerwrite|nt=counter'
+    tool nvincrement 0x1500017 -C o
+    tool nvread 0x1500017 -C o -s 8
+    tool nvdefine 0x1500018 -C o -a 'ownerread|ownerwrite|nt=bits'
+    tool nvsetbits 0x1500018 -C o -i 0xbadc0de
+    tool nvdefine 0x1500019 -C o -a 'ownerread|ownerwrite|nt=extend'
+    tool nvextend 0x1500019 -C o -i event
+    tool nvdefine 0x150001a -C o -s 8 -a 'ownerread|ownerwrite|write_stclear|read_stclear'
+    tool nvwrite 0x150001a -C o -i data
+    tool nvwritelock 0x150001a -C o
+    refused 148 nvwrite 0x150001a -C o -i data
+    tool nvreadlock 0x150001a -C o
+    refused 148 nvread 0x150001a -C o -s 8
+    for index in 0x1500017 0x1500018 0x1500019 0x150001a; do
+        tool nvundefine "$index" -C o
+    done
+}
+
+# A key that is sealed to PCR 10, under persistent handles. Without the completing layer the tool
+# that loads it loads it, and then fails to save its context; the object is there under its handle.
+sealing() {
+    tool createprimary -C o -G aes128cfb -g sha256
+    tool evictcontrol -C o -c 0x80000000 0x81000001
+    tool flushcontext 0x80000000
+    tool readpublic -c 0x81000001
+    tool createpolicy --policy-pcr -l sha256:10 -L policy
+    tool create -C 0x81000001 -i key -u key.pub -r key.priv -L policy -g sha256 \
+        -a 'fixedtpm|fixedparent'
+    run load -C 0x81000001 -u key.pub -r key.priv -c context
+    tool evictcontrol -C o -c 0x80000000 0x81000002
+    tool flushcontext -t
+    tool unseal -c 0x81000002 -p pcr:sha256:10
+    same key
+    tool create -C 0x81000001 -G hmac -u hmac.pub -r hmac.priv
+    run load -C 0x81000001 -u hmac.pub -r hmac.priv -c context
+    tool evictcontrol -C o -c 0x80000000 0x81000003
+    tool flushcontext -t
+    tool hmac -c 0x81000003 --hex event
+    tool pcrextend "10:sha256=$one"
+    refused 99d unseal -c 0x81000002 -p pcr:sha256:10
+}
+
+# What a device has behind a power cycle.
+power_cycle() {
+    tool shutdown -c
+    made/tpmsim-power state || wrong 'the power cycle'
+    refused 100 getrandom --force --hex 16
+    tool startup -c
+    tool nvread 0x1500016 -C o -s 8
+    same data
+    tool pcrread sha256:10
+    said "$zeros"
+    tool pcrextend "10:sha256=$one"
+    tool unseal -c 0x81000002 -p pcr:sha256:10
+    same key
+}
+
+ending() {
+    tool clear -c p
+    refused 18b nvread 0x1500016 -C o -s 8
+    tool shutdown
+}
+
+# Serves a device on a socket, and has the tools reach it.
+serve() {
+    has socat
+    "$top/tpmsim" serve --socket socket --image image --entropy /dev/urandom --locality 0 \
+        --connections 4294967295 2>served &
+    server=$!
+    until [ -S socket ]; do
+        kill -0 "$server" || fail "the device is not served: $(cat served)"
+        sleep 0.1
+    done
+    export TPM2TOOLS_TCTI="cmd:socat - UNIX-CONNECT:$folder/socket"
+}
+
+# Makes the module, and has the tools reach a new device by it.
+keep() {
+    [ -e made ] || "$top/tools/interop/attached.sh" made || exit 2
+    rm -rf state
+    export TPM2TOOLS_TCTI="tpmsim:state=$folder/state" LD_LIBRARY_PATH="$folder/made"
+}
+
+zeros=$(printf '%064d' 0)
+one=$(printf '%064d' 1)
+has tpm2
+printf 12345678 >data
+echo event >event
+printf secret >key
+for way do
+    echo "$way:"
+    case $way in
+    socket) serve ;;
+    module) keep ;;
+    *) fail "$way is no way: socket and module are" ;;
+    esac
+    device
+    indices
+    sealing
+    [ "$way" = socket ] || power_cycle
+    ending
+done
+echo "$tools tools were run, $failed failed"
+[ "$failed" -eq 0 ]

@@ -1,0 +1,52 @@
+# Prints the path of a program that is proved of the sources as they stand: the one that was built
+# here, where no source is newer, or else the one in dist/, where dist/PROVED names it and the
+# sources. Where there is neither, tools/build.sh builds one first. It is read by `.` in the
+# repository's folder, as the launcher does at each start: so it begins few processes.
+# shellcheck shell=sh
+. tools/lib/proved.sh
+stamp=crates/tpmsim/out/verified
+
+# Whether the program of dist/ was verified, and nothing in the repository that it depends on has
+# changed since, not even by a move. Who can write the stamp can write this file too.
+is_verified() {
+    [ -f "$stamp" ] && [ "$(uname -sm)" = 'Linux x86_64' ] && changed=$(
+        find crates.txt HANDLES dist crates -regex 'crates/[^/]*/out' -prune -o \
+            -cnewer "$stamp" -print -quit 2>/dev/null
+    ) && [ -z "$changed" ]
+}
+
+# Whether the program of dist/ is proved and runs here; else `fault` says why it does not.
+is_good() {
+    fault="$shipped is for Linux on x86-64 alone"
+    [ "$(uname -sm)" = 'Linux x86_64' ] || return 1
+    fault="$shipped was proved of other sources than these"
+    # shellcheck disable=SC2119 # those of tpmsim
+    is_proved sources "$(sources_checksum)" || return 1
+    fault="$shipped is not the program that $proved names"
+    is_proved program "$(checksum <"$shipped")" || return 1
+    said=$("$shipped" --version 2>&1 </dev/null) && return
+    fault="$shipped does not run here: $(printf '%s\n' "$said" | head -n 1)"
+    return 1
+}
+
+# Verifies the program of dist/. The stamp is as old as the start of that, so that a change made
+# meanwhile counts; where none can be written, the next start verifies again.
+verify() {
+    new=$stamp.$$
+    mkdir -p "${stamp%/*}" 2>/dev/null
+    { printf '' >"$new"; } 2>/dev/null
+    if ! is_good; then
+        rm -f "$new"
+        echo "tpmsim: $fault" >&2
+        return 1
+    fi
+    [ ! -f "$new" ] || mv "$new" "$stamp"
+}
+
+if is_newest "$built"; then
+    echo "$PWD/$built"
+elif [ -f "$shipped" ] && [ -f "$proved" ] && { is_verified || verify; }; then
+    echo "$PWD/$shipped"
+else
+    tools/build.sh >&2 && echo "$PWD/$built"
+fi

@@ -1,0 +1,183 @@
+#!/usr/bin/env python3
+"""Makes the man pages, of the documents, the header, and what the programs say of themselves.
+
+    tools/man/pages.py FOLDER [--program PROGRAM]
+
+packaging/pages.toml says what each page is made from. FOLDER has the pages then, as tpmsim.1; the
+program is dist/tpmsim, or PROGRAM. The status is 1, with a line on standard error, where a section
+or a program is not there. It needs python3 alone.
+"""
+
+import functools
+import pathlib
+import re
+import sys
+import tomllib
+from collections.abc import Iterator
+from dataclasses import dataclass, field
+
+sys.dont_write_bytecode = True
+
+import roff  # noqa: E402
+from sources import TOP, Missing, Part, declarations_of, help_parts  # noqa: E402
+from sources import part_of, said, usage_of  # noqa: E402
+
+DOCUMENT_NAME = re.compile(r"[A-Z_]+(\.md)?")
+OPTION = re.compile(r"^ {2,6}(\S.*?)(?: {2,}(.*))?$")
+FLAGS = "cc PROGRAM.c $(pkg-config --cflags --libs tpmsim)"
+
+
+@dataclass
+class Page:
+    """What packaging/pages.toml says of a page."""
+
+    name: str
+    section: int
+    parts: list[str]
+    purpose: str = ""
+    also: list[str] = field(default_factory=list)
+    commands: list[str] = field(default_factory=list)
+    help: list[str] = field(default_factory=list)
+    usage: list[str] = field(default_factory=list)
+    header: str = ""
+    listing: dict[str, list[str]] = field(default_factory=dict)
+
+    def title(self) -> str:
+        return f"**{self.name}**({self.section})"
+
+
+def words_of(text: str) -> str:
+    """What a program says of itself, which has no links."""
+    return roff.line(roff.inline(text, lambda text, _: text))
+
+
+def option_lines(text: str) -> Iterator[str]:
+    """A help's list of options, arguments or subcommands, as paragraphs with a tag."""
+    for each in text.split("\n"):
+        found = OPTION.match(each)
+        if found and not found[1].startswith(("-h,", "-V,", "help ")):
+            yield from (".TP", f"\\fB{roff.escaped(found[1])}\\fR")
+            yield words_of(found[2]) if found[2] else "\\&"
+        elif each.strip() and not found:
+            yield words_of(each.strip())
+
+
+class Manual:
+    """All pages, and which of them has a section of a document."""
+
+    def __init__(self, program: str) -> None:
+        with open(TOP / "packaging" / "pages.toml", "rb") as file:
+            told = tomllib.load(file)
+        self.program = program
+        self.names: dict[str, str] = told["names"]
+        self.pages = {name: Page(name, **page) for name, page in told["pages"].items()}
+        self.version = said(["tpmsim", "--version"], program).split()[-1]
+        self.parts: dict[str, list[Part]] = {}
+        self.places: dict[tuple[str, str], Page] = {}
+        for page in self.pages.values():
+            self.parts[page.name] = [part_of(part) for part in page.parts]
+            for part in self.parts[page.name]:
+                self.places |= {(part.document, anchor): page for anchor in part.anchors}
+
+    def installed(self, text: str) -> str:
+        """A text in which programs have the names that they have where they are installed."""
+        for path, name in self.names.items():
+            text = re.sub(rf"(?<![\w/.]){re.escape(path)}(?![\w/])", name, text)
+        return text
+
+    def place_of(self, path: str, anchor: str) -> Page | None:
+        """The page of a section; without an anchor, the one that most of a document is in."""
+        if anchor:
+            return self.places.get((path, anchor))
+        names = [page.name for (document, _), page in self.places.items() if document == path]
+        return self.pages[max(names, key=names.count)] if names else None
+
+    def link(self, page: Page, document: str, text: str, target: str) -> str:
+        """What stands in a page in the place of a link: its text, and the page that has it."""
+        file, _, anchor = target.partition("#")
+        if ":" in file:
+            return text if text in target else f"{text} ({target})"
+        path = (TOP / document).parent.joinpath(file).resolve() if file else TOP / document
+        place = self.place_of(str(path.relative_to(TOP)), anchor)
+        if DOCUMENT_NAME.fullmatch(text):
+            told = place.title() if place else str(path.relative_to(TOP))
+            return "below" if place is page else told
+        return f"{text} ({place.title()})" if place and place is not page else text
+
+    def commands(self, words: list[str]) -> Iterator[str]:
+        """The subcommands of a program, each with its options, as their --help says."""
+        told = help_parts(said([*words, "--help"], self.program))["Commands"]
+        yield ".SH COMMANDS"
+        for name in re.findall(r"^ {2}(\S+)", told, re.M):
+            if name == "help":
+                continue
+            parts = help_parts(said([*words, name, "--help"], self.program))
+            yield f".SS {roff.escaped(parts['Usage'].strip())}"
+            yield from (".PP", words_of(parts[""].replace("\n", " ") + "."))
+            for heading in "Commands", "Arguments", "Options":
+                yield from option_lines(parts.get(heading, ""))
+            if example := parts.get("Example"):
+                yield from (".PP", "Example:", *roff.code([example.strip()]))
+
+    def synopsis(self, page: Page) -> list[str]:
+        """The lines of code of a synopsis."""
+        if page.header:
+            return ["#include <tpmsim.h>", FLAGS, "", *declarations_of(page.header)]
+        if page.commands:
+            return [
+                f"{' '.join(page.commands)} {word}"
+                for word in ("COMMAND ..", "--help", "--version")
+            ]
+        if page.help:
+            return [self.installed(line) for line in usage_of(said(page.help, self.program))]
+        return page.usage
+
+    def head(self, page: Page) -> Iterator[str]:
+        """The title, the name and the synopsis."""
+        purpose = page.purpose or said([*page.commands, "--help"], self.program).split("\n")[0]
+        names = ", ".join([page.name, *(other.partition(".")[0] for other in page.also)])
+        yield f'.TH "{page.name.upper()}" "{page.section}" "" "tpmsim {self.version}" "tpmsim"'
+        yield from (".SH NAME", f"{roff.escaped(names)} \\- {words_of(purpose)}", ".SH SYNOPSIS")
+        yield from roff.code(self.synopsis(page))
+
+    def lines(self, page: Page) -> Iterator[str]:
+        """The lines of roff of a page."""
+        yield from self.head(page)
+        if page.commands:
+            yield from self.commands(page.commands)
+        for part in self.parts[page.name]:
+            link = functools.partial(self.link, page, part.document)
+            yield from roff.roff(self.installed(part.text), link, part.depth)
+        for heading, words in page.listing.items():
+            yield f".SH {heading.upper()}"
+            yield from roff.code(said(words, self.program).rstrip().split("\n"))
+        others = ", ".join(other.title() for other in self.pages.values() if other is not page)
+        yield from (".SH SEE ALSO", words_of(others))
+
+    def write(self, folder: pathlib.Path) -> None:
+        """Writes all pages, and for each other name of one a page that leads to it."""
+        folder.mkdir(parents=True, exist_ok=True)
+        for page in self.pages.values():
+            file = f"{page.name}.{page.section}"
+            (folder / file).write_text("\n".join(self.lines(page)) + "\n")
+            for other in page.also:
+                also = other if "." in other else f"{other}.{page.section}"
+                (folder / also).write_text(f".so man{page.section}/{file}\n")
+
+
+def main(words: list[str]) -> int:
+    """Makes the pages by these words, and answers the exit status."""
+    if len(words) not in (1, 3) or words[1:2] not in ([], ["--program"]):
+        print("usage: tools/man/pages.py FOLDER [--program PROGRAM]", file=sys.stderr)
+        return 2
+    program = pathlib.Path(words[2]).resolve() if len(words) == 3 else TOP / "dist" / "tpmsim"
+    try:
+        Manual(str(program)).write(pathlib.Path(words[0]))
+    except (Missing, OSError) as missing:
+        print(f"pages.py: {missing}", file=sys.stderr)
+        return 1
+    return 0
+
+
+if __name__ == "__main__":
+    sys.exit(main(sys.argv[1:]))

@@ -1,0 +1,129 @@
+"""Markdown to roff: the part of Markdown that the documents use, for the macros of man(7).
+
+Known are headings, paragraphs, lists with `-`, tables, code that is fenced or set in, and within
+a line code, links, `**words**` and `*words*`. A table's row is a paragraph whose tag is its first
+cell.
+"""
+
+import re
+from collections.abc import Callable, Iterator
+
+FENCE = re.compile(r"^```")
+HEADING = re.compile(r"^(#{1,6}) +(.+?) *#*$")
+ITEM = re.compile(r"^- +")
+ROW = re.compile(r"^\|(.*)\|$")
+RULE = re.compile(r"^\|[-| :]+\|$")
+CELLS = re.compile(r"(?<!\\)\|")
+IMAGE = re.compile(r"!\[[^]]*\]\([^)]*\)")
+PIECE = re.compile(
+    r"(?P<ticks>`+)(?P<code>.+?)(?P=ticks)|\[(?P<text>(?:[^][]|\[[^]]*\])*)\]\((?P<target>[^()\s]+)\)"
+    r"|\*\*(?P<strong>.+?)\*\*|(?<![\w*])\*(?P<soft>[^*\s][^*]*)\*(?![\w*])"
+)
+
+# What a link's text becomes: it is told the text and the target.
+Link = Callable[[str, str], str]
+
+
+def escaped(text: str) -> str:
+    """Text in which no byte means anything to roff."""
+    return text.replace("\\", "\\e").replace("-", "\\-").replace("'", "\\(aq").replace("`", "\\(ga")
+
+
+def line(text: str) -> str:
+    """A line of text that is no request."""
+    return "\\&" + text if text[:1] in (".", "'") else text
+
+
+def plain(text: str) -> str:
+    """Text outside of code."""
+    unescaped = re.sub(r"\\([\\|`*_<>#])", r"\1", text)
+    return escaped(unescaped).replace("\\-", "-").replace("\\(aq", "'")
+
+
+def inline(text: str, link: Link) -> str:
+    """The roff of a text that has no line breaks."""
+    made, end = [], 0
+    for piece in PIECE.finditer(text):
+        made.append(plain(text[end : piece.start()]))
+        end = piece.end()
+        if piece["code"] is not None:
+            code = piece["code"].replace("\\|", "|")
+            made.append(f"\\fB{escaped(code.strip() or code)}\\fR")
+        elif piece["target"] is not None:
+            made.append(inline(link(piece["text"], piece["target"]), link))
+        elif piece["strong"] is not None:
+            made.append(f"\\fB{plain(piece['strong'])}\\fR")
+        else:
+            made.append(f"\\fI{plain(piece['soft'])}\\fR")
+    return "".join(made) + plain(text[end:])
+
+
+def code(lines: list[str]) -> Iterator[str]:
+    """Lines of code, as they stand."""
+    yield from (".PP", ".RS 4", ".nf")
+    yield from (line(escaped(text)) for text in lines)
+    yield from (".fi", ".RE")
+
+
+def cells_of(text: str) -> list[str]:
+    return [cell.strip() for cell in CELLS.split(text.strip()[1:-1])]
+
+
+def table(rows: list[str], link: Link) -> Iterator[str]:
+    """A paragraph for each row, whose tag is the first cell. From the third cell on the heading of
+    its column stands before it."""
+    heads, *body = [cells_of(row) for row in rows if not RULE.match(row)]
+    for first, second, *others in body:
+        yield from (".TP", line(inline(first, link)) or "\\&", line(inline(second, link)) or "\\&")
+        for head, cell in zip(heads[2:], others):
+            if cell:
+                yield from (".br", line(inline(f"{head}: {cell}", link)))
+
+
+def section(level: int, heading: str, link: Link) -> str:
+    """A heading: of level 1 one of the page, else one within it."""
+    words = inline(heading, link)
+    return f".SH {words.upper() if words.isascii() else words}" if level <= 1 else f".SS {words}"
+
+
+def taken(lines: list[str], start: int, belongs: Callable[[str], bool]) -> int:
+    """The first line from `start` on that does not belong."""
+    while start < len(lines) and belongs(lines[start]):
+        start += 1
+    return start
+
+
+def goes_on(text: str) -> bool:
+    """Whether a line goes on with the paragraph before it."""
+    return bool(text.strip()) and not any(form.match(text) for form in (FENCE, HEADING, ITEM, ROW))
+
+
+def paragraph(lines: list[str], link: Link) -> str:
+    return line(inline(IMAGE.sub("", " ".join(text.strip() for text in lines)).strip(), link))
+
+
+def roff(text: str, link: Link, depth: int = 0) -> Iterator[str]:
+    """The lines of roff of a text in Markdown, whose headings have `depth` levels above them that
+    do not count."""
+    lines, at = text.split("\n"), 0
+    while at < len(lines):
+        here, end = lines[at], at + 1
+        if heading := HEADING.match(here):
+            yield section(len(heading[1]) - depth, heading[2], link)
+        elif FENCE.match(here):
+            end = taken(lines, end, lambda text: not FENCE.match(text)) + 1
+            yield from code(lines[at + 1 : end - 1])
+        elif here.startswith("    "):
+            end = taken(lines, end, lambda text: text.startswith("    "))
+            yield from code([text[4:] for text in lines[at:end]])
+        elif ROW.match(here):
+            end = taken(lines, end, lambda text: bool(ROW.match(text)))
+            yield from table(lines[at:end], link)
+        elif ITEM.match(here):
+            end = taken(lines, end, goes_on)
+            yield from (".IP \\(bu 2", paragraph([here[2:], *lines[at + 1 : end]], link))
+        elif here.strip():
+            end = taken(lines, end, goes_on)
+            if words := paragraph(lines[at:end], link):
+                yield from (".PP", words)
+        at = end

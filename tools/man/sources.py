@@ -1,0 +1,85 @@
+"""What man pages are made from: sections of documents, what programs say, and a header."""
+
+import pathlib
+import re
+import subprocess
+from dataclasses import dataclass
+
+TOP = pathlib.Path(__file__).resolve().parents[2]
+FENCED = re.compile(r"^```.*?^```$", re.M | re.S)
+HEADING = re.compile(r"^(#{1,6}) +(.+?) *$", re.M)
+COMMENT = re.compile(r"/\*.*?\*/", re.S)
+DECLARATION = re.compile(r"^\w[\w *]*\([^;{}]*\);", re.M)
+
+
+class Missing(Exception):
+    """What a page is made from, and is not there."""
+
+
+@dataclass
+class Part:
+    """A section of a document: its text, how many levels its headings have above them, and the
+    anchors of all headings in it."""
+
+    document: str
+    text: str
+    depth: int
+    anchors: set[str]
+
+
+def anchor_of(heading: str) -> str:
+    """The anchor that GitHub makes of a heading."""
+    words = re.sub(r"\[([^]]*)\]\([^)]*\)", r"\1", heading)
+    return re.sub(r"[^\w\- ]", "", words.lower()).replace(" ", "-")
+
+
+def headings_of(text: str) -> list[tuple[int, int, str]]:
+    """Where each heading begins, its level and its anchor; code has none."""
+    blank = FENCED.sub(lambda found: re.sub(r"[^\n]", " ", found[0]), text)
+    return [(each.start(), len(each[1]), anchor_of(each[2])) for each in HEADING.finditer(blank)]
+
+
+def part_of(name: str) -> Part:
+    """The section that `DOCUMENT#anchor` names; of `DOCUMENT` what stands above its first one."""
+    document, _, anchor = name.partition("#")
+    text = (TOP / document).read_text()
+    headings = headings_of(text)
+    anchors = [own for _, _, own in headings]
+    wanted = anchor or anchors[0]
+    if wanted not in anchors:
+        raise Missing(f"{document} has no section {anchor}")
+    number = anchors.index(wanted)
+    start, level, _ = headings[number]
+    later = [begin for begin, below, _ in headings[number + 1 :] if not anchor or below <= level]
+    end = min(later, default=len(text))
+    within = {own for begin, _, own in headings if start <= begin < end}
+    return Part(document, text[start:end], level - 1, within)
+
+
+def said(words: list[str], program: str) -> str:
+    """What a command prints; the word `tpmsim` is the program."""
+    told = [program if word == "tpmsim" else word for word in words]
+    run = subprocess.run(told, cwd=TOP, capture_output=True, text=True, check=False, timeout=60)
+    if run.returncode or not run.stdout:
+        raise Missing(f"{' '.join(words)} has the status {run.returncode}, and says {run.stderr!r}")
+    return run.stdout
+
+
+def help_parts(text: str) -> dict[str, str]:
+    """A help's parts by their headings; the part above the first heading has none."""
+    pieces = re.split(r"^(\w+):(?: |\n|$)", text, flags=re.M)
+    return {"": pieces[0].strip(), **dict(zip(pieces[1::2], pieces[2::2]))}
+
+
+def usage_of(text: str) -> list[str]:
+    """The first lines of a help that are set in, which are its command lines."""
+    found = re.search(r"^((?: {4}.*\n)+)", text, re.M)
+    if not found:
+        raise Missing("a help has no command line that is set in")
+    return [line[4:] for line in found[1].splitlines()]
+
+
+def declarations_of(header: str) -> list[str]:
+    """The lines of the functions that a header declares."""
+    text = COMMENT.sub("", (TOP / header).read_text())
+    return "\n".join(DECLARATION.findall(text)).split("\n")

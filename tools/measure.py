@@ -1,0 +1,154 @@
+#!/usr/bin/env python3
+"""Runs the gate and writes what it took into docs/gate.json.
+
+`tools/measure.py` runs .ci/run at the top of the repository, prints what that prints, and adds up the
+processor seconds of every process of the toolchain by crate and kind; `tools/measure.py WORDS..` runs
+another command in its place, and writes nothing. Linux alone.
+
+`tools/measure.py --wrong REFUSED TRIED` writes how many wrong bodies outside the gate were refused.
+"""
+
+import json
+import os
+import re
+import subprocess
+import sys
+import threading
+import time
+from collections import Counter
+from datetime import date
+from pathlib import Path
+
+TOP = Path(__file__).resolve().parent.parent
+FIGURES = TOP / "docs" / "gate.json"
+TICKS = os.sysconf("SC_CLK_TCK")
+TOOLS = {"rattle", "rattle-link", "clang", "lld", "ld.lld"}
+KINDS = ("proofs", "tests", "wrong bodies")
+
+Process = tuple[str, str]
+Use = tuple[str, str, float]
+
+
+def status_of(pid: str) -> tuple[str, float, str]:
+    """The parent of a process, its processor seconds, and when it began."""
+    fields = Path(f"/proc/{pid}/stat").read_text().rsplit(")", 1)[1].split()
+    return fields[1], (int(fields[11]) + int(fields[12])) / TICKS, fields[19]
+
+
+def is_ours(pid: str) -> bool:
+    """Whether a process descends from this one."""
+    while pid not in ("0", "1"):
+        if pid == str(os.getpid()):
+            return True
+        pid = status_of(pid)[0]
+    return False
+
+
+def use_of(pid: str) -> tuple[Process, Use] | None:
+    """What a process of the toolchain has used; none of another process."""
+    words = Path(f"/proc/{pid}/cmdline").read_bytes().decode(errors="replace").split("\0")
+    if os.path.basename(words[0]) not in TOOLS or not is_ours(pid):
+        return None
+    folder = os.readlink(f"/proc/{pid}/cwd")
+    named = words.index("--crate-name") + 1 if "--crate-name" in words else 0
+    crate = words[named] if named else os.path.basename(folder)
+    kind = "wrong bodies" if "rt-edit" in folder else "tests" if "--test" in words else "proofs"
+    _, seconds, began = status_of(pid)
+    return (pid, began), (crate, kind, seconds)
+
+
+def watch(uses: dict[Process, Use], is_over: threading.Event) -> None:
+    """Notes twice a second what each process of the toolchain has used until then."""
+    while not is_over.wait(0.5):
+        for pid in filter(str.isdigit, os.listdir("/proc")):
+            try:
+                found = use_of(pid)
+            except (OSError, IndexError):
+                continue  # The process ended while it was looked at.
+            if found is not None:
+                uses[found[0]] = found[1]
+
+
+def run(words: list[str]) -> tuple[list[str], int, float, dict[Process, Use]]:
+    """Runs a command: its lines, which are printed too, its status, its minutes, and what it used."""
+    uses: dict[Process, Use] = {}
+    is_over = threading.Event()
+    watcher = threading.Thread(target=watch, args=(uses, is_over))
+    began = time.monotonic()
+    watcher.start()
+    lines = []
+    try:
+        with subprocess.Popen(words, cwd=TOP, stdout=subprocess.PIPE, text=True) as process:
+            assert process.stdout is not None
+            for line in process.stdout:
+                print(line, end="", flush=True)
+                lines.append(line.rstrip("\n"))
+    finally:
+        is_over.set()
+        watcher.join()
+    return lines, process.returncode, (time.monotonic() - began) / 60, uses
+
+
+def output_of(*words: str) -> str:
+    """The first line that a command prints, empty where it cannot be run."""
+    try:
+        done = subprocess.run(words, cwd=TOP, capture_output=True, text=True, check=True)
+    except (OSError, subprocess.CalledProcessError):
+        return ""
+    return done.stdout.partition("\n")[0]
+
+
+def machine() -> str:
+    """The processor, and how many of them this process may use."""
+    found = re.search(r"(?m)^model name\s*: (.*)$", Path("/proc/cpuinfo").read_text())
+    name = found[1] if found else "unknown processor"
+    return f"{len(os.sched_getaffinity(0))} x {name}"
+
+
+def figures(lines: list[str], minutes: float, uses: dict[Process, Use]) -> dict[str, object]:
+    """What is said of a run of the gate: minutes of the clock and processor minutes."""
+    seconds: Counter[tuple[str, str]] = Counter()
+    for crate, kind, used in uses.values():
+        seconds[crate, kind] += used
+    by_kind = {kind: sum(s for (_, k), s in seconds.items() if k == kind) for kind in KINDS}
+    crates = sorted({crate for crate, _ in seconds})
+    return {
+        "date": date.today().isoformat(),
+        "commit": output_of("git", "rev-parse", "HEAD"),
+        "kit": output_of("rt", "version"),
+        "machine": machine(),
+        "load": round(os.getloadavg()[2], 1),
+        "result": lines[-1] if lines else "",
+        "minutes": round(minutes, 1),
+        "processor_minutes": {kind: round(by_kind[kind] / 60, 1) for kind in KINDS},
+        "processor_seconds_by_crate": {
+            crate: {kind: round(seconds[crate, kind]) for kind in KINDS if seconds[crate, kind]}
+            for crate in crates
+        },
+    }
+
+
+def write(key: str, told: dict[str, object]) -> None:
+    """Writes one part of docs/gate.json, and leaves the others."""
+    known = json.loads(FIGURES.read_text()) if FIGURES.exists() else {}
+    known[key] = told
+    FIGURES.write_text(json.dumps(known, indent=1) + "\n")
+
+
+def main(words: list[str]) -> int:
+    """Runs the gate, or what is asked for."""
+    if words[:1] == ["--wrong"]:
+        told = {"date": date.today().isoformat(), "commit": output_of("git", "rev-parse", "HEAD")}
+        write("wrong_bodies", {**told, "refused": int(words[1]), "tried": int(words[2])})
+        return 0
+    lines, status, minutes, uses = run(words or ["sh", ".ci/run"])
+    told = figures(lines, minutes, uses)
+    if words:
+        print(json.dumps(told, indent=1))
+    else:
+        write("gate", told)
+    return status
+
+
+if __name__ == "__main__":
+    sys.exit(main(sys.argv[1:]))

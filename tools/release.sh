@@ -1,0 +1,74 @@
+#!/bin/sh
+# Makes a release of the last commit, and says what it did: the tag vVERSION, and in a folder the
+# package for Debian, the sources, dist/PROVED, what CHANGELOG.md says of the version, and SHA256SUMS
+# of these. It sends nothing anywhere.
+#
+#   tools/release.sh [FOLDER]   in FOLDER; else in out/vVERSION
+#
+# CHANGELOG.md begins with the version's section, `## VERSION, DATE`; nothing may differ from the last
+# commit; and dist/ has what is proved of its sources. Needs git, dpkg-deb, tar, gzip and python3.
+set -u
+told_folder=${1:+$(realpath -m "$1")}
+cd "$(dirname "$0")/.." || exit 1
+. tools/lib/proved.sh
+
+# fail REASON: ends the script.
+fail() {
+    echo "$0: $1" >&2
+    exit 1
+}
+
+# What stands in the way of a release, a line each.
+faults() {
+    [ -z "$(git status --porcelain)" ] || echo 'something differs from the last commit'
+    tools/version.sh >"$work/versions" || cat "$work/versions"
+    head -n 5 CHANGELOG.md | grep -q "^## $version, [0-9]\{4\}-[0-9][0-9]-[0-9][0-9]\$" ||
+        echo "CHANGELOG.md does not begin with the section \"## $version, DATE\""
+    ! git rev-parse -q --verify "refs/tags/v$version" >"$work/found" ||
+        echo "the tag v$version is there"
+    is_proved sources "$(sources_checksum)" || echo "$shipped was proved of other sources than these"
+    is_proved 'library sources' "$(sources_checksum tpmsim_library)" ||
+        echo "$archive was proved of other sources than these"
+    [ ! -e "$folder" ] || echo "$folder is there"
+}
+
+# What CHANGELOG.md says of the version.
+notes() {
+    awk -v section="## $version," 'index($0, "## ") == 1 { told = index($0, section) == 1 } told' \
+        CHANGELOG.md
+}
+
+# How many milliseconds a clone of the tag takes until it has answered a command.
+answering() {
+    git -c advice.detachedHead=false clone -q --branch "v$version" . "$work/clone" || return 1
+    start=$(date +%s%3N)
+    echo 'do Startup 0' | "$work/clone/tpmsim" run - >"$work/answer" || return 1
+    [ "$(cat "$work/answer")" = 80010000000a00000000 ] && echo $(($(date +%s%3N) - start))
+}
+
+work=$(mktemp -d) || exit 1
+trap 'rm -rf "$work"' EXIT
+version=$(dist/tpmsim --version) || fail 'dist/tpmsim does not run here'
+version=${version##* }
+folder=${told_folder:-out/v$version}
+faults=$(faults)
+[ -z "$faults" ] || fail "there is no release: $faults"
+
+name=tpmsim-$version
+if ! { mkdir -p "$folder" && notes >"$folder/NOTES.md" && cp dist/PROVED "$folder/"; }; then
+    fail "$folder is not written"
+fi
+package=$(tools/deb.sh "$folder") || exit 1
+git archive --format=tar --prefix="$name/" HEAD | gzip -9n >"$folder/$name.tar.gz" ||
+    fail 'the sources are not packed'
+(cd "$folder" && sha256sum NOTES.md PROVED "$name.tar.gz" "${package##*/}" >SHA256SUMS) ||
+    fail 'there are no checksums'
+git tag -a -F "$folder/NOTES.md" --cleanup=verbatim "v$version" || fail 'the tag is not made'
+if ! milliseconds=$(answering); then
+    git tag -d "v$version" >"$work/said"
+    fail 'a clone of the tag does not answer; the tag is taken back'
+fi
+
+echo "the tag v$version is at $(git rev-parse --short HEAD); its clone answered after $milliseconds ms"
+echo "$folder has:"
+cat "$folder/SHA256SUMS"

@@ -1,0 +1,28 @@
+#!/bin/sh
+# Judges logs by tools/audit.py: what the program prints of each script of tests/ and examples/, and
+# of random scripts, of 400 commands each. Each random one is judged once more from the image of its
+# device at a power cycle on, and once more with lines that are bent. Needs python3.
+#
+#   tools/soak/audits.sh 1000     1,000 random ones, of the seeds from 1 on: about six minutes
+#   tools/soak/audits.sh 50 7     50, from seed 7 on
+#   tools/soak/audits.sh 0        the scripts of tests/ and examples/ alone
+#
+# It runs PROGRAM, or the one that tools/lib/program.sh names. It leaves the random scripts whose logs
+# do not agree, and says where. The last line counts logs and events, and the status is 1 where one
+# of them does not agree.
+set -u
+
+is_number() {
+    case $1 in
+    '' | *[!0-9]*) return 1 ;;
+    esac
+}
+
+if [ $# -lt 1 ] || [ $# -gt 2 ] || ! is_number "$1" || ! is_number "${2:-1}"; then
+    sed -n '2,/^set/s/^# \{0,1\}//p' "$0" >&2
+    exit 2
+fi
+top=$(CDPATH='' cd "$(dirname "$0")/../.." && pwd -P) || exit 1
+program=${PROGRAM:-$(cd "$top" && . tools/lib/program.sh)} || exit 1
+program=$(cd "$(dirname "$program")" && pwd -P)/$(basename "$program") || exit 1
+exec "$top/tools/python.sh" "$top/tests/python/sweep.py" "$program" "$@"

@@ -1,0 +1,23 @@
+#!/bin/sh
+# Plays at random on the device in Python, and compares it after each event with what its history
+# alone tells of it: each PCR, counter, authorization value, session and policy. Needs python3, and
+# no program.
+#
+#   tools/soak/histories.sh 100000     100,000 events, from seed 1 on: half a minute
+#   tools/soak/histories.sh 5000 7     5,000 events, from seed 7 on
+#
+# The last line counts them, and the status is 1 where anything differs.
+set -u
+
+is_number() {
+    case $1 in
+    '' | *[!0-9]*) return 1 ;;
+    esac
+}
+
+if [ $# -lt 1 ] || [ $# -gt 2 ] || ! is_number "$1" || ! is_number "${2:-1}"; then
+    sed -n '2,/^set/s/^# \{0,1\}//p' "$0" >&2
+    exit 2
+fi
+top=$(CDPATH='' cd "$(dirname "$0")/../.." && pwd -P) || exit 1
+exec "$top/tools/python.sh" "$top/tests/at_random/histories.py" "$@"

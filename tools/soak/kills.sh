@@ -1,0 +1,30 @@
+#!/bin/sh
+# Kills a served device at random moments while connections come one after another, and looks at the
+# image that is left behind each kill, as tests/serving/killed.sh does a few times. Then it does so as often to
+# a device that is served with --save-each, straight behind a response, as tests/serving/save_each.sh does. It
+# is no part of the gate. Needs python3.
+#
+#   tools/soak/kills.sh               1,000 kills, of seed 1
+#   tools/soak/kills.sh 5000 7        5,000 kills, of seed 7
+#
+# Its first line says that all went as it must, or what did not; then the last image is left, and it
+# says where. The second line says where the kills fell, which is not the same in each run. The others
+# are those of --save-each.
+set -u
+
+top=$(CDPATH='' cd "$(dirname "$0")/../.." && pwd -P) || exit 1
+program=${PROGRAM:-$(cd "$top" && . tools/lib/program.sh)} || exit 1
+folder=$(mktemp -d) || exit 1
+cd "$folder" || exit 1
+
+export PYTHONDONTWRITEBYTECODE=1
+common=$top/tests/common
+count=${1:-1000}
+mkdir each
+if python3 "$common/kills.py" "$program" "$count" "${2:-1}" counts &&
+    cd each && "$top/tools/python.sh" "$common/save_each.py" "$program" "$count"; then
+    rm -rf "$folder"
+else
+    echo "The image is in $PWD"
+    exit 1
+fi

@@ -1,0 +1,38 @@
+#!/bin/sh
+# Writes random scripts, runs them, and compares what the program answers with what the device in
+# plain Python under python/tpmsim/model answers. It is no part of the gate. Needs python3.
+#
+#   tools/soak/random_scripts.sh                 the scripts of the seeds 1 to 20, of 1,000 commands each
+#   tools/soak/random_scripts.sh 7               that of seed 7
+#   tools/soak/random_scripts.sh 1 100 2000      those of the seeds 1 to 100, of 2,000 commands each
+#
+# Where they differ it prints the first line that does, leaves the script and both texts, and says
+# where. Its last line is `N agree, M differ`.
+set -u
+
+top=$(CDPATH='' cd "$(dirname "$0")/../.." && pwd -P) || exit 1
+program=${PROGRAM:-$(cd "$top" && . tools/lib/program.sh)} || exit 1
+first=${1:-1}
+last=${2:-${1:-20}}
+count=${3:-1000}
+folder=$(mktemp -d) || exit 1
+agree=0
+differ=0
+
+seed=$first
+while [ "$seed" -le "$last" ]; do
+    script=$folder/$seed
+    "$top/tools/python.sh" "$top/tests/at_random/random_script.py" "$seed" "$count" "$folder" || exit 1
+    "$program" run "$script.tpm" >"$script.given"
+    if cmp "$script.out" "$script.given"; then
+        agree=$((agree + 1))
+        rm "$script.tpm" "$script.out" "$script.given"
+    else
+        differ=$((differ + 1))
+        echo "DIFFERS: $script.tpm"
+    fi
+    seed=$((seed + 1))
+done
+[ "$differ" -gt 0 ] || rmdir "$folder"
+echo "$agree agree, $differ differ"
+[ "$differ" -eq 0 ]

@@ -1,0 +1,37 @@
+#!/bin/sh
+# Tells the version at each place that says it, a place a line. The status is 1 where they differ.
+#
+#   tools/version.sh [PROGRAM]   of this program; else of dist/tpmsim
+set -u
+program=${1:-dist/tpmsim}
+case $program in
+/*) ;;
+*/*) [ "$#" -eq 0 ] || program=$PWD/$program ;;
+esac
+cd "$(dirname "$0")/.." || exit 1
+
+# of_header FILE: the version that a header has as a number, by its digits in hex.
+of_header() {
+    number=$(sed -n 's/^#define TPMSIM_VERSION_NUMBER 0x\([0-9a-f]\{6\}\)$/\1/p' "$1")
+    rest=${number#??}
+    [ -z "$number" ] || echo "$((0x${number%????})).$((0x${rest%??})).$((0x${rest#??}))"
+}
+
+# Prints each version and its place.
+versions() {
+    echo "$("$program" --version | sed -n 's/^tpmsim //p') the program"
+    echo "$(sed -n '/^## /{s/^## \(Unreleased (\)\{0,1\}\([0-9.]*\).*/\2/p;q;}' CHANGELOG.md) CHANGELOG.md"
+    for folder in library dist; do
+        echo "$(of_header "$folder/tpmsim.h") $folder/tpmsim.h"
+        echo "$(sed -n 's/^Version: //p' "$folder/tpmsim.pc") $folder/tpmsim.pc"
+    done
+    echo "$(sed -n 's/^version = "\(.*\)"$/\1/p' python/pyproject.toml) python/pyproject.toml"
+    echo "$(sed -n 's/^__version__ = "\(.*\)"$/\1/p' python/tpmsim/__init__.py) tpmsim.__version__"
+}
+
+told=$(versions)
+printf '%s\n' "$told"
+printf '%s\n' "$told" | awk '
+    NR == 1 { wanted = $1 }
+    !/^[0-9]+\.[0-9]+\.[0-9]+ / || $1 != wanted { differs = 1 }
+    END { exit differs }'
