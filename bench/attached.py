@@ -6,6 +6,7 @@ MODULE is the module, CLIENT a program that is made of attached.c, and DISK a fo
 each round every way has its turn. Figures are the least and, in brackets, the median.
 """
 
+import itertools
 import os
 import socket
 import statistics
@@ -13,7 +14,8 @@ import subprocess
 import sys
 import tempfile
 import time
-from dataclasses import dataclass, field
+from contextlib import ExitStack
+from dataclasses import dataclass
 from pathlib import Path
 
 ROUNDS = 15
@@ -29,16 +31,6 @@ TOOLS = {
         ["tpm2_flushcontext", "-t"],
     ],
 }
-
-
-@dataclass
-class Row:
-    """The figures of one row and one way, in one unit, as they were measured."""
-
-    figures: list[float] = field(default_factory=list)
-
-    def __str__(self) -> str:
-        return f"{min(self.figures):.2f} ({statistics.median(self.figures):.2f})"
 
 
 @dataclass
@@ -64,7 +56,6 @@ class Swtpm:
         return f"swtpm:host=127.0.0.1,port={self.port}"
 
     def stop(self) -> None:
-        """Ends it."""
         if self.process:
             self.process.terminate()
             self.process.wait()
@@ -78,7 +69,6 @@ def run(words: list[str], transport: str) -> None:
 
 
 def tool_time(tools: list[list[str]], transport: str) -> float:
-    """The milliseconds of some tools, one after another, from start to end."""
     before = time.perf_counter()
     for words in tools:
         run(words, transport)
@@ -92,13 +82,13 @@ def asked(client: str, transport: str, command: str, count: int) -> list[float]:
     return [float(figure) for figure in output.split()]
 
 
-def tell(label: str, rows: dict[str, Row]) -> None:
-    """Prints one row of a table."""
-    print(f"| {label} | " + " | ".join(str(row) for row in rows.values()) + " |", flush=True)
+def tell(label: str, rows: dict[str, list[float]]) -> None:
+    """Prints the figures of each way."""
+    told = [f"{min(it):.2f} ({statistics.median(it):.2f})" for it in rows.values()]
+    print(f"| {label} | " + " | ".join(told) + " |", flush=True)
 
 
 def head(label: str, ways: dict[str, str]) -> None:
-    """Prints the head of a table."""
     print(f"\n| {label} | " + " | ".join(ways) + " |")
     print("|---" * (len(ways) + 1) + "|")
 
@@ -109,10 +99,9 @@ def measure_tools(ways: dict[str, str], rounds: int) -> None:
     for way in ways.values():
         run(["tpm2_startup", "-c"], way)
     for label, tools in TOOLS.items():
-        rows = {way: Row() for way in ways}
-        for _ in range(rounds):
-            for way, transport in ways.items():
-                rows[way].figures.append(tool_time(tools, transport))
+        rows: dict[str, list[float]] = {way: [] for way in ways}
+        for way, transport in list(ways.items()) * rounds:
+            rows[way].append(tool_time(tools, transport))
         tell(label, rows)
 
 
@@ -120,10 +109,9 @@ def measure_commands(client: str, ways: dict[str, str], rounds: int) -> None:
     """Commands in a process that stays, in microseconds."""
     head("microseconds of a command in a process that stays", ways)
     for command in COMMANDS:
-        rows = {way: Row() for way in ways}
-        for _ in range(rounds):
-            for way, transport in ways.items():
-                rows[way].figures += asked(client, transport, command, COUNT)
+        rows: dict[str, list[float]] = {way: [] for way in ways}
+        for way, transport in list(ways.items()) * rounds:
+            rows[way] += asked(client, transport, command, COUNT)
         tell(command, rows)
 
 
@@ -136,32 +124,23 @@ def measure_replay(client: str, module: str, folder: Path) -> None:
         asked(client, transport, command, REPLAYED // 2)
     least, median = asked(client, transport, "open", 10)
     size = (state / "journal").stat().st_size
-    print(
-        f"opening {REPLAYED:,} commands, {size:,} bytes: {least / 1e3:.2f} ms ({median / 1e3:.2f})"
-    )
+    figures = f"{least / 1e3:.2f} ms ({median / 1e3:.2f})"
+    print(f"opening {REPLAYED:,} commands, {size:,} bytes: {figures}")
 
 
 def measure(module: str, client: str, disk: str, rounds: int = ROUNDS) -> None:
-    """All tables."""
-    with tempfile.TemporaryDirectory(dir="/dev/shm") as memory:
-        with tempfile.TemporaryDirectory(dir=disk) as below:
-            folders = {"/dev/shm": Path(memory), "a disk": Path(below)}
-            servers = {
-                place: Swtpm(folder / "swtpm", 25_300 + 2 * number)
-                for number, (place, folder) in enumerate(folders.items())
-            }
-            try:
-                ways = {f"swtpm, {place}": server.start() for place, server in servers.items()}
-                for place, folder in folders.items():
-                    for force in FORCES:
-                        state = folder / force
-                        ways[f"{force}, {place}"] = f"{module}:state={state},force={force}"
-                measure_tools(ways, rounds)
-                measure_commands(client, ways | {"in memory": f"{module}:"}, 3)
-                measure_replay(client, module, folders["/dev/shm"])
-            finally:
-                for server in servers.values():
-                    server.stop()
+    with ExitStack() as stack:
+        ways, folders = dict[str, str](), dict[str, Path]()
+        for port, (place, parent) in enumerate({"/dev/shm": "/dev/shm", "a disk": disk}.items()):
+            folder = Path(stack.enter_context(tempfile.TemporaryDirectory(dir=parent)))
+            server = Swtpm(folder / "swtpm", 25_300 + 2 * port)
+            stack.callback(server.stop)
+            folders[place], ways[f"swtpm, {place}"] = folder, server.start()
+        for (place, folder), force in itertools.product(folders.items(), FORCES):
+            ways[f"{force}, {place}"] = f"{module}:state={folder / force},force={force}"
+        measure_tools(ways, rounds)
+        measure_commands(client, ways | {"in memory": f"{module}:"}, 3)
+        measure_replay(client, module, folders["/dev/shm"])
 
 
 if __name__ == "__main__":

@@ -1,4 +1,3 @@
-#!/usr/bin/env python3
 """Prints a script that commands.sh measures: a command, so many times.
 
     python3 bench/command_script.py PCR_Read 2000

@@ -6,6 +6,7 @@ PROGRAM is made of in_process.c. In each round every row is measured with each d
 figure is the median of the rounds, in microseconds; the least is in brackets.
 """
 
+import itertools
 import statistics
 import subprocess
 import sys
@@ -43,8 +44,6 @@ def hex_of(words: str) -> str:
 
 
 class Program:
-    """The program that has both devices."""
-
     def __init__(self, path: str) -> None:
         process = subprocess.Popen([path], stdin=subprocess.PIPE, stdout=subprocess.PIPE, text=True)
         assert process.stdin and process.stdout
@@ -99,10 +98,6 @@ class Row:
         verb, _, rest = self.tells[target].partition(" ")
         nanoseconds = int(program.ask(f"{verb} {self.count} {rest}"))
         self.times[target].append(nanoseconds / self.count / self.times_each / 1000)
-
-    def forget(self) -> None:
-        for times in self.times.values():
-            times.clear()
 
     def line(self) -> str:
         cells = [f"{statistics.median(it):.2f} ({min(it):.2f})" for it in self.times.values()]
@@ -181,13 +176,11 @@ def main() -> None:
     seals = {it: prepare(program, it) for it in ("tpms", "sim")}
     table = rows({**seals, "still": seals["sim"]})
     for number in range(rounds + 1):
-        for row in table:
-            for target in TARGETS:
-                measure(program, row, target)
+        for row, target in itertools.product(table, TARGETS):
+            measure(program, row, target)
         # In the first round libtpms still tests itself.
-        if number == 0:
-            for row in table:
-                row.forget()
+        for row in table if number == 0 else []:
+            row.times = {it: [] for it in TARGETS}
     print("| commands | libtpms | libtpmsim | with random bytes that stay | ratio |")
     print("|---|---|---|---|---|")
     for row in table:

@@ -1,4 +1,3 @@
-#!/usr/bin/env python3
 """Prints a script that nv_sessions.sh measures: a command on an NV index, or on a PCR, by an HMAC
 session.
 
@@ -15,16 +14,11 @@ import sys
 from tpmsim.caller import area, BY_VALUE, Use
 from tpmsim.caller.script import Script
 from tpmsim.caller.script_caller import FIRST, ScriptCaller
-from tpmsim.standard import CC, lines, number, RH_NULL, RH_OWNER, SHA256
+from tpmsim.standard import RH_NULL, RH_OWNER, SHA256, lines
 
 PCR = 0x10
 DATA = bytes(64)
 BINDINGS = {"none": RH_NULL, "owner": RH_OWNER, "index": FIRST}
-
-
-def extending(caller, session):
-    parameters = number(1, 4) + number(SHA256, 2) + bytes(32)
-    return caller.prepare(CC.PCR_Extend, [PCR], parameters, session)
 
 
 def in_hex(line):
@@ -46,7 +40,7 @@ use = Use(session)
 prepared = {
     "write": lambda: caller.writing(FIRST, DATA, use),
     "read": lambda: caller.reading(FIRST, 64, use),
-    "extend": lambda: extending(caller, use),
+    "extend": lambda: caller.command("PCR_Extend", PCR, uses=[use], digests=[(SHA256, bytes(32))]),
 }[kind]()
 buffer = prepared.buffer()
 script.command("SUCCESS", buffer)

@@ -1,4 +1,3 @@
-#!/usr/bin/env python3
 """Prints a script that objects.sh measures: a command of objects, so many times.
 
     python3 bench/object_script.py Load 2000

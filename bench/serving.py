@@ -7,6 +7,7 @@ TPM2_GetRandom of 32 bytes is answered with, and does nothing else, and IMAGE th
 """
 
 import os
+import pathlib
 import shutil
 import socket
 import subprocess
@@ -22,35 +23,27 @@ ROUNDS = 20_000
 
 def connected(path):
     """A connection to a socket, as soon as it is there."""
-    while True:
-        client = socket.socket(socket.AF_UNIX, socket.SOCK_STREAM)
-        try:
-            client.connect(path)
-            return client
-        except (FileNotFoundError, ConnectionRefusedError):
-            client.close()
+    client = socket.socket(socket.AF_UNIX, socket.SOCK_STREAM)
+    while client.connect_ex(path):
+        pass
+    return client
 
 
 def received(client, size):
-    text = b""
-    while len(text) < size:
-        piece = client.recv(size - len(text))
-        assert piece, "the connection ended"
-        text += piece
-    return text
+    text = client.recv(size, socket.MSG_WAITALL)
+    assert len(text) == size, "the connection ended"
 
 
 def round_trip(client):
     """The microseconds of one command and its response, the least of five times many."""
-    least = None
+    took = []
     for _ in range(5):
         start = time.perf_counter()
         for _ in range(ROUNDS):
             client.sendall(RANDOM)
             received(client, RESPONSE_SIZE)
-        each = (time.perf_counter() - start) / ROUNDS * 1e6
-        least = each if least is None else min(least, each)
-    return least
+        took.append((time.perf_counter() - start) / ROUNDS * 1e6)
+    return min(took)
 
 
 def serving(program, image, connections):
@@ -73,9 +66,8 @@ def first_answer(program):
 
 
 def memory_of(process):
-    with open(f"/proc/{process.pid}/status") as status:
-        (line,) = (line for line in status if line.startswith("VmHWM"))
-    return line.split()[1]
+    status = pathlib.Path(f"/proc/{process.pid}/status").read_text()
+    return status.split("VmHWM:")[1].split()[0]
 
 
 def main():

@@ -1,4 +1,3 @@
-#!/usr/bin/env python3
 """Prints the script that sessions.sh measures: TPM2_PCR_Reset of PCR 16 through an HMAC session.
 
     python3 bench/session_script.py 100000

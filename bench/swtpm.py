@@ -7,8 +7,6 @@ ATTACHED is the folder of tools/interop/attached_swtpm.sh, and the states are ke
 runs in. Each number is the median of seven rounds in microseconds, and in brackets the least.
 """
 
-from __future__ import annotations
-
 import itertools
 import os
 import pathlib
@@ -40,17 +38,13 @@ COMMANDS = {
     "GetRandom(32)": itertools.repeat(bytes.fromhex("80010000000c0000017b0020")),
     "PCR_Read": itertools.repeat(bytes.fromhex("8001000000140000017e00000001000b03000001")),
     "PCR_Extend": itertools.repeat(
-        bytes.fromhex(
-            f"80020000004100000182000000100000000940000009000001000000000001000b{DIGEST}"
-        )
+        bytes.fromhex(f"80020000004100000182000000100000000940000009000001000000000001000b{DIGEST}")
     ),
     "NV_Write, 8 bytes": writes(),
 }
 
 
 class Tpm:
-    """A swtpm on a new state, and a connection to it."""
-
     def __init__(self, name: str, program: str, environment: dict[str, str]) -> None:
         self.state = pathlib.Path(name).resolve()
         self.state.mkdir()

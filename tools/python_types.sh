@@ -1,7 +1,7 @@
 #!/bin/sh
-# Checks the package under python/: its types by mypy, of most of it by `mypy --strict`, its names
-# by pyflakes, its form by black, and its unit tests by pytest, with its plugin. The programs under
-# tests/, examples/ and bench/ are checked for names and form too. It is no part of the gate, and needs Debian's packages
+# Checks the package under python/: its types by strict mypy, its names by pyflakes, its form by
+# black, and its unit tests by pytest, with its plugin. The programs under tests/, examples/ and
+# bench/ are checked for names and form too. It is no part of the gate, and needs Debian's packages
 # mypy, pyflakes3, black and python3-pytest. The status is 1 where one of them finds something.
 set -u
 
@@ -17,10 +17,6 @@ PYTHONDONTWRITEBYTECODE=1
 export PYTHONPATH PYTHONDONTWRITEBYTECODE
 status=0
 mypy --cache-dir "$work/mypy" || status=1
-for package in standard model policies caller; do
-    set -- "$@" -p "tpmsim.$package"
-done
-mypy --strict --cache-dir "$work/mypy" "$@" || status=1
 pyflakes3 tpmsim tests "$top/tests" "$top/examples" "$top/bench" || status=1
 /usr/bin/black --quiet --check . || status=1
 # The programs beside the tests have the form of the package.

@@ -4,7 +4,7 @@ import pathlib
 import shutil
 import unittest
 
-from tpmsim.compare.known import cause_of
+from tpmsim.compare.differences import cause_of
 from tpmsim.compare.main import other_tpm, told
 from tpmsim.compare.play import Comparison
 from tpmsim.device import Answered, Device, StartedSwtpm

@@ -14,8 +14,8 @@ import unittest
 
 import tpmsim.device
 from tpmsim.caller import Caller, Refused
-from tpmsim.device import BadImage, ChildDevice, Device, DeviceEnded, LibraryDevice, ModelDevice
-from tpmsim.device import ServedDevice, SimulatorDevice, StartedSwtpm, Unsupported
+from tpmsim.device import BadImage, ChildDevice, Device, DeviceEnded, KeptDevice, LibraryDevice
+from tpmsim.device import ModelDevice, ServedDevice, SimulatorDevice, StartedSwtpm, Unsupported
 from tpmsim.device.child import program_found
 from tpmsim.device.image_file import but_clock
 from tpmsim.model.image import image
@@ -102,6 +102,14 @@ class OverSocket(TwentyTests, unittest.TestCase):
         return ServedDevice(self.enterContext(running(program_found(), *words, ready=ready)))
 
 
+@unittest.skipUnless(tpmsim.device.library.is_there(), "there is no libtpmsim.so.0")
+class OverKeptState(TwentyTests, unittest.TestCase):
+    lacks = {"test_lockout": HOSTS_TIME}
+
+    def device(self):
+        return KeptDevice(self.enterContext(tempfile.TemporaryDirectory()))
+
+
 class OverSimulator(TwentyTests, unittest.TestCase):
     lacks = {"test_lockout": HOSTS_TIME, "test_snapshot": "there are no snapshots"}
 
@@ -184,6 +192,31 @@ class Devices(unittest.TestCase):
         self.assertRaises(BadImage, Device.open, path.read_bytes() + bytes(60))
         self.assertEqual(path.read_bytes(), b"TPMI")
 
+    def test_kept_state(self):
+        """Two hold a device at once; what is no journal, or is damaged, is told so and stays."""
+        with KeptDevice(self.folder) as device, KeptDevice(self.folder) as other:
+            tpm = Caller(device)
+            tpm.start_up()
+            tpm.send(tpm.change_auth(RH_OWNER, b"owner", b""))
+            tpm.device = other
+            tpm.send(tpm.change_auth(RH_OWNER, b"", b"owner"))
+            other.power_cycle()
+            with self.assertRaisesRegex(Refused, "INITIALIZE"):
+                Caller(device).call("ReadClock")
+            self.assertEqual(device.save(), other.save())
+            Caller(device).start_up()
+            self.assertRaises(Unsupported, device.wait, 1)
+        journal = self.folder / "journal"
+        whole = journal.read_bytes()
+        journal.write_bytes(whole[:-2])
+        with KeptDevice(self.folder) as device:
+            Caller(device).start_up()
+        damaged = whole.replace(b"000144", b"000145")
+        for text, words in {damaged: "is damaged", b"-": "no journal"}.items():
+            journal.write_bytes(text)
+            self.assertRaisesRegex(DeviceEnded, words, KeptDevice, self.folder)
+            self.assertEqual(journal.read_bytes(), text)
+
     def test_written_script(self):
         device = ModelDevice(seed=SEED)
         Caller(device).start_up()
@@ -215,7 +248,7 @@ class Documented(unittest.TestCase):
     def test_examples(self):
         given = {it: getattr(tpmsim.device, it) for it in tpmsim.device.__all__}
         given["Caller"] = Caller
-        for name in ("told", "library", "child", "served", "swtpm"):
+        for name in ("told", "library", "child", "kept", "served", "swtpm"):
             module = sys.modules[f"tpmsim.device.{name}"]
             result = doctest.testmod(module, extraglobs=given)
             self.assertGreater(result.attempted, 0)

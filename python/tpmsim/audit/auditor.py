@@ -69,7 +69,6 @@ class Auditor:
             raise Disagreement(words)
 
     def judge(self, number: int, printed: list[str]) -> None:
-        """An event, by what was printed of it."""
         seen = self.watch.latest
         seen.line = self.last = number
         try:

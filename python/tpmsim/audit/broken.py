@@ -5,7 +5,7 @@ TPM2_PolicyOR that none takes.
 
 from typing import Iterator, Sequence
 
-from tpmsim.audit.asserted import Asserted, PolicyOr
+from tpmsim.audit.session_lines import Asserted, PolicyOr
 from tpmsim.policies.policy_texts import Policy, policy_digest, policy_texts, texts_after, zeros
 from tpmsim.standard.sessions import digest
 
@@ -13,7 +13,6 @@ Told = Sequence[Asserted]
 
 
 def explanation(algorithm: int, policy: Policy, told: Told) -> str:
-    """It, in words."""
     for find in (wrong_or, collision, hash_of_zeros, astride):
         found = find(algorithm, policy, told)
         if found:

@@ -20,7 +20,6 @@ INDICES = {
 
 
 def kind_words(public: Public) -> str:
-    """What an object or an index is."""
     if isinstance(public, nv.Public):
         return INDICES[nv.Type(public.kind)]
     if public.kind == KEYEDHASH:
@@ -60,7 +59,6 @@ class Entities:
             self.begin(handle, 0, "of the image")
 
     def begin(self, handle: int, line: int, since: str) -> None:
-        """Something new under a handle."""
         public = view_of(self.device, handle).public
         assert public is not None
         title = f"{handle_word(handle)}, {kind_words(public)} {since}; {means_words(public)}"
@@ -72,7 +70,6 @@ class Entities:
         return entity
 
     def of(self, handle: int) -> Entity:
-        """What a handle names now."""
         return self.now.get(handle) or self.keep(Entity(handle, handle_words(handle)))
 
     def note(self, seen: Seen) -> None:

@@ -77,7 +77,6 @@ class Guesses:
         return own or self.sessions.protection(use.entry.handle)
 
     def note(self, seen: Seen) -> None:
-        """An accepted event."""
         if seen.is_power_cycle or seen.accepted.code not in RESETS:
             self.stretch.elapsed += seen.elapsed
             return

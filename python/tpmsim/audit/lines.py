@@ -91,14 +91,12 @@ class ValueLines:
             self.set_by |= dict.fromkeys(handles, f"that line {seen.line} set")
 
     def words(self, handle: int, value: bytes) -> str:
-        """The value of a handle, in words."""
         if not value:
             return "the empty value"
         return f"the value {self.set_by.get(handle, self.at_first)}"
 
 
 def handles_set(event: Accepted) -> list[int]:
-    """The handles whose values a command sets."""
     if event.code in (CC.HierarchyChangeAuth, CC.NV_ChangeAuth):
         return event.handles[:1]
     if event.code == CC.NV_DefineSpace:

@@ -114,7 +114,6 @@ class Refusals:
         self.told: list[str] = []
 
     def note(self, seen: Seen) -> None:
-        """A refused command."""
         event = seen.explained
         if event is not None and event.reason is not None:
             self.told.append(f"  line {event.line}: {text.title(event)}")

@@ -107,7 +107,6 @@ class Seen:
         return is_refused and is_of_entry(self.outcome.row.check, self.outcome.refused)
 
     def view(self, handle: int) -> View:
-        """That of one of the command's handles."""
         return self.views[self.command.handles.index(handle)]
 
 

@@ -1,13 +1,13 @@
 """What a caller of a TPM computes, and a caller that sends it to a device."""
 
 from tpmsim.caller.caller import Caller
-from tpmsim.caller.entries import flipped, Made, Means, Prepared, Session, Use, wrong
+from tpmsim.caller.entries import flipped, Made, Means, Prepared, Refused, Response, Session, Use
+from tpmsim.caller.entries import wrong
 from tpmsim.caller.knowledge import CLEAR, Knowledge, NONCE_BYTES, STATE, WrongResponse
-from tpmsim.caller.responses import Refused, Response
 from tpmsim.caller.templates import area, bits, BY_OWNER, BY_PLATFORM, BY_POLICY, BY_VALUE, counter
 from tpmsim.caller.templates import extended, FIRST, HERE, hmac_key, OPEN, sealed, storage_key
 from tpmsim.caller.templates import STORES
-from tpmsim.policies.told import digest_of
+from tpmsim.policies.policy_file import digest_of
 
 # fmt: off
 __all__ = [

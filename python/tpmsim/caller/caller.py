@@ -3,11 +3,10 @@
 import secrets
 from typing import Any, Callable, Protocol, Sequence
 
-from tpmsim.caller.entries import Made, Means, Prepared, Session, Use
+from tpmsim.caller.entries import Made, Means, Prepared, Refused, Response, Session, Use
 from tpmsim.caller.knowledge import CLEAR, NONCE_BYTES
 from tpmsim.caller.prepared_commands import PreparedCommands
-from tpmsim.caller.responses import Refused, Response
-from tpmsim.policies.told import policy_of, Step, steps_of
+from tpmsim.policies.policy_file import policy_of, Step, steps_of
 from tpmsim.standard import ALG_NULL, CC, nv, objects, policy, RH_NULL, RH_OWNER, SE_HMAC, SE_POLICY
 from tpmsim.standard import SE_TRIAL, SHA256, trimmed, XOR
 from tpmsim.standard.values import Cipher
@@ -160,7 +159,6 @@ class Caller(PreparedCommands):
         return Made(response["outPrivate"], area, trimmed(user_auth))
 
     def load(self, parent: int, made: Made, *uses: Means) -> int:
-        """The handle of an object that is loaded."""
         handle = self.send(self.loading(parent, made, *uses)).handle
         assert handle is not None
         self.auth_values[handle] = made.auth_value

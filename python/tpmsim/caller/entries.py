@@ -1,13 +1,17 @@
-"""A command that is ready to be sent, and the sessions of its entries."""
+"""A command that is ready to be sent, and the sessions of its entries; and what it came to: the fields
+of a response, or why it is refused.
+"""
 
 from __future__ import annotations
 
 from dataclasses import dataclass, replace
+from functools import cached_property
 from typing import Any, Union
 
-from tpmsim.standard import ALG_NULL, CC, CONTINUE_SESSION, DECRYPT, ENCRYPT, Entry, frames
-from tpmsim.standard import SE_HMAC
+from tpmsim.standard import ALG_NULL, CC, CONTINUE_SESSION, DECRYPT, ENCRYPT, Entry, frames, SE_HMAC
+from tpmsim.standard.frames import spelled_code
 from tpmsim.standard.objects import Public
+from tpmsim.standard.values import read_all
 
 
 @dataclass
@@ -99,3 +103,44 @@ def wrong(prepared: Prepared, place: int = 1) -> Prepared:
     """With one bit of an entry's hmac or password changed, or with a byte where it has none."""
     hmac = prepared.entries[place - 1].hmac
     return prepared.but_entry(place, hmac=flipped(hmac) if hmac else b"\1")
+
+
+@dataclass(frozen=True)
+class Response:
+    """A success, its parameters in plain. They stand by their names in Part 3, as
+    `response["randomBytes"]`; docs/table says of each what it is. KeyError names the others.
+    """
+
+    code: CC
+    handle: int | None
+    parameters: bytes
+
+    @cached_property
+    def fields(self) -> dict[str, Any]:
+        return read_all(self.code.answered_parameters, self.parameters)
+
+    def __getitem__(self, name: str) -> Any:
+        if name not in self.fields:
+            raise KeyError(f"{self.code.name} answers {', '.join(self.fields) or 'nothing'}")
+        return self.fields[name]
+
+
+class Refused(Exception):
+    """A command that the device refuses: the number of the response code, the code's name (empty
+    where it is not known here), its place, as p1, h2 or s1, or nothing; and where a trace tells it,
+    the check that refuses, as G9 or A1.
+    """
+
+    def __init__(self, prepared: Prepared, number: int, check: str | None = None) -> None:
+        self.prepared, self.number, self.check = prepared, number, check
+        self.name, self.place = spelled_code(number)
+        super().__init__(str(self))
+
+    @property
+    def code(self) -> str:
+        """The name with its place, as VALUE/p1."""
+        return f"{self.name}/{self.place}" if self.place else self.name
+
+    def __str__(self) -> str:
+        check = f", by {self.check}" if self.check else ""
+        return f"{self.prepared.code.name}: {self.code or 'unknown'} ({self.number:03X}){check}"

@@ -5,8 +5,7 @@ import subprocess
 import sys
 from collections import Counter, defaultdict
 
-from tpmsim.compare.differences import Difference
-from tpmsim.compare.known import Cause, cause_of, CAUSES
+from tpmsim.compare.differences import Cause, cause_of, CAUSES, Difference
 from tpmsim.compare.main import compared
 from tpmsim.model.player import BadLine
 

@@ -136,7 +136,6 @@ class Comparison:
         self.compare(asked, prepared, here, event, response)
 
     def skip(self, asked: Command | None, event: Executed, words: str, line: int) -> None:
-        """What cannot be compared was executed here alone."""
         self.report.not_comparable.append((self.line, words, line))
         self.lose(asked, event, line)
 

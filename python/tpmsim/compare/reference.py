@@ -125,7 +125,6 @@ class Reference:
         return self.model.sessions.get(found[1].handle) if found else None
 
     def received(self, command: Command, response: bytes, session: Session | None) -> Received:
-        """What a success of the device here tells."""
         fields = Fields(response[10:])
         handle = fields.number(4) if command.code.answers_handle else None
         is_sized = command.entries is not None

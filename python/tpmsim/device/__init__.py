@@ -3,6 +3,7 @@
 from tpmsim.device import library
 from tpmsim.device.base import Answered, BadImage, DeviceEnded, Transport, Unsupported
 from tpmsim.device.child import ChildDevice
+from tpmsim.device.kept import KeptDevice
 from tpmsim.device.library import LibraryDevice
 from tpmsim.device.served import FileDevice, ServedDevice, SimulatorDevice
 from tpmsim.device.swtpm import StartedSwtpm, SwtpmDevice
@@ -15,8 +16,8 @@ Device.preferred = kind
 
 # fmt: off
 __all__ = [
-    "Answered", "BadImage", "ChildDevice", "Device", "DeviceEnded", "FileDevice", "LibraryDevice",
-    "ModelDevice", "ServedDevice", "SimulatorDevice", "StartedSwtpm", "SwtpmDevice", "Transport",
+    "Answered", "BadImage", "ChildDevice", "Device", "DeviceEnded", "FileDevice", "KeptDevice",
+    "LibraryDevice", "ModelDevice", "ServedDevice", "SimulatorDevice", "StartedSwtpm", "SwtpmDevice", "Transport",
     "Unsupported"
 ]
 # fmt: on

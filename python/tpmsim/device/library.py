@@ -51,7 +51,7 @@ def library() -> ctypes.CDLL:
     if version != tpmsim.__version__:
         raise OSError(f"{places()[0]} is of version {version}, and not {tpmsim.__version__}")
     handle, text, size = ctypes.c_void_p, ctypes.c_char_p, ctypes.c_size_t
-    byte, milliseconds = ctypes.c_uint8, ctypes.c_uint32
+    byte, milliseconds, clock = ctypes.c_uint8, ctypes.c_uint32, ctypes.c_uint64
     event = [byte, milliseconds, text, text, handle]
     for name, result, arguments in (
         ("manufacture", byte, [handle, text]),
@@ -60,6 +60,14 @@ def library() -> ctypes.CDLL:
         ("save", size, [handle, text, size]),
         ("open", byte, [handle, text, size]),
         ("free", None, [handle]),
+        ("journal_begin", size, [handle, clock, text, size]),
+        ("journal_open", byte, [handle, text, size, handle]),
+        ("journal_follow", byte, [handle, text, size, handle]),
+        (
+            "journal_execute",
+            byte,
+            [handle, text, size, byte, clock, byte, text, text, *[handle] * 3],
+        ),
     ):
         call = getattr(found, f"tpmsim_{name}")
         call.restype, call.argtypes = result, arguments
@@ -74,6 +82,13 @@ def is_there() -> bool:
             raise
         return False
     return True
+
+
+def saved(found: ctypes.CDLL, handle: int) -> bytes:
+    size = found.tpmsim_save(handle, b"", 0)
+    room = ctypes.create_string_buffer(size)
+    found.tpmsim_save(handle, room, size)
+    return room.raw
 
 
 class LibraryDevice(Device):
@@ -168,12 +183,7 @@ class LibraryDevice(Device):
         self.keep()
 
     def save(self) -> bytes:
-        size = self.library.tpmsim_save(self.handle, self.room, RESPONSE_BYTES)
-        if size <= RESPONSE_BYTES:
-            return ctypes.string_at(self.room, size)
-        room = ctypes.create_string_buffer(size)
-        self.library.tpmsim_save(self.handle, room, size)
-        return room.raw
+        return saved(self.library, self.handle)
 
     def close(self) -> None:
         if self.file:

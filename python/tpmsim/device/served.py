@@ -1,10 +1,66 @@
 """Devices at the other end of a socket or a file, where time and random bytes are the host's."""
 
 import os
+import socket
+from typing import Self
 
 from tpmsim.device.base import Answered, checked_locality, DeviceEnded, Executed, Transport
-from tpmsim.device.sockets import Connection
 from tpmsim.standard import number
+
+# A Unix socket's path, or a host and a port.
+Address = str | tuple[str, int]
+
+RECEIVED_AT_ONCE = 65_536
+
+
+class Connection:
+    """A connection that answers within so many seconds; else it is a TimeoutError."""
+
+    def __init__(self, address: Address, seconds: float) -> None:
+        if isinstance(address, str):
+            self.socket = socket.socket(socket.AF_UNIX)
+            self.socket.settimeout(seconds)
+            try:
+                self.socket.connect(address)
+            except OSError:
+                self.socket.close()
+                raise
+        else:
+            self.socket = socket.create_connection(address, seconds)
+            self.socket.setsockopt(socket.IPPROTO_TCP, socket.TCP_NODELAY, 1)
+
+    def send(self, data: bytes) -> Self:
+        """DeviceEnded where the other end is gone."""
+        try:
+            self.socket.sendall(data)
+        except (BrokenPipeError, ConnectionResetError):
+            raise DeviceEnded("the connection has ended") from None
+        return self
+
+    def receive(self, size: int) -> bytes:
+        """As many bytes; DeviceEnded where the connection ends before."""
+        text = b""
+        while len(text) < size:
+            try:
+                piece = self.socket.recv(min(size - len(text), RECEIVED_AT_ONCE))
+            except ConnectionResetError:
+                piece = b""
+            if not piece:
+                raise DeviceEnded("the connection has ended")
+            text += piece
+        return text
+
+    def number(self) -> int:
+        return int.from_bytes(self.receive(4), "big")
+
+    def response(self) -> bytes:
+        """A response, whose header says how long it is."""
+        header = self.receive(10)
+        return header + self.receive(max(int.from_bytes(header[2:6], "big") - 10, 0))
+
+    def close(self) -> None:
+        self.socket.close()
+
 
 RESPONSE_BYTES, RETRY, MOST_TIMES = 4096, number(0x922, 4), 5
 
@@ -27,6 +83,21 @@ class OtherDevice(Transport):
 
     def exchange(self, buffer: bytes) -> bytes:
         raise NotImplementedError
+
+
+class LocatedDevice(OtherDevice):
+    """One that is told the locality of commands, which is 0 at first."""
+
+    at = 0
+
+    @property
+    def locality(self) -> int:
+        return self.at or 0
+
+    @locality.setter
+    def locality(self, place: int) -> None:
+        self.at = checked_locality(place)
+        self.events.append(f"loc {place}")
 
 
 class ServedDevice(OtherDevice):
@@ -80,7 +151,7 @@ class FileDevice(OtherDevice):
 POWER_ON, POWER_OFF, SEND_COMMAND, NV_ON, SESSION_END = 1, 2, 8, 11, 20
 
 
-class SimulatorDevice(OtherDevice):
+class SimulatorDevice(LocatedDevice):
     """A device behind Microsoft's protocol: commands at a port, and the platform at the next one.
     Its power is switched on, and off again where `power_cycle` asks for it.
 
@@ -92,7 +163,6 @@ class SimulatorDevice(OtherDevice):
 
     def __init__(self, host: str = "127.0.0.1", port: int = 2321, seconds: float = 60) -> None:
         super().__init__()
-        self.at = 0
         self.data = Connection((host, port), seconds)
         try:
             self.platform = Connection((host, port + 1), seconds)
@@ -106,15 +176,6 @@ class SimulatorDevice(OtherDevice):
         told = self.platform.send(number(request, 4)).number()
         if told:
             raise DeviceEnded(f"the platform refuses request {request} with {told}")
-
-    @property
-    def locality(self) -> int:
-        return self.at or 0
-
-    @locality.setter
-    def locality(self, place: int) -> None:
-        self.at = checked_locality(place)
-        self.events.append(f"loc {place}")
 
     def power_cycle(self) -> None:
         for request in (POWER_OFF, POWER_ON, NV_ON):

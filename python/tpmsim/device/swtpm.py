@@ -6,9 +6,8 @@ import tempfile
 import time
 from typing import Self
 
-from tpmsim.device.base import checked_locality, DeviceEnded
-from tpmsim.device.served import OtherDevice
-from tpmsim.device.sockets import Address, Connection
+from tpmsim.device.base import DeviceEnded
+from tpmsim.device.served import Address, Connection, LocatedDevice
 from tpmsim.standard import CC, frames, handle_kinds, number, RH_PLATFORM, SHA1, SHA256
 
 # Requests of the control channel (swtpm's tpm_ioctl.h).
@@ -25,7 +24,7 @@ STARTUP_CLEAR, SHUTDOWN_CLEAR = (
 )
 
 
-class SwtpmDevice(OtherDevice):
+class SwtpmDevice(LocatedDevice):
     """A device behind swtpm's protocol, at the addresses of both channels. The power is as it was.
     An answer has to come within so many seconds.
 
@@ -37,7 +36,7 @@ class SwtpmDevice(OtherDevice):
 
     def __init__(self, data: Address, control: Address, seconds: float = 60) -> None:
         super().__init__()
-        self.at, self.told_locality = 0, 0
+        self.told_locality = 0
         self.control = Connection(control, seconds)
         try:
             self.data = Connection(data, seconds)
@@ -52,15 +51,6 @@ class SwtpmDevice(OtherDevice):
         told = self.asked(request, argument)
         if told:
             raise DeviceEnded(f"the control channel refuses request {request} with {told:#x}")
-
-    @property
-    def locality(self) -> int:
-        return self.at or 0
-
-    @locality.setter
-    def locality(self, place: int) -> None:
-        self.at = checked_locality(place)
-        self.events.append(f"loc {place}")
 
     def exchange(self, buffer: bytes) -> bytes:
         if self.locality != self.told_locality:
@@ -134,7 +124,7 @@ class StartedSwtpm(SwtpmDevice):
     def is_connected(self, data: str, control: str, seconds: float) -> bool:
         try:
             super().__init__(data, control, seconds)
-        except (FileNotFoundError, ConnectionRefusedError):
+        except (FileNotFoundError, ConnectionRefusedError, BlockingIOError):
             return False
         return True
 

@@ -24,7 +24,6 @@ class Look:
 
     @cached_property
     def values(self) -> dict[str, Any]:
-        """The parameters by their names in Part 3."""
         assert self.scene.plain is not None
         return values.read_all(self.code.parameters, self.scene.plain)
 

@@ -81,12 +81,10 @@ class Watched:
 
     @property
     def now(self) -> Event:
-        """The event of now."""
         assert self.event is not None
         return self.event
 
     def power(self) -> Event:
-        """A power cycle."""
         self.model.power_cycle()
         self.past.power(self.line)
         self.event = Event(self.line, Scene(self.model, self.past, self.line, b"", 0, b"", 0))

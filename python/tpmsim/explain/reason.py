@@ -37,7 +37,6 @@ class Reason:
 
     @property
     def sentence(self) -> str:
-        """The check's sentence in docs/table."""
         return RULES[self.rule][0]
 
     @property
@@ -49,7 +48,6 @@ class Reason:
         self.facts.append(Fact(label, value, sort))
 
     def compare(self, wanted: str, had: str, of: str = "") -> None:
-        """Both values, with what they are of."""
         self.add(f"{of} wanted".strip(), wanted, WANTED)
         self.add(f"{of} had".strip(), had, HAD)
 

@@ -71,7 +71,6 @@ def told(event: Event) -> Iterator[str]:
 
 
 def title(event: Event) -> str:
-    """What came of a command."""
     assert event.outcome is not None
     if not event.refused:
         return f"{name_of(event)} is accepted"

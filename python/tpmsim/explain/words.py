@@ -108,7 +108,6 @@ def flag_words(value: int, of: type[enum.IntEnum]) -> str:
 
 
 def attribute_words(attributes: int) -> str:
-    """The attributes of an entry."""
     return f"{attributes:02x} ({bit_words(attributes, ATTRIBUTES)})"
 
 

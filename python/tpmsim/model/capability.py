@@ -1,8 +1,7 @@
 """TPM2_GetCapability: what the device has and is (TPM 2.0 Library, Part 3, section 30.2)."""
 
 from tpmsim.model.general import Answer, Refusal
-from tpmsim.model.held import Held
-from tpmsim.model.parameters import Request
+from tpmsim.model.parameters import Held, integer, Request, takes
 from tpmsim.standard import CC, frames, handle_kinds, HASHES, HMAC_SESSION, number, NV, PERSISTENT
 from tpmsim.standard import POLICY_SESSION, TRANSIENT
 
@@ -40,12 +39,8 @@ def command_attributes(code: CC) -> int:
 class Commands(Held):
     """The command, of a device that has all that is asked for."""
 
-    def get_capability(self, request: Request) -> Answer:
-        capability = request.parameters.next().number(4)
-        wanted = request.parameters.next().number(4)
-        count = request.parameters.next().number(4)
-        request.parameters.end()
-
+    @takes(integer(4), integer(4), integer(4))
+    def get_capability(self, request: Request, capability: int, wanted: int, count: int) -> Answer:
         if capability == PCRS:
             banks = frames.selection(*((algorithm, handle_kinds.PCRS) for algorithm in HASHES))
             return Answer(b"\0" + number(PCRS, 4) + banks)

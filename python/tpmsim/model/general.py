@@ -48,8 +48,10 @@ class Command:
 
     def places(self) -> Iterator[tuple[int, Entry, int | None]]:
         """Each entry with its number and the handle that it authorizes, if any."""
+        if not self.entries:
+            return
         authorized = self.handles[: self.code.authorized]
-        for place, entry in enumerate(self.entries or [], 1):
+        for place, entry in enumerate(self.entries, 1):
             yield place, entry, authorized[place - 1] if place <= len(authorized) else None
 
     def with_attribute(self, attribute: int) -> tuple[int, Entry, int | None] | None:

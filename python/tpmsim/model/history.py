@@ -163,7 +163,6 @@ class AuthValues:
 
 
 def defined_index(it: Accepted) -> int:
-    """The handle of the index that TPM2_NV_DefineSpace defines."""
     fields = it.read().next()
     fields.sized(DIGEST_BYTES)
     return fields.next().structure(nv_commands.read_public).index
@@ -269,91 +268,62 @@ class Sessions:
             self.change(use.handle, restarted)
 
 
-Made = dict[str, Any]
-
-
 def restarted(session: LiveSession) -> LiveSession:
     return replace(session, policy=policy_state.starting_state(session.algorithm))
+
+
+# The assertions.
+ASSERTIONS = (
+    *(CC.PolicyPCR, CC.PolicyOR, CC.PolicyAuthValue, CC.PolicyPassword, CC.PolicyCommandCode),
+    *(CC.PolicyCpHash, CC.PolicyNvWritten, CC.PolicyLocality, CC.PolicySecret, CC.PolicyNV),
+)
 
 
 def asserted(it: Accepted, session: LiveSession, values: Pcrs) -> LiveSession:
     """The session with what an assertion makes of its policy."""
     was = session.policy
-    made = ASSERTIONS[CC(it.code)](it, session.algorithm, session.kind, was.digest, values)
-    cp_hash = made.pop("cp_hash", None) or was.cp_hash
-    localities = was.localities & made.pop("localities", policy.ALL_LOCALITIES)
-    return replace(session, policy=replace(was, cp_hash=cp_hash, localities=localities, **made))
+    digest, told = made_of(it, session, values)
+    told["cp_hash"] = told.get("cp_hash") or was.cp_hash
+    told["localities"] = was.localities & told.get("localities", policy.ALL_LOCALITIES)
+    return replace(session, policy=replace(was, digest=digest, **told))
 
 
-def pcr_asserted(it: Accepted, algorithm: int, kind: int, old: bytes, values: Pcrs) -> Made:
-    fields = it.read()
-    given, selection = fields.next().sized(DIGEST_BYTES), fields.next().selection()
-    found = values.digest(algorithm, selection)
-    taken = given if kind == frames.SE_TRIAL and given else found
-    made = policy.after_pcr(algorithm, old, frames.selection(*selection), taken)
-    return {"digest": made, "update_counter": values.updates}
-
-
-def or_asserted(it: Accepted, algorithm: int, kind: int, old: bytes, values: Pcrs) -> Made:
-    branches = it.read().next().sized_list(policy.LEAST_BRANCHES, policy.MOST_BRANCHES)
-    return {"digest": policy.after_or(algorithm, branches)}
-
-
-def demand_asserted(it: Accepted, algorithm: int, kind: int, old: bytes, values: Pcrs) -> Made:
-    wants_password = it.code == CC.PolicyPassword
-    demand = policy.PASSWORD if wants_password else policy.AUTH_VALUE
-    return {"digest": policy.after_auth_value(algorithm, old), "demand": demand}
-
-
-def command_code_asserted(
-    it: Accepted, algorithm: int, kind: int, old: bytes, values: Pcrs
-) -> Made:
-    code = it.read().next().number(4)
-    return {"digest": policy.after_command_code(algorithm, old, code), "code": code}
-
-
-def cp_hash_asserted(it: Accepted, algorithm: int, kind: int, old: bytes, values: Pcrs) -> Made:
-    cp_hash = it.read().next().sized(DIGEST_BYTES)
-    return {"digest": policy.after_cp_hash(algorithm, old, cp_hash), "cp_hash": cp_hash}
-
-
-def nv_written_asserted(it: Accepted, algorithm: int, kind: int, old: bytes, values: Pcrs) -> Made:
-    is_written = bool(it.read().next().number(1))
-    made = policy.after_nv_written(algorithm, old, is_written)
-    return {"digest": made, "nv_written": is_written}
-
-
-def locality_asserted(it: Accepted, algorithm: int, kind: int, old: bytes, values: Pcrs) -> Made:
-    localities = it.read().next().number(1)
-    made = policy.after_locality(algorithm, old, localities)
-    return {"digest": made, "localities": localities}
-
-
-def secret_asserted(it: Accepted, algorithm: int, kind: int, old: bytes, values: Pcrs) -> Made:
-    fields = it.read()
-    _, cp_hash, policy_ref = (fields.next().sized(DIGEST_BYTES) for _ in range(3))
-    made = policy.after_secret(algorithm, old, it.names[0], policy_ref)
-    return {"digest": made, "cp_hash": cp_hash}
-
-
-def nv_asserted(it: Accepted, algorithm: int, kind: int, old: bytes, values: Pcrs) -> Made:
-    operand, offset, operation = nv_commands.read_policy_nv(it.read())
-    arguments = operand + number(offset, 2) + number(operation, 2)
-    return {"digest": policy.after_nv(algorithm, old, arguments, it.names[1])}
-
-
-ASSERTIONS = {
-    CC.PolicyPCR: pcr_asserted,
-    CC.PolicyOR: or_asserted,
-    CC.PolicyAuthValue: demand_asserted,
-    CC.PolicyPassword: demand_asserted,
-    CC.PolicyCommandCode: command_code_asserted,
-    CC.PolicyCpHash: cp_hash_asserted,
-    CC.PolicyNvWritten: nv_written_asserted,
-    CC.PolicyLocality: locality_asserted,
-    CC.PolicySecret: secret_asserted,
-    CC.PolicyNV: nv_asserted,
-}
+def made_of(it: Accepted, session: LiveSession, values: Pcrs) -> tuple[bytes, dict[str, Any]]:
+    """The digest that an assertion makes, and what else of the policy is another one."""
+    algorithm, old, fields = session.algorithm, session.policy.digest, it.read()
+    match it.code:
+        case CC.PolicyPCR:
+            given, selection = fields.next().sized(DIGEST_BYTES), fields.next().selection()
+            is_taken = session.kind == frames.SE_TRIAL and given
+            taken = given if is_taken else values.digest(algorithm, selection)
+            text = frames.selection(*selection)
+            made = policy.after_pcr(algorithm, old, text, taken)
+            return made, {"update_counter": values.updates}
+        case CC.PolicyOR:
+            branches = fields.next().sized_list(policy.LEAST_BRANCHES, policy.MOST_BRANCHES)
+            return policy.after_or(algorithm, branches), {}
+        case CC.PolicyCommandCode:
+            code = fields.next().number(4)
+            return policy.after_command_code(algorithm, old, code), {"code": code}
+        case CC.PolicyCpHash:
+            cp_hash = fields.next().sized(DIGEST_BYTES)
+            return policy.after_cp_hash(algorithm, old, cp_hash), {"cp_hash": cp_hash}
+        case CC.PolicyNvWritten:
+            is_written = bool(fields.next().number(1))
+            return policy.after_nv_written(algorithm, old, is_written), {"nv_written": is_written}
+        case CC.PolicyLocality:
+            localities = fields.next().number(1)
+            return policy.after_locality(algorithm, old, localities), {"localities": localities}
+        case CC.PolicySecret:
+            _, cp_hash, policy_ref = (fields.next().sized(DIGEST_BYTES) for _ in range(3))
+            made = policy.after_secret(algorithm, old, it.names[0], policy_ref)
+            return made, {"cp_hash": cp_hash}
+        case CC.PolicyNV:
+            operand, offset, operation = nv_commands.read_policy_nv(fields)
+            arguments = operand + number(offset, 2) + number(operation, 2)
+            return policy.after_nv(algorithm, old, arguments, it.names[1]), {}
+    demand = policy.PASSWORD if it.code == CC.PolicyPassword else policy.AUTH_VALUE
+    return policy.after_auth_value(algorithm, old), {"demand": demand}
 
 
 # All of it, and a device that is compared with it.
@@ -396,8 +366,9 @@ class History:
         held = WITHOUT_VALUES | device.auth_values
         held |= {handle: it.sensitive.auth_value for handle, it in device.objects.items()}
         held |= {handle: it.auth_value for handle, it in device.indices.items()}
+        told = self.auth_values.values
         for handle, auth_value in held.items():
-            if auth_value != self.auth_values.of(handle):
+            if auth_value != told.get(handle, b""):
                 yield f"the authorization value of {handle:08x}"
 
     def counter_differences(self, device: Model) -> Iterator[str]:

@@ -12,9 +12,9 @@ from tpmsim.model import capability, general, history, nv_commands, object_comma
 from tpmsim.model import persistent, policy_commands, policy_state, protection, state
 from tpmsim.model.general import Answer, Command, Refusal
 from tpmsim.model.history import Accepted, PowerCycle
-from tpmsim.model.parameters import Parameters, Request
+from tpmsim.model.parameters import Parameters, Request, buffer, choice, integer, takes
 from tpmsim.model.policy_state import Entity
-from tpmsim.standard import aes, CC, DECRYPT, digest_bytes, DIGEST_BYTES, ENCRYPT, Entry, Fact
+from tpmsim.standard import aes, CC, DECRYPT, digest_bytes, ENCRYPT, Entry, Fact
 from tpmsim.standard import Fields, frames, handle_kinds, number, nv, objects, policy
 from tpmsim.standard import RH_ENDORSEMENT, RH_LOCKOUT, RH_NULL, RH_OWNER, RH_PLATFORM, RS_PW
 from tpmsim.standard import sessions, Short, sized, TRANSIENT, trimmed
@@ -446,20 +446,18 @@ class Model(
 
     # The commands: their parameters, their own checks, and then what changes.
 
-    def get_random(self, request: Request) -> Answer:
-        count = min(request.parameters.next().number(2), RANDOM_AT_ONCE)
-        request.parameters.end()
+    @takes(integer(2))
+    def get_random(self, request: Request, wanted: int) -> Answer:
+        count = min(wanted, RANDOM_AT_ONCE)
         return Answer(sized(request.random[:count]), drawn=count)
 
-    def hierarchy_change_auth(self, request: Request) -> Answer:
-        new = request.parameters.next().sized(DIGEST_BYTES)
-        request.parameters.end()
+    @takes(buffer())
+    def hierarchy_change_auth(self, request: Request, new: bytes) -> Answer:
         self.auth_values[request.handles[0]] = trimmed(new)
         return Answer()
 
-    def flush_context(self, request: Request) -> Answer:
-        handle = request.parameters.next().number(4)
-        request.parameters.end()
+    @takes(integer(4))
+    def flush_context(self, request: Request, handle: int) -> Answer:
         kind = handle_kinds.first_byte(handle)
         if kind not in (frames.HMAC_SESSION, frames.POLICY_SESSION, frames.TRANSIENT):
             raise Refusal("VALUE/p1", "A1")
@@ -470,14 +468,17 @@ class Model(
         self.sessions.pop(handle, None)
         return Answer()
 
-    def start_auth_session(self, request: Request) -> Answer:
-        nonce_caller = request.parameters.next().sized(DIGEST_BYTES)
-        salt = request.parameters.next().sized(DIGEST_BYTES)
-        kind = request.parameters.next().one_of(1, HANDLE_KINDS, "VALUE")
-        cipher, mask_algorithm = request.parameters.next().symmetric()
-        algorithm = request.parameters.next().hash()
-        request.parameters.end()
-
+    @takes(buffer(), buffer(), choice(1, HANDLE_KINDS), Parameters.symmetric, Parameters.hash)
+    def start_auth_session(
+        self,
+        request: Request,
+        nonce_caller: bytes,
+        salt: bytes,
+        kind: int,
+        symmetric: tuple[int, int | None],
+        algorithm: int,
+    ) -> Answer:
+        cipher, mask_algorithm = symmetric
         size = len(nonce_caller)
         if not LEAST_NONCE <= size <= digest_bytes(algorithm):
             raise Refusal("SIZE/p1", "A1")
@@ -496,17 +497,8 @@ class Model(
             key = sessions.session_key(algorithm, bind_auth, nonce_tpm, nonce_caller)
         handle = HANDLE_KINDS[kind] << 24 | free[0]
         told = policy_state.starting_state(algorithm)
-        self.sessions[handle] = Session(
-            kind,
-            algorithm,
-            cipher,
-            nonce_tpm,
-            key,
-            self.name(bind),
-            bind_auth,
-            self.protection(bind),
-            told,
-        )
+        bound = self.name(bind), bind_auth, self.protection(bind)
+        self.sessions[handle] = Session(kind, algorithm, cipher, nonce_tpm, key, *bound, told)
         return Answer(sized(nonce_tpm), number(handle, 4), drawn=size)
 
 

@@ -7,8 +7,7 @@ is left to each TPM, or is narrower here, is that of docs/table.
 from dataclasses import dataclass
 
 from tpmsim.model.general import Answer, Refusal
-from tpmsim.model.held import Held
-from tpmsim.model.parameters import Parameters, Request
+from tpmsim.model.parameters import buffer, Held, integer, Parameters, Request, structure, takes
 from tpmsim.standard import CC, digest, digest_bytes, DIGEST_BYTES, Fact, first_byte, number, NV
 from tpmsim.standard import RH_OWNER, RH_PLATFORM, sized, trimmed
 from tpmsim.standard.nv import Attribute, NAMED, NUMBER_BYTES, Public, READS, Type, WRITES
@@ -222,35 +221,33 @@ def check_comparison(index: Index, asker: int, operand: bytes, offset: int, oper
 class Commands(Held):
     """The commands on indices, of a device that has `indices` and the `largest_counter` ever."""
 
-    def nv_define_space(self, request: Request) -> Answer:
-        auth_value = trimmed(request.parameters.next().sized(DIGEST_BYTES))
-        public = request.parameters.next().structure(read_public)
-        request.parameters.end()
+    def asked(self, request: Request) -> tuple[int, Index]:
+        asker, handle = request.handles
+        return asker, self.indices[handle]
 
+    @takes(buffer(), structure(read_public))
+    def nv_define_space(self, request: Request, auth_value: bytes, public: Public) -> Answer:
+        auth_value = trimmed(auth_value)
         check_definition(public, auth_value, request.handles[0], self.indices)
         self.indices[public.index] = Index(public, auth_value)
         return Answer()
 
+    @takes()
     def nv_undefine_space(self, request: Request) -> Answer:
-        request.parameters.end()
         hierarchy, handle = request.handles
         if hierarchy == RH_OWNER and self.indices[handle].public.has(Attribute.PLATFORMCREATE):
             raise Refusal("NV_AUTHORIZATION", "A1")
         del self.indices[handle]
         return Answer()
 
+    @takes()
     def nv_read_public(self, request: Request) -> Answer:
-        request.parameters.end()
         public = self.indices[request.handles[0]].public
         return Answer(sized(public.text) + sized(public.name))
 
-    def nv_write(self, request: Request) -> Answer:
-        data = request.parameters.next().sized(BUFFER_BYTES)
-        offset = request.parameters.next().number(2)
-        request.parameters.end()
-
-        asker, handle = request.handles
-        index = self.indices[handle]
+    @takes(buffer(BUFFER_BYTES), integer(2))
+    def nv_write(self, request: Request, data: bytes, offset: int) -> Answer:
+        asker, index = self.asked(request)
         size = index.public.data_size
         check_writing(index.public, asker, Type.ORDINARY)
         check_range(index.public, offset, len(data), "A4")
@@ -261,10 +258,9 @@ class Commands(Held):
         index.write(old[:offset] + data + old[offset + len(data) :])
         return Answer()
 
+    @takes()
     def nv_increment(self, request: Request) -> Answer:
-        request.parameters.end()
-        asker, handle = request.handles
-        index = self.indices[handle]
+        asker, index = self.asked(request)
         check_writing(index.public, asker, Type.COUNTER)
         # So a counter that is undefined and defined again does not go back.
         old = self.largest_counter
@@ -276,60 +272,51 @@ class Commands(Held):
         index.write(number(old + 1, NUMBER_BYTES))
         return Answer()
 
-    def nv_set_bits(self, request: Request) -> Answer:
-        bits = request.parameters.next().number(NUMBER_BYTES)
-        request.parameters.end()
-        asker, handle = request.handles
-        index = self.indices[handle]
+    @takes(integer(NUMBER_BYTES))
+    def nv_set_bits(self, request: Request, bits: int) -> Answer:
+        asker, index = self.asked(request)
         check_writing(index.public, asker, Type.BITS)
         index.write(number(unsigned(index.data) | bits, NUMBER_BYTES))
         return Answer()
 
-    def nv_extend(self, request: Request) -> Answer:
-        data = request.parameters.next().sized(BUFFER_BYTES)
-        request.parameters.end()
-        asker, handle = request.handles
-        index = self.indices[handle]
+    @takes(buffer(BUFFER_BYTES))
+    def nv_extend(self, request: Request, data: bytes) -> Answer:
+        asker, index = self.asked(request)
         check_writing(index.public, asker, Type.EXTEND)
         old = index.data or bytes(index.public.data_size)
         index.write(digest(index.public.name_algorithm, old + data))
         return Answer()
 
-    def nv_read(self, request: Request) -> Answer:
-        size = request.parameters.next().number(2)
-        offset = request.parameters.next().number(2)
-        request.parameters.end()
-        asker, handle = request.handles
-        index = self.indices[handle]
+    @takes(integer(2), integer(2))
+    def nv_read(self, request: Request, size: int, offset: int) -> Answer:
+        asker, index = self.asked(request)
         check_reading(index.public, asker)
         if size > BUFFER_BYTES:
             raise Refusal("VALUE/p1", "A4")
         check_range(index.public, offset, size, "A5")
         return Answer(sized(index.data[offset : offset + size]))
 
+    @takes()
     def nv_write_lock(self, request: Request) -> Answer:
-        request.parameters.end()
-        asker, handle = request.handles
-        index = self.indices[handle]
+        asker, index = self.asked(request)
         check_writer(index.public, asker)
         if not index.public.has(Attribute.WRITEDEFINE | Attribute.WRITE_STCLEAR):
             raise Refusal("ATTRIBUTES/h2", "A2")
         index.mark(Attribute.WRITELOCKED)
         return Answer()
 
+    @takes()
     def nv_read_lock(self, request: Request) -> Answer:
-        request.parameters.end()
-        asker, handle = request.handles
-        index = self.indices[handle]
+        asker, index = self.asked(request)
         check_reader(index.public, asker)
         if not index.public.has(Attribute.READ_STCLEAR):
             raise Refusal("ATTRIBUTES/h2", "A2")
         index.mark(Attribute.READLOCKED)
         return Answer()
 
-    def nv_change_auth(self, request: Request) -> Answer:
-        new = trimmed(request.parameters.next().sized(DIGEST_BYTES))
-        request.parameters.end()
+    @takes(buffer())
+    def nv_change_auth(self, request: Request, new: bytes) -> Answer:
+        new = trimmed(new)
         index = self.indices[request.handles[0]]
         if len(new) > digest_bytes(index.public.name_algorithm):
             raise Refusal("SIZE/p1", "A1")

@@ -1,12 +1,12 @@
 """The commands of objects (TPM 2.0 Library, Part 3, sections 12, 15 and 24)."""
 
 from dataclasses import replace
+from typing import Any
 
 from tpmsim.model import object_rules
 from tpmsim.model.general import Answer, Refusal
-from tpmsim.model.held import Held
 from tpmsim.model.object_rules import Object, Template
-from tpmsim.model.parameters import Request
+from tpmsim.model.parameters import buffer, choice, Held, Request, structure, takes
 from tpmsim.standard import aes, ALG_NULL, digest, HASHES, KEYEDHASH, mac, number, sized, TRANSIENT
 from tpmsim.standard import trimmed
 from tpmsim.standard.objects import Attribute, Public
@@ -53,10 +53,9 @@ class Commands(Held):
         made_here = object_rules.creation_ticket(hierarchy, proof, public.name, data_hash)
         return sized(public.text) + sized(data) + sized(data_hash) + made_here
 
-    def create_primary(self, request: Request) -> Answer:
-        template = object_rules.read_template(request.parameters)
-        request.parameters.end()
-
+    @takes(*object_rules.TEMPLATE)
+    def create_primary(self, request: Request, *given: Any) -> Answer:
+        template = Template(*given)
         object_rules.check_public(template.public, parent=None)
         object_rules.check_sensitive(template, parent=None)
         handle = self.free_object("A7")
@@ -67,10 +66,9 @@ class Commands(Held):
         creation = self.creation(template, primary.public, None, hierarchy, request.locality)
         return Answer(creation + sized(primary.name), number(handle, 4))
 
-    def create(self, request: Request) -> Answer:
-        template = object_rules.read_template(request.parameters)
-        request.parameters.end()
-
+    @takes(*object_rules.TEMPLATE)
+    def create(self, request: Request, *given: Any) -> Answer:
+        template = Template(*given)
         parent = self.parent(request.handles[0])
         object_rules.check_public(template.public, parent)
         object_rules.check_sensitive(template, parent)
@@ -81,11 +79,8 @@ class Commands(Held):
         creation = self.creation(template, public, parent, parent.hierarchy, request.locality)
         return Answer(sized(private) + creation, drawn=drawn + aes.BLOCK)
 
-    def load(self, request: Request) -> Answer:
-        private = request.parameters.next().sized(object_rules.PRIVATE_BYTES)
-        public = request.parameters.next().structure(object_rules.read_public)
-        request.parameters.end()
-
+    @takes(buffer(object_rules.PRIVATE_BYTES), structure(object_rules.read_public))
+    def load(self, request: Request, private: bytes, public: Public) -> Answer:
         parent = self.parent(request.handles[0])
         object_rules.check_public(public, parent)
         sensitive = object_rules.unwrapped(parent, public, private, self.block_cipher)
@@ -97,13 +92,13 @@ class Commands(Held):
         )
         return Answer(sized(public.name), number(handle, 4))
 
+    @takes()
     def read_public(self, request: Request) -> Answer:
-        request.parameters.end()
         asked = self.objects[request.handles[0]]
         return Answer(sized(asked.public.text) + sized(asked.name) + sized(asked.qualified_name))
 
+    @takes()
     def unseal(self, request: Request) -> Answer:
-        request.parameters.end()
         sealed = self.objects[request.handles[0]]
         if sealed.public.kind != KEYEDHASH:
             raise Refusal("TYPE/h1", "A1")
@@ -111,11 +106,8 @@ class Commands(Held):
             raise Refusal("ATTRIBUTES/h1", "A2")
         return Answer(sized(sealed.sensitive.data))
 
-    def hmac(self, request: Request) -> Answer:
-        data = request.parameters.next().sized(HMAC_BYTES)
-        asked = request.parameters.next().one_of(2, (ALG_NULL, *HASHES), "HASH")
-        request.parameters.end()
-
+    @takes(buffer(HMAC_BYTES), choice(2, (ALG_NULL, *HASHES), "HASH"))
+    def hmac(self, request: Request, data: bytes, asked: int) -> Answer:
         key = self.objects[request.handles[0]]
         scheme = key.public.scheme
         if key.public.kind != KEYEDHASH:

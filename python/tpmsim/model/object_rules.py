@@ -8,7 +8,7 @@ for, `parent` is None.
 from dataclasses import dataclass, replace
 
 from tpmsim.model.general import Refusal
-from tpmsim.model.parameters import Parameters
+from tpmsim.model.parameters import Parameters, buffer, structure
 from tpmsim.standard import aes, ALG_NULL, digest, digest_bytes, DIGEST_BYTES, Fields, frames, kdfa
 from tpmsim.standard import KEYEDHASH, mac, number, SHA256, Short, sized, SYMCIPHER, trimmed
 from tpmsim.standard.aes_tables import encrypt_block
@@ -70,11 +70,18 @@ def loaded(
 class Template:
     """What TPM2_CreatePrimary and TPM2_Create are asked for; `pcrs` are the PCRs to be noted."""
 
-    user_auth: bytes
-    data: bytes
+    values: tuple[bytes, bytes]
     public: Public
     outside_info: bytes
     pcrs: list[tuple[int, list[int]]]
+
+    @property
+    def user_auth(self) -> bytes:
+        return self.values[0]
+
+    @property
+    def data(self) -> bytes:
+        return self.values[1]
 
     @property
     def sensitive_text(self) -> bytes:
@@ -107,11 +114,14 @@ def read_public(fields: Parameters) -> Public:
     return Public(kind, name_algorithm, attributes, auth_policy, scheme, unique)
 
 
+TEMPLATE = (
+    *(structure(read_sensitive_create), structure(read_public)),
+    *(buffer(NAME_BYTES), Parameters.selection),
+)
+
+
 def read_template(parameters: Parameters) -> Template:
-    user_auth, data = parameters.next().structure(read_sensitive_create)
-    public = parameters.next().structure(read_public)
-    outside_info = parameters.next().sized(NAME_BYTES)
-    return Template(user_auth, data, public, outside_info, parameters.next().selection())
+    return Template(*(read(parameters.next()) for read in TEMPLATE))
 
 
 # Templates, as they are checked.

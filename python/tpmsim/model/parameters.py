@@ -2,13 +2,25 @@
 
 from __future__ import annotations
 
+import functools
 from dataclasses import dataclass
-from typing import Callable, Iterable, TypeVar
+from typing import Any, Callable, Iterable, TYPE_CHECKING, TypeVar
 
-from tpmsim.model.general import Refusal
+from tpmsim.model.general import Answer, Refusal
 from tpmsim.standard import DIGEST_BYTES, Fields, frames, HASHES, PCRS, Short
 
+if TYPE_CHECKING:
+    from tpmsim.model.machine import Session
+    from tpmsim.model.nv_commands import Index
+    from tpmsim.model.object_rules import Object
+    from tpmsim.model.protection import Lockout
+    from tpmsim.model.state import Saved
+    from tpmsim.standard.aes import BlockCipher
+
 T = TypeVar("T")
+
+# The banks of a selection of PCRs, each with its hash algorithm and the PCRs' numbers.
+Selection = list[tuple[int, list[int]]]
 
 # The most banks of a selection.
 MOST_BANKS = 16
@@ -69,8 +81,7 @@ class Parameters:
             raise self.refusal("SIZE")
         return count
 
-    def selection(self) -> list[tuple[int, list[int]]]:
-        """The banks of a selection of PCRs, each with its hash algorithm and the PCRs' numbers."""
+    def selection(self) -> Selection:
         banks = []
         for _ in range(self.count(MOST_BANKS)):
             algorithm = self.hash()
@@ -103,6 +114,26 @@ class Parameters:
             raise Refusal("SIZE", "G11")
 
 
+# How a parameter is read.
+Reader = Callable[[Parameters], Any]
+
+
+def integer(size: int) -> Reader:
+    return lambda fields: fields.number(size)
+
+
+def buffer(most: int = DIGEST_BYTES) -> Reader:
+    return lambda fields: fields.sized(most)
+
+
+def choice(size: int, allowed: Iterable[int], code: str = "VALUE") -> Reader:
+    return lambda fields: fields.one_of(size, allowed, code)
+
+
+def structure(read: Callable[[Parameters], T]) -> Reader:
+    return lambda fields: fields.structure(read)
+
+
 @dataclass(frozen=True)
 class Request:
     """What a command asks for, its parameters in plain; where it comes from; and random bytes."""
@@ -111,3 +142,53 @@ class Request:
     parameters: Parameters
     locality: int
     random: bytes
+
+
+# What does a command, and the command as it is asked for.
+Act = Callable[..., Answer]
+Row = Callable[[Any, Request], Answer]
+
+
+def takes(*readers: Reader) -> Callable[[Act], Row]:
+    """The parameters of a command, each as it is read, and nothing behind them."""
+
+    def row_of(act: Act) -> Row:
+        @functools.wraps(act)
+        def row(device: Any, request: Request) -> Answer:
+            given = [read(request.parameters.next()) for read in readers]
+            request.parameters.end()
+            return act(device, request, *given)
+
+        return row
+
+    return row_of
+
+
+class Held:
+    """Values by the handles of what they are of. The times are in milliseconds."""
+
+    block_cipher: BlockCipher
+    started: bool
+    auth_values: dict[int, bytes]
+    seeds: dict[int, bytes]
+    proofs: dict[int, bytes]
+    disable_clear: bool
+    lockout: Lockout
+    banks: dict[int, list[bytes]]
+    update_counter: int
+    objects: dict[int, Object]
+    indices: dict[int, Index]
+    largest_counter: int
+    sessions: dict[int, Session]
+    time: int
+    clock: int
+    reset_count: int
+    restart_count: int
+    saved: Saved
+    saved_banks: dict[int, list[bytes]]
+
+    def name(self, handle: int) -> bytes:
+        raise NotImplementedError
+
+    def values(self, selection: list[tuple[int, list[int]]]) -> bytes:
+        raise NotImplementedError

@@ -5,8 +5,7 @@
 from typing import Sequence
 
 from tpmsim.model.general import Answer, Refusal
-from tpmsim.model.held import Held
-from tpmsim.model.parameters import Request
+from tpmsim.model.parameters import buffer, Held, Parameters, Request, Selection, takes
 from tpmsim.standard import digest, digest_bytes, frames, HASHES, number, PCRS, RH_NULL, SHA1
 from tpmsim.standard import SHA256, sized
 
@@ -38,6 +37,11 @@ def starting_banks() -> dict[int, list[bytes]]:
     return {alg: [starting_value(alg, pcr) for pcr in PCRS] for alg in HASHES}
 
 
+def read_digests(fields: Parameters) -> list[tuple[int, bytes]]:
+    algorithms = (fields.hash() for _ in range(fields.count(MOST_DIGESTS)))
+    return [(it, fields.take(digest_bytes(it))) for it in algorithms]
+
+
 class Commands(Held):
     """The commands on PCRs, of a device that has `banks` and their `update_counter`."""
 
@@ -45,11 +49,9 @@ class Commands(Held):
         """The values of all selected PCRs, in the selection's order."""
         return b"".join(self.banks[bank][pcr] for bank, pcrs in selection for pcr in pcrs)
 
-    def pcr_read(self, request: Request) -> Answer:
+    @takes(Parameters.selection)
+    def pcr_read(self, request: Request, asked: Selection) -> Answer:
         """The update counter, the selection of the values that follow, and these."""
-        asked = request.parameters.next().selection()
-        request.parameters.end()
-
         selection: list[tuple[int, list[int]]] = []
         values: list[bytes] = []
         for algorithm, pcrs in asked:
@@ -72,25 +74,19 @@ class Commands(Held):
             bank[handle] = digest(algorithm, bank[handle] + value)
             self.update_counter += 1
 
-    def pcr_extend(self, request: Request) -> Answer:
-        request.parameters.next()
-        values = []
-        for _ in range(request.parameters.count(MOST_DIGESTS)):
-            algorithm = request.parameters.hash()
-            values.append((algorithm, request.parameters.take(digest_bytes(algorithm))))
-        request.parameters.end()
+    @takes(read_digests)
+    def pcr_extend(self, request: Request, values: list[tuple[int, bytes]]) -> Answer:
         self.extend(request.handles[0], values, request.locality)
         return Answer()
 
-    def pcr_event(self, request: Request) -> Answer:
-        data = request.parameters.next().sized(EVENT_BYTES)
-        request.parameters.end()
+    @takes(buffer(EVENT_BYTES))
+    def pcr_event(self, request: Request, data: bytes) -> Answer:
         values = [(algorithm, digest(algorithm, data)) for algorithm in (SHA1, SHA256)]
         self.extend(request.handles[0], values, request.locality)
         return Answer(frames.digests(*values))
 
+    @takes()
     def pcr_reset(self, request: Request) -> Answer:
-        request.parameters.end()
         (pcr,) = request.handles
         if request.locality not in reset_from(pcr):
             raise Refusal("LOCALITY", "A1")

@@ -1,9 +1,8 @@
 """TPM2_EvictControl: objects that outlive power cycles (TPM 2.0 Library, Part 3, section 28.5)."""
 
 from tpmsim.model.general import Answer, Refusal
-from tpmsim.model.held import Held
 from tpmsim.model.object_rules import Object
-from tpmsim.model.parameters import Request
+from tpmsim.model.parameters import Held, Parameters, Request, takes
 from tpmsim.standard import first_byte, PERSISTENT, RH_ENDORSEMENT, RH_OWNER, RH_PLATFORM
 from tpmsim.standard.objects import Attribute
 
@@ -35,15 +34,18 @@ def check_range(asker: int, handle: int, removes: bool) -> None:
         raise Refusal("RANGE/p1", "A3")
 
 
+def read_persistent(fields: Parameters) -> int:
+    handle = fields.number(4)
+    if not is_persistent(handle):
+        raise fields.refusal("VALUE")
+    return handle
+
+
 class Commands(Held):
     """The command, of a device that has `objects`, transient and persistent ones."""
 
-    def evict_control(self, request: Request) -> Answer:
-        wanted = request.parameters.next().number(4)
-        if not is_persistent(wanted):
-            raise request.parameters.refusal("VALUE")
-        request.parameters.end()
-
+    @takes(read_persistent)
+    def evict_control(self, request: Request, wanted: int) -> Answer:
         asker, handle = request.handles
         held, removes = self.objects[handle], is_persistent(handle)
         check_hierarchy(asker, held, removes)

@@ -48,7 +48,6 @@ class Player:
         self.starved, self.commands = starved, 0
 
     def play(self, line: bytes) -> list[str]:
-        """What is printed of a line."""
         word, space, argument = line.partition(b" ")
         if len(line) > LINE_BYTES:
             raise BadLine
@@ -66,7 +65,6 @@ class Player:
         return self.told(word, argument)
 
     def told(self, word: bytes, argument: bytes) -> list[str]:
-        """A line that executes nothing."""
         if word == b"loc":
             self.locality = decimal(argument, LAST_LOCALITY)
         elif word == b"wait":

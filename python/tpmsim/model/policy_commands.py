@@ -5,26 +5,22 @@ A trial session is told what need not be so.
 
 from tpmsim.model import nv_commands, policy_state
 from tpmsim.model.general import Answer, Refusal
-from tpmsim.model.held import Held
-from tpmsim.model.parameters import Request
-from tpmsim.standard import digest, digest_bytes, DIGEST_BYTES, frames, number, NUMBERED, policy
-from tpmsim.standard import sized
+from tpmsim.model.parameters import buffer, choice, Held, integer, Parameters, Request, Selection
+from tpmsim.model.parameters import takes
+from tpmsim.standard import digest, digest_bytes, frames, number, NUMBERED, policy, sized
 
 
 class Commands(Held):
     """The commands, of a device that has `sessions`, the PCRs, and `indices`."""
 
+    @takes()
     def policy_restart(self, request: Request) -> Answer:
-        request.parameters.end()
         session = self.sessions[request.handles[0]]
         session.policy = policy_state.starting_state(session.algorithm)
         return Answer()
 
-    def policy_pcr(self, request: Request) -> Answer:
-        given = request.parameters.next().sized(DIGEST_BYTES)
-        selection = request.parameters.next().selection()
-        request.parameters.end()
-
+    @takes(buffer(), Parameters.selection)
+    def policy_pcr(self, request: Request, given: bytes, selection: Selection) -> Answer:
         session = self.sessions[request.handles[0]]
         told, algorithm = session.policy, session.algorithm
         values_digest = digest(algorithm, self.values(selection))
@@ -38,10 +34,8 @@ class Commands(Held):
         told.update_counter = self.update_counter
         return Answer()
 
-    def policy_or(self, request: Request) -> Answer:
-        branches = request.parameters.next().sized_list(policy.LEAST_BRANCHES, policy.MOST_BRANCHES)
-        request.parameters.end()
-
+    @takes(lambda it: it.sized_list(policy.LEAST_BRANCHES, policy.MOST_BRANCHES))
+    def policy_or(self, request: Request, branches: list[bytes]) -> Answer:
         session = self.sessions[request.handles[0]]
         if not session.is_trial and session.policy.digest not in branches:
             raise Refusal("VALUE/p1", "A1")
@@ -50,23 +44,22 @@ class Commands(Held):
 
     def demanding(self, request: Request, demand: str) -> Answer:
         """What the policy's use has to show beside the session, the last demand alone."""
-        request.parameters.end()
         session = self.sessions[request.handles[0]]
         told = session.policy
         told.digest = policy.after_auth_value(session.algorithm, told.digest)
         told.demand = demand
         return Answer()
 
+    @takes()
     def policy_auth_value(self, request: Request) -> Answer:
         return self.demanding(request, policy.AUTH_VALUE)
 
+    @takes()
     def policy_password(self, request: Request) -> Answer:
         return self.demanding(request, policy.PASSWORD)
 
-    def policy_command_code(self, request: Request) -> Answer:
-        code = request.parameters.next().number(4)
-        request.parameters.end()
-
+    @takes(integer(4))
+    def policy_command_code(self, request: Request, code: int) -> Answer:
         session = self.sessions[request.handles[0]]
         told = session.policy
         if told.code not in (None, code):
@@ -77,10 +70,8 @@ class Commands(Held):
         told.code = code
         return Answer()
 
-    def policy_cp_hash(self, request: Request) -> Answer:
-        cp_hash = request.parameters.next().sized(DIGEST_BYTES)
-        request.parameters.end()
-
+    @takes(buffer())
+    def policy_cp_hash(self, request: Request, cp_hash: bytes) -> Answer:
         session = self.sessions[request.handles[0]]
         told, algorithm = session.policy, session.algorithm
         if len(cp_hash) != digest_bytes(algorithm):
@@ -91,10 +82,9 @@ class Commands(Held):
         told.cp_hash = cp_hash
         return Answer()
 
-    def policy_nv_written(self, request: Request) -> Answer:
-        is_written = bool(request.parameters.next().one_of(1, (0, 1), "VALUE"))
-        request.parameters.end()
-
+    @takes(choice(1, (0, 1)))
+    def policy_nv_written(self, request: Request, is_written: int) -> Answer:
+        is_written = bool(is_written)
         session = self.sessions[request.handles[0]]
         told = session.policy
         if told.nv_written not in (None, is_written):
@@ -103,11 +93,9 @@ class Commands(Held):
         told.nv_written = is_written
         return Answer()
 
-    def policy_locality(self, request: Request) -> Answer:
+    @takes(integer(1))
+    def policy_locality(self, request: Request, localities: int) -> Answer:
         """The parameter has a bit for each locality; the event's own locality does not matter."""
-        localities = request.parameters.next().number(1)
-        request.parameters.end()
-
         session = self.sessions[request.handles[0]]
         told = session.policy
         if localities > policy.ALL_LOCALITIES or not localities & told.localities:
@@ -116,13 +104,10 @@ class Commands(Held):
         told.localities &= localities
         return Answer()
 
-    def policy_secret(self, request: Request) -> Answer:
-        nonce_tpm = request.parameters.next().sized(DIGEST_BYTES)
-        cp_hash = request.parameters.next().sized(DIGEST_BYTES)
-        policy_ref = request.parameters.next().sized(DIGEST_BYTES)
-        expiration = request.parameters.next().number(4)
-        request.parameters.end()
-
+    @takes(buffer(), buffer(), buffer(), integer(4))
+    def policy_secret(
+        self, request: Request, nonce_tpm: bytes, cp_hash: bytes, policy_ref: bytes, expiration: int
+    ) -> Answer:
         entity, handle = request.handles
         session = self.sessions[handle]
         told, algorithm = session.policy, session.algorithm
@@ -140,10 +125,8 @@ class Commands(Held):
         # Nothing expires, so there is no timeout.
         return Answer(sized(b"") + frames.NULL_TICKET)
 
-    def policy_nv(self, request: Request) -> Answer:
-        operand, offset, operation = nv_commands.read_policy_nv(request.parameters)
-        request.parameters.end()
-
+    @takes(buffer(), integer(2), choice(2, range(len(nv_commands.OPERATIONS))))
+    def policy_nv(self, request: Request, operand: bytes, offset: int, operation: int) -> Answer:
         asker, handle, told_to = request.handles
         session, index = self.sessions[told_to], self.indices[handle]
         if not session.is_trial:
@@ -153,6 +136,6 @@ class Commands(Held):
         told.digest = policy.after_nv(session.algorithm, told.digest, arguments, index.public.name)
         return Answer()
 
+    @takes()
     def policy_get_digest(self, request: Request) -> Answer:
-        request.parameters.end()
         return Answer(sized(self.sessions[request.handles[0]].policy.digest))

@@ -7,8 +7,7 @@ lockoutAuth, the value of TPM_RH_LOCKOUT, is protected in a way of its own: one 
 from dataclasses import dataclass
 
 from tpmsim.model.general import Answer
-from tpmsim.model.held import Held
-from tpmsim.model.parameters import Request
+from tpmsim.model.parameters import Held, integer, Request, takes
 
 # What a wrong try counts at: at all protected objects and NV indices together, or at lockoutAuth.
 TRIES, LOCKOUT_AUTH = "tries", "lockoutAuth"
@@ -36,7 +35,6 @@ class Lockout:
         self.forgiving_time = self.closed_time = 0
 
     def tick(self, elapsed: int) -> None:
-        """Milliseconds pass."""
         self.forgive(elapsed)
         self.closed_time += elapsed
         recovery = MILLISECONDS * self.lockout_recovery
@@ -90,13 +88,14 @@ class Lockout:
 class Commands(Held):
     """The commands on the protection, of a device that has a `lockout`."""
 
+    @takes()
     def dictionary_attack_lock_reset(self, request: Request) -> Answer:
-        request.parameters.end()
         self.lockout.reset()
         return Answer()
 
-    def dictionary_attack_parameters(self, request: Request) -> Answer:
-        new = [request.parameters.next().number(4) for _ in range(3)]
-        request.parameters.end()
-        self.lockout.set_parameters(*new)
+    @takes(integer(4), integer(4), integer(4))
+    def dictionary_attack_parameters(
+        self, request: Request, max_tries: int, recovery_time: int, lockout_recovery: int
+    ) -> Answer:
+        self.lockout.set_parameters(max_tries, recovery_time, lockout_recovery)
         return Answer()

@@ -7,8 +7,7 @@ import enum
 
 from tpmsim.model import nv_commands
 from tpmsim.model.general import Answer, Refusal
-from tpmsim.model.held import Held
-from tpmsim.model.parameters import Request
+from tpmsim.model.parameters import choice, Held, Request, takes
 from tpmsim.standard import number, nv, RH_ENDORSEMENT, RH_LOCKOUT, RH_NULL, RH_OWNER, RH_PLATFORM
 
 CLEAR, STATE = 0, 1
@@ -47,8 +46,8 @@ class Commands(Held):
         self.clock = min(self.clock + elapsed, LAST_TIME)
         self.lockout.tick(elapsed)
 
+    @takes()
     def read_clock(self, request: Request) -> Answer:
-        request.parameters.end()
         times = number(self.time, 8) + number(self.clock, 8)
         counts = number(self.reset_count, 4) + number(self.restart_count, 4)
         # The clock never goes back, and so is safe.
@@ -56,9 +55,8 @@ class Commands(Held):
 
     # A start, which is a reset, or a restart or a resume of what was saved.
 
-    def startup(self, request: Request) -> Answer:
-        kind = request.parameters.next().one_of(2, (CLEAR, STATE), "VALUE")
-        request.parameters.end()
+    @takes(choice(2, (CLEAR, STATE)))
+    def startup(self, request: Request, kind: int) -> Answer:
         was_saved = self.saved
         if kind == STATE and was_saved != Saved.STATE:
             raise Refusal("VALUE/p1", "A1")
@@ -88,22 +86,20 @@ class Commands(Held):
         if not self.lockout.lockout_recovery:
             self.lockout.open()
 
-    def shutdown(self, request: Request) -> Answer:
-        kind = request.parameters.next().one_of(2, (CLEAR, STATE), "VALUE")
-        request.parameters.end()
+    @takes(choice(2, (CLEAR, STATE)))
+    def shutdown(self, request: Request, kind: int) -> Answer:
         self.saved = Saved.STATE if kind == STATE else Saved.CLEAR
         self.saved_banks = {alg: bank[:SAVED_PCRS] for alg, bank in self.banks.items()}
         return Answer()
 
-    def self_test(self, request: Request) -> Answer:
-        request.parameters.next().one_of(1, (0, 1), "VALUE")
-        request.parameters.end()
+    @takes(choice(1, (0, 1)))
+    def self_test(self, request: Request, full: int) -> Answer:
         return Answer()
 
     # TPM2_Clear takes away what belongs to the owner of the computer.
 
+    @takes()
     def clear(self, request: Request) -> Answer:
-        request.parameters.end()
         if self.disable_clear:
             raise Refusal("DISABLED", "A1")
 
@@ -127,9 +123,8 @@ class Commands(Held):
         self.update_counter += 1
         return Answer(drawn=3 * SECRET_BYTES)
 
-    def clear_control(self, request: Request) -> Answer:
-        disables = request.parameters.next().one_of(1, (0, 1), "VALUE")
-        request.parameters.end()
+    @takes(choice(1, (0, 1)))
+    def clear_control(self, request: Request, disables: int) -> Answer:
         # Only the platform takes it back.
         if request.handles[0] == RH_LOCKOUT and not disables:
             raise Refusal("AUTH_FAIL", "A1")

@@ -1,13 +1,15 @@
-"""The policy in a file, as docs/USING.md has it: a line an assertion, and branches that stand
-further in below `either` and `or`.
+"""The policy in a file, as docs/USING.md has it: a line an assertion, and branches that stand further in
+below `either` and `or`; and what a session is told of it, in order.
 """
+
+from __future__ import annotations
 
 from dataclasses import dataclass
 from typing import Iterator, Protocol
 
-from tpmsim.policies.policy_texts import Policy, Written, policy_digest
-from tpmsim.policies.written import Unsaid, read_assertion
-from tpmsim.standard import CC, HASH_WORDS, SHA1, SHA256, digest_bytes
+from tpmsim.policies.policy_texts import Policy, policy_digest, Written
+from tpmsim.policies.written import read_assertion, Unsaid
+from tpmsim.standard import CC, digest_bytes, frames, HASH_WORDS, SHA1, SHA256
 from tpmsim.standard.policy import LEAST_BRANCHES, MOST_BRANCHES
 
 ALGORITHMS = SHA256, SHA1
@@ -175,7 +177,6 @@ class PolicyFile:
         return found is not None and found == public.auth_policy
 
     def report(self) -> Iterator[str]:
-        """What is written in it, and its digests."""
         yield f"Policy {self.name}"
         width = len(str(self.rows[-1].number))
         for row in self.rows:
@@ -185,3 +186,35 @@ class PolicyFile:
             found = self.digests.get(algorithm)
             none = f"none, as the digest of policy line {self.size_line} has {self.size} bytes"
             yield f"  its digest by {HASH_WORDS[algorithm]}: {found.hex() if found else none}"
+
+
+@dataclass(frozen=True)
+class Step:
+    """An assertion with its parameters; of TPM2_PolicyOR with the steps of each branch, and of one
+    about an entity with its Name.
+    """
+
+    code: CC
+    parameters: bytes = b""
+    name: bytes = b""
+    branches: tuple[tuple[Step, ...], ...] = ()
+
+
+def policy_of(words: str) -> Policy:
+    """The policy that words say; policy_file.Fault where they say none."""
+    return PolicyFile("policy", words.encode()).policy
+
+
+def digest_of(words: str, algorithm: int = SHA256) -> bytes:
+    """The digest of a policy in words, for an authPolicy."""
+    return policy_digest(algorithm, policy_of(words))
+
+
+def steps_of(policy: Policy, algorithm: int) -> tuple[Step, ...]:
+    """All steps of a policy, those of its branches within the first."""
+    steps = [Step(it.said.code, it.said.parameters, it.said.name) for it in policy.assertions]
+    if policy.branches:
+        digests = [policy_digest(algorithm, it) for it in policy.branches]
+        branches = tuple(steps_of(it, algorithm) for it in policy.branches)
+        steps.insert(0, Step(CC.PolicyOR, frames.sized_list(*digests), branches=branches))
+    return tuple(steps)

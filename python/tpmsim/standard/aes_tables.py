@@ -20,10 +20,10 @@ def column_of(byte: int) -> int:
     return int.from_bytes(bytes((doubled, substituted, substituted, tripled)), "big")
 
 
-ROW_0 = [column_of(byte) for byte in range(256)]
-ROW_1 = [turned(it) for it in ROW_0]
-ROW_2 = [turned(it) for it in ROW_1]
-ROW_3 = [turned(it) for it in ROW_2]
+# What a byte adds in each of the four rows.
+ROWS = [[column_of(byte) for byte in range(256)]]
+for _ in range(3):
+    ROWS.append([turned(it) for it in ROWS[-1]])
 
 
 @functools.lru_cache(maxsize=256)
@@ -31,21 +31,15 @@ def key_words(key: bytes) -> tuple[int, ...]:
     return struct.unpack(">44I", b"".join(aes.round_keys(key)))
 
 
-def mixed(columns: tuple[int, ...], words: tuple[int, ...]) -> tuple[int, int, int, int]:
-    """A round that mixes, of four columns."""
-    a, b, c, d = columns
-    return (
-        ROW_0[a >> 24] ^ ROW_1[b >> 16 & 255] ^ ROW_2[c >> 8 & 255] ^ ROW_3[d & 255] ^ words[0],
-        ROW_0[b >> 24] ^ ROW_1[c >> 16 & 255] ^ ROW_2[d >> 8 & 255] ^ ROW_3[a & 255] ^ words[1],
-        ROW_0[c >> 24] ^ ROW_1[d >> 16 & 255] ^ ROW_2[a >> 8 & 255] ^ ROW_3[b & 255] ^ words[2],
-        ROW_0[d >> 24] ^ ROW_1[a >> 16 & 255] ^ ROW_2[b >> 8 & 255] ^ ROW_3[c & 255] ^ words[3],
-    )
-
-
 def encrypt_block(key: bytes, block: bytes) -> bytes:
-    words = key_words(key)
-    columns = tuple(a ^ b for a, b in zip(struct.unpack(">4I", block), words))
+    words, r0, r1, r2, r3 = key_words(key), *ROWS
+    a, b, c, d = (it ^ word for it, word in zip(struct.unpack(">4I", block), words))
     for at in range(4, 4 * aes.ROUNDS, 4):
-        columns = mixed(columns, words[at : at + 4])
-    state = struct.pack(">4I", *columns).translate(aes.S_BOX)
+        a, b, c, d = (
+            r0[a >> 24] ^ r1[b >> 16 & 255] ^ r2[c >> 8 & 255] ^ r3[d & 255] ^ words[at],
+            r0[b >> 24] ^ r1[c >> 16 & 255] ^ r2[d >> 8 & 255] ^ r3[a & 255] ^ words[at + 1],
+            r0[c >> 24] ^ r1[d >> 16 & 255] ^ r2[a >> 8 & 255] ^ r3[b & 255] ^ words[at + 2],
+            r0[d >> 24] ^ r1[a >> 16 & 255] ^ r2[b >> 8 & 255] ^ r3[c & 255] ^ words[at + 3],
+        )
+    state = struct.pack(">4I", a, b, c, d).translate(aes.S_BOX)
     return aes.xor(aes.shift_rows(state), struct.pack(">4I", *words[-4:]))

@@ -129,7 +129,6 @@ def on_handles(
 def on_handle(
     code: int, handle: int, parameters: bytes = b"", entries: list[bytes] | None = None
 ) -> bytes:
-    """A command with one handle."""
     return on_handles(code, [handle], parameters, entries)
 
 
@@ -181,17 +180,14 @@ def sized_list(*values: bytes, count: int | None = None) -> bytes:
 def policy_secret(
     nonce_tpm: bytes = b"", cp_hash: bytes = b"", policy_ref: bytes = b"", expiration: int = 0
 ) -> bytes:
-    """The parameters of TPM2_PolicySecret."""
     return sized(nonce_tpm) + sized(cp_hash) + sized(policy_ref) + number(expiration, 4)
 
 
 def attack_parameters(max_tries: int, recovery_time: int, lockout_recovery: int) -> bytes:
-    """The parameters of TPM2_DictionaryAttackParameters."""
     return b"".join(number(it, 4) for it in (max_tries, recovery_time, lockout_recovery))
 
 
 def policy_nv(operand: bytes = b"", offset: int = 0, operation: int = 0) -> bytes:
-    """The parameters of TPM2_PolicyNV."""
     return sized(operand) + number(offset, 2) + number(operation, 2)
 
 
@@ -209,12 +205,10 @@ def nv_define_space(public: bytes, auth: bytes = b"") -> bytes:
 
 
 def nv_write(data: bytes, offset: int = 0) -> bytes:
-    """The parameters of TPM2_NV_Write."""
     return sized(data) + number(offset, 2)
 
 
 def nv_read(size: int, offset: int = 0) -> bytes:
-    """The parameters of TPM2_NV_Read."""
     return number(size, 2) + number(offset, 2)
 
 

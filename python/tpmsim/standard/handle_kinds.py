@@ -28,12 +28,10 @@ def is_pcr(handle: int) -> bool:
 
 
 def is_object(handle: int) -> bool:
-    """An object, transient or persistent."""
     return first_byte(handle) in (TRANSIENT, PERSISTENT)
 
 
 def is_policy(handle: int) -> bool:
-    """A policy or a trial session."""
     return first_byte(handle) == POLICY_SESSION
 
 
@@ -42,7 +40,6 @@ def is_index(handle: int) -> bool:
 
 
 def is_session(handle: int) -> bool:
-    """A session of any type."""
     return first_byte(handle) in (HMAC_SESSION, POLICY_SESSION)
 
 

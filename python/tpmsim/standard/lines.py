@@ -83,7 +83,6 @@ def number_up_to(most: int, token: bytes) -> int:
 
 
 def bytes_of(token: bytes) -> bytes:
-    """The bytes of a buffer."""
     if token == NOTHING:
         return b""
     return bytes.fromhex(of_form(HEX, token)[0].decode("ascii"))
@@ -309,7 +308,6 @@ class Tokens:
 
 
 def code_of(token: bytes) -> CC:
-    """The command of a line's first token."""
     name = token.decode("ascii", "replace")
     if name not in CC.__members__:
         raise Fault(BAD_NAME)
@@ -317,7 +315,6 @@ def code_of(token: bytes) -> CC:
 
 
 def assemble(line: bytes) -> bytes:
-    """The buffer of a line."""
     tokens = Tokens(line)
     code = tokens.take(code_of)
     handles = [tokens.take(handle_of) for _ in code.handles]
