@@ -28,7 +28,7 @@ ask() {
 ask 'random bytes, with the layer' state=state,complete "$startup" "$stir"
 ask 'and without it' state=state "$stir"
 ask 'a session' state=state,complete "$session" >"$room/session"
-sed 's/\(000000000000\).*/\1../' "$room/session"
+sed 's/^\(    .\{28\}\).*/\1../' "$room/session"
 "$room/ask" state=state,complete "$save" >"$room/saved"
 context=$(cut -c 21- "$room/saved")
 load=$(printf '8001%08x00000161%s' "$((10 + ${#context} / 2))" "$context")
@@ -39,5 +39,5 @@ ask 'loaded twice' state=state,complete "$load"
 context=$(cut -c 21- "$room/saved")
 load=$(printf '8001%08x00000161%s' "$((10 + ${#context} / 2))" "$context")
 ask 'behind a power cycle' state=state,complete power "$startup" "$load"
-ask 'the number of commands, with the layer and without it' state=state,complete "$command_count"
+ask 'the number of commands' state=state,complete "$command_count"
 ask 'and without it' state=state "$command_count"

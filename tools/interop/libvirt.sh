@@ -44,6 +44,7 @@ end() {
     rm -rf "$folder"
 }
 trap end EXIT
+trap 'exit 1' HUP INT PIPE TERM
 
 # check LABEL COMMAND..: counts a command that has to succeed.
 check() {
