@@ -1,7 +1,5 @@
-use Rattle.std.proofs.Common.{◌+◌, ℕ, ap, subst}
+use Rattle.std.proofs.Common.{◌+◌, ℕ, ap}
 use Rattle.tpm_journal.proofs.ReadHeads.{begins, head_many, not_opened, read_so}
-use Rattle.tpm_journal.specs.Replay.{Replays}
-use Rattle.tpm_journal.specs.declared.journal.Journal.{Journal}
 use Rattle.tpm_journal.proofs.opening.open.Goals as goal
 
 pub returns-in-Err : goal.returns-in-Err
@@ -12,9 +10,8 @@ returns-in-None g c =
     let opens = c.in_default-open_into.ensures.exact in
     record {
       followed = c.follow-followed.result;
-      reads = read_so g.K.Keep.can_refuse c.args.text.now c.in-Some.head opens.0 _ _ _ _ _ c.requires.never_refused c.in-Some.ensures.head opens.1 opens.2
-          c.split_at.ensures.back
-          (subst (λ (j : Journal). Replays g.K.Keep.can_refuse j _ _ c.follow-followed.result c.follow-followed.new.self _) c.begun-journal.ensures c.follow-followed.ensures);
+      reads = read_so g.K.Keep.can_refuse c.args.text.now c.in-Some.head opens.0 _ _ _ _ _ _ c.requires.never_refused c.in-Some.ensures.head opens.1 opens.2
+          c.split_at.ensures.back c.begun-journal.ensures c.follow-followed.ensures;
       whole = c.in-None.is;
       size = ap (λ (n : ℕ). n + c.follow-followed.result.taken) (head_many c.args.text.now c.in-Some.head c.in-Some.ensures.head);
     }
