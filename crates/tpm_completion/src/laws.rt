@@ -12,7 +12,6 @@ pub fn device_first()
 
 /// A device that follows a history follows the history with all that the layer had it execute for an
 /// event.
-#[tactic(auto, using(crate::proofs::Runs::runs_follow))]
 pub fn runs_follow()
     ensures { RunsFollow }
 {}

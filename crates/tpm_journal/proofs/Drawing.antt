@@ -1,14 +1,14 @@
 -- How many random bytes a command draws, with the layer or without it.
-use Rattle.std.proofs.Common.{◌≡◌, ◌≤◌, ◌+◌, ◌&&◌, ℕ, zero, suc, Bool, true, false, List, [], ◌∷◌, length, Option, Some, None, Result, Ok, Err, refl, subst, sym, ap, ◌∙◌, get_or, if◌then◌else◌}
+use Rattle.std.proofs.Common.{◌≡◌, ◌≤◌, ◌+◌, ◌&&◌, ℕ, zero, suc, Bool, true, false, List, [], ◌∷◌, ◌++◌, length, Option, Some, None, Result, Ok, Err, refl, subst, sym, ap, ◌∙◌, get_or, if◌then◌else◌}
 use native.Mathlib.Omega.{arith}
-use Rattle.std.specs.Str.{bytes_eq}
+use Rattle.std.specs.Int.{w32, to_be_bytes}
 use Rattle.std.proofs.lemmas.Bool.{false≢true}
 use Rattle.std.proofs.lemmas.Slice.Eq.{bytes_eq-Decides}
 use Rattle.tpm_record.specs.Record.{Record}
 use Rattle.tpm_record.specs.Tick.{ticked}
 use Rattle.tpm_types.specs.declared.handle.Handle.{Handle}
 use Rattle.tpm_types_command.specs.AuthEntry.{Entry}
-use Rattle.tpm_step.specs.Answer.{answer_to, framed, success_text}
+use Rattle.tpm_step.specs.Answer.{answer_to, framed, handle_answer, success_text}
 use Rattle.tpm_step.specs.Events.{Given, PlainEvent}
 use Rattle.tpm_step.specs.Step.{Accepted, Stepped, accepted, step, stepped_of}
 use Rattle.tpm_step.specs.declared.event.Row.{Row}
@@ -48,7 +48,7 @@ by_within can layer old buffer locality elapsed random (Some place) seen (tick, 
 by_within can layer old buffer locality elapsed random None seen (first, passes, behind) =
     behind_within can first buffer locality random (given_up_behind first) seen (no_more_drawn can layer old buffer locality elapsed random first passes) behind
 
-if_within : (can completes : Bool) (layer : Completion) (old : Record) (buffer : List ℕ) (locality elapsed : ℕ) (random : List ℕ) (seen : Seen)
+pub if_within : (can completes : Bool) (layer : Completion) (old : Record) (buffer : List ℕ) (locality elapsed : ℕ) (random : List ℕ) (seen : Seen)
     → CompletesIf can completes layer old (Given buffer locality elapsed random) seen → seen.drawn ≤ length random
 if_within can false layer old buffer locality elapsed random seen passes = no_more_drawn can layer old buffer locality elapsed random seen passes
 if_within can true layer old buffer locality elapsed random seen completes =
@@ -68,8 +68,9 @@ framed_success tag body is =
 
 success_no_refusal : (entries : List Entry) (handle : Option Handle) (answer area : List ℕ) → is_refusal 0x902 (success_text entries handle answer area) ≡ true → ⊥
 unfolding success_text
-success_no_refusal [] handle answer area is = framed_success 0x8001 _ is
-success_no_refusal (entry ∷ entries) handle answer area is = framed_success 0x8002 _ is
+success_no_refusal [] handle answer area is = framed_success 0x8001 (handle_answer handle ++ answer) is
+success_no_refusal (entry ∷ entries) handle answer area is =
+    framed_success 0x8002 (handle_answer handle ++ to_be_bytes w32 (length answer) ++ answer ++ area) is
 
 refused_draws_none : (r : Record) (random : List ℕ) (a : Result Accepted RefusedCommand) → is_refusal 0x902 (stepped_of r random a).response ≡ true
     → drawn_by_command random a 0 ≡ 0

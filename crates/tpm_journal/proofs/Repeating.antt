@@ -59,8 +59,7 @@ leads_more : (can : Bool) (before : Journal) (old : Record) (performances : List
 leads_more can before old [] mid here one after new leads performed journal leaves = (
   subst (λ (j : Journal). IsPerformed can j.layer old one.entry one.seen) leads.0
       (subst (λ (r : Record). IsPerformed can mid.layer r one.entry one.seen) leads.1 performed),
-  journal ∙ ap (λ (j : Journal). journal_after j one.entry one.seen.layer) leads.0,
-  leaves,
+  (journal ∙ ap (λ (j : Journal). journal_after j one.entry one.seen.layer) leads.0, leaves),
 )
 leads_more can before old (first ∷ performances) mid here one after new leads performed journal leaves = (
   leads.0,

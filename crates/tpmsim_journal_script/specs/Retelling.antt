@@ -1,7 +1,6 @@
 -- A journal, told as a script: a map over the entries that are executed again.
 use Rattle.std.specs.Prelude.{◌≡◌, ◌≢◌, ℕ, false, true, Bool, List, [], ◌∷◌, ◌++◌, codes, flat_map, Option, Some, None, Result, Ok, Err}
 use Rattle.std.specs.Io.KnownBytes.{Appends, Keeps}
-use Rattle.arrayvec.specs.declared.array_string.ArrayString.{ArrayString}
 use Rattle.tpm_bytes.specs.Tap.{Marks}
 use Rattle.tpm_image.specs.Image.{image_of}
 use Rattle.tpm_image.specs.NonVolatile.{NonVolatile, powered_on}

@@ -1,6 +1,6 @@
 //! A journal is told as a script.
 
-ghost use Rattle.std.specs.Prelude.{◌≡◌, ◌≤◌, ◌++◌, ◌∷◌, [], OnErr, OnOk, codes, drop, false, length};
+ghost use Rattle.std.specs.Prelude.{◌≡◌, ◌≤◌, ◌++◌, ◌∷◌, [], IfOk, OnErr, OnOk, codes, drop, false, length};
 ghost use Rattle.std.specs.Prelude.{replicate, take, true};
 ghost use Rattle.std.specs.Io.KnownBytes.{Appends};
 ghost use Rattle.tpm_bytes.specs.Tap.{device_of, marks_of};
@@ -70,7 +70,7 @@ pub fn retell_entries<K: Keep, W: Write>(
     outcome: &mut Outcome,
     writer: &mut Tap<W>,
 ) -> Result<Followed, Failed>
-    ensures told { OnOk result (λ followed. RetellsEntries K.can_refuse journal.old
+    ensures told { IfOk result (λ followed. RetellsEntries K.can_refuse journal.old
         (state_of K.record_of machine.old) text.now (W.contents (device_of writer.old))
         (W.contents (device_of writer.new)) followed journal.new (state_of K.record_of machine.new)) }
     ensures failed { OnErr result ((marks_of writer.new).failed ≡ true) }

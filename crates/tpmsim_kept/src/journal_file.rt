@@ -120,6 +120,7 @@ impl JournalFile {
     }
 
     /// Executes a command at this moment, and adds its entry.
+    #[tactic(auto, using(crate::proofs::Answering::is_answer))]
     pub fn execute(
         &mut self,
         buffer: &[u8],

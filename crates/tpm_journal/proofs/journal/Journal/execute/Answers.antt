@@ -1,12 +1,21 @@
-use Rattle.std.proofs.Common.{arith, length-take, ap}
+use Rattle.std.proofs.Common.{arith, length-take, ap, subst}
 use Rattle.tpm_bytes.proofs.Fields.{AreBytes-take}
-use Rattle.tpm_completion.specs.Execution.{seen_of}
+use Rattle.tpm_completion.specs.Execution.{CompletesIf, seen_of}
+use Rattle.tpm_step.specs.Events.{plain_event}
 use Rattle.tpm_types.specs.Locality.{locality_number}
 use Rattle.tpm_journal_text.specs.Sum.{sum_of}
-use Rattle.tpm_journal.specs.Command.{command_at, elapsed_of}
 use Rattle.tpm_journal.proofs.Commands.{entry_is}
-use Rattle.tpm_journal.proofs.Drawing.{draws_within}
+use Rattle.tpm_journal.proofs.Drawing.{if_within}
 use Rattle.tpm_journal.proofs.journal.Journal.execute.Goals as goal
+
+pub split_at-requires : goal.split_at-requires
+split_at-requires g c =
+    let seen = seen_of g.K.Keep.record_of c.execute.new.machine c.execute.new.layer c.execute.new.outcome in
+    let within = if_within g.K.Keep.can_refuse c.args.completes c.args.self.now.layer (g.K.Keep.record_of c.args.machine.now.keep) c.cut-buffer.result.now
+    (locality_number c.args.locality) c.elapsed-elapsed_ms.result c.args.random.now seen
+    (subst (λ e. CompletesIf g.K.Keep.can_refuse c.args.completes c.args.self.now.layer (g.K.Keep.record_of c.args.machine.now.keep) (plain_event e) seen)
+    c.of_command-event.ensures.value c.execute.ensures.executes) in
+    omega (arith, within, c.drawn.ensures)
 
 pub write-requires-clause-entry : goal.write-requires-clause-entry
 write-requires-clause-entry g c = record {
