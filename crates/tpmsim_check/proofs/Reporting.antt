@@ -1,10 +1,10 @@
 -- The report of a script, line by line.
-use Rattle.std.proofs.Common.{◌≡◌, ℕ, suc, ◌+◌, ◌-◌, ◌<◌, ◌≤◌, ◌==◌, Bool, true, false, not, List, [], ◌∷◌, ◌++◌, length, take, Option, Some, None, refl, sym, ap, ap₂, ◌∙◌, append_assoc, append-nil, arith, cond}
+use Rattle.std.proofs.Common.{◌≡◌, ℕ, zero, suc, ◌+◌, ◌-◌, ◌<◌, ◌≤◌, ◌==◌, Bool, true, false, not, List, [], ◌∷◌, ◌++◌, length, take, Option, Some, None, refl, sym, ap, ap₂, ◌∙◌, append_assoc, append-nil, arith, cond}
 use Rattle.std.specs.Prelude.{nat_lt}
 use Rattle.std.specs.List.{flat_map, onto_first}
 use Rattle.std.specs.Option.{option_or}
-use Rattle.std.proofs.lemmas.Bool.{eq-eqb, le-ltb, lt-ltb}
-use Rattle.std.proofs.lemmas.List.Folds.{flat_map-append}
+use Rattle.std.proofs.lemmas.Bool.{eq-eqb, le-ltb, lt-ltb, ne_eqb}
+use Rattle.std.proofs.lemmas.Grind.{flat_map-append}
 use Rattle.tpmsim_check.specs.Report.{report_text, script_faults, told}
 use Rattle.tpmsim_script.specs.Checking.{Fault, fault_at, faults_of, first_number, line_check, waited_behind}
 use Rattle.tpmsim_script.specs.Line.{lines_of}
@@ -21,7 +21,7 @@ left_more waited number text line others small e =
     ap₂ (λ n lines. faults_of waited number (take n lines)) size e
 
 take_none : (count : ℕ) → take count (lines_of []) ≡ []
-take_none 0 = refl
+take_none zero = refl
 take_none (suc count) = refl
 
 -- no line is left of an empty text
@@ -69,16 +69,16 @@ some_lines (byte ∷ text) some = by_break (byte == 10)
 -- What was found, with the faults of the lines that are left, is what the whole has: this text, this
 -- first number, and so many lines.
 pub record SoFar (text : List ℕ) (first : Option ℕ) (waited number : ℕ) (rest whole : List ℕ) (whole_first : Option ℕ) (lines : ℕ) : Type 0 where
-  pub told : text ++ flat_map told (left waited number rest) ≡ whole
-  pub first : option_or first (first_number (left waited number rest)) ≡ whole_first
-  pub count : length (lines_of rest) + number ≡ lines + 1
+  pub text_is : text ++ flat_map told (left waited number rest) ≡ whole
+  pub first_is : option_or first (first_number (left waited number rest)) ≡ whole_first
+  pub count_is : length (lines_of rest) + number ≡ lines + 1
 
 pub begun : (text : List ℕ) (first : Option ℕ) (waited : ℕ) (rest : List ℕ) → waited ≡ 0
     → SoFar text first waited 1 rest (text ++ report_text rest) (option_or first (first_number (script_faults rest))) (length (lines_of rest))
 begun text first waited rest e = record {
-  told = ap (λ w. text ++ flat_map told (left w 1 rest)) e;
-  first = ap (λ w. option_or first (first_number (left w 1 rest))) e;
-  count = refl;
+  text_is = ap (λ w. text ++ flat_map told (left w 1 rest)) e;
+  first_is = ap (λ w. option_or first (first_number (left w 1 rest))) e;
+  count_is = refl;
 }
 
 count_more : (text line others : List ℕ) (number lines : ℕ) → lines_of text ≡ line ∷ lines_of others → length (lines_of text) + number ≡ lines + 1
@@ -91,22 +91,23 @@ pub turned : (old new : List ℕ) (first next : Option ℕ) (waited after number
     → number ≤ 1048576 → lines_of rest ≡ line ∷ lines_of others → new ≡ old ++ flat_map told (fault_at (line_check waited line) number line)
     → next ≡ option_or first (first_number (fault_at (line_check waited line) number line)) → after ≡ waited_behind (line_check waited line) waited
     → SoFar old first waited number rest whole whole_first lines → SoFar new next after (number + 1) others whole whole_first lines
-turned old new first next waited after number rest line others whole whole_first lines small cut text_is next_is after_is sofar =
+turned old new first next waited after number rest line others whole whole_first lines small cut new_is next_is after_is sofar =
     let more = left_more waited number rest line others small cut in
     let found = fault_at (line_check waited line) number line in
     let behind = waited_behind (line_check waited line) waited in
     record {
-      told = ap (λ w. new ++ flat_map told (left w (number + 1) others)) after_is ∙ text_more old new found (left behind (number + 1) others) (left waited number rest) more text_is ∙ sofar.told;
-      first = ap (λ w. option_or next (first_number (left w (number + 1) others))) after_is ∙ first_more first next found (left behind (number + 1) others) (left waited number rest) more next_is ∙ sofar.first;
-      count = count_more rest line others number lines cut sofar.count;
+      text_is = ap (λ w. new ++ flat_map told (left w (number + 1) others)) after_is ∙ text_more old new found (left behind (number + 1) others) (left waited number rest) more new_is ∙ sofar.text_is;
+      first_is = ap (λ w. option_or next (first_number (left w (number + 1) others))) after_is ∙ first_more first next found (left behind (number + 1) others) (left waited number rest) more next_is ∙ sofar.first_is;
+      count_is = count_more rest line others number lines cut sofar.count_is;
     }
 
 -- where no fault is left, what was found is what the whole has
 all_told : (text : List ℕ) (first : Option ℕ) (waited number : ℕ) (rest whole : List ℕ) (whole_first : Option ℕ) (lines : ℕ)
     → left waited number rest ≡ [] → SoFar text first waited number rest whole whole_first lines → (text ≡ whole) × (first ≡ whole_first)
-all_told text first waited number rest whole whole_first lines none sofar =
-    (sym (append-nil text) ∙ ap (λ faults. text ++ flat_map told faults) (sym none) ∙ sofar.told,
-    sym (or_none first) ∙ ap (λ faults. option_or first (first_number faults)) (sym none) ∙ sofar.first)
+all_told text first waited number rest whole whole_first lines none sofar = (
+  sym (append-nil text) ∙ ap (λ faults. text ++ flat_map told faults) (sym none) ∙ sofar.text_is,
+  sym (or_none first) ∙ ap (λ faults. option_or first (first_number faults)) (sym none) ∙ sofar.first_is,
+)
 
 pub ended : (text : List ℕ) (first : Option ℕ) (waited number : ℕ) (rest whole : List ℕ) (whole_first : Option ℕ) (lines : ℕ)
     → length rest ≡ 0 → SoFar text first waited number rest whole whole_first lines → (text ≡ whole) × (first ≡ whole_first)
@@ -126,15 +127,16 @@ pub no_more : (text : List ℕ) (first : Option ℕ) (waited number : ℕ) (rest
     → number ≤ 1048576 → length rest ≡ 0 → SoFar text first waited number rest whole whole_first lines → nat_lt 1048576 lines ≡ not (length rest == 0)
 no_more text first waited number rest whole whole_first lines small none sofar =
     let gone = no_lines rest none in
-    le-ltb 1048576 lines (omega (arith, small, gone, sofar.count)) ∙ sym (ap not (eq-eqb (length rest) 0 none))
+    le-ltb 1048576 lines (omega (arith, small, gone, sofar.count_is)) ∙ sym (ap not (eq-eqb (length rest) 0 none))
 
 -- whether there are more lines than a script may have, behind as many
 more_by : (rest : List ℕ) (lines : ℕ) → length (lines_of rest) + 1048577 ≡ lines + 1 → nat_lt 1048576 lines ≡ not (length rest == 0)
 more_by [] lines count = le-ltb 1048576 lines (omega (arith, count))
 more_by (byte ∷ rest) lines count =
     let some : 0 < length (lines_of (byte ∷ rest)) = some_lines (byte ∷ rest) (omega arith) in
-    lt-ltb 1048576 lines (omega (arith, some, count))
+    let full : length (byte ∷ rest) ≡ 0 → ⊥ = λ e. omega (arith, e) in
+    lt-ltb 1048576 lines (omega (arith, some, count)) ∙ sym (ap not (ne_eqb (length (byte ∷ rest)) 0 full))
 
-pub more_at_limit : (text : List ℕ) (first : Option ℕ) (waited : ℕ) (rest whole : List ℕ) (whole_first : Option ℕ) (lines : ℕ)
-    → SoFar text first waited 1048577 rest whole whole_first lines → nat_lt 1048576 lines ≡ not (length rest == 0)
-more_at_limit text first waited rest whole whole_first lines sofar = more_by rest lines sofar.count
+pub more_at_limit : (text : List ℕ) (first : Option ℕ) (waited number : ℕ) (rest whole : List ℕ) (whole_first : Option ℕ) (lines : ℕ)
+    → number ≡ 1048577 → SoFar text first waited number rest whole whole_first lines → nat_lt 1048576 lines ≡ not (length rest == 0)
+more_at_limit text first waited number rest whole whole_first lines e sofar = more_by rest lines (ap (λ n. length (lines_of rest) + n) (sym e) ∙ sofar.count_is)

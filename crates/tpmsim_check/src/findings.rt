@@ -82,9 +82,9 @@ impl Findings {
     /// Adds what is told of a bad line.
     fn put(&mut self, fault: ToldFault) -> Result<(), AllocError>
         ensures text { OnOk result (self.new.text.bytes.items ≡ self.old.text.bytes.items
-            ++ (fault_text fault.entry.number fault.entry.fault fault.entry.wanted.now ++ 10 ∷ [])) }
+            ++ (fault_text fault.number fault.fault fault.wanted.now ++ 10 ∷ [])) }
         ensures first { OnOk result
-            (self.new.first ≡ option_or self.old.first (Some fault.entry.number)) }
+            (self.new.first ≡ option_or self.old.first (Some fault.number)) }
     {
         self.first = self.first.or(Some(fault.number));
         writeln!(self.text, "{fault}")

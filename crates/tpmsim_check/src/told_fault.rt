@@ -39,17 +39,32 @@ impl fmt::Display for ToldFault {
 
     fn fmt<W: fmt::Write>(&self, f: &mut fmt::Formatter<W>) -> fmt::Result {
         let number = self.number;
+        let fault = FaultName { fault: self.fault };
         let wanted = self.wanted;
+        write!(f, "line {number}: {fault}: {wanted}")
+    }
+}
+
+/// The name of a line's fault, with the column of the token at fault.
+#[derive(Clone, Copy)]
+struct FaultName {
+    fault: AsmFault,
+}
+
+impl fmt::Display for FaultName {
+    ghost use Rattle.std.specs.Prelude.{Some};
+    ghost use Rattle.tpmsim_check.specs.Report.{fault_name};
+
+    ghost output = { λ name. Some (fault_name name.fault) };
+
+    fn fmt<W: fmt::Write>(&self, f: &mut fmt::Formatter<W>) -> fmt::Result {
         match self.fault {
-            AsmFault::BadName => write!(f, "line {number}: BadName: {wanted}"),
-            AsmFault::BadField { column } => write!(
-                f,
-                "line {number}: BadField {column}: {wanted}"
-            ),
-            AsmFault::Missing => write!(f, "line {number}: Missing: {wanted}"),
-            AsmFault::Range { column } => write!(f, "line {number}: Range {column}: {wanted}"),
-            AsmFault::TooLong => write!(f, "line {number}: TooLong: {wanted}"),
-            AsmFault::NoMemory => write!(f, "line {number}: NoMemory: {wanted}"),
+            AsmFault::BadName => write!(f, "BadName"),
+            AsmFault::BadField { column } => write!(f, "BadField {column}"),
+            AsmFault::Missing => write!(f, "Missing"),
+            AsmFault::Range { column } => write!(f, "Range {column}"),
+            AsmFault::TooLong => write!(f, "TooLong"),
+            AsmFault::NoMemory => write!(f, "NoMemory"),
         }
     }
 }

@@ -211,8 +211,14 @@ unfolding entry_text
 long_enough can before old left size words after new Holds p =
     let e = p.performs.entry in
     let m = mark_line before.sum (mark_of e) in
-    omega (arith, length-take-le size left p.performs.within, ap length p.performs.front, length-append (m ++ setting_lines e) (executing_lines e),
-        length-append m (setting_lines e), mark_line_many before.sum (mark_of e) (mark_many e))
+    omega (
+      arith,
+      length-take-le size left p.performs.within,
+      ap length p.performs.front,
+      length-append (m ++ setting_lines e) (executing_lines e),
+      length-append m (setting_lines e),
+      mark_line_many before.sum (mark_of e) (mark_many e),
+    )
 
 pub told_more_at : (can : Bool) (before : Journal) (old : Record) (text left : List ℕ) (taken : ℕ) (mid : Journal) (here : Record)
     (size : ℕ) (words : List ℕ) (after : Journal) (new : Record) (held at holds : Option (List ℕ))
