@@ -137,6 +137,6 @@ more_by (byte ∷ rest) lines count =
     let full : length (byte ∷ rest) ≡ 0 → ⊥ = λ e. omega (arith, e) in
     lt-ltb 1048576 lines (omega (arith, some, count)) ∙ sym (ap not (ne_eqb (length (byte ∷ rest)) 0 full))
 
-pub more_at_limit : (text : List ℕ) (first : Option ℕ) (waited : ℕ) (rest whole : List ℕ) (whole_first : Option ℕ) (lines : ℕ)
-    → SoFar text first waited 1048577 rest whole whole_first lines → nat_lt 1048576 lines ≡ not (length rest == 0)
-more_at_limit text first waited rest whole whole_first lines sofar = more_by rest lines sofar.count_is
+pub more_at_limit : (text : List ℕ) (first : Option ℕ) (waited number : ℕ) (rest whole : List ℕ) (whole_first : Option ℕ) (lines : ℕ)
+    → number ≡ 1048577 → SoFar text first waited number rest whole whole_first lines → nat_lt 1048576 lines ≡ not (length rest == 0)
+more_at_limit text first waited number rest whole whole_first lines e sofar = more_by rest lines (ap (λ n. length (lines_of rest) + n) (sym e) ∙ sofar.count_is)

@@ -1,5 +1,5 @@
 -- Entries that are executed again one after another, and told.
-use Rattle.std.proofs.Common.{◌≡◌, ◌≢◌, ℕ, ◌+◌, ◌≤◌, ◌<◌, Bool, List, [], ◌∷◌, ◌++◌, length, map, take, drop, Option, Some, None, refl, ap, sym, subst, ◌∙◌, append_assoc, append-nil, arith, length-drop}
+use Rattle.std.proofs.Common.{◌≡◌, ◌≢◌, ℕ, ◌+◌, ◌≤◌, ◌<◌, Bool, List, [], ◌∷◌, ◌++◌, length, map, take, drop, Option, Some, None, refl, ap, sym, subst, ◌∙◌, append_assoc, append-nil, arith, length-append, length-drop}
 use Rattle.std.specs.Prelude.{codes, flat_map}
 use Rattle.std.specs.List.{AllByRecursion}
 use Rattle.std.specs.Io.KnownBytes.{Appends}
@@ -202,3 +202,52 @@ pub told_damaged : (can : Bool) (before : Journal) (old : Record) (text : List �
     → RetellsEntries can before old text held holds (record { taken = taken; fault = Some Damaged }) after new
 told_damaged can before old text taken mid here after new held holds r end =
     rw (end.1, end.2) (told_damaged_here can before old text taken mid here held holds r end.0)
+
+-- ---- the same of what is left of a text
+
+pub long_enough : (can : Bool) (before : Journal) (old : Record) (left : List ℕ) (size : ℕ) (words : List ℕ) (after : Journal) (new : Record)
+    (Holds : ℕ → ℕ → Type 0) → PerformsSo can before old left size words after new Holds → 72 ≤ size
+unfolding entry_text
+long_enough can before old left size words after new Holds p =
+    let e = p.performs.entry in
+    let m = mark_line before.sum (mark_of e) in
+    omega (
+      arith,
+      length-take-le size left p.performs.within,
+      ap length p.performs.front,
+      length-append (m ++ setting_lines e) (executing_lines e),
+      length-append m (setting_lines e),
+      mark_line_many before.sum (mark_of e) (mark_many e),
+    )
+
+pub told_more_at : (can : Bool) (before : Journal) (old : Record) (text left : List ℕ) (taken : ℕ) (mid : Journal) (here : Record)
+    (size : ℕ) (words : List ℕ) (after : Journal) (new : Record) (held at holds : Option (List ℕ))
+    → left ≡ drop taken text → Retells can before old text held at taken None mid here
+    → PerformsSo can mid here left size words after new (λ sum said. sum ≡ said)
+    → Appends at holds (codes "# " ++ words ++ 10 ∷ [] ++ drop 72 (take size left))
+    → Retells can before old text held holds (taken + size) None after new
+told_more_at can before old text left taken mid here size words after new held at holds is r =
+    rw is (told_more can before old text taken mid here size words after new held at holds r)
+
+pub told_otherwise_at : (can : Bool) (before : Journal) (old : Record) (text left : List ℕ) (taken : ℕ) (mid : Journal) (here : Record)
+    (size : ℕ) (words : List ℕ) (after : Journal) (new : Record) (held at holds : Option (List ℕ))
+    → left ≡ drop taken text → Retells can before old text held at taken None mid here
+    → PerformsSo can mid here left size words after new (λ sum said. sum ≢ said)
+    → Appends at holds (codes "# " ++ words ++ 10 ∷ [] ++ drop 72 (take size left))
+    → RetellsEntries can before old text held holds (record { taken = taken + size; fault = Some Otherwise }) after new
+told_otherwise_at can before old text left taken mid here size words after new held at holds is r =
+    rw is (told_otherwise can before old text taken mid here size words after new held at holds r)
+
+pub told_cut_at : (can : Bool) (before : Journal) (old : Record) (text left : List ℕ) (taken : ℕ) (mid : Journal) (here : Record)
+    (after : Journal) (new : Record) (held holds : Option (List ℕ)) → left ≡ drop taken text
+    → Retells can before old text held holds taken None mid here → IsCutOff mid.sum left × (after ≡ mid) × (new ≡ here)
+    → RetellsEntries can before old text held holds (record { taken = taken; fault = None }) after new
+told_cut_at can before old text left taken mid here after new held holds is r =
+    rw is (told_cut can before old text taken mid here after new held holds r)
+
+pub told_damaged_at : (can : Bool) (before : Journal) (old : Record) (text left : List ℕ) (taken : ℕ) (mid : Journal) (here : Record)
+    (after : Journal) (new : Record) (held holds : Option (List ℕ)) → left ≡ drop taken text
+    → Retells can before old text held holds taken None mid here → IsDamaged mid.sum left × (after ≡ mid) × (new ≡ here)
+    → RetellsEntries can before old text held holds (record { taken = taken; fault = Some Damaged }) after new
+told_damaged_at can before old text left taken mid here after new held holds is r =
+    rw is (told_damaged can before old text taken mid here after new held holds r)

@@ -1,11 +1,8 @@
 -- What a command is answered by a device.
-use Rattle.std.proofs.Common.{◌≡◌, ℕ, ◌≤◌, List, length}
+use Rattle.std.proofs.Common.{ℕ, List}
 use Rattle.tpm_text.proofs.Traceable.{executed}
-use Rattle.tpm_journal.specs.Command.{Command}
-use Rattle.tpm_step.specs.Events.{Given}
-use Rattle.tpm_step.specs.Step.{outcome_step}
 use Rattle.tpm_step.specs.declared.event.Outcome.{Outcome}
-use Rattle.tpmsim_kept.specs.Device.{IsAnswer, Records, command_by, record_of, seen_by}
+use Rattle.tpmsim_kept.specs.Device.{IsAnswer, Records, command_by}
 use Rattle.tpmsim_kept.specs.declared.device.Device.{Device}
 
 pub is_answer : (before : Device) (buffer : List ℕ) (locality now : ℕ) (random : List ℕ) (outcome : Outcome) (entry : List ℕ) (after : Device)

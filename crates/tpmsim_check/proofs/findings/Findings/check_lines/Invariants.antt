@@ -8,6 +8,6 @@ use Rattle.tpmsim_check.proofs.Reporting.{SoFar}
 use Rattle.tpmsim_check.proofs.findings.Findings.check_lines.Given as goal
 
 abbrev pub invariant-loop-number : goal.invariant-loop-number
-invariant-loop-number l = SoFar l.self.text.bytes.items l.self.first (waited_of l.checker) l.number l.rest.now
-    (l.fn.self.text.bytes.items ++ report_text l.fn.text.now) (option_or l.fn.self.first (first_number (script_faults l.fn.text.now)))
-    (length (lines_of l.fn.text.now))
+invariant-loop-number l = SoFar l.self.text.bytes.items l.self.first (waited_of l.checker) l.number l.rest
+    (l.fn.self.text.bytes.items ++ report_text l.fn.text) (option_or l.fn.self.first (first_number (script_faults l.fn.text)))
+    (length (lines_of l.fn.text))
