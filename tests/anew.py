@@ -11,14 +11,10 @@ import pathlib
 import sys
 
 
-def main(names: list[str]) -> None:
-    for name in names:
-        program = importlib.import_module(".".join(pathlib.Path(name).with_suffix("").parts))
-        if hasattr(program, "write_script"):
-            program.write_script()
-        elif hasattr(program, "tpm"):
-            program.tpm.script.write()
-
-
-if __name__ == "__main__":
-    main(sys.argv[1:])
+names = sys.argv[1:]
+for name in names:
+    program = importlib.import_module(".".join(pathlib.Path(name).with_suffix("").parts))
+    if hasattr(program, "write_script"):
+        program.write_script()
+    elif hasattr(program, "tpm"):
+        program.tpm.script.write()

@@ -30,9 +30,9 @@ cd "$work" || exit 1
 
 failed=0
 # A program says in its first line what it writes: what has its name goes away first.
-grep -lE '^"""Writes [a-z_0-9]+[.](tpm|lines)' tests/*/*.py examples/*.py >programs
+grep -lE '^"""Writes [a-z_0-9]+[.](tpm|out)' tests/*/*.py examples/*.py >programs
 while read -r program; do
-    rm -f "${program%.py}.tpm" "${program%.py}.lines"
+    rm -f "${program%.py}.tpm" "${program%.py}.out"
 done <programs
 grep '^tests/' programs | xargs -P "$jobs" -n 6 tools/python.sh tests/anew.py >said || failed=1
 grep '^examples/' programs | xargs -P "$jobs" -n 1 tools/python.sh >said || failed=1

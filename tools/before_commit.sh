@@ -4,7 +4,7 @@
 #
 #   ln -s ../../tools/before_commit.sh .git/hooks/pre-commit
 #
-# A check whose tool is not there is skipped. The last line is `N passed, M failed`, and behind that
+# A check whose tool is not there is skipped. The last line is `N passed, M failed`, and after that
 # `, K skipped` where a check was. The status is 1 where one failed.
 set -u
 top=$(git rev-parse --show-toplevel) && cd "$top" || exit 1
@@ -63,8 +63,8 @@ shell_scripts() {
 }
 
 read_shell() {
-    # shellcheck disable=SC2046 # no name of a script has a space
-    shellcheck -s sh $(shell_scripts) && shellcheck -s bash packaging/tpmsim.bash
+    shell_scripts | xargs -P "$(getconf _NPROCESSORS_ONLN)" -n 12 shellcheck -s sh &&
+        shellcheck -s bash packaging/tpmsim.bash
 }
 
 read_python() {

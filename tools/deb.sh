@@ -17,11 +17,15 @@ fail() {
     exit 1
 }
 
+# How many KiB the files have that are installed, each rounded up, on whatever file system.
+size() {
+    find "$root/usr" -type f -printf '%s\n' | awk '{ sum += int(($1 + 1023) / 1024) } END { print sum }'
+}
+
 # Prints packaging/control with the facts of this package in the places of their names.
 control() {
-    size=$(du -sk "$root/usr") && size=${size%%[!0-9]*} &&
-        sed -e "s|@VERSION@|$version|" -e "s|@MAINTAINER@|$maintainer|" -e "s|@SIZE@|$size|" \
-            -e "s|@PURPOSE@|$purpose|" packaging/control
+    sed -e "s|@VERSION@|$version|" -e "s|@MAINTAINER@|$maintainer|" -e "s|@SIZE@|$(size)|" \
+        -e "s|@PURPOSE@|$purpose|" packaging/control
 }
 
 # Puts what Debian wants of each package beside what is installed.

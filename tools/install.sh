@@ -67,8 +67,12 @@ put_library() {
 put_modules() {
     if has_header tss2/tss2_tcti.h; then
         tools/interop/attached.sh "$work/libtss2" || exit 1
-        put 755 "$work/libtss2/tpmsim-power" bin/tpmsim-power
-        put 644 "$work/libtss2/libtss2-tcti-tpmsim.so.0" "$libraries/libtss2-tcti-tpmsim.so.0"
+        for file in "$work"/libtss2/*; do
+            case $file in
+            *.so.0) put 644 "$file" "$libraries/${file##*/}" ;;
+            *) put 755 "$file" "bin/${file##*/}" ;;
+            esac
+        done
     else
         echo "$0: there is no module for libtss2, whose header libtss2-dev has" >&2
     fi

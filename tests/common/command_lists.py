@@ -22,7 +22,7 @@ NV, NV_ACCESS = f"{TABLE}/nv_commands.md", f"{TABLE}/nv.md"
 
 Documents = dict[str, str]
 
-ROW = re.compile(r"^\| \[TPM2_(\w+)\]\((\w+\.md)#(\S+)\) \| (\w+) \| \[.+\]\((\w+\.md)\) \|$", re.M)
+ROW = re.compile(r"^\| \[TPM2_(\w+)\]\((\w+\.md)#(\S+)\) \| (\w+) \|$", re.M)
 SECTION = re.compile(r"^## TPM2_(\w+) \((\w+)\)$(?:\n\nLine: `(.+)`\.$)?", re.M)
 NAME = re.compile(r"\bTPM2_(\w+)")
 NV_KINDS = HandleKind.NV_AUTH, HandleKind.NV_INDEX, HandleKind.ENTITY
@@ -68,17 +68,13 @@ class List:
 
 
 def the_list(texts: Documents) -> List:
-    """Each with its section's place and its code, by name; and its page twice."""
+    """Each with its section's page and place and its code, by name."""
     pages = pages_of(texts)
     wanted = [
         (it.name, pages.get(it.name), f"tpm2_{it.name}-{int(it):x}".lower(), f"{int(it):X}")
         for it in by_name()
     ]
-    found = [
-        (name, page if page == again else "two pages", place, code)
-        for name, page, place, code, again in ROW.findall(texts[LIST])
-    ]
-    return List(wanted, found, in_order=True)
+    return List(wanted, ROW.findall(texts[LIST]), in_order=True)
 
 
 def pages_of(texts: Documents) -> dict[str, str]:
@@ -97,7 +93,9 @@ def sections(texts: Documents) -> List:
 
 
 def groups(texts: Documents) -> List:
-    rows = re.findall(r"^\| .+ \| (.+) \|$", between(texts[README], "| commands |\n|---|", "\n## "), re.M)
+    rows = re.findall(
+        r"^\| .+ \| (.+) \|$", between(texts[README], "| commands |\n|---|", "\n## "), re.M
+    )
     return List(names(CC), [name for row in rows for name in row.split(", ")])
 
 
@@ -196,21 +194,16 @@ WRONG = (
 )
 
 
-def main() -> None:
-    texts = documents()
-    print(f"{len(CC)} COMMANDS: the lists of documents, and how many entries they have.")
-    for what, check in CHECKS.items():
-        listed = check(texts)
-        print(f"{what}: {len(listed.found)}")
-        for difference in listed.differences:
-            print(f"DIFFERS: {difference}")
-    print("CHANGED DOCUMENTS:")
-    for path, text, instead in WRONG:
-        assert text in texts[path], f"{path}: {text}"
-        changed = texts | {path: texts[path].replace(text, instead, 1)}
-        found = [what for what, check in CHECKS.items() if check(changed).differences]
-        print(f'{path}, "{instead}" for "{text}": found in {"; ".join(found) or "NOTHING"}')
-
-
-if __name__ == "__main__":
-    main()
+texts = documents()
+print(f"{len(CC)} COMMANDS: the lists of documents, and how many entries they have.")
+for what, check in CHECKS.items():
+    listed = check(texts)
+    print(f"{what}: {len(listed.found)}")
+    for difference in listed.differences:
+        print(f"DIFFERS: {difference}")
+print("CHANGED DOCUMENTS:")
+for path, text, instead in WRONG:
+    assert text in texts[path], f"{path}: {text}"
+    changed = texts | {path: texts[path].replace(text, instead, 1)}
+    found = [what for what, check in CHECKS.items() if check(changed).differences]
+    print(f'{path}, "{instead}" for "{text}": found in {"; ".join(found) or "NOTHING"}')

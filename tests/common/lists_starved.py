@@ -153,17 +153,12 @@ def check_line(program, line):
     program.check(f"a line, {line}", ["line", line], Ending(0, f"{trace}\n".encode()), MEMORY)
 
 
-def main():
-    program = Refusals(sys.argv[1])
-    check_image(program, "the image of a new device", image.image(Player().device))
-    check_image(program, "the image of a full device", full_image())
-    check_line(program, "Startup 0")
-    check_line(program, "GetRandom 4")
-    program.check("a bad line", ["line", "x"], Ending(1, error=b"tpmsim_lists: line\n"), MEMORY)
-    program.check("no file", ["open", "none"], Ending(1, error=b"tpmsim_lists: file\n"), MEMORY)
-    program.check("other words", ["run"], Ending(1, error=b"tpmsim_lists: usage\n"), MEMORY)
-    Script(program).check()
-
-
-if __name__ == "__main__":
-    main()
+program = Refusals(sys.argv[1])
+check_image(program, "the image of a new device", image.image(Player().device))
+check_image(program, "the image of a full device", full_image())
+check_line(program, "Startup 0")
+check_line(program, "GetRandom 4")
+program.check("a bad line", ["line", "x"], Ending(1, error=b"tpmsim_lists: line\n"), MEMORY)
+program.check("no file", ["open", "none"], Ending(1, error=b"tpmsim_lists: file\n"), MEMORY)
+program.check("other words", ["run"], Ending(1, error=b"tpmsim_lists: usage\n"), MEMORY)
+Script(program).check()

@@ -222,14 +222,9 @@ def check_without(program):
     print("without the option nothing is saved before a connection ends")
 
 
-def main():
-    program, count = sys.argv[1:]
-    check_each(program)
-    check_kills(program, int(count))
-    check_pieces(program)
-    check_unsaved(program)
-    check_without(program)
-
-
-if __name__ == "__main__":
-    main()
+program, count = sys.argv[1:]
+check_each(program)
+check_kills(program, int(count))
+check_pieces(program)
+check_unsaved(program)
+check_without(program)

@@ -135,14 +135,9 @@ def check_service(program, label, image, connections):
     return text_of(ROOM / "image")
 
 
-def main():
-    program = refusals.Refusals(sys.argv[1])
-    check_words(program)
-    check_service(program, "no image and no connection", None, 0)
-    image = check_service(program, "no image, and a connection", None, 1)
-    check_service(program, "an image and no connection", image, 0)
-    check_service(program, "an image and a connection", image, 1)
-
-
-if __name__ == "__main__":
-    main()
+program = refusals.Refusals(sys.argv[1])
+check_words(program)
+check_service(program, "no image and no connection", None, 0)
+image = check_service(program, "no image, and a connection", None, 1)
+check_service(program, "an image and no connection", image, 0)
+check_service(program, "an image and a connection", image, 1)

@@ -3,24 +3,48 @@
 A command follows the words of it, which name its outcome behind a colon where it is no success:
 
     tpm("By another password: AUTH_FAIL/s1").reading(FIRST, 8, b"other")
+
+Words that are long have a line of their own:
+
+    said = tpm("By the empty password, and by one with a zero behind it: AUTH_FAIL/s1")
+    said.fails(*(tpm.reading(FIRST, 8, it) for it in (b"", b"other\0")))
 """
 
+import functools
+import inspect
 from typing import Any, Callable
 
-from tpmsim.caller import Prepared
+from tpmsim.caller import Prepared, Session, flipped
 from tpmsim.caller.script import OUTCOME, SUCCESS, Script
 from tpmsim.caller.script_caller import ScriptCaller
 from tpmsim.model.machine import Outcome
 from tpmsim.standard import frames
 
 
+def wrong_in(prepared: Prepared, *places: int) -> Prepared:
+    """With a bit changed in the hmac of each of these entries, or a zero where there is none."""
+    for place in places or (1,):
+        hmac = prepared.entries[place - 1].hmac
+        prepared = prepared.but_entry(place, hmac=flipped(hmac) if hmac else b"\0")
+    return prepared
+
+
+def others_in(prepared: Prepared, *places: int) -> Prepared:
+    """With other bytes in place of these hmacs."""
+    for place in places:
+        prepared = prepared.but_entry(place, hmac=b"wrong")
+    return prepared
+
+
 class Teller(ScriptCaller):
-    """The script begins with TPM2_Startup(CLEAR), if it `starts` so; where `tries` are allowed no
-    wrong one locks anything. tests/anew.py writes it.
+    """The script of a program, by the name of its module and by its first words, which tell the name
+    of the script and, behind a full stop, what the script says of itself. It begins with TPM2_Startup(CLEAR), if it
+    `starts` so; where `tries` are allowed no wrong one locks anything. tests/anew.py writes it.
     """
 
-    def __init__(self, path: str, head: str, tries: bool = False, starts: bool = True) -> None:
-        super().__init__(Script(path, head))
+    def __init__(self, name: str, told: str, tries: bool = False, starts: bool = True) -> None:
+        head = " ".join(told.split("\n\n")[0].partition(".tpm. ")[2].split())
+        super().__init__(Script(name.replace(".", "/") + ".tpm", head))
         if starts:
             self.startup()
         if tries:
@@ -35,9 +59,23 @@ class Teller(ScriptCaller):
         """
         named = [it[1] for it in OUTCOME.finditer(words) if it[1] in frames.CODES]
         if not named:
-            return self.does(words.removesuffix(f": {SUCCESS}"), prepared)
+            return self.does(
+                "" if words == SUCCESS else words.removesuffix(f": {SUCCESS}"), prepared
+            )
         self.fails(words, prepared)
         return b""
+
+    # What many scripts do.
+
+    def restarts(self, session: Session) -> None:
+        self.does("TPM2_PolicyRestart", self.restart(session))
+
+    def unlocks(self) -> None:
+        self.does("TPM2_DictionaryAttackLockReset", self.lock_reset())
+
+    def undefines(self, *indices: int) -> None:
+        for index in indices:
+            self.does("It is undefined" if index == indices[0] else "", self.undefining(index))
 
     # The script's events.
 
@@ -61,20 +99,29 @@ class Teller(ScriptCaller):
     def power(self) -> None:
         self.script.power()
 
+    def power_cycle(self) -> None:
+        """And TPM2_Startup(CLEAR)."""
+        self.power()
+        self.startup()
+
     def wait(self, milliseconds: int) -> None:
         self.script.wait(milliseconds)
 
 
 class Said:
-    """Words, and every command that a caller prepares, which is sent at once."""
+    """Words, and behind them every method of their caller. One that takes words gets these; what
+    another prepares is sent at once.
+    """
 
     def __init__(self, tpm: Teller, words: str) -> None:
         self.tpm, self.words = tpm, words
 
-    def __getattr__(self, name: str) -> Callable[..., bytes]:
-        prepare = getattr(self.tpm, name)
+    def __getattr__(self, name: str) -> Callable[..., Any]:
+        method = getattr(self.tpm, name)
+        if next(iter(inspect.signature(method).parameters), "") in ("words", "what"):
+            return functools.partial(method, self.words)
 
         def sends(*those: Any, **choices: Any) -> bytes:
-            return self.tpm.comes_to(self.words, prepare(*those, **choices))
+            return self.tpm.comes_to(self.words, method(*those, **choices))
 
         return sends

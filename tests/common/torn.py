@@ -480,20 +480,15 @@ def check_image_rivals(program, library):
     print("two runs on one image: one goes on, the other ends with tpmsim: file at once")
 
 
-def main():
-    program = sys.argv[1]
-    check_calls(program, OTHERS)
-    library = built("tear")
-    check_words(program, library, "a script", ["run", str(SCRIPT)])
-    check_words(program, library, "a script on standard input", ["run", "-"], SCRIPT.read_bytes())
-    check_words(program, library, "its trace", ["run", "--trace", str(SCRIPT)])
-    check_words(program, library, "a line", ["asm", "Startup 0"])
-    check_words(program, library, "a help", ["--help"])
-    check_service(program, library, "a device that is made", None)
-    check_service(program, library, "a device from an image", image(machine.Model(random_of(0))))
-    check_socket_rivals(program, library)
-    check_image_rivals(program, library)
-
-
-if __name__ == "__main__":
-    main()
+program = sys.argv[1]
+check_calls(program, OTHERS)
+library = built("tear")
+check_words(program, library, "a script", ["run", str(SCRIPT)])
+check_words(program, library, "a script on standard input", ["run", "-"], SCRIPT.read_bytes())
+check_words(program, library, "its trace", ["run", "--trace", str(SCRIPT)])
+check_words(program, library, "a line", ["asm", "Startup 0"])
+check_words(program, library, "a help", ["--help"])
+check_service(program, library, "a device that is made", None)
+check_service(program, library, "a device from an image", image(machine.Model(random_of(0))))
+check_socket_rivals(program, library)
+check_image_rivals(program, library)

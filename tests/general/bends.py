@@ -8,7 +8,20 @@ sized buffer of it holds a structure.
 
 from dataclasses import dataclass
 
-from tpmsim.standard import ALG_NULL, CC, KEYEDHASH, digest_bytes, frames, lines, number
+from tpmsim.standard import (
+    AES,
+    ALG_NULL,
+    CC,
+    KEYEDHASH,
+    XOR,
+    digest_bytes,
+    frames,
+    lines,
+    number,
+)
+
+# How many bytes stand behind the algorithm of a cipher.
+BEHIND_CIPHER = {ALG_NULL: 0, AES: 4, XOR: 2}
 
 
 @dataclass(frozen=True)
@@ -63,7 +76,7 @@ class Walk:
         self.take(digest_bytes(self.number(2)))
 
     def cipher(self, name=None):
-        self.take(lines.BEHIND_CIPHER[self.number(2)])
+        self.take(BEHIND_CIPHER[self.number(2)])
 
     def entries(self):
         size, place = self.found_number("authorizationSize", 4), 0
@@ -136,21 +149,31 @@ STRUCTURES = {
 }
 
 
-def numbers(buffer):
-    """The sizes and counts of a command behind its header."""
-    walk = Walk(buffer)
+def pieces(walk):
+    """Reads a command to its end: where in it each handle, the authorization area, which has no
+    place, and each parameter ends.
+    """
     tag, _, code = walk.number(2), walk.number(4), CC(walk.number(4))
-    for _ in code.handles:
+    for place in range(1, len(code.handles) + 1):
         walk.take(4)
+        yield f"h{place}", walk.at
     if tag == frames.SESSIONS:
         walk.entries()
+        yield "", walk.at
     for place, it in enumerate(code.parameters, 1):
         name, inside = f"parameter {place}", STRUCTURES.get((code, place))
         if inside:
             walk.sized(name, inside)
         else:
             FORMS[lines.WORDS[it.kind].name](walk, name)
-    assert walk.at == len(buffer)
+        yield f"p{place}", walk.at
+    assert walk.at == len(walk.buffer)
+
+
+def numbers(buffer):
+    """The sizes and counts of a command behind its header."""
+    walk = Walk(buffer)
+    list(pieces(walk))
     return walk.found
 
 

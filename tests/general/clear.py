@@ -1,12 +1,12 @@
-"""Writes clear.tpm: TPM2_Clear, what it takes away and what it leaves."""
+"""Writes clear.tpm. TPM2_Clear, for a new owner: the objects and the NV indices of the old one are
+gone, with the seed of its primary objects, and so are its authorization values and its lockout.
+What is the platform's stays.
+"""
 
-from tpmsim.caller import BY_OWNER, BY_PLATFORM, BY_VALUE, STATE, area, counter, sealed
-from tpmsim.caller import storage_key, wrong
-from tpmsim.standard import CC, RH_ENDORSEMENT, RH_LOCKOUT, RH_NULL, RH_OWNER, RH_PLATFORM, SHA256
-from tpmsim.standard import command, number, on_handle
-from tpmsim.standard.nv import Attribute
-from tpmsim.caller.script_caller import FIRST, SECOND, THIRD
-from tests.common.teller import Teller
+from tests.common.vocabulary import area, BY_OWNER, BY_PLATFORM, BY_VALUE, CC, command, counter
+from tests.common.vocabulary import FIRST, number, NvAttribute, on_handle, RH_ENDORSEMENT
+from tests.common.vocabulary import RH_LOCKOUT, RH_NULL, RH_OWNER, RH_PLATFORM, sealed, SECOND
+from tests.common.vocabulary import SHA256, STATE, storage_key, Teller, THIRD, wrong
 
 HANDLES, PROPERTIES = 1, 6
 HIERARCHIES = (
@@ -21,38 +21,32 @@ WITH_OBJECTS = (
     (RH_PLATFORM, "the platform", 0x8180_0000, RH_PLATFORM),
 )
 
-tpm = Teller(
-    "tests/general/clear.tpm",
-    "TPM2_Clear, for a new owner: the objects and the NV indices of the old one are gone, with the "
-    "seed of its primary objects, and so are its authorization values and its lockout. What is the "
-    "platform's stays.",
-    starts=False,
-)
+tpm = Teller(__name__, __doc__, starts=False)
 says = tpm.raw
 
 
 def listed(what, wanted, *handles):
     """The handles of a kind, as TPM2_GetCapability lists them."""
     elements = number(len(handles), 4) + b"".join(number(it, 4) for it in handles)
-    given = tpm.does(what, tpm.capability(HANDLES, wanted, 64))
+    given = tpm(what).capability(HANDLES, wanted, 64)
     assert given == b"\0" + number(HANDLES, 4) + elements, what
 
 
 def lockout_is(what, *values):
     """TPM_PT_LOCKOUT_COUNTER and the three behind it."""
     pairs = b"".join(number(0x20E + at, 4) + number(it, 4) for at, it in enumerate(values))
-    given = tpm.does(what, tpm.capability(PROPERTIES, 0x20E, 4))
+    given = tpm(what).capability(PROPERTIES, 0x20E, 4)
     assert given == b"\0" + number(PROPERTIES, 4) + number(4, 4) + pairs, what
 
 
 def clock_is(what, time, clock, resets, restarts):
     answer = number(time, 8) + number(clock, 8) + number(resets, 4) + number(restarts, 4) + b"\1"
-    assert tpm.does(what, tpm.clock()) == answer, what
+    assert tpm(what).clock() == answer, what
 
 
 def counter_of(what):
     """The update counter of the PCRs."""
-    return int.from_bytes(tpm.does(what, tpm.read_pcr(16))[:4], "big")
+    return int.from_bytes(tpm(what).read_pcr(16)[:4], "big")
 
 
 def primary_of(what, hierarchy):
@@ -63,56 +57,30 @@ def primary_of(what, hierarchy):
     return name, tpm.ticket
 
 
-def refusals():
-    says("Before TPM2_Startup: INITIALIZE", on_handle(CC.Clear, RH_PLATFORM))
-    tpm.startup()
-    says("No handle: INSUFFICIENT/h1", command(CC.Clear, b""))
-    says(
-        "Who cannot clear: VALUE/h1",
-        *(on_handle(CC.Clear, it) for it in (RH_OWNER, RH_ENDORSEMENT, RH_NULL, 0, 0x8000_0000)),
-    )
-    for handle in (RH_LOCKOUT, RH_PLATFORM):
-        words = "Without sessions" if handle == RH_LOCKOUT else ""
-        says(f"{words}: AUTH_MISSING", command(CC.Clear, number(handle, 4)))
-    says(
-        "A byte behind the handle: SIZE",
-        *(on_handle(CC.Clear, it, b"\0") for it in (RH_LOCKOUT, RH_PLATFORM)),
-    )
-    tpm.fails("A wrong password: BAD_AUTH/s1", tpm.clearing(RH_PLATFORM, b"x"))
-    policy = tpm.policy("A policy session")
-    tpm.fails("No policy clears: AUTH_UNAVAILABLE", tpm.clearing(RH_PLATFORM, policy))
-    tpm.does("It is flushed", tpm.flush(policy))
-    says(
-        "TPM2_Clear by the platform, and by lockoutAuth: SUCCESS",
-        *(on_handle(CC.Clear, it) for it in (RH_PLATFORM, RH_LOCKOUT)),
-    )
-
-
 def set_up():
     tpm.chapter("There is something of each kind, a reset and a restart among it.")
-    tpm.power()
-    tpm.startup()
-    tpm.does("TPM2_Shutdown(STATE)", tpm.shutting_down(STATE))
+    tpm.power_cycle()
+    tpm("TPM2_Shutdown(STATE)").shutting_down(STATE)
     tpm.power()
     tpm.start_up("TPM2_Startup(STATE)", STATE)
     tpm.wait(5000)
     for index, attributes, by in (
         (FIRST, BY_OWNER | BY_VALUE, RH_OWNER),
-        (SECOND, BY_PLATFORM | BY_VALUE | Attribute.PLATFORMCREATE, RH_PLATFORM),
+        (SECOND, BY_PLATFORM | BY_VALUE | NvAttribute.PLATFORMCREATE, RH_PLATFORM),
     ):
         words = "An NV index of the owner, and one of the platform" if index == FIRST else ""
         tpm.define(words, area(index, attributes), by=by)
-        tpm.does("", tpm.writing(index, b"data", by=by))
+        tpm("").writing(index, b"data", by=by)
     tpm.define("A counter of the owner", counter(THIRD))
     for _ in range(3):
-        tpm.does("It is 3" if not _ else "", tpm.incrementing(THIRD))
+        tpm("It is 3" if not _ else "").incrementing(THIRD)
     for hierarchy, words, kept, asker in WITH_OBJECTS:
         handle = tpm.create_primary(f"An object of {words}", hierarchy, storage_key())
         tpm.keep("It stays", asker, handle, kept)
     tpm.create_primary("One of TPM_RH_NULL", RH_NULL, storage_key())
     for handle, name, value in HIERARCHIES:
         words = f'The value of {name} is "{value.decode()}"'
-        tpm.does(words, tpm.change_auth(handle, value, b""))
+        tpm(words).change_auth(handle, value, b"")
     tpm.set_protection("maxTries is 5, and the times are others, too", 5, 2000, 3000)
 
 
@@ -122,10 +90,10 @@ def what_is_left():
     listed("The transient objects of the platform and of TPM_RH_NULL", 0x8000_0000, *left)
     listed("The persistent one of the platform", 0x8100_0000, 0x8180_0000)
     listed("The index of the platform", 0x0100_0000, SECOND)
-    tpm.does("TPM2_ReadPublic of the platform's object", tpm.public(0x8180_0000))
+    tpm("TPM2_ReadPublic of the platform's object").public(0x8180_0000)
     tpm.read("TPM2_NV_Read of its index", SECOND, b"data", by=RH_PLATFORM)
-    tpm.fails("The owner's index: HANDLE/h1", tpm.index_public(FIRST))
-    tpm.fails("The owner's object: HANDLE/h1", tpm.public(0x8100_0000))
+    tpm("The owner's index: HANDLE/h1").index_public(FIRST)
+    tpm("The owner's object: HANDLE/h1").public(0x8100_0000)
 
 
 def effects():
@@ -138,27 +106,27 @@ def effects():
     below = tpm.create("An object below it", parent, sealed(), data=b"data")
     bad = tpm.writing(SECOND, b"x", b"x")
     tpm.fails("A try: AUTH_FAIL/s1", bad)
-    tpm.fails("And one that closes lockoutAuth: AUTH_FAIL/s1", tpm.lock_reset(b"x"))
+    tpm("And one that closes lockoutAuth: AUTH_FAIL/s1").lock_reset(b"x")
     session = tpm.start("A session that is bound to the owner", RH_OWNER)
     policy = tpm.policy("A policy session")
-    tpm.says("TPM2_PolicyPCR: SUCCESS", tpm.pcrs(policy, [(SHA256, [0])]))
+    tpm("TPM2_PolicyPCR").pcrs(policy, [(SHA256, [0])])
     lockout_is("One try", 1, 5, 2000, 3000)
     before = counter_of("The update counter, and PCR 16")
     clock_is("The clock", 5000, 5000, 1, 1)
     tpm.wait(70)
-    tpm.does("TPM2_Clear", tpm.clearing(RH_PLATFORM))
+    tpm("TPM2_Clear").clearing(RH_PLATFORM)
     tpm.wait(7)
     clock_is("The clock and the counts are 0, the time goes on", 5077, 7, 0, 0)
     assert counter_of("The update counter is one more; PCR 16 is as it was") == before + 1
     lockout_is("No try, and the parameters as they were", 0, 5, 2000, 3000)
-    tpm.does("lockoutAuth is open, and empty", tpm.lock_reset())
-    tpm.does("So is ownerAuth", tpm.change_auth(RH_OWNER, b"", b""))
-    tpm.does("And endorsementAuth", tpm.change_auth(RH_ENDORSEMENT, b"", b""))
-    tpm.fails("platformAuth is as it was: BAD_AUTH/s1", tpm.change_auth(RH_PLATFORM, b"", b""))
+    tpm("lockoutAuth is open, and empty").lock_reset()
+    tpm("So is ownerAuth").change_auth(RH_OWNER, b"", b"")
+    tpm("And endorsementAuth").change_auth(RH_ENDORSEMENT, b"", b"")
+    tpm("platformAuth is as it was: BAD_AUTH/s1").change_auth(RH_PLATFORM, b"", b"")
     pcr = tpm.pcrs(policy, [(SHA256, [0])])
     tpm.fails("TPM2_PolicyPCR: as if a PCR had changed: PCR_CHANGED", pcr)
-    tpm.accepted("The sessions are there: on PCR 16", tpm.reset(session))
-    tpm.accepted("On TPM_RH_OWNER, whose value is another", tpm.change_auth(RH_OWNER, b"", session))
+    tpm("The sessions are there: on PCR 16").reset(session)
+    tpm("On TPM_RH_OWNER, whose value is another").change_auth(RH_OWNER, b"", session)
     what_is_left()
     tpm.chapter("The seed of the owner is new, and the others are not.")
     for hierarchy, name, _ in HIERARCHIES[:3]:
@@ -167,44 +135,55 @@ def effects():
         # The proofs of both are new, so that old tickets are worth nothing.
         assert (ticket == names[hierarchy][1]) == (hierarchy == RH_PLATFORM)
     parent = tpm.create_primary("A storage key of the new owner", RH_OWNER, storage_key())
-    tpm.fails("What was created below the old one: INTEGRITY/p1", tpm.loading(parent, below))
+    tpm("What was created below the old one: INTEGRITY/p1").loading(parent, below)
     tpm.chapter("No counter goes back.")
     tpm.define("The counter is defined again", counter(THIRD))
-    tpm.does("TPM2_NV_Increment", tpm.incrementing(THIRD))
+    tpm("TPM2_NV_Increment").incrementing(THIRD)
     tpm.read("It is 4", THIRD, number(4, 8))
 
 
-def by_sessions():
-    tpm.chapter("By sessions. The answer's hmac is by the value after it, the empty one.")
-    tpm.does('lockoutAuth is "lockout"', tpm.change_auth(RH_LOCKOUT, b"lockout", b""))
-    unbound = tpm.start("An HMAC session that is bound to nothing")
-    bound = tpm.start("One that is bound to TPM_RH_LOCKOUT", RH_LOCKOUT)
-    tpm.fails("A wrong hmac: AUTH_FAIL/s1", wrong(tpm.clearing(RH_LOCKOUT, unbound)))
-    tpm.fails("lockoutAuth is closed: LOCKOUT", tpm.clearing(RH_LOCKOUT, unbound))
-    tpm.does("The platform opens it by TPM2_Clear", tpm.clearing(RH_PLATFORM))
-    tpm.does('lockoutAuth is "lockout"', tpm.change_auth(RH_LOCKOUT, b"lockout", b""))
-    tpm.accepted("TPM2_Clear by the first", tpm.clearing(RH_LOCKOUT, unbound))
-    tpm.does('lockoutAuth is "lockout"', tpm.change_auth(RH_LOCKOUT, b"lockout", b""))
-    tpm.accepted("By the bound one", tpm.clearing(RH_LOCKOUT, bound))
-    tpm.accepted("And by it once more", tpm.clearing(RH_LOCKOUT, bound))
-    clearing = tpm.clearing(RH_PLATFORM, b"platform", unbound, bound)
-    tpm.accepted("By the platform, with both behind it", clearing)
+says("Before TPM2_Startup: INITIALIZE", on_handle(CC.Clear, RH_PLATFORM))
+tpm.startup()
+says("No handle: INSUFFICIENT/h1", command(CC.Clear, b""))
+case = "Who cannot clear: VALUE/h1"
+says(case, *(on_handle(CC.Clear, it) for it in (RH_OWNER, RH_ENDORSEMENT, RH_NULL, 0, 0x8000_0000)))
+for handle in (RH_LOCKOUT, RH_PLATFORM):
+    words = "Without sessions" if handle == RH_LOCKOUT else ""
+    says(f"{words}: AUTH_MISSING", command(CC.Clear, number(handle, 4)))
+case = "A byte behind the handle: SIZE"
+says(case, *(on_handle(CC.Clear, it, b"\0") for it in (RH_LOCKOUT, RH_PLATFORM)))
+tpm("A wrong password: BAD_AUTH/s1").clearing(RH_PLATFORM, b"x")
+policy = tpm.policy("A policy session")
+tpm("No policy clears: AUTH_UNAVAILABLE").clearing(RH_PLATFORM, policy)
+tpm("It is flushed").flush(policy)
+case = "TPM2_Clear by the platform, and by lockoutAuth: SUCCESS"
+says(case, *(on_handle(CC.Clear, it) for it in (RH_PLATFORM, RH_LOCKOUT)))
 
-
-def over_starts():
-    tpm.chapter("Over starts.")
-    tpm.does("TPM2_Shutdown(STATE)", tpm.shutting_down(STATE))
-    tpm.does("TPM2_Clear cancels what was saved", tpm.clearing(RH_PLATFORM))
-    tpm.power()
-    tpm.fails("TPM2_Startup(STATE): VALUE/p1", tpm.starting(STATE))
-    tpm.start_up("TPM2_Startup(CLEAR)")
-    clock_is("It is the first reset", 0, 0, 1, 0)
-    listed("The persistent object of the platform", 0x8100_0000, 0x8180_0000)
-    tpm.does("platformAuth is empty now", tpm.clearing(RH_PLATFORM, b""))
-
-
-refusals()
 set_up()
 effects()
-by_sessions()
-over_starts()
+
+tpm.chapter("By sessions. The answer's hmac is by the value after it, the empty one.")
+tpm('lockoutAuth is "lockout"').change_auth(RH_LOCKOUT, b"lockout", b"")
+unbound = tpm.start("An HMAC session that is bound to nothing")
+bound = tpm.start("One that is bound to TPM_RH_LOCKOUT", RH_LOCKOUT)
+tpm.fails("A wrong hmac: AUTH_FAIL/s1", wrong(tpm.clearing(RH_LOCKOUT, unbound)))
+tpm("lockoutAuth is closed: LOCKOUT").clearing(RH_LOCKOUT, unbound)
+tpm("The platform opens it by TPM2_Clear").clearing(RH_PLATFORM)
+tpm('lockoutAuth is "lockout"').change_auth(RH_LOCKOUT, b"lockout", b"")
+tpm("TPM2_Clear by the first").clearing(RH_LOCKOUT, unbound)
+tpm('lockoutAuth is "lockout"').change_auth(RH_LOCKOUT, b"lockout", b"")
+tpm("By the bound one").clearing(RH_LOCKOUT, bound)
+tpm("And by it once more").clearing(RH_LOCKOUT, bound)
+clearing = tpm.clearing(RH_PLATFORM, b"platform", unbound, bound)
+tpm.accepted("By the platform, with both behind it", clearing)
+
+
+tpm.chapter("Over starts.")
+tpm("TPM2_Shutdown(STATE)").shutting_down(STATE)
+tpm("TPM2_Clear cancels what was saved").clearing(RH_PLATFORM)
+tpm.power()
+tpm("TPM2_Startup(STATE): VALUE/p1").starting(STATE)
+tpm.start_up("TPM2_Startup(CLEAR)")
+clock_is("It is the first reset", 0, 0, 1, 0)
+listed("The persistent object of the platform", 0x8100_0000, 0x8180_0000)
+tpm("platformAuth is empty now").clearing(RH_PLATFORM, b"")

@@ -1,43 +1,23 @@
-"""Writes clock.tpm: TPM2_ReadClock, the times and the counts of starts."""
+"""Writes clock.tpm. TPM2_ReadClock: time, the milliseconds since the power cycle; clock, those of
+the device's life; resetCount and restartCount; and that the clock is safe (01), as it never goes
+back. The numbers of eight bytes end far beyond what a script can wait for.
+"""
 
-from tpmsim.caller import CLEAR, STATE
-from tpmsim.standard import CC, command, frames, number
-from tests.common.teller import Teller
+from tests.common.vocabulary import CC, CLEAR, command, frames, number, STATE, Teller
 
 MOST = 2**32 - 1
 
-tpm = Teller(
-    "tests/general/clock.tpm",
-    "TPM2_ReadClock: time, the milliseconds since the power cycle; clock, those of the device's "
-    "life; resetCount and restartCount; and that the clock is safe (01), as it never goes back. "
-    "The numbers of eight bytes end far beyond what a script can wait for.",
-    starts=False,
-)
+tpm = Teller(__name__, __doc__, starts=False)
 says = tpm.raw
 
 
 def is_now(what, time, clock, resets, restarts):
     answer = number(time, 8) + number(clock, 8) + number(resets, 4) + number(restarts, 4) + b"\1"
-    assert tpm.does(what, tpm.clock()) == answer, what
+    assert tpm(what).clock() == answer, what
 
 
 def shut_down(kind):
-    tpm.does(f"TPM2_Shutdown({'STATE' if kind else 'CLEAR'})", tpm.shutting_down(kind))
-
-
-def refusals():
-    says("Before TPM2_Startup: INITIALIZE", command(CC.ReadClock, b""))
-    tpm.startup()
-    tpm.wait(5)
-    is_now("Five milliseconds later", 5, 5, 1, 0)
-    says("A byte behind it: SIZE", command(CC.ReadClock, b"\0"))
-    says(
-        "With an authorization area, right or wrong: AUTH_CONTEXT",
-        command(CC.ReadClock, frames.area(frames.entry()), frames.SESSIONS),
-        command(CC.ReadClock, number(0, 4), frames.SESSIONS),
-        command(CC.ReadClock, b"", frames.SESSIONS),
-    )
-    is_now("None of them took any time", 5, 5, 1, 0)
+    tpm(f"TPM2_Shutdown({'STATE' if kind else 'CLEAR'})").shutting_down(kind)
 
 
 def time():
@@ -46,14 +26,14 @@ def time():
     tpm.wait(2)
     is_now("Three milliseconds, in two lines", 8, 8, 1, 0)
     tpm.wait(100)
-    tpm.does("TPM2_GetRandom, after 100", tpm.random(2))
+    tpm("TPM2_GetRandom, after 100").random(2)
     tpm.wait(1000)
     says("The empty buffer, after 1,000: COMMAND_SIZE", b"")
     tpm.wait(10_000)
     says("A command that is not served, after 10,000: COMMAND_CODE", command(0x0146, b"\0\0"))
     is_now("All of that has passed", 11_108, 11_108, 1, 0)
     tpm.wait(MOST)
-    tpm.does("TPM2_GetRandom, after 4,294,967,295", tpm.random(2))
+    tpm("TPM2_GetRandom, after 4,294,967,295").random(2)
     tpm.wait(MOST)
     is_now("And as many again", 11_108 + 2 * MOST, 11_108 + 2 * MOST, 1, 0)
 
@@ -63,7 +43,7 @@ def power():
     tpm.chapter("A power cycle: time starts over, and clock goes on.")
     tpm.power()
     tpm.wait(3)
-    tpm.fails("TPM2_GetRandom, after 3: INITIALIZE", tpm.random(2))
+    tpm("TPM2_GetRandom, after 3: INITIALIZE").random(2)
     tpm.wait(4)
     tpm.startup()
     is_now("Time has passed before TPM2_Startup too; it was a reset", 7, clock + 7, 2, 0)
@@ -95,7 +75,7 @@ def starts(clock):
     is_now("resetCount is 5", 0, clock, 5, 0)
     shut_down(STATE)
     tpm.power()
-    tpm.fails("A wrong type: VALUE/p1", tpm.starting(2))
+    tpm("A wrong type: VALUE/p1").starting(2)
     tpm.start_up("TPM2_Startup(STATE)", STATE)
     is_now("A refused one has counted nothing", 0, clock, 5, 1)
     shut_down(STATE)
@@ -104,12 +84,24 @@ def starts(clock):
     tpm.start_up("TPM2_Startup(STATE) after two power cycles", STATE)
     is_now("One resume", 0, clock, 5, 2)
     shut_down(STATE)
-    tpm.does("TPM2_PCR_Reset cancels what was saved", tpm.reset(b""))
+    tpm("TPM2_PCR_Reset cancels what was saved").reset(b"")
     tpm.power()
     tpm.start_up("TPM2_Startup(CLEAR), a reset")
     is_now("resetCount is 6", 0, clock, 6, 0)
 
 
-refusals()
+says("Before TPM2_Startup: INITIALIZE", command(CC.ReadClock, b""))
+tpm.startup()
+tpm.wait(5)
+is_now("Five milliseconds later", 5, 5, 1, 0)
+says("A byte behind it: SIZE", command(CC.ReadClock, b"\0"))
+says(
+    "With an authorization area, right or wrong: AUTH_CONTEXT",
+    command(CC.ReadClock, frames.area(frames.entry()), frames.SESSIONS),
+    command(CC.ReadClock, number(0, 4), frames.SESSIONS),
+    command(CC.ReadClock, b"", frames.SESSIONS),
+)
+is_now("None of them took any time", 5, 5, 1, 0)
+
 time()
 starts(power())

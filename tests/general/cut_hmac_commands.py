@@ -1,36 +1,27 @@
-"""Writes cut_hmac_commands.tpm: commands by an hmac, cut behind the authorization area."""
+"""Writes cut_hmac_commands.tpm. Commands that an hmac authorizes, cut behind their authorization
+area to each shorter length, with commandSize corrected. The hmac is that of the whole parameters,
+so it is wrong; it is compared before the parameters are read. At a protected NV index or object
+that is a try: TPM_PT_LOCKOUT_COUNTER (20E) tells that it counts. TPM2_DictionaryAttackLockReset
+takes it back each time. A refusal leaves the session as it was: so the command comes whole at last,
+with the same hmac.
+"""
 
 from collections.abc import Iterator
 
-from tpmsim.caller import BY_POLICY, BY_VALUE, HERE, Prepared, Session, Use, area, bits, extended
-from tpmsim.caller import hmac_key
-from tpmsim.standard import CC, CONTINUE_SESSION, DECRYPT, RH_LOCKOUT, RH_OWNER, SHA1, SHA256
-from tpmsim.standard import frames, policy, sized
-from tpmsim.standard.nv import Attribute as NvAttribute
-from tpmsim.standard.objects import Attribute
-from tpmsim.caller.script_caller import FIRST, FOURTH, SECOND, THIRD
+from tpmsim.caller import Prepared, Session
+from tests.common.vocabulary import area, bits, BY_POLICY, BY_VALUE, CC, DECRYPTS, extended, FIRST
+from tests.common.vocabulary import FOURTH, frames, HERE, hmac_key, NvAttribute, ObjectAttribute
+from tests.common.vocabulary import policy, RH_LOCKOUT, RH_OWNER, SECOND, SHA1, SHA256, sized, THIRD
+from tests.common.vocabulary import Use
 from tests.general.cuts import HEADER_BYTES, with_size
 from tests.sessions.grounds_caller import GroundsCaller
 
 PIN, DATA, LOCKOUT = b"pin", b"abc", b"lockout"
 DEMANDING = policy.after_auth_value(SHA256, bytes(32))
-DECRYPTS = CONTINUE_SESSION | DECRYPT
 HANDLES_BYTES = 8
 NO_TRY, TRY = 0, 1
 
-tpm = GroundsCaller(
-    "tests/general/cut_hmac_commands.tpm",
-    "Commands that an hmac authorizes, cut behind their authorization area to each shorter length, "
-    "with commandSize corrected. The hmac is that of the whole parameters, so it is wrong; it is "
-    "compared before the parameters are read. At a protected NV index or object that is a try: "
-    "TPM_PT_LOCKOUT_COUNTER (20E) tells that it counts. TPM2_DictionaryAttackLockReset takes it "
-    "back each time. A refusal leaves the session as it was: so the command comes whole at last, "
-    "with the same hmac.",
-)
-
-
-def unlock() -> None:
-    tpm.does("TPM2_DictionaryAttackLockReset", tpm.lock_reset())
+tpm = GroundsCaller(__name__, __doc__)
 
 
 def refused(what: str, outcome: str, tries: int, *buffers: bytes) -> None:
@@ -43,7 +34,7 @@ def refused_alone(what: str, outcome: str, tries: int, buffer: bytes) -> None:
     """The same, where a try that counts is taken back."""
     refused(what, outcome, tries, buffer)
     if tries:
-        unlock()
+        tpm.unlocks()
 
 
 def cuts_of(prepared: Prepared) -> Iterator[tuple[str, bytes]]:
@@ -69,26 +60,6 @@ def cut(name: str, prepared: Prepared, outcome: str = "AUTH_FAIL/s1", tries: int
     comes_whole(prepared)
 
 
-def by_each_session() -> tuple[Session, ...]:
-    """TPM2_NV_Write of the first index, by each kind of session."""
-    unbound = tpm.start("A session that is bound to nothing: the value of the index is the key")
-    cut("TPM2_NV_Write by it", tpm.writing(FIRST, DATA, unbound, offset=2))
-    sha1 = tpm.start("One of SHA-1", algorithm=SHA1)
-    cut("TPM2_NV_Write by it", tpm.writing(FIRST, DATA, sha1, offset=2))
-    bound = tpm.start("One that is bound to the index", FIRST)
-    cut("TPM2_NV_Write by it", tpm.writing(FIRST, DATA, bound, offset=2))
-    to_owner = tpm.start("One that is bound to TPM_RH_OWNER, with AES", RH_OWNER, aes=True)
-    cut(
-        "TPM2_NV_Write by it, with encrypted data",
-        tpm.writing(FIRST, DATA, Use(to_owner, DECRYPTS), offset=2),
-    )
-    told = tpm.policy("A policy session")
-    tpm.says("TPM2_PolicyAuthValue: SUCCESS", tpm.auth_value_told(told))
-    by_policy = Use(told, demand=policy.AUTH_VALUE)
-    cut("TPM2_NV_Write by it", tpm.writing(FIRST, DATA, by_policy, offset=2))
-    return unbound, sha1, bound, to_owner, told
-
-
 def by_each_command(session: Session, told: Session, key: int) -> None:
     """Other commands at a protected index or object, by a session that is bound to nothing."""
     cut("TPM2_NV_Read", tpm.reading(FIRST, 3, session, offset=2))
@@ -102,34 +73,14 @@ def by_each_command(session: Session, told: Session, key: int) -> None:
 def beside(session: Session, bound: Session) -> None:
     """A session that is bound to the index, where it does not authorize it."""
     cut("TPM2_PCR_Event of PCR 16, which the bound session authorizes", tpm.event(DATA, bound))
-    cut(
-        "TPM2_PCR_Event that a password authorizes, with the bound session behind it",
-        tpm.event(DATA, b"", bound),
-        "AUTH_FAIL/s2",
-    )
+    case = "TPM2_PCR_Event that a password authorizes, with the bound session behind it"
+    cut(case, tpm.event(DATA, b"", bound), "AUTH_FAIL/s2")
     cut("TPM2_GetRandom with the bound session alone", tpm.random(2, bound))
     cut(
         "TPM2_PCR_Event, with the bound session behind one that is bound to nothing. The hmac of "
         "that is left out, as its key is empty; so only the second one's is wrong",
         tpm.event(DATA, session, bound),
         "AUTH_FAIL/s2",
-    )
-
-
-def without_try(session: Session) -> None:
-    """The same where nothing protected is tried."""
-    cut(
-        "TPM2_NV_Write of the index with TPMA_NV_NO_DA",
-        tpm.writing(FOURTH, DATA, session),
-        "BAD_AUTH/s1",
-        NO_TRY,
-    )
-    tpm.does('ownerAuth is "pin"', tpm.change_auth(RH_OWNER, PIN, b""))
-    cut(
-        "TPM2_HierarchyChangeAuth of TPM_RH_OWNER",
-        tpm.change_auth(RH_OWNER, b"", session),
-        "BAD_AUTH/s1",
-        NO_TRY,
     )
 
 
@@ -177,7 +128,7 @@ def up_to_lockout(session: Session) -> None:
     for tries, (what, buffer) in enumerate(cuts_of(prepared), 1):
         refused(what, "AUTH_FAIL/s1" if tries <= 3 else "LOCKOUT", min(tries, 3), buffer)
     refused("Whole", "LOCKOUT", 3, prepared.buffer())
-    unlock()
+    tpm.unlocks()
     comes_whole(prepared)
 
     tpm.set_protection("TPM2_DictionaryAttackParameters: maxTries is 1", 1, 1000, 1000)
@@ -194,7 +145,7 @@ def at_lockout_auth(session: Session) -> None:
         "TPM2_DictionaryAttackParameters by a session: a try at lockoutAuth counts nothing, and "
         "closes it for lockoutRecovery, which is 1,000 seconds."
     )
-    tpm.does('lockoutAuth is "lockout"', tpm.change_auth(RH_LOCKOUT, LOCKOUT, b""))
+    tpm('lockoutAuth is "lockout"').change_auth(RH_LOCKOUT, LOCKOUT, b"")
     prepared = tpm.attack_parameters(3, 1000, 1000, session)
     for what, buffer in cuts_of(prepared):
         refused(what, "AUTH_FAIL/s1", NO_TRY, buffer)
@@ -204,30 +155,51 @@ def at_lockout_auth(session: Session) -> None:
     comes_whole(prepared)
 
 
-tpm.define(
-    "A protected NV index, with a policy that asks for its value",
-    area(FIRST, BY_VALUE | BY_POLICY, auth_policy=DEMANDING),
-    auth=PIN,
-)
+said = tpm("A protected NV index, with a policy that asks for its value")
+said.define(area(FIRST, BY_VALUE | BY_POLICY, auth_policy=DEMANDING), auth=PIN)
 tpm.define("Protected bits", bits(SECOND, BY_VALUE), auth=PIN)
 tpm.define("A protected index that is extended", extended(THIRD, BY_VALUE), auth=PIN)
 tpm.define("One with TPMA_NV_NO_DA", area(FOURTH, BY_VALUE | NvAttribute.NO_DA), auth=PIN)
-tpm.does("The first is written", tpm.writing(FIRST, DATA, offset=2))
+tpm("The first is written").writing(FIRST, DATA, offset=2)
 KEY = tpm.create_primary(
     "A protected HMAC key",
     RH_OWNER,
-    hmac_key(attributes=HERE | Attribute.USER_WITH_AUTH),
+    hmac_key(attributes=HERE | ObjectAttribute.USER_WITH_AUTH),
     user_auth=PIN,
     data=b"a key",
 )
-UNBOUND, OF_SHA1, BOUND, TO_OWNER, TOLD = by_each_session()
-tpm.does("A session is flushed", tpm.flush(OF_SHA1))
+
+# TPM2_NV_Write of the first index, by each kind of session.
+unbound = tpm.start("A session that is bound to nothing: the value of the index is the key")
+cut("TPM2_NV_Write by it", tpm.writing(FIRST, DATA, unbound, offset=2))
+sha1 = tpm.start("One of SHA-1", algorithm=SHA1)
+cut("TPM2_NV_Write by it", tpm.writing(FIRST, DATA, sha1, offset=2))
+bound = tpm.start("One that is bound to the index", FIRST)
+cut("TPM2_NV_Write by it", tpm.writing(FIRST, DATA, bound, offset=2))
+to_owner = tpm.start("One that is bound to TPM_RH_OWNER, with AES", RH_OWNER, aes=True)
+case = "TPM2_NV_Write by it, with encrypted data"
+cut(case, tpm.writing(FIRST, DATA, Use(to_owner, DECRYPTS), offset=2))
+told = tpm.policy("A policy session")
+tpm("TPM2_PolicyAuthValue").auth_value_told(told)
+by_policy = Use(told, demand=policy.AUTH_VALUE)
+cut("TPM2_NV_Write by it", tpm.writing(FIRST, DATA, by_policy, offset=2))
+UNBOUND, OF_SHA1, BOUND, TO_OWNER, TOLD = unbound, sha1, bound, to_owner, told
+
+tpm("A session is flushed").flush(OF_SHA1)
 before_the_parameters(tpm.writing(FIRST, DATA, UNBOUND, offset=2))
 of_what_is_left(UNBOUND)
 up_to_lockout(UNBOUND)
 tpm.set_protection("maxTries is 3 again", 3, 1000, 1000)
-tpm.says("TPM2_PolicyRestart: SUCCESS", tpm.restart(TOLD))
+tpm.restarts(TOLD)
 by_each_command(UNBOUND, TOLD, KEY)
 beside(UNBOUND, BOUND)
-without_try(UNBOUND)
+
+# The same where nothing protected is tried.
+session = UNBOUND
+case = "TPM2_NV_Write of the index with TPMA_NV_NO_DA"
+cut(case, tpm.writing(FOURTH, DATA, session), "BAD_AUTH/s1", NO_TRY)
+tpm('ownerAuth is "pin"').change_auth(RH_OWNER, PIN, b"")
+case = "TPM2_HierarchyChangeAuth of TPM_RH_OWNER"
+cut(case, tpm.change_auth(RH_OWNER, b"", session), "BAD_AUTH/s1", NO_TRY)
+
 at_lockout_auth(UNBOUND)

@@ -3,10 +3,10 @@ length.
 """
 
 from tests.general import cuts
+from tests.general.cuts import STARTUP, cut
 from tpmsim.caller import storage_key
 from tpmsim.standard import CC, RH_LOCKOUT, RH_OWNER, RH_PLATFORM, command, frames, number
 from tpmsim.standard import on_handle, on_handles, sized
-from tests.general.cuts import AREA, HANDLE
 
 HEAD = (
     "The commands of starts, of capabilities, of dictionary attack protection, of persistent "
@@ -25,70 +25,31 @@ PRIMARY = on_handle(
     frames.creation(frames.sensitive_create(), sized(storage_key().text)),
 )
 
+CAPABILITY = command(CC.GetCapability, number(1, 4) + number(0, 4) + number(3, 4))
+KEEPING = on_handles(CC.EvictControl, [RH_OWNER, OBJECT], number(KEPT, 4))
+PROTECTING = on_handle(
+    CC.DictionaryAttackParameters, RH_LOCKOUT, frames.attack_parameters(3, 1000, 1000)
+)
+RESETTING = on_handle(CC.DictionaryAttackLockReset, RH_LOCKOUT)
+
 COMMANDS = [
-    cuts.STARTUP,
-    (
-        "TPM2_SelfTest",
-        command(CC.SelfTest, b"\1"),
-        [(11, "within fullTest", "INSUFFICIENT/p1")],
-        "SUCCESS",
-    ),
-    (
-        "TPM2_GetCapability",
-        command(CC.GetCapability, number(1, 4) + number(0, 4) + number(3, 4)),
-        [
-            (14, "within capability", "INSUFFICIENT/p1"),
-            (18, "within property", "INSUFFICIENT/p2"),
-            (22, "within propertyCount", "INSUFFICIENT/p3"),
-        ],
-        "SUCCESS",
-    ),
-    ("TPM2_ReadClock", command(CC.ReadClock, b""), [], "SUCCESS"),
-    (
-        "TPM2_Shutdown",
-        command(CC.Shutdown, number(1, 2)),
-        [(12, "within shutdownType", "INSUFFICIENT/p1")],
-        "SUCCESS",
-    ),
-    ("TPM2_CreatePrimary of a storage key", PRIMARY, [], "SUCCESS"),
-    (
-        "TPM2_EvictControl",
-        on_handles(CC.EvictControl, [RH_OWNER, OBJECT], number(KEPT, 4)),
-        [
-            (14, "within auth", "INSUFFICIENT/h1"),
-            (18, "within objectHandle", "INSUFFICIENT/h2"),
-            (31, "within the authorization area", "AUTHSIZE"),
-            (35, "within persistentHandle", "INSUFFICIENT/p1"),
-        ],
-        "SUCCESS",
-    ),
-    (
-        "TPM2_DictionaryAttackLockReset",
-        on_handle(CC.DictionaryAttackLockReset, RH_LOCKOUT),
-        [HANDLE, AREA],
-        "SUCCESS",
-    ),
-    (
+    STARTUP,
+    cut("TPM2_SelfTest", command(CC.SelfTest, b"\1"), "fullTest"),
+    cut("TPM2_GetCapability", CAPABILITY, "capability", "property", "propertyCount"),
+    cut("TPM2_ReadClock", command(CC.ReadClock, b"")),
+    cut("TPM2_Shutdown", command(CC.Shutdown, number(1, 2)), "shutdownType"),
+    cut("TPM2_CreatePrimary of a storage key", PRIMARY),
+    cut("TPM2_EvictControl", KEEPING, "auth", "objectHandle", "persistentHandle"),
+    cut("TPM2_DictionaryAttackLockReset", RESETTING, "its handle"),
+    cut(
         "TPM2_DictionaryAttackParameters",
-        on_handle(
-            CC.DictionaryAttackParameters, RH_LOCKOUT, frames.attack_parameters(3, 1000, 1000)
-        ),
-        [
-            HANDLE,
-            AREA,
-            (31, "within newMaxTries", "INSUFFICIENT/p1"),
-            (35, "within newRecoveryTime", "INSUFFICIENT/p2"),
-            (39, "within lockoutRecovery", "INSUFFICIENT/p3"),
-        ],
-        "SUCCESS",
+        PROTECTING,
+        *("its handle", "newMaxTries", "newRecoveryTime", "lockoutRecovery"),
     ),
-    (
-        "TPM2_ClearControl",
-        on_handle(CC.ClearControl, RH_PLATFORM, b"\0"),
-        [HANDLE, AREA, (28, "within disable", "INSUFFICIENT/p1")],
-        "SUCCESS",
+    cut(
+        "TPM2_ClearControl", on_handle(CC.ClearControl, RH_PLATFORM, b"\0"), "its handle", "disable"
     ),
-    ("TPM2_Clear", on_handle(CC.Clear, RH_LOCKOUT), [HANDLE, AREA], "SUCCESS"),
+    cut("TPM2_Clear", on_handle(CC.Clear, RH_LOCKOUT), "its handle"),
 ]
 
 

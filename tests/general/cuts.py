@@ -4,21 +4,40 @@ A cut buffer whose commandSize is left as it was is refused for that. With comma
 is refused where it is cut: each command says in words and codes up to which length by what.
 """
 
-from tpmsim.standard import CC, frames, number
+from tpmsim.standard import CC, command, frames, number
+from tests.general.bends import Walk, pieces
 from tests.general.looks import LookingScript
 
 HEADER_BYTES = 10
+AREA = "within the authorization area"
 
-# Where the first piece of a command with a handle ends, and the area with one empty password.
-HANDLE = (14, "within its handle", "INSUFFICIENT/h1")
-AREA = (27, "within the authorization area", "AUTHSIZE")
 
-STARTUP = (
-    "TPM2_Startup(CLEAR)",
-    frames.command(CC.Startup, number(0, 2)),
-    [(12, "within startupType", "INSUFFICIENT/p1")],
-    "SUCCESS",
-)
+def cut(name, whole, *words, outcome="SUCCESS"):
+    """A command: its name, its whole buffer, the pieces of it, and what it comes to. The words are
+    those of its handles and its parameters, in their order; without words it comes whole alone.
+    One that is refused whole is so wherever it is cut behind the authorization area.
+    """
+    found, named = [], iter(words)
+    for place, end in pieces(Walk(whole)) if words else ():
+        if place:
+            word = next(named)
+            within = word if word.startswith("before ") else f"within {word}"
+            found.append((end, within, f"INSUFFICIENT/{place}"))
+        else:
+            found.append((end, AREA, "AUTHSIZE"))
+            if outcome != "SUCCESS":
+                found.append((len(whole), "behind the authorization area", outcome))
+                break
+    return name, whole, found, outcome
+
+
+def start(**choices):
+    """TPM2_StartAuthSession."""
+    handles, parameters = frames.start_auth_session(bytes(16), **choices)
+    return command(CC.StartAuthSession, b"".join(number(it, 4) for it in handles) + parameters)
+
+
+STARTUP = cut("TPM2_Startup(CLEAR)", command(CC.Startup, number(0, 2)), "startupType")
 
 
 def with_size(buffer):
@@ -26,14 +45,14 @@ def with_size(buffer):
     return buffer[:2] + number(len(buffer), 4) + buffer[6:]
 
 
-def cuts(whole, pieces):
+def cuts(whole, found):
     """What of a command is refused; where there are no pieces, it comes whole alone."""
-    if not pieces:
+    if not found:
         return
     as_it_was = [whole[:length] for length in range(len(whole))]
     yield "Cut, with commandSize as it was", "COMMAND_SIZE", as_it_was
     start = HEADER_BYTES
-    for end, where, code in pieces:
+    for end, where, code in found:
         corrected = [with_size(whole[:length]) for length in range(start, end)]
         yield f"Cut {where}, with commandSize corrected", code, corrected
         start = end
@@ -43,6 +62,6 @@ def cuts(whole, pieces):
 def write(program, head, kind, commands):
     """A script of commands: each one's name, its whole buffer, the pieces, and what it comes to."""
     script = LookingScript(program, head, kind)
-    for name, whole, pieces, outcome in commands:
-        script.refusals(name, whole, outcome, cuts(whole, pieces))
+    for name, whole, found, outcome in commands:
+        script.refusals(name, whole, outcome, cuts(whole, found))
     script.write()

@@ -1,13 +1,14 @@
-"""Writes full_device.tpm: a device that is filled up to each of its limits."""
+"""Writes full_device.tpm. A device that is filled up to each of its limits: sixteen persistent
+objects, eight transient ones, 64 NV indices of 16,384 bytes in all, and sixteen sessions.
+tests/images/images.py prints the image of what it keeps.
+"""
 
-from tpmsim.caller import BY_OWNER, BY_PLATFORM, BY_POLICY, BY_VALUE, HERE, OPEN, STATE, area, bits
-from tpmsim.caller import counter, extended, hmac_key, sealed, storage_key
+from tests.common.vocabulary import ALG_NULL, area, bits, BY_OWNER, BY_PLATFORM, BY_POLICY, BY_VALUE
+from tests.common.vocabulary import CC, counter, extended, frames, HERE, hmac_key, NvAttribute
+from tests.common.vocabulary import ObjectAttribute, OPEN, policy, RH_ENDORSEMENT, RH_LOCKOUT
+from tests.common.vocabulary import RH_NULL, RH_OWNER, RH_PLATFORM, SE_HMAC, SE_POLICY, SE_TRIAL
+from tests.common.vocabulary import sealed, SHA1, SHA256, STATE, storage_key, Teller
 from tpmsim.model import nv_commands
-from tpmsim.standard import ALG_NULL, CC, RH_ENDORSEMENT, RH_LOCKOUT, RH_NULL, RH_OWNER
-from tpmsim.standard import RH_PLATFORM, SE_HMAC, SE_POLICY, SE_TRIAL, SHA1, SHA256, frames, policy
-from tpmsim.standard.nv import Attribute as NvAttribute
-from tpmsim.standard.objects import Attribute
-from tests.common.teller import Teller
 
 PERSISTENT, OBJECTS, SESSIONS = 16, 8, 16
 AUTH_VALUES = (
@@ -27,22 +28,16 @@ TEMPLATES = (
     (storage_key(), b"", b""),
     (storage_key(SHA1), b"", b"a"),
     (sealed(), b"a secret", b"pin"),
-    (sealed(attributes=HERE | Attribute.USER_WITH_AUTH), b"x", b""),
+    (sealed(attributes=HERE | ObjectAttribute.USER_WITH_AUTH), b"x", b""),
     (sealed(SHA1, attributes=HERE, auth_policy=POLICIES[SHA1]), bytes(range(128)), b"b" * 20),
     (sealed(auth_policy=POLICIES[SHA256]), bytes(128), b"c" * 32),
     (hmac_key(), b"a key", b""),
     (hmac_key(SHA1, scheme=SHA1), b"another key", b"mac"),
     (hmac_key(scheme=ALG_NULL), b"k", b""),
-    (hmac_key(attributes=STAYS | Attribute.SENSITIVE_DATA_ORIGIN), b"", b""),
+    (hmac_key(attributes=STAYS | ObjectAttribute.SENSITIVE_DATA_ORIGIN), b"", b""),
 )
 
-tpm = Teller(
-    "tests/general/full_device.tpm",
-    "A device that is filled up to each of its limits: sixteen persistent objects, eight transient "
-    "ones, 64 NV indices of 16,384 bytes in all, and sixteen sessions. tests/images/"
-    "images.py prints the image of what it keeps.",
-    starts=False,
-)
+tpm = Teller(__name__, __doc__, starts=False)
 
 
 def indices():
@@ -79,21 +74,21 @@ def define_all():
         tpm.define("As many as there are, and all bytes" if at == 0 else "", public)
         taken += public.data_size
     assert taken == nv_commands.ALL_BYTES and len(tpm.publics) == nv_commands.INDICES
-    tpm.fails("One more: NV_SPACE", tpm.defining(area(0x0100_00FF, size=0)))
+    tpm("One more: NV_SPACE").defining(area(0x0100_00FF, size=0))
 
 
 def write_some():
-    tpm.does("Some are written", tpm.writing(0x0100_0000, b"data", by=RH_OWNER, offset=1000))
-    tpm.does("", tpm.writing(0x0100_0001, bytes(range(256)) * 4, by=RH_OWNER))
-    tpm.does("", tpm.writing(0x0100_0002, b""))
-    tpm.does("", tpm.writing(0x0180_0000, b"p", by=RH_PLATFORM))
+    tpm("Some are written").writing(0x0100_0000, b"data", by=RH_OWNER, offset=1000)
+    tpm("").writing(0x0100_0001, bytes(range(256)) * 4, by=RH_OWNER)
+    tpm("").writing(0x0100_0002, b"")
+    tpm("").writing(0x0180_0000, b"p", by=RH_PLATFORM)
     for _ in range(3):
-        tpm.does("", tpm.incrementing(0x0100_0004))
-    tpm.does("", tpm.setting(0x0100_0006, 0x8000_0000_0000_0001))
+        tpm("").incrementing(0x0100_0004)
+    tpm("").setting(0x0100_0006, 0x8000_0000_0000_0001)
     for index in (0x0100_0007, 0x0100_0008):
-        tpm.does("", tpm.extending(index, b"data"))
-    tpm.does("One is locked", tpm.write_locking(0x0100_0001, by=RH_OWNER))
-    tpm.does("And for reading", tpm.read_locking(0x0100_0001, by=RH_OWNER))
+        tpm("").extending(index, b"data")
+    tpm("One is locked").write_locking(0x0100_0001, by=RH_OWNER)
+    tpm("And for reading").read_locking(0x0100_0001, by=RH_OWNER)
 
 
 def keep_all():
@@ -103,16 +98,15 @@ def keep_all():
         public, data, user_auth = TEMPLATES[at % len(TEMPLATES)]
         hierarchy, asker = hierarchies[at % len(hierarchies)]
         first = 0x8180_0000 if asker == RH_PLATFORM else 0x8100_0000
-        handle = tpm.create_primary(
-            "A primary object", hierarchy, public, data=data, user_auth=user_auth
-        )
+        said = tpm("A primary object")
+        handle = said.create_primary(hierarchy, public, data=data, user_auth=user_auth)
         tpm.keep("It stays", asker, handle, first + 0x1000 * at)
         tpm.flush_objects("And is flushed", handle)
     parent = 0x8100_0000
     made = tpm.create("A child of the first", parent, hmac_key(), data=b"key")
     handle = tpm.load("It is loaded", parent, made)
     tpm.keep("It stays", RH_OWNER, handle, 0x817F_FFFF)
-    tpm.fails("One more: NV_SPACE", tpm.evicting(RH_OWNER, handle, 0x8100_0001))
+    tpm("One more: NV_SPACE").evicting(RH_OWNER, handle, 0x8100_0001)
     tpm.flush_objects("It is flushed", handle)
 
 
@@ -121,7 +115,7 @@ def transient():
     for at in range(OBJECTS):
         hierarchy = (RH_OWNER, RH_NULL)[at % 2]
         tpm.create_primary("Eight objects" if at == 0 else "", hierarchy, storage_key())
-    tpm.fails("One more: OBJECT_MEMORY", tpm.primary(RH_NULL, storage_key()))
+    tpm("One more: OBJECT_MEMORY").primary(RH_NULL, storage_key())
     for at in range(SESSIONS):
         kind = (SE_HMAC, SE_POLICY, SE_TRIAL)[at % 3]
         tpm.start("Sixteen sessions" if at == 0 else "", kind=kind)
@@ -133,20 +127,20 @@ def the_rest():
     tpm.chapter("Authorization values, tries, and what is saved.")
     tpm.set_protection("TPM2_DictionaryAttackParameters", 5, 0x0102_0304, 0xFFFF_FFFF)
     for handle, value in AUTH_VALUES:
-        tpm.does("An authorization value", tpm.change_auth(handle, value, b""))
-    tpm.does("TPM2_Clear is disabled", tpm.clear_control(RH_PLATFORM, 1))
+        tpm("An authorization value").change_auth(handle, value, b"")
+    tpm("TPM2_Clear is disabled").clear_control(RH_PLATFORM, 1)
     wrong = tpm.writing(0x0100_0002, b"", b"wrong")
     tpm.fails("Two tries: AUTH_FAIL/s1", wrong, wrong)
-    tpm.fails("lockoutAuth is closed: AUTH_FAIL/s1", tpm.lock_reset(b"wrong"))
+    tpm("lockoutAuth is closed: AUTH_FAIL/s1").lock_reset(b"wrong")
     for pcr in (0, 3, 15, 16):
-        tpm.does("A PCR is extended", tpm.event(b"event", b"", pcr=pcr))
+        tpm("A PCR is extended").event(b"event", b"", pcr=pcr)
     tpm.wait(123_456_789)
-    tpm.does("TPM2_Shutdown(STATE)", tpm.shutting_down(STATE))
+    tpm("TPM2_Shutdown(STATE)").shutting_down(STATE)
 
 
 def build():
     tpm.startup()
-    tpm.does("TPM2_Shutdown(STATE)", tpm.shutting_down(STATE))
+    tpm("TPM2_Shutdown(STATE)").shutting_down(STATE)
     tpm.power()
     tpm.start_up("TPM2_Startup(CLEAR), a restart")
     define_all()

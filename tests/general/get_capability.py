@@ -1,10 +1,12 @@
-"""Writes get_capability.tpm: TPM2_GetCapability, each capability at its borders."""
+"""Writes get_capability.tpm. TPM2_GetCapability: handles (1), commands (2), PCRs (5) and properties
+(6). It answers the elements from the one that is asked for on, as many as were asked for, and
+whether there are more behind them.
+"""
 
-from tpmsim.caller import BY_VALUE, area, storage_key, wrong
+from tests.common.vocabulary import area, BY_VALUE, CC, command, CONTINUE_SESSION, DECRYPT, ENCRYPT
+from tests.common.vocabulary import frames, number, RH_OWNER, SE_HMAC, SE_POLICY, SE_TRIAL
+from tests.common.vocabulary import storage_key, Teller, wrong
 from tpmsim.model.capability import command_attributes
-from tpmsim.standard import CC, CONTINUE_SESSION, DECRYPT, ENCRYPT, RH_OWNER, SE_HMAC, SE_POLICY
-from tpmsim.standard import SE_TRIAL, command, frames, number
-from tests.common.teller import Teller
 
 HANDLES, COMMANDS, PCRS, PROPERTIES = 1, 2, 5, 6
 MOST = 2**32 - 1
@@ -13,13 +15,7 @@ MOST = 2**32 - 1
 # answers a handle.
 ATTRIBUTES = [command_attributes(it) for it in sorted(CC)]
 
-tpm = Teller(
-    "tests/general/get_capability.tpm",
-    "TPM2_GetCapability: handles (1), commands (2), PCRs (5) and properties (6). It answers the "
-    "elements from the one that is asked for on, as many as were asked for, and whether there are "
-    "more behind them.",
-    starts=False,
-)
+tpm = Teller(__name__, __doc__, starts=False)
 says = tpm.raw
 
 
@@ -34,7 +30,7 @@ def gives(what, capability, wanted, count, elements, more=False):
         b"".join(number(it, 4) for it in (each if isinstance(each, tuple) else (each,)))
         for each in elements
     ]
-    given = tpm.does(what, tpm.capability(capability, wanted, count))
+    given = tpm(what).capability(capability, wanted, count)
     assert given == answer(capability, texts, more), what
 
 
@@ -57,10 +53,8 @@ def refusals():
     tpm.startup()
     says("As it is asked for: SUCCESS", command(CC.GetCapability, asked))
     for place in (1, 2, 3):
-        says(
-            f"Cut within parameter {place}: INSUFFICIENT/p{place}",
-            *(command(CC.GetCapability, asked[: 4 * place - it]) for it in (4, 1)),
-        )
+        case = f"Cut within parameter {place}: INSUFFICIENT/p{place}"
+        says(case, *(command(CC.GetCapability, asked[: 4 * place - it]) for it in (4, 1)))
     says("A byte behind them: SIZE", command(CC.GetCapability, asked + b"\0"))
     says(
         "Algorithms (0), and others that are not served: VALUE/p1",
@@ -69,10 +63,8 @@ def refusals():
             for it in (0, 3, 4, 7, 8, 9, 0x100, 0x0100_0001, MOST)
         ),
     )
-    says(
-        "Such a one and a byte behind it: the bytes are looked at first: SIZE",
-        command(CC.GetCapability, bytes(13)),
-    )
+    case = "Such a one and a byte behind it: the bytes are looked at first: SIZE"
+    says(case, command(CC.GetCapability, bytes(13)))
     says(
         "Handles that begin with another byte than 00, 01, 02, 03, 40, 80 and 81: HANDLE/p2",
         *(
@@ -81,43 +73,8 @@ def refusals():
             for count in (0, 1)
         ),
     )
-    says(
-        "A password, as there is nothing to authorize: HANDLE/s1",
-        command(CC.GetCapability, frames.area(frames.entry()) + asked, frames.SESSIONS),
-    )
-
-
-def with_sessions():
-    tpm.chapter("With a session.")
-    session = tpm.start("An HMAC session with AES", aes=True)
-    asked = tpm.capability(PROPERTIES, 0x100, 1, session)
-    tpm.accepted("It authorizes nothing", asked)
-    asked = tpm.capability(PROPERTIES, 0x100, 1, session)
-    tpm.refused("A wrong hmac: BAD_AUTH/s1", wrong(asked))
-    for attribute, words in ((DECRYPT, "decrypted"), (ENCRYPT, "encrypted")):
-        tpm.refused(
-            f"Nothing can be {words}: ATTRIBUTES/s1",
-            asked.but_entry(1, attributes=CONTINUE_SESSION | attribute),
-        )
-    tpm.does("It is flushed", tpm.flush(session))
-
-
-def permanent_handles():
-    tpm.chapter("Handles of PCRs.")
-    borders("From 0", HANDLES, 0, list(range(24)))
-    gives("From 12", HANDLES, 12, 5, list(range(12, 17)), more=True)
-    borders("From 23", HANDLES, 23, [23])
-    borders("From 24, where there is none", HANDLES, 24, [])
-    gives("From the last one of the kind", HANDLES, 0x00FF_FFFF, 1, [])
-    tpm.chapter("Permanent handles.")
-    whole = [0x40000001, 0x40000007, 0x40000009, 0x4000000A, 0x4000000B, 0x4000000C]
-    borders("From 40000000", HANDLES, 0x4000_0000, whole)
-    borders("From the first", HANDLES, whole[0], whole)
-    gives("From behind the first", HANDLES, whole[0] + 1, 1, whole[1:2], more=True)
-    gives("From between", HANDLES, 0x4000_0008, 2, whole[2:4], more=True)
-    borders("From the last", HANDLES, whole[-1], whole[-1:])
-    borders("From behind it", HANDLES, whole[-1] + 1, [])
-    gives("From the last one of the kind", HANDLES, 0x40FF_FFFF, 1, [])
+    case = "A password, as there is nothing to authorize: HANDLE/s1"
+    says(case, command(CC.GetCapability, frames.area(frames.entry()) + asked, frames.SESSIONS))
 
 
 def sessions():
@@ -135,7 +92,7 @@ def sessions():
     borders("From 02000004", HANDLES, 0x0200_0004, [])
     borders("03 are saved sessions, of which there are none", HANDLES, 0x0300_0000, [])
     gives("From 03000002 on, too", HANDLES, 0x0300_0002, 1, [])
-    tpm.does("The third is flushed", tpm.flush(held[2]))
+    tpm("The third is flushed").flush(held[2])
     borders("From 02000001", HANDLES, 0x0200_0001, [handles[1], handles[3]])
     borders("From 02000002", HANDLES, 0x0200_0002, handles[3:])
     for place in (2, *range(4, 16)):
@@ -143,26 +100,8 @@ def sessions():
     handles = [*handles[:2], 0x0300_0002, handles[3], *range(0x0300_0004, 0x0300_0010)]
     borders("Sixteen sessions", HANDLES, 0x0200_0000, handles)
     borders("From the last", HANDLES, 0x0200_000F, handles[15:])
-    tpm.power()
-    tpm.startup()
+    tpm.power_cycle()
     borders("A power cycle has ended them", HANDLES, 0x0200_0000, [])
-
-
-def objects():
-    tpm.chapter("Transient objects.")
-    borders("There is none", HANDLES, 0x8000_0000, [])
-    for count in range(4):
-        tpm.create_primary("Four storage keys" if not count else "", RH_OWNER, storage_key())
-    handles = list(range(0x8000_0000, 0x8000_0004))
-    borders("From 80000000", HANDLES, 0x8000_0000, handles)
-    tpm.flush_objects("The second is flushed", handles[1])
-    there = [handles[0], *handles[2:]]
-    borders("From 80000000", HANDLES, 0x8000_0000, there)
-    borders("From the second", HANDLES, handles[1], there[1:])
-    borders("From the last", HANDLES, handles[3], there[2:])
-    borders("From behind it", HANDLES, handles[3] + 1, [])
-    borders("There is no persistent object", HANDLES, 0x8100_0000, [])
-    gives("From the last one of the kind", HANDLES, 0x80FF_FFFF, 1, [])
 
 
 def indices():
@@ -181,30 +120,9 @@ def indices():
         handles.append(index)
     handles.sort()
     borders("From 01000000", HANDLES, 0x0100_0000, handles)
-    tpm.does("One is undefined", tpm.undefining(handles[7]))
+    tpm("One is undefined").undefining(handles[7])
     del handles[7]
     borders("From 01000000", HANDLES, 0x0100_0000, handles)
-
-
-def commands():
-    tpm.chapter("Commands, by their codes; the attributes are answered.")
-    borders("From 0", COMMANDS, 0, ATTRIBUTES)
-    first, last = ATTRIBUTES[0] & 0xFFFF, ATTRIBUTES[-1] & 0xFFFF
-    borders("From the first code", COMMANDS, first, ATTRIBUTES)
-    gives("From behind it", COMMANDS, first + 1, 1, ATTRIBUTES[1:2], more=True)
-    borders("From the last code", COMMANDS, last, ATTRIBUTES[-1:])
-    borders("From behind it", COMMANDS, last + 1, [])
-    gives("From FFFFFFFF", COMMANDS, MOST, 1, [])
-    gives("Attributes are no code", COMMANDS, ATTRIBUTES[0], 1, [])
-    for at, attributes in enumerate(ATTRIBUTES):
-        code = attributes & 0xFFFF
-        is_more = at + 1 < len(ATTRIBUTES)
-        gives("From each code" if not at else "", COMMANDS, code, 1, [attributes], is_more)
-    for at, attributes in enumerate(ATTRIBUTES):
-        code = (attributes & 0xFFFF) + 1
-        following = ATTRIBUTES[at + 1 : at + 2]
-        is_more = at + 2 < len(ATTRIBUTES)
-        gives("From behind each" if not at else "", COMMANDS, code, 1, following, is_more)
 
 
 def pcrs():
@@ -212,7 +130,7 @@ def pcrs():
     banks = number(frames.SHA1, 2) + b"\3\xff\xff\xff", number(frames.SHA256, 2) + b"\3\xff\xff\xff"
     for wanted, count in ((0, 64), (0, 0), (0, 1), (1, 1), (MOST, MOST), (MOST, 0)):
         words = f"Property {wanted:X}, count {count:X}"
-        given = tpm.does(words, tpm.capability(PCRS, wanted, count))
+        given = tpm(words).capability(PCRS, wanted, count)
         assert given == answer(PCRS, banks, more=False)
 
 
@@ -238,7 +156,7 @@ def tries():
     tpm.chapter("The tries that are counted (20E).")
     index = 0x0100_2000
     tpm.define("An index", area(index, BY_VALUE), auth=b"a")
-    tpm.does("It is written", tpm.writing(index, b"x"))
+    tpm("It is written").writing(index, b"x")
 
     def are(what, count):
         gives(what, PROPERTIES, 0x20E, 1, [(0x20E, count)], more=True)
@@ -249,9 +167,9 @@ def tries():
         are(f"Tries: {count}", count)
     tpm.fails("One more: LOCKOUT", bad)
     are("It was not counted", 3)
-    tpm.fails("A wrong password of what is not protected: BAD_AUTH/s1", tpm.reset(b"x"))
+    tpm("A wrong password of what is not protected: BAD_AUTH/s1").reset(b"x")
     are("Nor was it", 3)
-    tpm.fails("One of TPM_RH_LOCKOUT: AUTH_FAIL/s1", tpm.lock_reset(b"x"))
+    tpm("One of TPM_RH_LOCKOUT: AUTH_FAIL/s1").lock_reset(b"x")
     are("Nor that", 3)
     tpm.wait(999_999)
     are("Just before recoveryTime", 3)
@@ -265,8 +183,7 @@ def tries():
     tpm.wait(2**32 - 1)
     are("Never less than 0", 0)
     tpm.fails("Two wrong ones: AUTH_FAIL/s1", bad, bad)
-    tpm.power()
-    tpm.startup()
+    tpm.power_cycle()
     are("After a power cycle", 2)
     tpm.wait(1_500_000)
     are("1,500 seconds later", 1)
@@ -277,17 +194,78 @@ def tries():
     tpm.fails("Two wrong ones are not counted: AUTH_FAIL/s1", bad, bad)
     tpm.wait(2**32 - 1)
     are("Nor are others forgiven", 2)
-    tpm.does("TPM2_DictionaryAttackLockReset", tpm.lock_reset())
+    tpm.unlocks()
     are("None", 0)
 
 
 refusals()
-with_sessions()
-permanent_handles()
+
+tpm.chapter("With a session.")
+session = tpm.start("An HMAC session with AES", aes=True)
+asked = tpm.capability(PROPERTIES, 0x100, 1, session)
+tpm.accepted("It authorizes nothing", asked)
+asked = tpm.capability(PROPERTIES, 0x100, 1, session)
+tpm.refused("A wrong hmac: BAD_AUTH/s1", wrong(asked))
+for attribute, words in ((DECRYPT, "decrypted"), (ENCRYPT, "encrypted")):
+    said = tpm(f"Nothing can be {words}: ATTRIBUTES/s1")
+    said.refused(asked.but_entry(1, attributes=CONTINUE_SESSION | attribute))
+tpm("It is flushed").flush(session)
+
+
+tpm.chapter("Handles of PCRs.")
+borders("From 0", HANDLES, 0, list(range(24)))
+gives("From 12", HANDLES, 12, 5, list(range(12, 17)), more=True)
+borders("From 23", HANDLES, 23, [23])
+borders("From 24, where there is none", HANDLES, 24, [])
+gives("From the last one of the kind", HANDLES, 0x00FF_FFFF, 1, [])
+tpm.chapter("Permanent handles.")
+whole = [0x40000001, 0x40000007, 0x40000009, 0x4000000A, 0x4000000B, 0x4000000C]
+borders("From 40000000", HANDLES, 0x4000_0000, whole)
+borders("From the first", HANDLES, whole[0], whole)
+gives("From behind the first", HANDLES, whole[0] + 1, 1, whole[1:2], more=True)
+gives("From between", HANDLES, 0x4000_0008, 2, whole[2:4], more=True)
+borders("From the last", HANDLES, whole[-1], whole[-1:])
+borders("From behind it", HANDLES, whole[-1] + 1, [])
+gives("From the last one of the kind", HANDLES, 0x40FF_FFFF, 1, [])
+
 sessions()
-objects()
+
+tpm.chapter("Transient objects.")
+borders("There is none", HANDLES, 0x8000_0000, [])
+for count in range(4):
+    tpm.create_primary("Four storage keys" if not count else "", RH_OWNER, storage_key())
+handles = list(range(0x8000_0000, 0x8000_0004))
+borders("From 80000000", HANDLES, 0x8000_0000, handles)
+tpm.flush_objects("The second is flushed", handles[1])
+there = [handles[0], *handles[2:]]
+borders("From 80000000", HANDLES, 0x8000_0000, there)
+borders("From the second", HANDLES, handles[1], there[1:])
+borders("From the last", HANDLES, handles[3], there[2:])
+borders("From behind it", HANDLES, handles[3] + 1, [])
+borders("There is no persistent object", HANDLES, 0x8100_0000, [])
+gives("From the last one of the kind", HANDLES, 0x80FF_FFFF, 1, [])
+
 indices()
-commands()
+
+tpm.chapter("Commands, by their codes; the attributes are answered.")
+borders("From 0", COMMANDS, 0, ATTRIBUTES)
+first, last = ATTRIBUTES[0] & 0xFFFF, ATTRIBUTES[-1] & 0xFFFF
+borders("From the first code", COMMANDS, first, ATTRIBUTES)
+gives("From behind it", COMMANDS, first + 1, 1, ATTRIBUTES[1:2], more=True)
+borders("From the last code", COMMANDS, last, ATTRIBUTES[-1:])
+borders("From behind it", COMMANDS, last + 1, [])
+gives("From FFFFFFFF", COMMANDS, MOST, 1, [])
+gives("Attributes are no code", COMMANDS, ATTRIBUTES[0], 1, [])
+for at, attributes in enumerate(ATTRIBUTES):
+    code = attributes & 0xFFFF
+    is_more = at + 1 < len(ATTRIBUTES)
+    gives("From each code" if not at else "", COMMANDS, code, 1, [attributes], is_more)
+for at, attributes in enumerate(ATTRIBUTES):
+    code = (attributes & 0xFFFF) + 1
+    following = ATTRIBUTES[at + 1 : at + 2]
+    is_more = at + 2 < len(ATTRIBUTES)
+    gives("From behind each" if not at else "", COMMANDS, code, 1, following, is_more)
+
 pcrs()
 properties()
 tries()

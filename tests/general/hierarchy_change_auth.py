@@ -1,9 +1,10 @@
-"""Writes hierarchy_change_auth.tpm: TPM2_HierarchyChangeAuth, by passwords and sessions."""
+"""Writes hierarchy_change_auth.tpm. TPM2_HierarchyChangeAuth gives a hierarchy, or the reset of the
+lockout, another authorization value, and is authorized by the old one.
+"""
 
-from tpmsim.caller import Use
-from tpmsim.standard import CC, RH_ENDORSEMENT, RH_LOCKOUT, RH_NULL, RH_OWNER, RH_PLATFORM, SHA1
-from tpmsim.standard import command, frames, number, on_handle, sized
-from tests.common.teller import Teller
+from tests.common.vocabulary import CC, command, frames, number, on_handle, RH_ENDORSEMENT
+from tests.common.vocabulary import RH_LOCKOUT, RH_NULL, RH_OWNER, RH_PLATFORM, SHA1, sized, Teller
+from tests.common.vocabulary import Use
 
 HIERARCHIES = [
     (RH_OWNER, "TPM_RH_OWNER", b"owner"),
@@ -12,12 +13,7 @@ HIERARCHIES = [
     (RH_LOCKOUT, "TPM_RH_LOCKOUT", b"lockout"),
 ]
 
-tpm = Teller(
-    "tests/general/hierarchy_change_auth.tpm",
-    "TPM2_HierarchyChangeAuth gives a hierarchy, or the reset of the lockout, another "
-    "authorization value, and is authorized by the old one.",
-    starts=False,
-)
+tpm = Teller(__name__, __doc__, starts=False)
 
 
 def change(handle, new=b"", password=b""):
@@ -37,9 +33,8 @@ for handle, name, new in HIERARCHIES:
     tried = handle != RH_LOCKOUT
     if tried:
         tpm.raw(f'{name} by the password "x": BAD_AUTH/s1', change(handle, new, b"x"))
-    tpm.accepted(
-        f'{name} by the empty password, to "{new.decode()}"', tpm.change_auth(handle, new, b"")
-    )
+    said = tpm(f'{name} by the empty password, to "{new.decode()}"')
+    said.accepted(tpm.change_auth(handle, new, b""))
     if tried:
         tpm.raw("By the empty password once more: BAD_AUTH/s1", change(handle, new))
     tpm.accepted("By the new one, to the same", tpm.change_auth(handle, new, new))
@@ -56,10 +51,8 @@ tpm.raw(
     *map(change, (RH_NULL, 0, 0x8000_0000, 0x8100_0000, 0x0100_0000, 0x0200_0000, frames.RS_PW)),
 )
 tpm.raw("No handle: INSUFFICIENT/h1", command(CC.HierarchyChangeAuth, b"", frames.SESSIONS))
-tpm.raw(
-    "No sessions (tag 8001): AUTH_MISSING",
-    command(CC.HierarchyChangeAuth, number(RH_OWNER, 4) + sized(b"abc")),
-)
+said = tpm("No sessions (tag 8001): AUTH_MISSING")
+said.raw(command(CC.HierarchyChangeAuth, number(RH_OWNER, 4) + sized(b"abc")))
 OWNER = [frames.entry(hmac=b"owner")]
 tpm.raw(
     "No newAuth, half its size, and one that is cut: INSUFFICIENT/p1",
@@ -75,31 +68,23 @@ tpm.raw(
     change(RH_OWNER, b"owner" + bytes(28), b"owner"),
     on_handle(CC.HierarchyChangeAuth, RH_OWNER, b"\0\x21", OWNER),
 )
-tpm.raw(
-    "A byte behind it: SIZE",
-    on_handle(CC.HierarchyChangeAuth, RH_OWNER, sized(b"abc") + b"\0", OWNER),
-)
+said = tpm("A byte behind it: SIZE")
+said.raw(on_handle(CC.HierarchyChangeAuth, RH_OWNER, sized(b"abc") + b"\0", OWNER))
 tpm.raw("None of them changed the value: SUCCESS", change(RH_OWNER, b"owner", b"owner"))
 
 tpm.chapter("Sizes, and trailing zeros, which do not count.")
 longest = b"0123456789abcdef" * 2
 tpm.accepted("32 bytes", tpm.change_auth(RH_OWNER, longest, b"owner"))
 tpm.raw("By its first 31 bytes: BAD_AUTH/s1", change(RH_OWNER, b"owner", longest[:31]))
-tpm.accepted(
-    'By all of them, to "abc" and 29 zeros', tpm.change_auth(RH_OWNER, b"abc" + bytes(29), longest)
-)
+said = tpm('By all of them, to "abc" and 29 zeros')
+said.accepted(tpm.change_auth(RH_OWNER, b"abc" + bytes(29), longest))
 tpm.accepted('By "abc", to "abc" again', tpm.change_auth(RH_OWNER, b"abc", b"abc"))
-tpm.accepted(
-    'By "abc" and a zero, to "a", a zero and "c"', tpm.change_auth(RH_OWNER, b"a\0c", b"abc\0")
-)
-tpm.raw(
-    'By "ac", and by a zero and "a": BAD_AUTH/s1',
-    change(RH_OWNER, b"", b"ac"),
-    change(RH_OWNER, b"", b"\0a"),
-)
-tpm.accepted(
-    "By that value, to 32 zeros, which is no value", tpm.change_auth(RH_OWNER, bytes(32), b"a\0c")
-)
+said = tpm('By "abc" and a zero, to "a", a zero and "c"')
+said.accepted(tpm.change_auth(RH_OWNER, b"a\0c", b"abc\0"))
+said = tpm('By "ac", and by a zero and "a": BAD_AUTH/s1')
+said.raw(change(RH_OWNER, b"", b"ac"), change(RH_OWNER, b"", b"\0a"))
+said = tpm("By that value, to 32 zeros, which is no value")
+said.accepted(tpm.change_auth(RH_OWNER, bytes(32), b"a\0c"))
 tpm.accepted("By the empty password, to one zero", tpm.change_auth(RH_OWNER, b"\0", b""))
 tpm.accepted('By two zeros, to "owner"', tpm.change_auth(RH_OWNER, b"owner", b"\0\0"))
 
@@ -109,66 +94,44 @@ tpm.chapter(
 )
 for handle, name, old in HIERARCHIES:
     session = starts(f"bound to {name}", bind=handle)
-    tpm.accepted(f'{name} to "new"', tpm.change_auth(handle, b"new", session))
-    tpm.accepted(
-        'Now with "new" in the command\'s key, to "newer"|which is in the response\'s',
-        tpm.change_auth(handle, b"newer", session),
-    )
-    tpm.accepted(
-        "Back to the value of the start, and the response's hmac is without it",
-        tpm.change_auth(handle, old, session),
-    )
-    tpm.accepted(
-        "The binding holds as at first|also where the value stays the same",
-        tpm.change_auth(handle, old + b"\0", session),
-    )
-    tpm.accepted(
-        "To no value, in a session that ends|and its response has no value in its key",
-        tpm.change_auth(handle, b"", Use(session, 0)),
-    )
+    tpm(f'{name} to "new"').change_auth(handle, b"new", session)
+    said = tpm('Now with "new" in the command\'s key, to "newer"|which is in the response\'s')
+    said.change_auth(handle, b"newer", session)
+    said = tpm("Back to the value of the start, and the response's hmac is without it")
+    said.change_auth(handle, old, session)
+    said = tpm("The binding holds as at first|also where the value stays the same")
+    said.change_auth(handle, old + b"\0", session)
+    said = tpm("To no value, in a session that ends|and its response has no value in its key")
+    said.change_auth(handle, b"", Use(session, 0))
     tpm.accepted("By the empty password, to the first value", tpm.change_auth(handle, old, b""))
 
 tpm.chapter("Through sessions that are not bound to the entity.")
 unbound = starts("bound to nothing, of SHA-1", algorithm=SHA1)
 to_owner = starts("bound to TPM_RH_OWNER", bind=RH_OWNER)
 for session, words in ((unbound, "The first"), (to_owner, "The second")):
-    tpm.accepted(
-        f'{words} on TPM_RH_PLATFORM, from "platform" to "p"',
-        tpm.change_auth(RH_PLATFORM, b"p", session),
-    )
-    tpm.accepted("And back", tpm.change_auth(RH_PLATFORM, b"platform", session))
-tpm.accepted(
-    "A password changes ownerAuth, while a session is bound to TPM_RH_OWNER",
-    tpm.change_auth(RH_OWNER, b"another", b"owner"),
-)
-tpm.accepted(
-    'The session needs "another" in its key, and sets "owner" again',
-    tpm.change_auth(RH_OWNER, b"owner", to_owner),
-)
-tpm.accepted("And then not", tpm.change_auth(RH_OWNER, b"owner", to_owner))
+    said = tpm(f'{words} on TPM_RH_PLATFORM, from "platform" to "p"')
+    said.change_auth(RH_PLATFORM, b"p", session)
+    tpm("And back").change_auth(RH_PLATFORM, b"platform", session)
+said = tpm("A password changes ownerAuth, while a session is bound to TPM_RH_OWNER")
+said.accepted(tpm.change_auth(RH_OWNER, b"another", b"owner"))
+said = tpm('The session needs "another" in its key, and sets "owner" again')
+said.change_auth(RH_OWNER, b"owner", to_owner)
+tpm("And then not").change_auth(RH_OWNER, b"owner", to_owner)
 
 tpm.chapter("An empty key and an empty hmac, while the key does not stay empty.")
 tpm.accepted("ownerAuth is empty", tpm.change_auth(RH_OWNER, b"", b"owner"))
-tpm.accepted(
-    'An empty hmac of the unbound session, to "owner", is answered by an empty one',
-    tpm.change_auth(RH_OWNER, b"owner", unbound),
-)
-tpm.accepted(
-    "A key that becomes empty gives an hmac all the same", tpm.change_auth(RH_OWNER, b"", unbound)
-)
-tpm.accepted(
-    'A computed hmac of the empty key, to "owner", is answered by one of the new key',
-    tpm.change_auth(RH_OWNER, b"owner", Use(unbound, shows_empty_key=True)),
-)
+said = tpm('An empty hmac of the unbound session, to "owner", is answered by an empty one')
+said.change_auth(RH_OWNER, b"owner", unbound)
+tpm("A key that becomes empty gives an hmac all the same").change_auth(RH_OWNER, b"", unbound)
+said = tpm('A computed hmac of the empty key, to "owner", is answered by one of the new key')
+said.change_auth(RH_OWNER, b"owner", Use(unbound, shows_empty_key=True))
 
 tpm.chapter("What a power cycle and the TPM Reset behind it leave.")
 tpm.power()
 tpm.auth_values[RH_PLATFORM] = b""
 tpm.startup()
-tpm.raw(
-    "platformAuth is empty: by its old value: BAD_AUTH/s1",
-    change(RH_PLATFORM, b"platform", b"platform"),
-)
+said = tpm("platformAuth is empty: by its old value: BAD_AUTH/s1")
+said.raw(change(RH_PLATFORM, b"platform", b"platform"))
 tpm.accepted("By the empty password", tpm.change_auth(RH_PLATFORM, b"platform", b""))
 for handle, name, value in HIERARCHIES:
     tpm.accepted(f"{name} by its value", tpm.change_auth(handle, value, value))

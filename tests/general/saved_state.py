@@ -1,25 +1,19 @@
-"""Writes saved_state.tpm: which commands cancel what TPM2_Shutdown(STATE) saved."""
+"""Writes saved_state.tpm. A state that TPM2_Shutdown(STATE) saved is good for the next TPM2_Startup
+as long as nothing has happened since. Each command that succeeds cancels it, but those that change
+nothing. Here each command follows a TPM2_Shutdown(STATE); behind a power cycle TPM2_Startup(STATE)
+then says whether the state was there still.
+"""
 
-from tpmsim.caller import BY_OWNER, BY_VALUE, CLEAR, STATE, Use, area, bits, counter, extended
-from tpmsim.caller import hmac_key, sealed, storage_key, wrong
-from tpmsim.standard import CC, Fact, RH_ENDORSEMENT, RH_OWNER, RH_PLATFORM, SHA256, frames, policy
-from tpmsim.standard.nv import Attribute
-from tpmsim.caller.script_caller import FIRST, FOURTH, SECOND, THIRD
-from tests.common.teller import Teller
+from tpmsim.standard import Fact
+from tests.common.vocabulary import area, bits, BY_OWNER, BY_VALUE, CC, CLEAR, counter, extended
+from tests.common.vocabulary import FIFTH, FIRST, FOURTH, frames, hmac_key, LOCKS, policy
+from tests.common.vocabulary import RH_ENDORSEMENT, RH_OWNER, RH_PLATFORM, sealed, SECOND, SHA256
+from tests.common.vocabulary import STATE, storage_key, Teller, THIRD, Use, wrong
 
-FIFTH = 0x0100_0005
 KEPT = 0x8100_0001
-LOCKS = Attribute.WRITE_STCLEAR | Attribute.READ_STCLEAR
 CHANGING = policy.after_command_code(SHA256, bytes(32), CC.NV_ChangeAuth)
 
-tpm = Teller(
-    "tests/general/saved_state.tpm",
-    "A state that TPM2_Shutdown(STATE) saved is good for the next TPM2_Startup as long as nothing "
-    "has happened since. Each command that succeeds cancels it, but those that change nothing. "
-    "Here each command follows a TPM2_Shutdown(STATE); behind a power cycle TPM2_Startup(STATE) "
-    "then says whether the state was there still.",
-    starts=False,
-)
+tpm = Teller(__name__, __doc__, starts=False)
 
 
 def session():
@@ -114,7 +108,7 @@ assert COMMANDS.keys() == set(CC) - {CC.Startup, CC.Shutdown}
 
 
 def save():
-    tpm.does("TPM2_Shutdown(STATE)", tpm.shutting_down(STATE))
+    tpm("TPM2_Shutdown(STATE)").shutting_down(STATE)
 
 
 def start_again(is_kept):
@@ -123,64 +117,57 @@ def start_again(is_kept):
     if is_kept:
         tpm.start_up("It was kept: TPM2_Startup(STATE)", STATE)
     else:
-        tpm.fails("It was cancelled: TPM2_Startup(STATE): VALUE/p1", tpm.starting(STATE))
+        tpm("It was cancelled: TPM2_Startup(STATE): VALUE/p1").starting(STATE)
         tpm.start_up("TPM2_Startup(CLEAR)")
-
-
-def each_command():
-    for code, make in COMMANDS.items():
-        is_kept = code.has(Fact.KEEPS_SAVED)
-        tpm.chapter(f"TPM2_{code.name} {'keeps' if is_kept else 'cancels'} it.")
-        prepared = make()
-        save()
-        tpm.accepted(f"TPM2_{code.name}", prepared)
-        start_again(is_kept)
-
-
-def others():
-    tpm.chapter("A second TPM2_Shutdown takes the place of the first.")
-    save()
-    tpm.does("TPM2_Shutdown(CLEAR)", tpm.shutting_down(CLEAR))
-    start_again(is_kept=False)
-    tpm.chapter("A command that is refused cancels nothing, not even a try that is counted.")
-    tpm.define("An index", area(0x0100_0007, BY_VALUE), auth=b"a")
-    hmac = tpm.start("An HMAC session")
-    save()
-    tpm.fails("A wrong password: AUTH_FAIL/s1", tpm.writing(0x0100_0007, b"x", b"b"))
-    tpm.fails("TPM2_PCR_Reset of PCR 0: LOCALITY", tpm.reset(b"", pcr=0))
-    tpm.fails("TPM2_Startup: INITIALIZE", tpm.starting(CLEAR))
-    tpm.refused("A wrong hmac: BAD_AUTH/s1", wrong(tpm.reset(hmac)))
-    tpm.raw("The empty buffer: COMMAND_SIZE", b"")
-    start_again(is_kept=True)
-    tpm.chapter("The use of sessions cancels nothing, where the command does not.")
-    hmac = tpm.start("An HMAC session")
-    other = tpm.start("Another one")
-    save()
-    tpm.accepted("TPM2_GetRandom with both", tpm.random(8, hmac, other))
-    tpm.accepted("With one that ends by it", tpm.random(8, Use(other, attributes=0)))
-    start_again(is_kept=True)
-    tpm.chapter("TPM2_PCR_Extend on TPM_RH_NULL changes nothing, and cancels it all the same.")
-    save()
-    tpm.does("TPM2_PCR_Extend", extending_pcr(frames.RH_NULL))
-    start_again(is_kept=False)
-    tpm.chapter("Power cycles and time do not cancel it.")
-    save()
-    tpm.power()
-    tpm.power()
-    tpm.wait(2**32 - 1)
-    tpm.raw("TPM2_GetRandom: INITIALIZE", tpm.random(2).buffer())
-    start_again(is_kept=True)
 
 
 tpm.startup()
 tpm.define("An ordinary index", area(FIRST))
-tpm.does("It is written", tpm.writing(FIRST, b"data", by=RH_OWNER))
+tpm("It is written").writing(FIRST, b"data", by=RH_OWNER)
 tpm.define("A counter", counter(SECOND))
 tpm.define("Bits", bits(THIRD))
 tpm.define("An index that is extended", extended(FOURTH))
-tpm.define(
-    "One with locks, and a policy for TPM2_NV_ChangeAuth",
-    area(FIFTH, BY_OWNER | LOCKS, auth_policy=CHANGING),
-)
-others()
-each_command()
+said = tpm("One with locks, and a policy for TPM2_NV_ChangeAuth")
+said.define(area(FIFTH, BY_OWNER | LOCKS, auth_policy=CHANGING))
+
+tpm.chapter("A second TPM2_Shutdown takes the place of the first.")
+save()
+tpm("TPM2_Shutdown(CLEAR)").shutting_down(CLEAR)
+start_again(is_kept=False)
+tpm.chapter("A command that is refused cancels nothing, not even a try that is counted.")
+tpm.define("An index", area(0x0100_0007, BY_VALUE), auth=b"a")
+hmac = tpm.start("An HMAC session")
+save()
+tpm("A wrong password: AUTH_FAIL/s1").writing(0x0100_0007, b"x", b"b")
+tpm("TPM2_PCR_Reset of PCR 0: LOCALITY").reset(b"", pcr=0)
+tpm("TPM2_Startup: INITIALIZE").starting(CLEAR)
+tpm.refused("A wrong hmac: BAD_AUTH/s1", wrong(tpm.reset(hmac)))
+tpm.raw("The empty buffer: COMMAND_SIZE", b"")
+start_again(is_kept=True)
+tpm.chapter("The use of sessions cancels nothing, where the command does not.")
+hmac = tpm.start("An HMAC session")
+other = tpm.start("Another one")
+save()
+tpm("TPM2_GetRandom with both").random(8, hmac, other)
+tpm("With one that ends by it").random(8, Use(other, attributes=0))
+start_again(is_kept=True)
+tpm.chapter("TPM2_PCR_Extend on TPM_RH_NULL changes nothing, and cancels it all the same.")
+save()
+tpm.does("TPM2_PCR_Extend", extending_pcr(frames.RH_NULL))
+start_again(is_kept=False)
+tpm.chapter("Power cycles and time do not cancel it.")
+save()
+tpm.power()
+tpm.power()
+tpm.wait(2**32 - 1)
+tpm.raw("TPM2_GetRandom: INITIALIZE", tpm.random(2).buffer())
+start_again(is_kept=True)
+
+
+for code, make in COMMANDS.items():
+    is_kept = code.has(Fact.KEEPS_SAVED)
+    tpm.chapter(f"TPM2_{code.name} {'keeps' if is_kept else 'cancels'} it.")
+    prepared = make()
+    save()
+    tpm.accepted(f"TPM2_{code.name}", prepared)
+    start_again(is_kept)

@@ -1,15 +1,11 @@
-"""Writes self_test.tpm: TPM2_SelfTest, which finds nothing, and what refuses it."""
+"""Writes self_test.tpm. TPM2_SelfTest, of all tests (YES, 01) or of those that were not run yet
+(NO, 00). The device has none that could fail.
+"""
 
-from tpmsim.caller import wrong
-from tpmsim.standard import CC, CONTINUE_SESSION, DECRYPT, ENCRYPT, command, frames, number
-from tests.common.teller import Teller
+from tests.common.vocabulary import CC, command, CONTINUE_SESSION, DECRYPT, ENCRYPT, frames, number
+from tests.common.vocabulary import Teller, wrong
 
-tpm = Teller(
-    "tests/general/self_test.tpm",
-    "TPM2_SelfTest, of all tests (YES, 01) or of those that were not run yet (NO, 00). The device "
-    "has none that could fail.",
-    starts=False,
-)
+tpm = Teller(__name__, __doc__, starts=False)
 says = tpm.raw
 
 BOTH = [command(CC.SelfTest, number(it, 1)) for it in (0, 1)]
@@ -20,16 +16,12 @@ says("Without fullTest: INSUFFICIENT/p1", command(CC.SelfTest, b""))
 says("Neither: VALUE/p1", *(command(CC.SelfTest, number(it, 1)) for it in (2, 0x80, 0xFF)))
 says("A byte behind it: SIZE", command(CC.SelfTest, b"\1\0"), command(CC.SelfTest, b"\0\1"))
 says("Neither, and a byte behind it: VALUE/p1", command(CC.SelfTest, b"\2\0"))
-says(
-    "A password, as there is nothing to authorize: HANDLE/s1",
-    command(CC.SelfTest, frames.area(frames.entry()) + b"\1", frames.SESSIONS),
-)
+case = "A password, as there is nothing to authorize: HANDLE/s1"
+says(case, command(CC.SelfTest, frames.area(frames.entry()) + b"\1", frames.SESSIONS))
 session = tpm.start("An HMAC session with AES", aes=True)
-tpm.accepted("TPM2_SelfTest with it", tpm.self_test(1, session))
+tpm("TPM2_SelfTest with it").self_test(1, session)
 tpm.refused("A wrong hmac: BAD_AUTH/s1", wrong(tpm.self_test(1, session)))
 for attribute, words in ((DECRYPT, "decrypted"), (ENCRYPT, "encrypted")):
-    tpm.refused(
-        f"Nothing can be {words}: ATTRIBUTES/s1",
-        tpm.self_test(1, session).but_entry(1, attributes=CONTINUE_SESSION | attribute),
-    )
-tpm.does("Nothing has changed: TPM2_PCR_Read", tpm.read_pcr(16))
+    said = tpm(f"Nothing can be {words}: ATTRIBUTES/s1")
+    said.refused(tpm.self_test(1, session).but_entry(1, attributes=CONTINUE_SESSION | attribute))
+tpm("Nothing has changed: TPM2_PCR_Read").read_pcr(16)

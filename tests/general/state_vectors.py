@@ -1,10 +1,9 @@
-"""Writes state_vectors.tpm: commands and answers whose bytes were written down by hand."""
+"""Writes state_vectors.tpm. Commands whose answers were written down by hand, byte by byte, before
+there was a device to ask. Their program stops where an answer is another.
+"""
 
-from tpmsim.caller import BY_VALUE, area, sealed, storage_key
-from tpmsim.standard import RH_NULL, frames
-from tpmsim.standard.objects import Attribute
-from tpmsim.caller.script_caller import FIRST
-from tests.common.teller import Teller
+from tests.common.vocabulary import area, BY_VALUE, FIRST, frames, ObjectAttribute, RH_NULL, sealed
+from tests.common.vocabulary import storage_key, Teller
 
 # The empty password, and the answer to it where nothing else is answered.
 PW = "00000009 40000009 0000 01 0000"
@@ -15,12 +14,7 @@ SHUTDOWN_STATE = "8001 0000000C 00000145 0001"
 READ_TRIES = "8001 00000016 0000017A 00000006 0000020E 00000001"
 SUCCESS = "8001 0000000A 00000000"
 
-tpm = Teller(
-    "tests/general/state_vectors.tpm",
-    "Commands whose answers were written down by hand, byte by byte, before there was a device to "
-    "ask. Their program stops where an answer is another.",
-    starts=False,
-)
+tpm = Teller(__name__, __doc__, starts=False)
 
 
 def bytes_of(text):
@@ -42,127 +36,6 @@ def tries_are(what, tries):
     answered(what, "SUCCESS", READ_TRIES, wanted)
 
 
-def clock_and_capabilities():
-    answered("TPM2_Startup(CLEAR)", "SUCCESS", STARTUP, SUCCESS)
-    tpm.wait(5)
-    answered(
-        "TPM2_ReadClock, five milliseconds later",
-        "SUCCESS",
-        "8001 0000000A 00000181",
-        "8001 00000023 00000000 0000000000000005 0000000000000005 00000001 00000000 01",
-    )
-    answered(
-        "With an authorization area", "AUTH_CONTEXT", f"8002 00000017 00000181 {PW}", code(0x145)
-    )
-    answered(
-        "TPM2_GetCapability of one command from 131 on: TPM2_CreatePrimary has one handle, and "
-        "answers one",
-        "SUCCESS",
-        "8001 00000016 0000017A 00000002 00000131 00000001",
-        "8001 00000017 00000000 01 00000002 00000001 12000131",
-    )
-    answered(
-        "TPM_PT_FAMILY_INDICATOR (100)",
-        "SUCCESS",
-        "8001 00000016 0000017A 00000006 00000100 00000001",
-        "8001 0000001B 00000000 01 00000006 00000001 00000100 322E3000",
-    )
-    answered(
-        "TPM_PT_TOTAL_COMMANDS (129)",
-        "SUCCESS",
-        "8001 00000016 0000017A 00000006 00000129 00000001",
-        "8001 0000001B 00000000 01 00000006 00000001 00000129 0000002F",
-    )
-    nothing = "8001 00000013 00000000 00 00000001 00000000"
-    sessions = "8001 00000016 0000017A 00000001 {} 00000001"
-    answered("Sessions, of which there are none", "SUCCESS", sessions.format("02000000"), nothing)
-    tpm.script.entropy(b"\xaa")
-    answered(
-        "TPM2_StartAuthSession of a trial session",
-        "SUCCESS",
-        "8001 0000002B 00000176 40000007 40000007 0010 00000000000000000000000000000000 0000 03 "
-        "0010 000B",
-        "8001 00000020 00000000 03000000 0010 AAAAAAAAAAAAAAAAAAAAAAAAAAAAAAAA",
-    )
-    answered(
-        "Sessions of every type are 02",
-        "SUCCESS",
-        sessions.format("02000000"),
-        "8001 00000017 00000000 00 00000001 00000001 03000000",
-    )
-    answered("Saved ones are 03", "SUCCESS", sessions.format("03000000"), nothing)
-
-
-def clearing():
-    tpm.chapter("TPM2_ClearControl and TPM2_Clear.")
-    control = "8002 0000001C 00000127 {} " + PW + " {}"
-    clear = "8002 0000001B 00000126 {} " + PW
-    answered(
-        "TPM2_ClearControl of YES by TPM_RH_LOCKOUT",
-        "SUCCESS",
-        control.format("4000000A", "01"),
-        OK,
-    )
-    answered("TPM2_Clear", "DISABLED", clear.format("4000000A"), code(0x120))
-    answered(
-        "TPM2_ClearControl of NO by TPM_RH_LOCKOUT",
-        "AUTH_FAIL",
-        control.format("4000000A", "00"),
-        code(0x08E),
-    )
-    tries_are("That is no try", 0)
-    answered("Of NO by the platform", "SUCCESS", control.format("4000000C", "00"), OK)
-    before = tpm.does("The update counter", tpm.read_pcr(0))
-    answered("TPM2_Clear by the platform", "SUCCESS", clear.format("4000000C"), OK)
-    after = tpm.does("It is one more", tpm.read_pcr(0))
-    assert int.from_bytes(after[:4], "big") == int.from_bytes(before[:4], "big") + 1
-
-
-def persistent():
-    tpm.chapter("TPM2_EvictControl: a loaded object stays, and the platform takes it away.")
-    root = tpm.create_primary("A storage key", frames.RH_OWNER, storage_key())
-    made = tpm.create("A sealed object", root, sealed(), data=bytes(range(128)))
-    handle = tpm.load("It is loaded as 80000001", root, made)
-    assert handle == 0x8000_0001
-    answered(
-        "It stays as 81000001",
-        "SUCCESS",
-        f"8002 00000023 00000120 40000001 80000001 {PW} 81000001",
-        OK,
-    )
-    tpm.note(0x8100_0001, tpm.names[handle], b"")
-    transient = tpm.read_public("TPM2_ReadPublic of 80000001", handle)
-    assert tpm.read_public("And of 81000001", 0x8100_0001) == transient
-    answered(
-        "The platform takes it away",
-        "SUCCESS",
-        f"8002 00000023 00000120 4000000C 81000001 {PW} 81000001",
-        OK,
-    )
-    answered("It is gone", "HANDLE/h1", "8001 0000000E 00000173 81000001", code(0x18B))
-    tpm.flush_objects("What was loaded is flushed", handle, root)
-
-
-def sent_again():
-    tpm.chapter("A buffer of an HMAC session that is sent again is a try.")
-    tpm.raw(
-        'TPM2_NV_DefineSpace of index 01000001, attributes 00040004, eight bytes, value "a": '
-        "SUCCESS",
-        bytes_of(
-            f"8002 0000002E 0000012A 40000001 {PW} 0001 61 000E 01000001 000B 00040004 0000 0008"
-        ),
-    )
-    tpm.auth_values[FIRST] = b"a"
-    tpm.note_public(area(FIRST, BY_VALUE))
-    tpm.does("TPM2_NV_Write by the password", tpm.writing(FIRST, b"12345678"))
-    session = tpm.start("An HMAC session that is bound to nothing")
-    write = tpm.writing(FIRST, b"87654321", session)
-    tpm.does("TPM2_NV_Write by it", write)
-    answered("The same buffer", "AUTH_FAIL/s1", write.buffer().hex(), code(0x98E))
-    tries_are("One try", 1)
-    tpm.does("TPM2_DictionaryAttackLockReset", tpm.lock_reset())
-
-
 def passwords():
     tpm.chapter("Passwords count without their trailing zeros; and which wrong ones are tries.")
     change = "8002 {:08X} 00000129 40000001 {:08X} 40000009 0000 01 {} 0003 616263"
@@ -171,10 +44,9 @@ def passwords():
     other = change.format(0x23, 12, "0003 616264")
     answered('"abd" is not, and no try', "BAD_AUTH/s1", other, code(0x9A2))
     tries_are("None", 0)
-    template = sealed(attributes=Attribute.USER_WITH_AUTH)
-    handle = tpm.create_primary(
-        "A sealed object without noDA", RH_NULL, template, user_auth=b"pin", data=b"data"
-    )
+    template = sealed(attributes=ObjectAttribute.USER_WITH_AUTH)
+    said = tpm("A sealed object without noDA")
+    handle = said.create_primary(RH_NULL, template, user_auth=b"pin", data=b"data")
     assert handle == 0x8000_0000
     answered(
         "TPM2_Unseal by a wrong password",
@@ -183,22 +55,6 @@ def passwords():
         code(0x98E),
     )
     tries_are("One", 1)
-
-
-def locked():
-    tpm.chapter("maxTries 3 and recoveryTime 1000, which are those of a new device.")
-    unseal = "8002 {:08X} 0000015E 80000000 {:08X} 40000009 0000 01 {}"
-    bad = unseal.format(0x1C, 10, "0001 78")
-    right = unseal.format(0x1E, 12, "0003 70696E")
-    opened = "8002 00000019 00000000 00000006 0004 64617461 0000 01 0000"
-    for what in ("The second try", "And the third"):
-        answered(what, "AUTH_FAIL/s1", bad, code(0x98E))
-    answered("The right password", "LOCKOUT", right, code(0x921))
-    tpm.wait(999_999)
-    answered("999,999 milliseconds later", "LOCKOUT", right, code(0x921))
-    tpm.wait(1)
-    answered("One more", "SUCCESS", right, opened)
-    tries_are("Two", 2)
 
 
 def saved():
@@ -228,10 +84,116 @@ def saved():
     answered("TPM2_Startup(CLEAR)", "SUCCESS", STARTUP, SUCCESS)
 
 
-clock_and_capabilities()
-clearing()
-persistent()
-sent_again()
+answered("TPM2_Startup(CLEAR)", "SUCCESS", STARTUP, SUCCESS)
+tpm.wait(5)
+answered(
+    "TPM2_ReadClock, five milliseconds later",
+    "SUCCESS",
+    "8001 0000000A 00000181",
+    "8001 00000023 00000000 0000000000000005 0000000000000005 00000001 00000000 01",
+)
+answered("With an authorization area", "AUTH_CONTEXT", f"8002 00000017 00000181 {PW}", code(0x145))
+answered(
+    "TPM2_GetCapability of one command from 131 on: TPM2_CreatePrimary has one handle, and "
+    "answers one",
+    "SUCCESS",
+    "8001 00000016 0000017A 00000002 00000131 00000001",
+    "8001 00000017 00000000 01 00000002 00000001 12000131",
+)
+answered(
+    "TPM_PT_FAMILY_INDICATOR (100)",
+    "SUCCESS",
+    "8001 00000016 0000017A 00000006 00000100 00000001",
+    "8001 0000001B 00000000 01 00000006 00000001 00000100 322E3000",
+)
+answered(
+    "TPM_PT_TOTAL_COMMANDS (129)",
+    "SUCCESS",
+    "8001 00000016 0000017A 00000006 00000129 00000001",
+    "8001 0000001B 00000000 01 00000006 00000001 00000129 0000002F",
+)
+nothing = "8001 00000013 00000000 00 00000001 00000000"
+sessions = "8001 00000016 0000017A 00000001 {} 00000001"
+answered("Sessions, of which there are none", "SUCCESS", sessions.format("02000000"), nothing)
+tpm.script.entropy(b"\xaa")
+answered(
+    "TPM2_StartAuthSession of a trial session",
+    "SUCCESS",
+    "8001 0000002B 00000176 40000007 40000007 0010 00000000000000000000000000000000 0000 03 "
+    "0010 000B",
+    "8001 00000020 00000000 03000000 0010 AAAAAAAAAAAAAAAAAAAAAAAAAAAAAAAA",
+)
+answered(
+    "Sessions of every type are 02",
+    "SUCCESS",
+    sessions.format("02000000"),
+    "8001 00000017 00000000 00 00000001 00000001 03000000",
+)
+answered("Saved ones are 03", "SUCCESS", sessions.format("03000000"), nothing)
+
+
+tpm.chapter("TPM2_ClearControl and TPM2_Clear.")
+control = "8002 0000001C 00000127 {} " + PW + " {}"
+clear = "8002 0000001B 00000126 {} " + PW
+case = "TPM2_ClearControl of YES by TPM_RH_LOCKOUT"
+answered(case, "SUCCESS", control.format("4000000A", "01"), OK)
+answered("TPM2_Clear", "DISABLED", clear.format("4000000A"), code(0x120))
+case = "TPM2_ClearControl of NO by TPM_RH_LOCKOUT"
+answered(case, "AUTH_FAIL", control.format("4000000A", "00"), code(0x08E))
+tries_are("That is no try", 0)
+answered("Of NO by the platform", "SUCCESS", control.format("4000000C", "00"), OK)
+before = tpm("The update counter").read_pcr(0)
+answered("TPM2_Clear by the platform", "SUCCESS", clear.format("4000000C"), OK)
+after = tpm("It is one more").read_pcr(0)
+assert int.from_bytes(after[:4], "big") == int.from_bytes(before[:4], "big") + 1
+
+
+tpm.chapter("TPM2_EvictControl: a loaded object stays, and the platform takes it away.")
+root = tpm.create_primary("A storage key", frames.RH_OWNER, storage_key())
+made = tpm.create("A sealed object", root, sealed(), data=bytes(range(128)))
+handle = tpm.load("It is loaded as 80000001", root, made)
+assert handle == 0x8000_0001
+case = "It stays as 81000001"
+answered(case, "SUCCESS", f"8002 00000023 00000120 40000001 80000001 {PW} 81000001", OK)
+tpm.note(0x8100_0001, tpm.names[handle], b"")
+transient = tpm.read_public("TPM2_ReadPublic of 80000001", handle)
+assert tpm.read_public("And of 81000001", 0x8100_0001) == transient
+case = "The platform takes it away"
+answered(case, "SUCCESS", f"8002 00000023 00000120 4000000C 81000001 {PW} 81000001", OK)
+answered("It is gone", "HANDLE/h1", "8001 0000000E 00000173 81000001", code(0x18B))
+tpm.flush_objects("What was loaded is flushed", handle, root)
+
+
+tpm.chapter("A buffer of an HMAC session that is sent again is a try.")
+tpm.raw(
+    'TPM2_NV_DefineSpace of index 01000001, attributes 00040004, eight bytes, value "a": '
+    "SUCCESS",
+    bytes_of(f"8002 0000002E 0000012A 40000001 {PW} 0001 61 000E 01000001 000B 00040004 0000 0008"),
+)
+tpm.auth_values[FIRST] = b"a"
+tpm.note_public(area(FIRST, BY_VALUE))
+tpm("TPM2_NV_Write by the password").writing(FIRST, b"12345678")
+session = tpm.start("An HMAC session that is bound to nothing")
+write = tpm.writing(FIRST, b"87654321", session)
+tpm.does("TPM2_NV_Write by it", write)
+answered("The same buffer", "AUTH_FAIL/s1", write.buffer().hex(), code(0x98E))
+tries_are("One try", 1)
+tpm.unlocks()
+
 passwords()
-locked()
+
+tpm.chapter("maxTries 3 and recoveryTime 1000, which are those of a new device.")
+unseal = "8002 {:08X} 0000015E 80000000 {:08X} 40000009 0000 01 {}"
+bad = unseal.format(0x1C, 10, "0001 78")
+right = unseal.format(0x1E, 12, "0003 70696E")
+opened = "8002 00000019 00000000 00000006 0004 64617461 0000 01 0000"
+for what in ("The second try", "And the third"):
+    answered(what, "AUTH_FAIL/s1", bad, code(0x98E))
+answered("The right password", "LOCKOUT", right, code(0x921))
+tpm.wait(999_999)
+answered("999,999 milliseconds later", "LOCKOUT", right, code(0x921))
+tpm.wait(1)
+answered("One more", "SUCCESS", right, opened)
+tries_are("Two", 2)
+
 saved()

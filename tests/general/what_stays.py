@@ -1,32 +1,27 @@
-"""Writes what_stays.tpm: what a device still knows of sessions and counters that are gone."""
+"""Writes what_stays.tpm. What a device still knows of sessions and counters that are gone: nothing
+of a session, and of counters the largest value that any had.
+"""
 
-from tpmsim.caller import counter
+from tests.common.vocabulary import CC, counter, FIRST, number, RH_LOCKOUT, SECOND, SHA256, Teller
+from tests.common.vocabulary import zeros
 from tpmsim.model.history import History
-from tpmsim.standard import CC, RH_LOCKOUT, SHA256, number
-from tpmsim.caller.script_caller import FIRST, SECOND, zeros
-from tests.common.teller import Teller
 
-tpm = Teller(
-    "tests/general/what_stays.tpm",
-    "What a device still knows of sessions and counters that are gone: nothing of a session, and "
-    "of counters the largest value that any had.",
-    starts=False,
-)
+tpm = Teller(__name__, __doc__, starts=False)
 history = History()
 tpm.script.device.tell = history.add
 
 
 def counts_up_to(value, handle, times):
     for _ in range(times):
-        tpm.does("TPM2_NV_Increment", tpm.incrementing(handle))
+        tpm("TPM2_NV_Increment").incrementing(handle)
     tpm.read("TPM2_NV_Read", handle, number(value, 8))
 
 
 tpm.startup()
 tpm.chapter("A new session under the handle of one that was flushed has nothing of its policy.")
 session = tpm.policy("A policy session")
-tpm.says("TPM2_PolicyPCR: SUCCESS", tpm.pcrs(session, [(SHA256, [10])]))
-tpm.says("It is flushed: SUCCESS", tpm.flush(session))
+tpm("TPM2_PolicyPCR").pcrs(session, [(SHA256, [10])])
+tpm("It is flushed").flush(session)
 again = tpm.policy("A policy session, which has the same handle")
 assert again.handle == session.handle
 tpm.digest_is("TPM2_PolicyGetDigest: zeros", again, zeros(again))
@@ -34,15 +29,14 @@ tpm.digest_is("TPM2_PolicyGetDigest: zeros", again, zeros(again))
 tpm.chapter("TPM2_Clear removes a counter that stands at 3. A new one begins at 4.")
 handle = tpm.define("TPM2_NV_DefineSpace of a counter", counter(FIRST))
 counts_up_to(3, handle, 3)
-tpm.does("TPM2_Clear", tpm.prepare(CC.Clear, [RH_LOCKOUT], b"", b""))
+tpm("TPM2_Clear").prepare(CC.Clear, [RH_LOCKOUT], b"", b"")
 tpm.forget(handle)
 handle = tpm.define("TPM2_NV_DefineSpace of a counter", counter(SECOND))
 counts_up_to(4, handle, 1)
 
 tpm.chapter("It is undefined, and power goes off and on again. A new one begins at 5.")
-tpm.does("TPM2_NV_UndefineSpace", tpm.undefining(handle))
-tpm.power()
-tpm.startup()
+tpm("TPM2_NV_UndefineSpace").undefining(handle)
+tpm.power_cycle()
 handle = tpm.define("TPM2_NV_DefineSpace of a counter", counter(SECOND))
 counts_up_to(5, handle, 1)
 assert not list(history.differences(tpm.script.device)) and history.counters.all == [1, 2, 3, 4, 5]

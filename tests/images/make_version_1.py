@@ -125,21 +125,17 @@ def served(program, runs):
         return answers, (device.path / "image").read_bytes()
 
 
-def main(program):
-    for name in version_1.NAMES:
-        runs = runs_of(version_1.script(name))
-        wanted, given = played(runs), served(program, runs)
-        if wanted != given:
-            sys.exit(f"{name}: the program and the device in Python differ")
-        _, text = given
-        if not version_1.hex_file(name).exists():
-            version_1.hex_file(name).write_text(version_1.spelled(text), "ascii")
-            print(f"{name}: {len(text):,} bytes are written")
-        elif text != version_1.kept(name):
-            sys.exit(f"{name}: these are not the bytes that are kept")
-        else:
-            print(f"{name}: the {len(text):,} bytes that are kept")
-
-
-if __name__ == "__main__":
-    main(*sys.argv[1:])
+(program,) = sys.argv[1:]
+for name in version_1.NAMES:
+    runs = runs_of(version_1.script(name))
+    wanted, given = played(runs), served(program, runs)
+    if wanted != given:
+        sys.exit(f"{name}: the program and the device in Python differ")
+    _, text = given
+    if not version_1.hex_file(name).exists():
+        version_1.hex_file(name).write_text(version_1.spelled(text), "ascii")
+        print(f"{name}: {len(text):,} bytes are written")
+    elif text != version_1.kept(name):
+        sys.exit(f"{name}: these are not the bytes that are kept")
+    else:
+        print(f"{name}: the {len(text):,} bytes that are kept")

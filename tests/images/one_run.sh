@@ -96,6 +96,7 @@ done
 rm image
 exec 3<>lines
 for number in 1 2 3 4 5 6 7 8; do
+    : >"$room/many$number"
     "$program" run --image image - <lines 2>"$room/many$number" 3>&- &
 done
 while [ "$(cat "$room"/many* | wc -l)" -lt 7 ]; do sleep 0.01; done

@@ -276,23 +276,19 @@ def beyond_limits(text):
     yield "Body", version_1.image_of(device), "with a byte of data more"
 
 
-def main(program):
-    with tempfile.TemporaryDirectory() as path:
-        comparison = Comparison(os.path.abspath(program), path)
-        for name in version_1.NAMES:
-            text = version_1.kept(name)
-            digest = hashlib.sha256(text).hexdigest()
-            print(f"{name}: {len(text):,} bytes, whose SHA-256 is {digest}")
-            comparison.kept(text, version_1.device_of(name))
-            comparison.opened(text, "resumed", resumed)
-            comparison.opened(text, "restarted", restarted)
-            for refused in damaged(text):
-                comparison.refused(*refused)
-        for refused in beyond_limits(version_1.kept("full")):
+(program,) = sys.argv[1:]
+with tempfile.TemporaryDirectory() as path:
+    comparison = Comparison(os.path.abspath(program), path)
+    for name in version_1.NAMES:
+        text = version_1.kept(name)
+        digest = hashlib.sha256(text).hexdigest()
+        print(f"{name}: {len(text):,} bytes, whose SHA-256 is {digest}")
+        comparison.kept(text, version_1.device_of(name))
+        comparison.opened(text, "resumed", resumed)
+        comparison.opened(text, "restarted", restarted)
+        for refused in damaged(text):
             comparison.refused(*refused)
-    print(f"{comparison.agree:,} agree, {comparison.differ:,} differ")
-    sys.exit(comparison.differ > 0)
-
-
-if __name__ == "__main__":
-    main(*sys.argv[1:])
+    for refused in beyond_limits(version_1.kept("full")):
+        comparison.refused(*refused)
+print(f"{comparison.agree:,} agree, {comparison.differ:,} differ")
+sys.exit(comparison.differ > 0)

@@ -1,6 +1,6 @@
 # What `tpmsim asm` makes of lines: those of assemble.lines, which stand there as printf takes them
 # (\ooo is a byte in octal), and some that are too long to stand there. assemble.py
-# beside it writes assemble.lines and assemble.out.
+# beside it writes assemble.out.
 here=$(cd "$(dirname "$0")" && pwd -P)
 tests=${here%/*}
 . "$tests/common/cases.sh"

@@ -1,26 +1,20 @@
-"""Writes dictionary_attack_commands.tpm: the two commands, and all that refuses them."""
+"""Writes dictionary_attack_commands.tpm. TPM2_DictionaryAttackLockReset and
+TPM2_DictionaryAttackParameters: their bytes, and what refuses them. TPM_RH_LOCKOUT authorizes them,
+by a password or an HMAC session.
+"""
 
-from tpmsim.caller import Use
-from tpmsim.standard import CC, DECRYPT, ENCRYPT, RH_LOCKOUT, RH_NULL, RH_OWNER, RH_PLATFORM
-from tpmsim.standard import command, frames, number, on_handle
-from tests.common.teller import Teller
+from tests.common.vocabulary import CC, command, DECRYPT, ENCRYPT, frames, number, on_handle
+from tests.common.vocabulary import RH_LOCKOUT, RH_NULL, RH_OWNER, RH_PLATFORM, Teller, Use
 
 LOCK_RESET, PARAMETERS = CC.DictionaryAttackLockReset, CC.DictionaryAttackParameters
 THREE = frames.attack_parameters(3, 1000, 1000)
 COMMANDS = (LOCK_RESET, b""), (PARAMETERS, THREE)
 
-tpm = Teller(
-    "tests/lockout/dictionary_attack_commands.tpm",
-    "TPM2_DictionaryAttackLockReset and TPM2_DictionaryAttackParameters: their bytes, and what "
-    "refuses them. TPM_RH_LOCKOUT authorizes them, by a password or an HMAC session.",
-    starts=False,
-)
+tpm = Teller(__name__, __doc__, starts=False)
 says = tpm.raw
 
-says(
-    "Before TPM2_Startup: INITIALIZE",
-    *(on_handle(code, RH_LOCKOUT, parameters) for code, parameters in COMMANDS),
-)
+case = "Before TPM2_Startup: INITIALIZE"
+says(case, *(on_handle(code, RH_LOCKOUT, parameters) for code, parameters in COMMANDS))
 tpm.startup()
 tpm.chapter("By the empty password, which lockoutAuth is on a new device.")
 for code, parameters in COMMANDS:
@@ -39,21 +33,15 @@ says(
         for handle in (RH_OWNER, RH_PLATFORM, RH_NULL, 0)
     ),
 )
-says(
-    "Without sessions: AUTH_MISSING",
-    *(command(code, number(RH_LOCKOUT, 4) + parameters) for code, parameters in COMMANDS),
-)
+case = "Without sessions: AUTH_MISSING"
+says(case, *(command(code, number(RH_LOCKOUT, 4) + parameters) for code, parameters in COMMANDS))
 
 tpm.chapter("The parameters.")
 for place in (1, 2, 3):
-    says(
-        f"Cut within parameter {place}: INSUFFICIENT/p{place}",
-        *(on_handle(PARAMETERS, RH_LOCKOUT, THREE[: 4 * place - it]) for it in (4, 1)),
-    )
-says(
-    "A byte behind them: SIZE",
-    *(on_handle(code, RH_LOCKOUT, parameters + b"\0") for code, parameters in COMMANDS),
-)
+    case = f"Cut within parameter {place}: INSUFFICIENT/p{place}"
+    says(case, *(on_handle(PARAMETERS, RH_LOCKOUT, THREE[: 4 * place - it]) for it in (4, 1)))
+case = "A byte behind them: SIZE"
+says(case, *(on_handle(code, RH_LOCKOUT, parameters + b"\0") for code, parameters in COMMANDS))
 says(
     "All values are good ones: SUCCESS",
     *(
@@ -68,15 +56,13 @@ says(
 )
 
 tpm.chapter("By sessions.")
-tpm.does('lockoutAuth is "lockout"', tpm.change_auth(RH_LOCKOUT, b"lockout", b""))
+tpm('lockoutAuth is "lockout"').change_auth(RH_LOCKOUT, b"lockout", b"")
 unbound = tpm.start("An HMAC session that is bound to nothing, with AES", aes=True)
 bound = tpm.start("One that is bound to TPM_RH_LOCKOUT", RH_LOCKOUT)
 for session, words in ((unbound, "The first one"), (bound, "The second one")):
-    tpm.accepted(f"{words}: TPM2_DictionaryAttackLockReset", tpm.lock_reset(session))
-    tpm.accepted(
-        f"{words}: TPM2_DictionaryAttackParameters", tpm.attack_parameters(3, 1000, 1, session)
-    )
-tpm.accepted("Both in one command", tpm.lock_reset(bound, unbound))
+    tpm(f"{words}: TPM2_DictionaryAttackLockReset").lock_reset(session)
+    tpm(f"{words}: TPM2_DictionaryAttackParameters").attack_parameters(3, 1000, 1, session)
+tpm("Both in one command").lock_reset(bound, unbound)
 for attribute, words in ((DECRYPT, "decrypted"), (ENCRYPT, "encrypted")):
     tpm.refused(
         f"Nothing can be {words}: ATTRIBUTES/s1",
@@ -84,15 +70,10 @@ for attribute, words in ((DECRYPT, "decrypted"), (ENCRYPT, "encrypted")):
         tpm.attack_parameters(3, 1000, 1, unbound).but_entry(1, attributes=attribute),
     )
 policy = tpm.policy("A policy session")
-tpm.refused(
-    "No policy authorizes TPM_RH_LOCKOUT: AUTH_UNAVAILABLE",
-    tpm.lock_reset(policy),
-    tpm.attack_parameters(3, 1000, 1, policy),
-)
-tpm.accepted("Behind the password it may stand", tpm.lock_reset(b"lockout", policy))
-tpm.accepted("A session that ends", tpm.lock_reset(Use(bound, attributes=0)))
-tpm.refused("It is gone: REFERENCE_S0", tpm.lock_reset(bound))
-says(
-    "Wrong parameters of a wrong password: the password is looked at first: AUTH_FAIL/s1",
-    on_handle(PARAMETERS, RH_LOCKOUT, b"", [frames.entry(hmac=b"x")]),
-)
+said = tpm("No policy authorizes TPM_RH_LOCKOUT: AUTH_UNAVAILABLE")
+said.refused(tpm.lock_reset(policy), tpm.attack_parameters(3, 1000, 1, policy))
+tpm("Behind the password it may stand").lock_reset(b"lockout", policy)
+tpm("A session that ends").lock_reset(Use(bound, attributes=0))
+tpm("It is gone: REFERENCE_S0").lock_reset(bound)
+case = "Wrong parameters of a wrong password: the password is looked at first: AUTH_FAIL/s1"
+says(case, on_handle(PARAMETERS, RH_LOCKOUT, b"", [frames.entry(hmac=b"x")]))

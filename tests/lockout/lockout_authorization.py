@@ -1,20 +1,15 @@
-"""Writes lockout_authorization.tpm: wrong entries that are a try at lockoutAuth."""
+"""Writes lockout_authorization.tpm. A wrong entry is AUTH_FAIL where it was a try at the value of
+TPM_RH_LOCKOUT: as a password or in the key of an hmac, or else because its session was bound to
+TPM_RH_LOCKOUT at the start. Every other wrong entry is BAD_AUTH. Each such try closes lockoutAuth
+for lockoutRecovery.
+"""
 
-from tpmsim.caller import BY_VALUE, area, wrong
-from tpmsim.standard import CC, RH_LOCKOUT, RH_OWNER, frames, on_handle, sized
-from tpmsim.caller.script_caller import FIRST
-from tests.common.teller import Teller
+from tests.common.vocabulary import area, BY_VALUE, CC, FIRST, frames, on_handle, RH_LOCKOUT
+from tests.common.vocabulary import RH_OWNER, sized, Teller, wrong
 
 LOCKOUT = b"lockout"
 
-tpm = Teller(
-    "tests/lockout/lockout_authorization.tpm",
-    "A wrong entry is AUTH_FAIL where it was a try at the value of TPM_RH_LOCKOUT: as a password "
-    "or in the key of an hmac, or else because its session was bound to TPM_RH_LOCKOUT at the "
-    "start. "
-    "Every other wrong entry is BAD_AUTH. Each such try closes lockoutAuth for lockoutRecovery.",
-    tries=True,
-)
+tpm = Teller(__name__, __doc__, tries=True)
 
 
 def by_password(handle, password):
@@ -39,17 +34,15 @@ tpm.refused(
     "of those bound to TPM_RH_LOCKOUT: AUTH_FAIL/s1",
     *(wrong(tpm.change_auth(RH_LOCKOUT, LOCKOUT, it)) for it in (unbound, to_owner, bound, early)),
 )
-tpm.refused(
-    "No hmac where the session has no key of its own: AUTH_FAIL/s1",
-    tpm.change_auth(RH_LOCKOUT, LOCKOUT, unbound).but_entry(1, hmac=b""),
-)
+said = tpm("No hmac where the session has no key of its own: AUTH_FAIL/s1")
+said.refused(tpm.change_auth(RH_LOCKOUT, LOCKOUT, unbound).but_entry(1, hmac=b""))
 for session, words in (
     (unbound, "Right hmacs: bound to nothing"),
     (to_owner, "Bound to TPM_RH_OWNER"),
     (bound, "Bound to TPM_RH_LOCKOUT"),
     (early, "Bound to it before its value was set"),
 ):
-    tpm.accepted(words, tpm.change_auth(RH_LOCKOUT, LOCKOUT, session))
+    tpm(words).change_auth(RH_LOCKOUT, LOCKOUT, session)
 tpm.accepted("The right password", tpm.change_auth(RH_LOCKOUT, LOCKOUT, LOCKOUT))
 
 tpm.chapter("On entities that nothing protects, through a session bound to TPM_RH_LOCKOUT.")
@@ -59,13 +52,11 @@ tpm.refused(
     wrong(tpm.change_auth(RH_OWNER, b"owner", early)),
 )
 tpm.refused("On PCR 16: AUTH_FAIL/s1", wrong(tpm.reset(bound)), wrong(tpm.reset(early)))
-tpm.refused(
-    "On TPM_RH_NULL, by TPM2_PCR_Event: AUTH_FAIL/s1",
-    wrong(tpm.event(b"abc", bound, pcr=frames.RH_NULL)),
-)
+said = tpm("On TPM_RH_NULL, by TPM2_PCR_Event: AUTH_FAIL/s1")
+said.refused(wrong(tpm.event(b"abc", bound, pcr=frames.RH_NULL)))
 tpm.refused("No hmac: AUTH_FAIL/s1", tpm.reset(bound).but_entry(1, hmac=b""))
-tpm.accepted("Right hmacs: on TPM_RH_OWNER", tpm.change_auth(RH_OWNER, b"owner", bound))
-tpm.accepted("On PCR 16", tpm.reset(bound))
+tpm("Right hmacs: on TPM_RH_OWNER").change_auth(RH_OWNER, b"owner", bound)
+tpm("On PCR 16").reset(bound)
 
 tpm.chapter("In an entry that authorizes nothing.")
 tpm.refused("Behind a password: AUTH_FAIL/s2", wrong(tpm.reset(b"", bound), 2))
@@ -74,18 +65,15 @@ tpm.refused(
     wrong(tpm.reset(b"", to_owner, bound), 3),
     wrong(tpm.reset(to_owner, unbound, early), 3),
 )
-tpm.refused(
-    "Of TPM2_GetRandom: AUTH_FAIL/s1",
-    wrong(tpm.random(4, bound)),
-    wrong(tpm.random(4, bound, to_owner)),
-)
+said = tpm("Of TPM2_GetRandom: AUTH_FAIL/s1")
+said.refused(wrong(tpm.random(4, bound)), wrong(tpm.random(4, bound, to_owner)))
 tpm.refused(
     "Of TPM2_StartAuthSession, as the second: AUTH_FAIL/s2",
     wrong(
         tpm.prepare(CC.StartAuthSession, *frames.start_auth_session(bytes(16)), to_owner, bound), 2
     ),
 )
-tpm.accepted("Right ones", tpm.reset(to_owner, bound, early))
+tpm("Right ones").reset(to_owner, bound, early)
 
 tpm.chapter("Entries that are no try at it.")
 tpm.refused(
@@ -94,10 +82,8 @@ tpm.refused(
     wrong(tpm.change_auth(RH_OWNER, b"owner", unbound)),
 )
 tpm.raw("lockoutAuth as the password of TPM_RH_OWNER: BAD_AUTH/s1", by_password(RH_OWNER, LOCKOUT))
-tpm.refused(
-    "A wrong hmac beside a right one of a session bound to TPM_RH_LOCKOUT: BAD_AUTH/s1",
-    wrong(tpm.reset(to_owner, bound)),
-)
+said = tpm("A wrong hmac beside a right one of a session bound to TPM_RH_LOCKOUT: BAD_AUTH/s1")
+said.refused(wrong(tpm.reset(to_owner, bound)))
 tpm.refused("Behind it: BAD_AUTH/s2", wrong(tpm.reset(bound, to_owner), 2))
 tpm.refused(
     "The second entry of TPM_RH_LOCKOUT's own command, where the first is right: BAD_AUTH/s2",
@@ -115,26 +101,22 @@ tpm.refused(
     "A wrong hmac on PCR 16 through the session that was bound to its old value: AUTH_FAIL/s1",
     wrong(tpm.reset(bound)),
 )
-tpm.accepted(
-    "On TPM_RH_LOCKOUT it has the new value in its key", tpm.change_auth(RH_LOCKOUT, b"", bound)
-)
+tpm("On TPM_RH_LOCKOUT it has the new value in its key").change_auth(RH_LOCKOUT, b"", bound)
 tpm.raw("lockoutAuth is empty: a wrong password: AUTH_FAIL/s1", by_password(RH_LOCKOUT, b"x"))
-tpm.refused(
-    "A wrong hmac of the session that is bound to nothing: AUTH_FAIL/s1",
-    tpm.change_auth(RH_LOCKOUT, b"", unbound).but_entry(1, hmac=b"\0"),
-)
-tpm.accepted("No hmac of it", tpm.change_auth(RH_LOCKOUT, b"", unbound))
+said = tpm("A wrong hmac of the session that is bound to nothing: AUTH_FAIL/s1")
+said.refused(tpm.change_auth(RH_LOCKOUT, b"", unbound).but_entry(1, hmac=b"\0"))
+tpm("No hmac of it").change_auth(RH_LOCKOUT, b"", unbound)
 
 # From here on no time passes but where it is said.
 tpm.script.pause = 0
 
 
 def right(what):
-    tpm.does(what, tpm.lock_reset(LOCKOUT))
+    tpm(what).lock_reset(LOCKOUT)
 
 
 def wrong_password(what):
-    tpm.fails(f"{what}: AUTH_FAIL/s1", tpm.lock_reset(b"wrong"))
+    tpm(f"{what}: AUTH_FAIL/s1").lock_reset(b"wrong")
 
 
 def closed(what, *passwords):
@@ -149,141 +131,117 @@ def closed_for(what, milliseconds):
     right("One more")
 
 
-def how_long():
-    tpm.chapter("One wrong try closes lockoutAuth for lockoutRecovery, to the millisecond.")
-    tpm.set_protection(
-        "TPM2_DictionaryAttackParameters: lockoutRecovery is 1,000 seconds", 3, 1000, 1000
-    )
-    tpm.accepted('lockoutAuth is "lockout"', tpm.change_auth(RH_LOCKOUT, LOCKOUT, b""))
-    wrong_password("A wrong password of TPM2_DictionaryAttackLockReset")
-    closed("The right one, and others", LOCKOUT, b"wrong", b"")
-    tpm.fails(
-        "Of the other commands: TPM2_DictionaryAttackParameters and TPM2_HierarchyChangeAuth: "
-        "LOCKOUT",
-        tpm.attack_parameters(3, 1000, 1000, LOCKOUT),
-        tpm.change_auth(RH_LOCKOUT, b"x", LOCKOUT),
-    )
-    tpm.fails(
-        "A session that is bound to nothing, one that is bound to it, and a wrong hmac: LOCKOUT",
-        tpm.lock_reset(unbound),
-        tpm.lock_reset(bound),
-        wrong(tpm.lock_reset(unbound)),
-    )
-    tpm.fails(
-        "One that is bound to it and authorizes PCR 16, and one that authorizes nothing: LOCKOUT",
-        tpm.reset(bound),
-        tpm.random(2, bound),
-        tpm.reset(b"", bound),
-    )
-    tpm.accepted("A session that is bound to another entity", tpm.reset(to_owner))
-    closed_for("It opens. Wrong tries while it was closed have not closed it anew.", 1_000_000)
-    tpm.chapter("In the middle of the time.")
-    wrong_password("A wrong one")
-    tpm.wait(500_000)
-    closed("Another wrong one", b"wrong")
-    closed_for("The time goes on.", 500_000)
-    tpm.chapter("At a wrong hmac it closes too.")
-    tpm.fails("Of PCR 16, bound to it: AUTH_FAIL/s1", wrong(tpm.reset(bound)))
-    closed("The right password")
-    tpm.wait(1_000_000)
-    right("Later")
-    tpm.fails("Behind a password: AUTH_FAIL/s2", wrong(tpm.reset(b"", bound), 2))
-    closed("The right password")
-    closed_for("It opens.", 1_000_000)
-
-
-def power_cycles():
-    tpm.chapter("A power cycle opens nothing, and starts the time anew.")
-    wrong_password("A wrong one")
-    tpm.wait(999_999)
-    closed("A millisecond before the end")
-    tpm.power()
-    tpm.script.startup()
-    tpm.wait(1)
-    closed("After TPM2_Startup, in that millisecond")
-    closed_for("The time counts from the power cycle on.", 999_999)
-    tpm.chapter("It counts before TPM2_Startup too.")
-    wrong_password("A wrong one")
-    tpm.power()
-    tpm.wait(1_000_000)
-    tpm.script.startup()
-    right("It is over")
-
-
-def no_recovery():
-    tpm.chapter("With lockoutRecovery 0 no time opens it, but the next reset.")
-    tpm.does("lockoutRecovery is 0", tpm.attack_parameters(3, 1000, 0, LOCKOUT))
-    wrong_password("A wrong one")
-    tpm.wait(4_294_967_295)
-    closed("The right one, after the longest time that one command can take")
-    tpm.power()
-    tpm.script.startup()
-    right("Behind a power cycle and TPM2_Startup(CLEAR)")
-    wrong_password("A wrong one")
-    closed("It closes again")
-    tpm.power()
-    tpm.script.startup()
-    tpm.does("lockoutRecovery is 1 second", tpm.attack_parameters(3, 1000, 1, LOCKOUT))
-    wrong_password("A wrong one")
-    closed_for("It opens.", 1_000)
-
-
 def each_alone():
     tpm.chapter("lockoutAuth and other protected entities have nothing to do with each other.")
     tpm.define("An NV index", area(FIRST, BY_VALUE), auth=b"pin")
-    tpm.does("It is written", tpm.writing(FIRST, b"data"))
+    tpm("It is written").writing(FIRST, b"data")
     to_lockout = tpm.start("A session that is bound to TPM_RH_LOCKOUT", RH_LOCKOUT)
     to_index = tpm.start("And one that is bound to the index", FIRST)
-    tpm.fails(
-        "Three wrong passwords of the index: AUTH_FAIL/s1",
-        *(tpm.writing(FIRST, b"x", it) for it in (b"0", b"1", b"2")),
-    )
-    tpm.fails("The index is locked: LOCKOUT", tpm.writing(FIRST, b"x"))
+    said = tpm("Three wrong passwords of the index: AUTH_FAIL/s1")
+    said.fails(*(tpm.writing(FIRST, b"x", it) for it in (b"0", b"1", b"2")))
+    tpm("The index is locked: LOCKOUT").writing(FIRST, b"x")
     wrong_password("A wrong password of TPM_RH_LOCKOUT")
     closed("lockoutAuth is closed, too")
-    tpm.fails("And the index locked: LOCKOUT", tpm.writing(FIRST, b"x"))
+    tpm("And the index locked: LOCKOUT").writing(FIRST, b"x")
     tpm.wait(1_000)
-    tpm.fails("After lockoutRecovery it still is: LOCKOUT", tpm.writing(FIRST, b"x"))
-    tpm.accepted("The first one is accepted for PCR 16", tpm.reset(to_lockout))
-    tpm.fails("The second one is not: LOCKOUT", tpm.reset(to_index))
-    tpm.fails(
-        "The first one for the index: what counts is the value that is in the key: LOCKOUT",
-        tpm.writing(FIRST, b"x", to_lockout),
-    )
-    tpm.accepted(
-        "The second one for TPM_RH_LOCKOUT: what counts is lockoutAuth, and the tries are gone",
-        tpm.lock_reset(to_index),
-    )
+    tpm("After lockoutRecovery it still is: LOCKOUT").writing(FIRST, b"x")
+    tpm("The first one is accepted for PCR 16").reset(to_lockout)
+    tpm("The second one is not: LOCKOUT").reset(to_index)
+    said = tpm("The first one for the index: what counts is the value that is in the key: LOCKOUT")
+    said.writing(FIRST, b"x", to_lockout)
+    tpm(
+        "The second one for TPM_RH_LOCKOUT: what counts is lockoutAuth, and the tries are gone"
+    ).lock_reset(to_index)
     wrong_password("lockoutAuth closes")
-    tpm.fails("The second one for TPM_RH_LOCKOUT: LOCKOUT", tpm.lock_reset(to_index))
-    tpm.does("The index is open", tpm.writing(FIRST, b"x"))
-    tpm.accepted("The second one for PCR 16", tpm.reset(to_index))
-    tpm.fails("The first one for PCR 16: LOCKOUT", tpm.reset(to_lockout))
-    tpm.accepted("The first one for the index", tpm.writing(FIRST, b"y", to_lockout))
+    tpm("The second one for TPM_RH_LOCKOUT: LOCKOUT").lock_reset(to_index)
+    tpm("The index is open").writing(FIRST, b"x")
+    tpm("The second one for PCR 16").reset(to_index)
+    tpm("The first one for PCR 16: LOCKOUT").reset(to_lockout)
+    tpm("The first one for the index").writing(FIRST, b"y", to_lockout)
     tpm.wait(1_000)
-    tpm.accepted("After lockoutRecovery for PCR 16", tpm.reset(to_lockout))
-    tpm.does("recoveryTime 0 is nothing to lockoutAuth", tpm.attack_parameters(3, 0, 1, LOCKOUT))
+    tpm("After lockoutRecovery for PCR 16").reset(to_lockout)
+    tpm("recoveryTime 0 is nothing to lockoutAuth").attack_parameters(3, 0, 1, LOCKOUT)
     wrong_password("A wrong one")
     closed("The right one")
     tpm.wait(1_000)
-    tpm.does("Nor is maxTries 0", tpm.attack_parameters(0, 1000, 1, LOCKOUT))
+    tpm("Nor is maxTries 0").attack_parameters(0, 1000, 1, LOCKOUT)
     right("The right one")
-    tpm.fails("Of the index: LOCKOUT", tpm.writing(FIRST, b"x"))
+    tpm("Of the index: LOCKOUT").writing(FIRST, b"x")
 
 
-def longest():
-    tpm.chapter("The longest lockoutRecovery.")
-    tpm.does("It is FFFFFFFF", tpm.attack_parameters(3, 1000, 0xFFFF_FFFF, LOCKOUT))
-    wrong_password("A wrong one")
-    tpm.wait(4_294_967_295)
-    closed("4,294,967 seconds are nothing to it")
-    tpm.power()
-    tpm.script.startup()
-    closed("A reset does not open it, as it has a time")
+tpm.chapter("One wrong try closes lockoutAuth for lockoutRecovery, to the millisecond.")
+said = tpm("TPM2_DictionaryAttackParameters: lockoutRecovery is 1,000 seconds")
+said.set_protection(3, 1000, 1000)
+tpm.accepted('lockoutAuth is "lockout"', tpm.change_auth(RH_LOCKOUT, LOCKOUT, b""))
+wrong_password("A wrong password of TPM2_DictionaryAttackLockReset")
+closed("The right one, and others", LOCKOUT, b"wrong", b"")
+tpm.fails(
+    "Of the other commands: TPM2_DictionaryAttackParameters and TPM2_HierarchyChangeAuth: "
+    "LOCKOUT",
+    tpm.attack_parameters(3, 1000, 1000, LOCKOUT),
+    tpm.change_auth(RH_LOCKOUT, b"x", LOCKOUT),
+)
+said = tpm("A session that is bound to nothing, one that is bound to it, and a wrong hmac: LOCKOUT")
+said.fails(tpm.lock_reset(unbound), tpm.lock_reset(bound), wrong(tpm.lock_reset(unbound)))
+tpm.fails(
+    "One that is bound to it and authorizes PCR 16, and one that authorizes nothing: LOCKOUT",
+    tpm.reset(bound),
+    tpm.random(2, bound),
+    tpm.reset(b"", bound),
+)
+tpm("A session that is bound to another entity").reset(to_owner)
+closed_for("It opens. Wrong tries while it was closed have not closed it anew.", 1_000_000)
+tpm.chapter("In the middle of the time.")
+wrong_password("A wrong one")
+tpm.wait(500_000)
+closed("Another wrong one", b"wrong")
+closed_for("The time goes on.", 500_000)
+tpm.chapter("At a wrong hmac it closes too.")
+tpm.fails("Of PCR 16, bound to it: AUTH_FAIL/s1", wrong(tpm.reset(bound)))
+closed("The right password")
+tpm.wait(1_000_000)
+right("Later")
+tpm.fails("Behind a password: AUTH_FAIL/s2", wrong(tpm.reset(b"", bound), 2))
+closed("The right password")
+closed_for("It opens.", 1_000_000)
 
 
-how_long()
-power_cycles()
-no_recovery()
+tpm.chapter("A power cycle opens nothing, and starts the time anew.")
+wrong_password("A wrong one")
+tpm.wait(999_999)
+closed("A millisecond before the end")
+tpm.power_cycle()
+tpm.wait(1)
+closed("After TPM2_Startup, in that millisecond")
+closed_for("The time counts from the power cycle on.", 999_999)
+tpm.chapter("It counts before TPM2_Startup too.")
+wrong_password("A wrong one")
+tpm.power()
+tpm.wait(1_000_000)
+tpm.startup()
+right("It is over")
+
+
+tpm.chapter("With lockoutRecovery 0 no time opens it, but the next reset.")
+tpm("lockoutRecovery is 0").attack_parameters(3, 1000, 0, LOCKOUT)
+wrong_password("A wrong one")
+tpm.wait(4_294_967_295)
+closed("The right one, after the longest time that one command can take")
+tpm.power_cycle()
+right("Behind a power cycle and TPM2_Startup(CLEAR)")
+wrong_password("A wrong one")
+closed("It closes again")
+tpm.power_cycle()
+tpm("lockoutRecovery is 1 second").attack_parameters(3, 1000, 1, LOCKOUT)
+wrong_password("A wrong one")
+closed_for("It opens.", 1_000)
+
 each_alone()
-longest()
+
+tpm.chapter("The longest lockoutRecovery.")
+tpm("It is FFFFFFFF").attack_parameters(3, 1000, 0xFFFF_FFFF, LOCKOUT)
+wrong_password("A wrong one")
+tpm.wait(4_294_967_295)
+closed("4,294,967 seconds are nothing to it")
+tpm.power_cycle()
+closed("A reset does not open it, as it has a time")

@@ -1,17 +1,14 @@
-"""Writes lockout_commands.tpm: a try by each command that a protected entity authorizes."""
+"""Writes lockout_commands.tpm. Each command that is authorized by a protected entity: with maxTries
+1 one wrong entry locks, and the right one is refused then, whichever command the try was made by.
+"""
 
-from tpmsim.caller import BY_POLICY, BY_VALUE, HERE, STORES, Use, area, bits, counter, extended
-from tpmsim.caller import hmac_key, sealed, storage_key, wrong
-from tpmsim.standard import CC, RH_OWNER, SHA256, policy
-from tpmsim.standard.nv import Attribute as NvAttribute
-from tpmsim.standard.objects import Attribute
-from tpmsim.caller.script_caller import FIRST, FOURTH, SECOND, THIRD
-from tests.common.teller import Teller
+from tests.common.vocabulary import area, bits, BY_POLICY, BY_VALUE, CC, counter, extended, FIFTH
+from tests.common.vocabulary import FIRST, FOURTH, HERE, hmac_key, LOCKS, ObjectAttribute, policy
+from tests.common.vocabulary import RH_OWNER, sealed, SECOND, SHA256, storage_key, STORES, Teller
+from tests.common.vocabulary import THIRD, Use, wrong
 
 PIN, DATA = b"pin", b"data"
-FIFTH = 0x0100_0005
-LOCKS = NvAttribute.WRITE_STCLEAR | NvAttribute.READ_STCLEAR
-PROTECTED = HERE | Attribute.USER_WITH_AUTH
+PROTECTED = HERE | ObjectAttribute.USER_WITH_AUTH
 PARENT, SEALED, KEY = range(0x8000_0000, 0x8000_0003)
 
 # The policy of an index whose value may be changed by who knows it.
@@ -19,15 +16,11 @@ CHANGING = policy.after_auth_value(
     SHA256, policy.after_command_code(SHA256, bytes(32), CC.NV_ChangeAuth)
 )
 
-tpm = Teller(
-    "tests/lockout/lockout_commands.tpm",
-    "Each command that is authorized by a protected entity: with maxTries 1 one wrong entry locks, "
-    "and the right one is refused then, whichever command the try was made by.",
-)
+tpm = Teller(__name__, __doc__)
 
 
 def unlock(what="TPM2_DictionaryAttackLockReset"):
-    tpm.does(what, tpm.lock_reset())
+    tpm(what).lock_reset()
 
 
 def tries(name, prepare, outcome="SUCCESS"):
@@ -39,28 +32,8 @@ def tries(name, prepare, outcome="SUCCESS"):
         tpm.fails(f"Right, and refused for another reason: {outcome}", prepare())
     tpm.fails("Wrong: AUTH_FAIL/s1", wrong(prepare()))
     tpm.fails("Right: LOCKOUT", prepare())
-    tpm.fails("TPM2_Unseal of another entity: LOCKOUT", tpm.unsealing(SEALED))
+    tpm("TPM2_Unseal of another entity: LOCKOUT").unsealing(SEALED)
     unlock()
-
-
-def objects():
-    handles = [
-        tpm.create_primary(f"{words} without noDA", RH_OWNER, template, user_auth=PIN, data=data)
-        for words, template, data in (
-            ("A storage key", storage_key(attributes=PROTECTED | STORES), b""),
-            ("A sealed object", sealed(attributes=PROTECTED), DATA),
-            ("An HMAC key", hmac_key(attributes=PROTECTED), DATA),
-        )
-    ]
-    assert handles == [PARENT, SEALED, KEY]
-    made = tpm.create("An object below the storage key", PARENT, sealed(), data=DATA)
-    tries("Create", lambda: tpm.child(PARENT, sealed(), data=DATA))
-    tries("Load", lambda: tpm.loading(PARENT, made))
-    tries("Unseal", lambda: tpm.unsealing(SEALED))
-    tries("HMAC", lambda: tpm.hmac(KEY, DATA, SHA256))
-    tries("Unseal of an HMAC key", lambda: tpm.unsealing(KEY), "ATTRIBUTES/h1")
-    session = tpm.policy("A policy session")
-    tries("PolicySecret of an object", lambda: tpm.secret(session, PIN, of=SEALED))
 
 
 def indices():
@@ -88,49 +61,64 @@ def indices():
     tries("NV_WriteLock", lambda: tpm.write_locking(FIRST))
     tries("NV_Write of what is locked", lambda: tpm.writing(FIRST, DATA), "NV_LOCKED")
     tries("NV_ReadLock", lambda: tpm.read_locking(FIRST))
-    tpm.does("The session is flushed", tpm.flush(session))
+    tpm("The session is flushed").flush(session)
 
 
 def change_auth():
     told = tpm.policy("A policy session")
 
     def prepare():
-        tpm.says("TPM2_PolicyRestart: SUCCESS", tpm.restart(told))
+        tpm.restarts(told)
         code = tpm.command_code(told, CC.NV_ChangeAuth)
         tpm.says("TPM2_PolicyCommandCode: SUCCESS", code)
-        tpm.says("TPM2_PolicyAuthValue: SUCCESS", tpm.auth_value_told(told))
+        tpm("TPM2_PolicyAuthValue").auth_value_told(told)
         return tpm.changing_auth(FIFTH, PIN, Use(told, demand=policy.AUTH_VALUE))
 
     tries("NV_ChangeAuth, by a policy that asks for the value", prepare)
-    tpm.does("The session is flushed", tpm.flush(told))
-
-
-def two_entries():
-    tpm.chapter("A command makes one try at most, whichever of its entries are wrong.")
-    first = tpm.start("A session that is bound to the sealed object", SEALED)
-    second = tpm.start("One that is bound to an index", FIRST)
-    third = tpm.start("One that is bound to nothing")
-    tpm.set_protection("maxTries is 2", 2, 1000, 1000)
-    both = wrong(wrong(tpm.reset(first, second, third)), 2)
-    tpm.fails("The first two are wrong: AUTH_FAIL/s1", both)
-    tpm.accepted("It is not locked: all three", tpm.reset(first, second, third))
-    unlock()
-    behind = wrong(tpm.reset(third, first, second), 2)
-    tpm.fails("The second of three: AUTH_FAIL/s2", behind)
-    tpm.accepted("It is not locked: all three", tpm.reset(first, second, third))
-    tpm.fails("The third of three: AUTH_FAIL/s3", wrong(tpm.reset(third, first, second), 3))
-    tpm.fails("It is locked: LOCKOUT", tpm.reset(third, first, second))
-    unlock()
-    tpm.fails(
-        "The first is wrong and no try, and the others are: BAD_AUTH/s1",
-        wrong(wrong(wrong(tpm.reset(third, first, second)), 2), 3),
-        wrong(wrong(wrong(tpm.reset(third, first, second)), 2), 3),
-    )
-    tpm.accepted("It is not locked", tpm.reset(third, first, second))
+    tpm("The session is flushed").flush(told)
 
 
 tpm.set_protection("TPM2_DictionaryAttackParameters: maxTries is 1", 1, 1000, 1000)
-objects()
+
+handles = [
+    tpm.create_primary(f"{words} without noDA", RH_OWNER, template, user_auth=PIN, data=data)
+    for words, template, data in (
+        ("A storage key", storage_key(attributes=PROTECTED | STORES), b""),
+        ("A sealed object", sealed(attributes=PROTECTED), DATA),
+        ("An HMAC key", hmac_key(attributes=PROTECTED), DATA),
+    )
+]
+assert handles == [PARENT, SEALED, KEY]
+made = tpm.create("An object below the storage key", PARENT, sealed(), data=DATA)
+tries("Create", lambda: tpm.child(PARENT, sealed(), data=DATA))
+tries("Load", lambda: tpm.loading(PARENT, made))
+tries("Unseal", lambda: tpm.unsealing(SEALED))
+tries("HMAC", lambda: tpm.hmac(KEY, DATA, SHA256))
+tries("Unseal of an HMAC key", lambda: tpm.unsealing(KEY), "ATTRIBUTES/h1")
+session = tpm.policy("A policy session")
+tries("PolicySecret of an object", lambda: tpm.secret(session, PIN, of=SEALED))
+
 indices()
 change_auth()
-two_entries()
+
+tpm.chapter("A command makes one try at most, whichever of its entries are wrong.")
+first = tpm.start("A session that is bound to the sealed object", SEALED)
+second = tpm.start("One that is bound to an index", FIRST)
+third = tpm.start("One that is bound to nothing")
+tpm.set_protection("maxTries is 2", 2, 1000, 1000)
+both = wrong(wrong(tpm.reset(first, second, third)), 2)
+tpm.fails("The first two are wrong: AUTH_FAIL/s1", both)
+tpm("It is not locked: all three").reset(first, second, third)
+unlock()
+behind = wrong(tpm.reset(third, first, second), 2)
+tpm.fails("The second of three: AUTH_FAIL/s2", behind)
+tpm("It is not locked: all three").reset(first, second, third)
+tpm.fails("The third of three: AUTH_FAIL/s3", wrong(tpm.reset(third, first, second), 3))
+tpm("It is locked: LOCKOUT").reset(third, first, second)
+unlock()
+tpm.fails(
+    "The first is wrong and no try, and the others are: BAD_AUTH/s1",
+    wrong(wrong(wrong(tpm.reset(third, first, second)), 2), 3),
+    wrong(wrong(wrong(tpm.reset(third, first, second)), 2), 3),
+)
+tpm("It is not locked").reset(third, first, second)

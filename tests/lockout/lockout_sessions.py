@@ -1,24 +1,20 @@
-"""Writes lockout_sessions.tpm: which entries are a try at a protected value."""
+"""Writes lockout_sessions.tpm. Each way in which an entry can be a try at a protected authorization
+value: as the password, in the key of an hmac, or else because its session was bound to a protected
+entity at the start. maxTries is 1 here. So one wrong entry of such a way locks it, and all the
+others.
+"""
 
 from dataclasses import dataclass
 from typing import Callable
 
-from tpmsim.caller import BY_POLICY, BY_VALUE, HERE, Use, area, sealed, wrong
-from tpmsim.standard import RH_LOCKOUT, RH_OWNER, SHA256, policy
-from tpmsim.standard.nv import Attribute as NvAttribute
-from tpmsim.standard.objects import Attribute
-from tpmsim.caller.script_caller import FIRST, SECOND
-from tests.common.teller import Teller
+from tests.common.vocabulary import area, BY_POLICY, BY_VALUE, FIRST, HERE, NvAttribute
+from tests.common.vocabulary import ObjectAttribute, policy, RH_LOCKOUT, RH_OWNER, sealed, SECOND
+from tests.common.vocabulary import SHA256, Teller, Use, wrong
 
 PIN, DATA, OWNER, LOCKOUT = b"pin", b"a secret", b"owner", b"lockout"
 DEMANDING = policy.after_auth_value(SHA256, bytes(32))
 
-tpm = Teller(
-    "tests/lockout/lockout_sessions.tpm",
-    "Each way in which an entry can be a try at a protected authorization value: as the password, "
-    "in the key of an hmac, or else because its session was bound to a protected entity at the "
-    "start. maxTries is 1 here. So one wrong entry of such a way locks it, and all the others.",
-)
+tpm = Teller(__name__, __doc__)
 
 
 @dataclass
@@ -49,10 +45,10 @@ def ways(handle, use):
     sessions = unbound, to_owner, bound, to_lockout, told, bound_policy
 
     def value():
-        tpm.says("TPM2_PolicyAuthValue: SUCCESS", tpm.auth_value_told(told))
+        tpm("TPM2_PolicyAuthValue").auth_value_told(told)
 
     def password():
-        tpm.says("TPM2_PolicyPassword: SUCCESS", tpm.password_told(told))
+        tpm("TPM2_PolicyPassword").password_told(told)
 
     return sessions, (
         Way("The password", lambda: use(PIN)),
@@ -97,15 +93,11 @@ def check(name, handle, use):
         tpm.refused("Now it is locked: right: LOCKOUT", way.prepare())
         tpm.refused("And the password: LOCKOUT", use(PIN))
         if way.tell:
-            tpm.says("TPM2_PolicyRestart: SUCCESS", tpm.restart(sessions[4]))
-        unlock()
+            tpm.restarts(sessions[4])
+        tpm.unlocks()
     not_a_try(name, handle, sessions)
     for session in sessions:
-        tpm.does("It is flushed" if session is sessions[0] else "", tpm.flush(session))
-
-
-def unlock():
-    tpm.does("TPM2_DictionaryAttackLockReset", tpm.lock_reset())
+        tpm("It is flushed" if session is sessions[0] else "").flush(session)
 
 
 def not_a_try(name, handle, sessions):
@@ -122,15 +114,13 @@ def not_a_try(name, handle, sessions):
     )
     for words, prepare, arguments, place in others:
         tpm.refused(f"{words}: wrong: BAD_AUTH/s{place}", wrong(prepare(*arguments), place))
-    tpm.accepted("It is not locked", tpm.random(2, bound))
+    tpm("It is not locked").random(2, bound)
     tpm.refused("Now a try: AUTH_FAIL/s1", wrong(tpm.random(2, bound)))
     for words, prepare, arguments, _ in others:
         tpm.accepted(f"{words}: right", prepare(*arguments))
-    tpm.accepted("Bound to TPM_RH_LOCKOUT, on PCR 16", tpm.reset(to_lockout))
-    tpm.accepted(
-        "Bound to the entity, on TPM_RH_LOCKOUT: lockoutAuth is what is tried there",
-        tpm.lock_reset(bound),
-    )
+    tpm("Bound to TPM_RH_LOCKOUT, on PCR 16").reset(to_lockout)
+    said = tpm("Bound to the entity, on TPM_RH_LOCKOUT: lockoutAuth is what is tried there")
+    said.lock_reset(bound)
 
 
 def policy_without_value():
@@ -141,74 +131,62 @@ def policy_without_value():
     session = tpm.policy("A policy session")
 
     def use():
-        tpm.says("TPM2_PolicyLocality of locality 0: SUCCESS", tpm.locality(session, 1))
+        tpm("TPM2_PolicyLocality of locality 0").locality(session, 1)
         return tpm.writing(SECOND, DATA, session)
 
     tpm.accepted("TPM2_NV_Write", use())
     tpm.refused("With an hmac that is not asked for: BAD_AUTH/s1", wrong(use()))
-    tpm.says("TPM2_PolicyRestart: SUCCESS", tpm.restart(session))
+    tpm.restarts(session)
     tpm.refused("A try at another entity: AUTH_FAIL/s1", tpm.writing(FIRST, DATA, b"x"))
     tpm.accepted("It is open still", use())
-    unlock()
+    tpm.unlocks()
     bound = tpm.policy("A policy session that is bound to the other entity", bind=FIRST)
 
     def bound_use():
-        tpm.says("TPM2_PolicyLocality of locality 0: SUCCESS", tpm.locality(bound, 1))
+        tpm("TPM2_PolicyLocality of locality 0").locality(bound, 1)
         return tpm.writing(SECOND, DATA, bound)
 
     tpm.accepted("TPM2_NV_Write", bound_use())
     tpm.refused("A wrong hmac: a try at the other entity: AUTH_FAIL/s1", wrong(bound_use()))
-    tpm.refused("It is locked: LOCKOUT", tpm.writing(SECOND, DATA, bound))
-    unlock()
-    tpm.does("The index is undefined", tpm.undefining(SECOND, OWNER))
-    tpm.does("The sessions are flushed", tpm.flush(session))
-    tpm.does("", tpm.flush(bound))
-
-
-def lasting():
-    tpm.chapter("A session stays one that was bound to a protected entity, for good.")
-    tpm.define("An index", area(SECOND, BY_VALUE), OWNER, auth=PIN)
-    bound = tpm.start("A session that is bound to it", SECOND)
-    tpm.does("The index is undefined", tpm.undefining(SECOND, OWNER))
-    tpm.accepted("On PCR 16", tpm.reset(bound))
-    tpm.refused("Wrong: that is a try: AUTH_FAIL/s1", wrong(tpm.reset(bound)))
-    tpm.refused("It is locked: LOCKOUT", tpm.reset(bound))
-    unlock()
-    tpm.define(
-        "The index again, with TPMA_NV_NO_DA",
-        area(SECOND, BY_VALUE | NvAttribute.NO_DA),
-        OWNER,
-        auth=PIN,
-    )
-    free = tpm.start("A session that is bound to it now", SECOND)
-    tpm.refused("Wrong: no try: BAD_AUTH/s1", wrong(tpm.reset(free)))
-    tpm.refused(
-        "The first session on it: what that was bound to was protected: AUTH_FAIL/s1",
-        wrong(tpm.writing(SECOND, DATA, bound)),
-    )
-    tpm.accepted("Locked or not, the second session", tpm.writing(SECOND, DATA, free))
-    unlock()
-    for session in (bound, free):
-        tpm.does("It is flushed", tpm.flush(session))
+    tpm("It is locked: LOCKOUT").writing(SECOND, DATA, bound)
+    tpm.unlocks()
+    tpm("The index is undefined").undefining(SECOND, OWNER)
+    tpm("The sessions are flushed").flush(session)
+    tpm("").flush(bound)
 
 
 tpm.set_protection("TPM2_DictionaryAttackParameters: maxTries is 1", 1, 1000, 1000)
-tpm.does('lockoutAuth is "lockout"', tpm.change_auth(RH_LOCKOUT, LOCKOUT, b""))
-tpm.does('ownerAuth is "owner"', tpm.change_auth(RH_OWNER, OWNER, b""))
-tpm.define(
-    "An NV index, with a policy that asks for its value",
-    area(FIRST, BY_VALUE | BY_POLICY, auth_policy=DEMANDING),
-    auth=PIN,
-)
-tpm.does("It is written", tpm.writing(FIRST, DATA))
+tpm('lockoutAuth is "lockout"').change_auth(RH_LOCKOUT, LOCKOUT, b"")
+tpm('ownerAuth is "owner"').change_auth(RH_OWNER, OWNER, b"")
+said = tpm("An NV index, with a policy that asks for its value")
+said.define(area(FIRST, BY_VALUE | BY_POLICY, auth_policy=DEMANDING), auth=PIN)
+tpm("It is written").writing(FIRST, DATA)
 SEALED = tpm.create_primary(
     "A sealed object, with the same policy",
     RH_OWNER,
-    sealed(attributes=HERE | Attribute.USER_WITH_AUTH, auth_policy=DEMANDING),
+    sealed(attributes=HERE | ObjectAttribute.USER_WITH_AUTH, auth_policy=DEMANDING),
     user_auth=PIN,
     data=DATA,
 )
 check("the NV index", FIRST, lambda use: tpm.writing(FIRST, DATA, use))
 check("the object", SEALED, lambda use: tpm.unsealing(SEALED, use))
 policy_without_value()
-lasting()
+
+tpm.chapter("A session stays one that was bound to a protected entity, for good.")
+tpm.define("An index", area(SECOND, BY_VALUE), OWNER, auth=PIN)
+bound = tpm.start("A session that is bound to it", SECOND)
+tpm("The index is undefined").undefining(SECOND, OWNER)
+tpm("On PCR 16").reset(bound)
+tpm.refused("Wrong: that is a try: AUTH_FAIL/s1", wrong(tpm.reset(bound)))
+tpm("It is locked: LOCKOUT").reset(bound)
+tpm.unlocks()
+said = tpm("The index again, with TPMA_NV_NO_DA")
+said.define(area(SECOND, BY_VALUE | NvAttribute.NO_DA), OWNER, auth=PIN)
+free = tpm.start("A session that is bound to it now", SECOND)
+tpm.refused("Wrong: no try: BAD_AUTH/s1", wrong(tpm.reset(free)))
+said = tpm("The first session on it: what that was bound to was protected: AUTH_FAIL/s1")
+said.refused(wrong(tpm.writing(SECOND, DATA, bound)))
+tpm("Locked or not, the second session").writing(SECOND, DATA, free)
+tpm.unlocks()
+for session in (bound, free):
+    tpm("It is flushed").flush(session)

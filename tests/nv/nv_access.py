@@ -1,26 +1,20 @@
-"""Writes nv_access.tpm: who may write an index and read it, by each attribute alone."""
+"""Writes nv_access.tpm. Each attribute for writing and reading alone, with each kind of authHandle:
+the owner, the platform, the index itself and another one. By passwords, which a policy is not.
+"""
 
-from tpmsim.caller import BY_POLICY, BY_VALUE, area, bits, counter, extended
-from tpmsim.standard import RH_OWNER, RH_PLATFORM, frames, nv
-from tpmsim.standard.nv import Attribute
-from tpmsim.caller.script_caller import FIRST, SECOND, THIRD
-from tests.common.teller import Teller
+from tests.common.vocabulary import area, bits, BY_POLICY, BY_VALUE, counter, extended, FIRST
+from tests.common.vocabulary import frames, LOCKS, nv, NvAttribute, RH_OWNER, RH_PLATFORM, SECOND
+from tests.common.vocabulary import Teller, THIRD
 
 # What an index allows by one attribute for writing and one for reading, and who then may.
 ALLOWED = (
-    (Attribute.OWNERWRITE, Attribute.OWNERREAD, "owner"),
-    (Attribute.PPWRITE, Attribute.PPREAD, "platform"),
-    (Attribute.AUTHWRITE, Attribute.AUTHREAD, "index"),
-    (Attribute.POLICYWRITE, Attribute.POLICYREAD, "policy"),
+    (NvAttribute.OWNERWRITE, NvAttribute.OWNERREAD, "owner"),
+    (NvAttribute.PPWRITE, NvAttribute.PPREAD, "platform"),
+    (NvAttribute.AUTHWRITE, NvAttribute.AUTHREAD, "index"),
+    (NvAttribute.POLICYWRITE, NvAttribute.POLICYREAD, "policy"),
 )
-LOCKS = Attribute.WRITE_STCLEAR | Attribute.READ_STCLEAR
 
-tpm = Teller(
-    "tests/nv/nv_access.tpm",
-    "Each attribute for writing and reading alone, with each kind of authHandle: the owner, the "
-    "platform, the index itself and another one. By passwords, which a policy is not.",
-    starts=False,
-)
+tpm = Teller(__name__, __doc__, starts=False)
 ASKERS = (("The owner", RH_OWNER, "owner"), ("The platform", RH_PLATFORM, "platform"))
 
 
@@ -48,11 +42,10 @@ def each_asker(what, allowed, prepare):
 def changes(what, public, change, allowed):
     tpm.define(what, public, auth=b"a")
     each_asker("TPM2_NV_WriteLock", allowed, lambda by: tpm.write_locking(FIRST, by=by))
-    tpm.power()
-    tpm.startup()
+    tpm.power_cycle()
     each_asker("its change", allowed, lambda by: change(FIRST, by=by))
-    tpm.is_now("TPM2_NV_ReadPublic", FIRST, cleared=Attribute.WRITELOCKED)
-    tpm.does("It is undefined", tpm.undefining(FIRST))
+    tpm.is_now("TPM2_NV_ReadPublic", FIRST, cleared=NvAttribute.WRITELOCKED)
+    tpm("It is undefined").undefining(FIRST)
 
 
 def may_write(attribute, allowed):
@@ -70,53 +63,22 @@ def may_write(attribute, allowed):
 def may_read(attribute, allowed):
     public = area(FIRST, attribute | nv.WRITES | LOCKS)
     tpm.define(f"{attribute.name}, and all that allow to write", public, auth=b"a")
-    tpm.does("TPM2_NV_Write", tpm.writing(FIRST, b"written."))
+    tpm("TPM2_NV_Write").writing(FIRST, b"written.")
     each_asker("TPM2_NV_Read", allowed, lambda by: tpm.reading(FIRST, 8, by=by))
     session = tpm.policy("A policy session")
     each_asker("TPM2_PolicyNV", allowed, lambda by: tpm.comparing(session, FIRST, b"w", by=by))
-    tpm.says("It is flushed: SUCCESS", tpm.flush(session))
+    tpm("It is flushed").flush(session)
     session = tpm.policy("Another, to be told TPM2_PolicySecret")
-    comes_to(
-        "TPM2_PolicySecret of the index",
-        refusal("index", allowed),
-        tpm.secret(session, tpm.auth_value(FIRST), of=FIRST),
-    )
-    tpm.says("It is flushed: SUCCESS", tpm.flush(session))
+    case = "TPM2_PolicySecret of the index"
+    comes_to(case, refusal("index", allowed), tpm.secret(session, tpm.auth_value(FIRST), of=FIRST))
+    tpm("It is flushed").flush(session)
     each_asker("TPM2_NV_ReadLock", allowed, lambda by: tpm.read_locking(FIRST, by=by))
-    tpm.does("It is undefined", tpm.undefining(FIRST))
-
-
-def wrong_handles():
-    tpm.chapter("authHandle and nvIndex of other kinds.")
-    right = tpm.reading(SECOND, 8)
-    for what, place, handles in (
-        (
-            "authHandle: TPM_RH_NULL, TPM_RH_LOCKOUT, TPM_RH_ENDORSEMENT, TPM_RS_PW, PCR 0, an "
-            "object and a session",
-            1,
-            (
-                *(frames.RH_NULL, frames.RH_LOCKOUT, frames.RH_ENDORSEMENT, frames.RS_PW),
-                *(0, 0x8000_0000, 0x0300_0000),
-            ),
-        ),
-        (
-            "nvIndex: the owner, the platform, PCR 1, an object and a session",
-            2,
-            (RH_OWNER, RH_PLATFORM, 1, 0x8000_0000, 0x0200_0000),
-        ),
-    ):
-        handles = [[it, SECOND] if place == 1 else [SECOND, it] for it in handles]
-        wrong = [right.but(handles=it) for it in handles]
-        tpm.fails(f"{what}: VALUE/h{place}", *wrong)
-    tpm.does("An index is undefined", tpm.undefining(FIRST))
-    tpm.fails("authHandle that is not defined: HANDLE/h1", right.but(handles=[FIRST, SECOND]))
-    tpm.fails("nvIndex that is not: HANDLE/h2", right.but(handles=[SECOND, FIRST]))
-    tpm.fails("Both: HANDLE/h1", right.but(handles=[FIRST, FIRST]))
+    tpm("It is undefined").undefining(FIRST)
 
 
 tpm.startup()
 tpm.define("Another index, which can be used by its value", area(SECOND, BY_VALUE), auth=b"b")
-tpm.does("It is written", tpm.writing(SECOND, b"other..."))
+tpm("It is written").writing(SECOND, b"other...")
 for write, read, allowed in ALLOWED:
     tpm.chapter(f"{write.name} alone.")
     may_write(write, allowed)
@@ -127,12 +89,34 @@ for write, read, allowed in ALLOWED:
 tpm.chapter("Another index as authHandle: its own attributes say whether it authorizes at all.")
 tpm.define("The index that is asked for", area(FIRST, BY_VALUE), auth=b"a")
 tpm.define("One that only a policy can use", area(THIRD, BY_POLICY), auth=b"c")
-tpm.does("The first is written", tpm.writing(FIRST, b"x"))
-tpm.fails("TPM2_NV_Read by the one: AUTH_UNAVAILABLE", tpm.reading(FIRST, 1, by=THIRD))
-tpm.fails("TPM2_NV_Write by it: AUTH_UNAVAILABLE", tpm.writing(FIRST, b"x", by=THIRD))
-tpm.fails(
-    "With its right value the other may not, either: NV_AUTHORIZATION",
-    tpm.reading(FIRST, 1, by=SECOND),
-)
-tpm.fails("Nor with a wrong one: AUTH_FAIL/s1", tpm.reading(FIRST, 1, b"a", by=SECOND))
-wrong_handles()
+tpm("The first is written").writing(FIRST, b"x")
+tpm("TPM2_NV_Read by the one: AUTH_UNAVAILABLE").reading(FIRST, 1, by=THIRD)
+tpm("TPM2_NV_Write by it: AUTH_UNAVAILABLE").writing(FIRST, b"x", by=THIRD)
+tpm("With its right value the other may not, either: NV_AUTHORIZATION").reading(FIRST, 1, by=SECOND)
+tpm("Nor with a wrong one: AUTH_FAIL/s1").reading(FIRST, 1, b"a", by=SECOND)
+
+tpm.chapter("authHandle and nvIndex of other kinds.")
+right = tpm.reading(SECOND, 8)
+for what, place, handles in (
+    (
+        "authHandle: TPM_RH_NULL, TPM_RH_LOCKOUT, TPM_RH_ENDORSEMENT, TPM_RS_PW, PCR 0, an "
+        "object and a session",
+        1,
+        (
+            *(frames.RH_NULL, frames.RH_LOCKOUT, frames.RH_ENDORSEMENT, frames.RS_PW),
+            *(0, 0x8000_0000, 0x0300_0000),
+        ),
+    ),
+    (
+        "nvIndex: the owner, the platform, PCR 1, an object and a session",
+        2,
+        (RH_OWNER, RH_PLATFORM, 1, 0x8000_0000, 0x0200_0000),
+    ),
+):
+    handles = [[it, SECOND] if place == 1 else [SECOND, it] for it in handles]
+    wrong = [right.but(handles=it) for it in handles]
+    tpm.fails(f"{what}: VALUE/h{place}", *wrong)
+tpm("An index is undefined").undefining(FIRST)
+tpm.fails("authHandle that is not defined: HANDLE/h1", right.but(handles=[FIRST, SECOND]))
+tpm.fails("nvIndex that is not: HANDLE/h2", right.but(handles=[SECOND, FIRST]))
+tpm.fails("Both: HANDLE/h1", right.but(handles=[FIRST, FIRST]))

@@ -1,60 +1,47 @@
-"""Writes nv_bits_and_extend.tpm: indices of bits, and indices that are extended."""
+"""Writes nv_bits_and_extend.tpm. Indices of bits, in which TPM2_NV_SetBits sets more and more, and
+indices that are extended as PCRs are, each by its own hash algorithm.
+"""
 
-from tpmsim.caller import BY_OWNER, bits, extended
-from tpmsim.standard import RH_OWNER, SHA1, digest, digest_bytes, frames, number
-from tpmsim.standard.nv import Attribute
-from tpmsim.caller.script_caller import FIRST, HASHES, SECOND, THIRD
-from tests.common.teller import Teller
+from tests.common.vocabulary import bits, BY_OWNER, digest, digest_bytes, extended, FIRST, frames
+from tests.common.vocabulary import HASHES, number, NvAttribute, RH_OWNER, SECOND, SHA1, Teller
+from tests.common.vocabulary import THIRD
 
-CLEARED = Attribute.CLEAR_STCLEAR
+CLEARED = NvAttribute.CLEAR_STCLEAR
 
-tpm = Teller(
-    "tests/nv/nv_bits_and_extend.tpm",
-    "Indices of bits, in which TPM2_NV_SetBits sets more and more, and indices that are extended "
-    "as PCRs are, each by its own hash algorithm.",
-    starts=False,
-)
+tpm = Teller(__name__, __doc__, starts=False)
 
 
 def set_bits(what, index, more, value):
-    tpm.does(what, tpm.setting(index, more, by=RH_OWNER))
+    tpm(what).setting(index, more, by=RH_OWNER)
     tpm.read(f"It is {value:X}", index, number(value, 8), by=RH_OWNER)
 
 
 tpm.startup()
 tpm.chapter("Bits.")
 tpm.define("TPM2_NV_DefineSpace (attributes 00020022)", bits(FIRST, BY_OWNER))
-tpm.fails("TPM2_NV_Read before the first bit: NV_UNINITIALIZED", tpm.reading(FIRST, 8, by=RH_OWNER))
+tpm("TPM2_NV_Read before the first bit: NV_UNINITIALIZED").reading(FIRST, 8, by=RH_OWNER)
 set_bits("TPM2_NV_SetBits of 1", FIRST, 1, 1)
 set_bits("Of 4", FIRST, 4, 5)
 set_bits("Of 4 again", FIRST, 4, 5)
 set_bits("Of none", FIRST, 0, 5)
 set_bits("Of the highest one", FIRST, 1 << 63, 1 << 63 | 5)
 set_bits("Of all", FIRST, 2**64 - 1, 2**64 - 1)
-tpm.define(
-    "Another, of SHA-1, that each start clears", bits(SECOND, BY_OWNER | CLEARED, algorithm=SHA1)
-)
+said = tpm("Another, of SHA-1, that each start clears")
+said.define(bits(SECOND, BY_OWNER | CLEARED, algorithm=SHA1))
 set_bits("No bit is set, and it is written", SECOND, 0, 0)
 set_bits("TPM2_NV_SetBits of 8", SECOND, 8, 8)
 wrong = tpm.setting(SECOND, 0, by=RH_OWNER)
-tpm.fails(
-    "Seven bytes, and none: INSUFFICIENT/p1",
-    wrong.but(parameters=bytes(7)),
-    wrong.but(parameters=b""),
-)
+said = tpm("Seven bytes, and none: INSUFFICIENT/p1")
+said.fails(wrong.but(parameters=bytes(7)), wrong.but(parameters=b""))
 tpm.fails("Nine bytes: SIZE", wrong.but(parameters=bytes(9)))
 
 for index, (algorithm, name) in zip((THIRD, THIRD + 1), HASHES):
     tpm.chapter(f"An index that is extended, of {name}.")
     zeros = bytes(digest_bytes(algorithm))
     size = len(zeros)
-    tpm.define(
-        f"TPM2_NV_DefineSpace (attributes 00020042), of {size} bytes",
-        extended(index, BY_OWNER, algorithm=algorithm),
-    )
-    tpm.fails(
-        "TPM2_NV_Read before the first: NV_UNINITIALIZED", tpm.reading(index, size, by=RH_OWNER)
-    )
+    said = tpm(f"TPM2_NV_DefineSpace (attributes 00020042), of {size} bytes")
+    said.define(extended(index, BY_OWNER, algorithm=algorithm))
+    tpm("TPM2_NV_Read before the first: NV_UNINITIALIZED").reading(index, size, by=RH_OWNER)
     value = zeros
     for what, data in (
         ('TPM2_NV_Extend by "abc", itself and not its digest', b"abc"),
@@ -62,7 +49,7 @@ for index, (algorithm, name) in zip((THIRD, THIRD + 1), HASHES):
         ("By a digest", digest(algorithm, b"abc")),
         ("By 1,024 bytes", bytes(1024)),
     ):
-        tpm.does(what, tpm.extending(index, data, by=RH_OWNER))
+        tpm(what).extending(index, data, by=RH_OWNER)
         value = digest(algorithm, value + data)
         tpm.read("It is the digest of the value before and the data", index, value, by=RH_OWNER)
     wrong = tpm.extending(index, bytes(1025), by=RH_OWNER)
@@ -73,22 +60,18 @@ for index, (algorithm, name) in zip((THIRD, THIRD + 1), HASHES):
     tpm.read("A piece of it", index, value[3:9], offset=3, by=RH_OWNER)
 
 tpm.chapter("At the next start the first is as it was, and the second is not written any more.")
-tpm.power()
-tpm.startup()
+tpm.power_cycle()
 tpm.read("TPM2_NV_Read of the first", FIRST, b"\xff" * 8, by=RH_OWNER)
-tpm.fails("Of the second: NV_UNINITIALIZED", tpm.reading(SECOND, 8, by=RH_OWNER))
+tpm("Of the second: NV_UNINITIALIZED").reading(SECOND, 8, by=RH_OWNER)
 set_bits("TPM2_NV_SetBits of 2 in the second", SECOND, 2, 2)
 tpm.read("The last one goes on", THIRD + 1, value, by=RH_OWNER)
-tpm.does('TPM2_NV_Extend by "next"', tpm.extending(THIRD + 1, b"next", by=RH_OWNER))
+tpm('TPM2_NV_Extend by "next"').extending(THIRD + 1, b"next", by=RH_OWNER)
 tpm.read("It is the digest of both", THIRD + 1, digest(algorithm, value + b"next"), by=RH_OWNER)
-tpm.does("It is undefined", tpm.undefining(THIRD + 1))
-tpm.define(
-    "And defined so that each start clears it",
-    extended(THIRD + 1, BY_OWNER | CLEARED, algorithm=algorithm),
-)
+tpm("It is undefined").undefining(THIRD + 1)
+said = tpm("And defined so that each start clears it")
+said.define(extended(THIRD + 1, BY_OWNER | CLEARED, algorithm=algorithm))
 once = digest(algorithm, zeros + b"next")
 for what in ('TPM2_NV_Extend by "next"', "After the next start, the same"):
-    tpm.does(what, tpm.extending(THIRD + 1, b"next", by=RH_OWNER))
+    tpm(what).extending(THIRD + 1, b"next", by=RH_OWNER)
     tpm.read("It is the digest of zeros and the data", THIRD + 1, once, by=RH_OWNER)
-    tpm.power()
-    tpm.startup()
+    tpm.power_cycle()

@@ -1,17 +1,11 @@
-"""Writes nv_counters.tpm: counters, which never go back."""
+"""Writes nv_counters.tpm. Counters. A new one begins behind the largest value that any counter ever
+had, so that none has a value twice. Index 01000002 has the attributes 00020012.
+"""
 
-from tpmsim.caller import BY_OWNER, area, counter
-from tpmsim.standard import RH_OWNER, SHA1, number
-from tpmsim.standard.nv import Attribute
-from tpmsim.caller.script_caller import FIRST, FOURTH, SECOND, THIRD
-from tests.common.teller import Teller
+from tests.common.vocabulary import area, BY_OWNER, counter, FIRST, FOURTH, number, NvAttribute
+from tests.common.vocabulary import RH_OWNER, SECOND, SHA1, Teller, THIRD
 
-tpm = Teller(
-    "tests/nv/nv_counters.tpm",
-    "Counters. A new one begins behind the largest value that any counter ever had, so that none "
-    "has a value twice. Index 01000002 has the attributes 00020012.",
-    starts=False,
-)
+tpm = Teller(__name__, __doc__, starts=False)
 
 
 def count(what, index, value, times=1):
@@ -27,20 +21,18 @@ def define(what, index, **more):
 
 
 def define_again(what, index):
-    tpm.does("TPM2_NV_UndefineSpace", tpm.undefining(index))
+    tpm("TPM2_NV_UndefineSpace").undefining(index)
     define(what, index)
 
 
 tpm.startup()
 define("TPM2_NV_DefineSpace of 01000002", SECOND)
 assert tpm.publics[SECOND].attributes == 0x0002_0012
-tpm.fails(
-    "TPM2_NV_Read before the first TPM2_NV_Increment: NV_UNINITIALIZED",
-    tpm.reading(SECOND, 8, by=RH_OWNER),
-)
+said = tpm("TPM2_NV_Read before the first TPM2_NV_Increment: NV_UNINITIALIZED")
+said.reading(SECOND, 8, by=RH_OWNER)
 count("Three times TPM2_NV_Increment", SECOND, 3, times=3)
 define_again("It is defined again", SECOND)
-tpm.fails("TPM2_NV_Read: NV_UNINITIALIZED", tpm.reading(SECOND, 8, by=RH_OWNER))
+tpm("TPM2_NV_Read: NV_UNINITIALIZED").reading(SECOND, 8, by=RH_OWNER)
 count("TPM2_NV_Increment: it goes on behind 3", SECOND, 4)
 assert tpm.last.response == bytes.fromhex(
     "8002 0000001D 00000000 0000000A 0008 0000000000000004 0000 01 0000"
@@ -55,7 +47,7 @@ count("So does the other, which is behind it now", FIRST, 6)
 define("A third one", THIRD)
 count("It begins behind the largest of the two", THIRD, 8)
 count("The other again", FIRST, 7)
-tpm.does("The third is undefined", tpm.undefining(THIRD))
+tpm("The third is undefined").undefining(THIRD)
 define("A fourth one", FOURTH)
 count("It begins behind what the third had", FOURTH, 9)
 count("The first", SECOND, 8)
@@ -66,36 +58,33 @@ define_again("And again", FOURTH)
 count("TPM2_NV_Increment", FOURTH, 10)
 
 tpm.chapter("Across power cycles.")
-tpm.power()
-tpm.startup()
+tpm.power_cycle()
 for index, value in ((FIRST, 7), (SECOND, 8), (FOURTH, 10)):
     tpm.read(f"It is {value}", index, number(value, 8), by=RH_OWNER)
 count("The first", SECOND, 9)
 define_again("Another one again", FIRST)
-tpm.power()
-tpm.startup()
+tpm.power_cycle()
 count("It begins behind the largest", FIRST, 11)
 
 tpm.chapter("Its bytes are read as those of any index.")
 tpm.read("The last byte", FIRST, b"\x0b", offset=7, by=RH_OWNER)
 tpm.read("Four in the middle", FIRST, bytes(4), offset=2, by=RH_OWNER)
-tpm.fails("Past the end: NV_RANGE", tpm.reading(FIRST, 2, offset=7, by=RH_OWNER))
+tpm("Past the end: NV_RANGE").reading(FIRST, 2, offset=7, by=RH_OWNER)
 
 tpm.chapter("What is no counter does not count.")
 tpm.define("An ordinary index of eight bytes", area(THIRD, BY_OWNER))
-tpm.does("TPM2_NV_Write of 255", tpm.writing(THIRD, number(255, 8), by=RH_OWNER))
-tpm.fails("TPM2_NV_Increment: ATTRIBUTES/h2", tpm.incrementing(THIRD, by=RH_OWNER))
+tpm("TPM2_NV_Write of 255").writing(THIRD, number(255, 8), by=RH_OWNER)
+tpm("TPM2_NV_Increment: ATTRIBUTES/h2").incrementing(THIRD, by=RH_OWNER)
 define_again("01000001 again", FIRST)
 count("TPM2_NV_Increment: the ordinary index does not matter", FIRST, 12)
 
 tpm.chapter("Locked until the next start.")
-lockable = counter(FOURTH, BY_OWNER | Attribute.WRITE_STCLEAR)
-tpm.does("TPM2_NV_UndefineSpace", tpm.undefining(FOURTH))
+lockable = counter(FOURTH, BY_OWNER | NvAttribute.WRITE_STCLEAR)
+tpm("TPM2_NV_UndefineSpace").undefining(FOURTH)
 tpm.define("A counter with WRITE_STCLEAR", lockable)
 count("TPM2_NV_Increment", FOURTH, 13)
-tpm.does("TPM2_NV_WriteLock", tpm.write_locking(FOURTH, by=RH_OWNER))
-tpm.fails("TPM2_NV_Increment: NV_LOCKED", tpm.incrementing(FOURTH, by=RH_OWNER))
+tpm("TPM2_NV_WriteLock").write_locking(FOURTH, by=RH_OWNER)
+tpm("TPM2_NV_Increment: NV_LOCKED").incrementing(FOURTH, by=RH_OWNER)
 tpm.read("It is read as before", FOURTH, number(13, 8), by=RH_OWNER)
-tpm.power()
-tpm.startup()
+tpm.power_cycle()
 count("TPM2_NV_Increment after the next start", FOURTH, 14)

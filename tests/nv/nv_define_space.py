@@ -1,19 +1,16 @@
-"""Writes nv_define_space.tpm: what an index can be defined with, and how many can be."""
+"""Writes nv_define_space.tpm. TPM2_NV_DefineSpace: which public areas an index can have, and how
+many indices there can be.
+"""
 
-from tpmsim.caller import BY_OWNER, area, bits, counter, extended
+from tpmsim.standard.nv import Type
+from tests.common.vocabulary import area, bits, BY_OWNER, counter, digest_bytes, extended, FIRST
+from tests.common.vocabulary import frames, HASHES, number, nv, NvAttribute, RH_ENDORSEMENT
+from tests.common.vocabulary import RH_LOCKOUT, RH_NULL, RH_OWNER, RH_PLATFORM, SHA1, sized, Teller
 from tpmsim.model import nv_commands
-from tpmsim.standard import RH_ENDORSEMENT, RH_LOCKOUT, RH_NULL, RH_OWNER, RH_PLATFORM, SHA1
-from tpmsim.standard import digest_bytes, frames, number, nv, sized
-from tpmsim.standard.nv import Attribute, Type
-from tpmsim.caller.script_caller import FIRST, HASHES
-from tests.common.teller import Teller
 
-CREATED = Attribute.PLATFORMCREATE
+CREATED = NvAttribute.PLATFORMCREATE
 
-tpm = Teller(
-    "tests/nv/nv_define_space.tpm",
-    "TPM2_NV_DefineSpace: which public areas an index can have, and how many indices there can be.",
-)
+tpm = Teller(__name__, __doc__)
 
 
 def fitting(what, public, **more):
@@ -21,7 +18,7 @@ def fitting(what, public, **more):
     by = more.get("by", RH_OWNER)
     tpm.define(what, public, **more)
     tpm.is_now("", public.index)
-    tpm.does("", tpm.undefining(public.index, by=by))
+    tpm("").undefining(public.index, by=by)
 
 
 def unfitting(words, *publics, **more):
@@ -31,61 +28,6 @@ def unfitting(words, *publics, **more):
 def raw(text):
     """The parameters are the text."""
     return tpm.defining(area()).but(parameters=text)
-
-
-def parameters():
-    tpm.chapter("The parameters: auth and publicInfo.")
-    good = sized(area().text)
-    tpm.fails(
-        "auth that is cut: before its size, within it, and within its bytes: INSUFFICIENT/p1",
-        *(raw(it) for it in (b"", b"\0", b"\0\1", b"\0\x20" + bytes(31))),
-    )
-    tpm.fails(
-        "auth of 33 bytes, whole or cut, also where they are zeros: SIZE/p1",
-        raw(sized(b"a" * 33) + good),
-        raw(sized(bytes(33)) + good),
-        raw(number(33, 2)),
-    )
-    empty = sized(b"")
-    tpm.fails(
-        "publicInfo that is cut: before its size, within it, and within its bytes: INSUFFICIENT/p2",
-        *(raw(empty + it) for it in (b"", b"\0", good[:-1], b"\xff\xff")),
-    )
-    text = area().text
-    tpm.fails(
-        "Its size does not reach to the end of its fields: SIZE/p2",
-        *(raw(empty + sized(text[:length])) for length in range(len(text))),
-    )
-    tpm.fails(
-        "Its size reaches beyond them, or dataSize is behind it: SIZE/p2",
-        raw(empty + sized(text + b"\0")),
-        raw(empty + sized(text[:-2]) + text[-2:]),
-    )
-    tpm.fails("A byte behind publicInfo: SIZE", raw(empty + good + b"\0"))
-    unfitting(
-        "nvIndex that is no handle of an index: VALUE/p2",
-        *(area(it) for it in (0, 0x0000_0001, 0x0200_0001, RH_OWNER, 0x8100_0001, 0xFFFF_FFFF)),
-    )
-    for what, code, at, bad in (
-        ("nameAlg: SHA-384, NULL and none", "HASH/p2", 4, (0x000C, 0x0010, 0)),
-        ("Reserved attributes 8, 9 and 20 to 24", "RESERVED_BITS/p2", 6, (1 << 8, 1 << 9)),
-    ):
-        size = 2 if at == 4 else 4
-        texts = [text[:at] + number(it, size) + text[at + size :] for it in bad]
-        if at == 6:
-            texts += [
-                text[:at] + number(BY_OWNER | 1 << it, 4) + text[at + size :]
-                for it in range(20, 25)
-            ]
-        tpm.fails(f"{what}: {code}", *(raw(empty + sized(it)) for it in texts))
-    tpm.fails(
-        "authPolicy of 33 bytes: SIZE/p2",
-        *(raw(empty + sized(area(auth_policy=it).text)) for it in (bytes(33), b"p" * 33)),
-    )
-    tpm.fails(
-        "A wrong nvIndex is found before a wrong nameAlg, as they are read in order: VALUE/p2",
-        raw(empty + sized(number(0, 6))),
-    )
 
 
 def handles():
@@ -103,15 +45,14 @@ def handles():
         tpm.fails(f"{what}: VALUE/h1", *(tpm.defining(area(), b"", by=it) for it in handles))
     tpm.fails("Without sessions: AUTH_MISSING", tpm.defining(area()).but(entries=[]))
     fitting("By the owner", area())
-    fitting(
-        "By the platform, with PLATFORMCREATE", area(attributes=BY_OWNER | CREATED), by=RH_PLATFORM
-    )
+    case = "By the platform, with PLATFORMCREATE"
+    fitting(case, area(attributes=BY_OWNER | CREATED), by=RH_PLATFORM)
     unfitting("By the owner, with it: ATTRIBUTES/p2", area(attributes=BY_OWNER | CREATED))
     unfitting("By the platform, without it: ATTRIBUTES/p2", area(), by=RH_PLATFORM)
-    tpm.does('ownerAuth becomes "abc"', tpm.change_auth(RH_OWNER, b"abc", b""))
-    tpm.fails("By the empty password: BAD_AUTH/s1", tpm.defining(area(), b""))
+    tpm('ownerAuth becomes "abc"').change_auth(RH_OWNER, b"abc", b"")
+    tpm("By the empty password: BAD_AUTH/s1").defining(area(), b"")
     fitting("By the right one", area())
-    tpm.does("It is empty again", tpm.change_auth(RH_OWNER, b"", b"abc"))
+    tpm("It is empty again").change_auth(RH_OWNER, b"", b"abc")
 
 
 def sizes():
@@ -128,26 +69,20 @@ def sizes():
         fitting(f"auth of {size} bytes", of(), auth=b"a" * size)
         fitting("auth of a byte, and zeros behind it up to 32", of(), auth=b"a" + bytes(31))
         fitting("auth of 32 zeros", of(), auth=bytes(32))
-        unfitting(
-            "authPolicy of any size but a digest's: SIZE/p2",
-            *(of(auth_policy=b"p" * it) for it in range(1, 33) if it != size),
-        )
+        case = "authPolicy of any size but a digest's: SIZE/p2"
+        unfitting(case, *(of(auth_policy=b"p" * it) for it in range(1, 33) if it != size))
         fitting("One of a digest's", of(auth_policy=b"p" * size))
         for make, name in ((counter, "A counter"), (bits, "Bits")):
-            unfitting(
-                f"{name} of another size than eight bytes: SIZE/p2",
-                *(of(make, size=it) for it in (0, 7, 9, 16, 2048, 0xFFFF)),
-            )
+            case = f"{name} of another size than eight bytes: SIZE/p2"
+            unfitting(case, *(of(make, size=it) for it in (0, 7, 9, 16, 2048, 0xFFFF)))
             fitting(f"{name} of eight bytes", of(make))
         unfitting(
             f"An index that is extended, of another size than {size} bytes: SIZE/p2",
             *(of(extended, size=it) for it in (0, 8, size - 1, size + 1, 52 - size, 2048)),
         )
         fitting(f"One of {size} bytes", of(extended))
-        unfitting(
-            "An ordinary index of more than 2,048 bytes: SIZE/p2",
-            *(of(size=it) for it in (2049, 4096, 0xFFFF)),
-        )
+        case = "An ordinary index of more than 2,048 bytes: SIZE/p2"
+        unfitting(case, *(of(size=it) for it in (2049, 4096, 0xFFFF)))
         for each in (0, 1, 2048):
             fitting(f"Of {each} bytes", of(size=each))
 
@@ -162,44 +97,32 @@ def attributes():
     tpm.chapter("Attributes.")
     unfitting(
         "POLICY_DELETE, WRITELOCKED, GLOBALLOCK, ORDERLY, READLOCKED and WRITTEN: ATTRIBUTES/p2",
-        *(area(attributes=BY_OWNER | it) for it in Attribute if it & nv_commands.NOT_DEFINED),
+        *(area(attributes=BY_OWNER | it) for it in NvAttribute if it & nv_commands.NOT_DEFINED),
     )
     unfitting(
         "No attribute that allows to write: ATTRIBUTES/p2",
         area(attributes=0),
-        *(area(attributes=it) for it in Attribute if it & nv.READS),
+        *(area(attributes=it) for it in NvAttribute if it & nv.READS),
         area(attributes=nv.READS),
     )
     unfitting(
         "None that allows to read: ATTRIBUTES/p2",
-        *(area(attributes=it) for it in Attribute if it & nv.WRITES),
+        *(area(attributes=it) for it in NvAttribute if it & nv.WRITES),
         area(attributes=nv.WRITES),
     )
-    clears = Attribute.CLEAR_STCLEAR
+    clears = NvAttribute.CLEAR_STCLEAR
     unfitting("A counter with CLEAR_STCLEAR: ATTRIBUTES/p2", counter(attributes=BY_OWNER | clears))
     for make, name in ((bits, "Bits"), (extended, "An index that is extended,")):
         fitting(f"{name} with it", make(attributes=BY_OWNER | clears))
-    for each in Attribute:
+    for each in NvAttribute:
         if each & nv.WRITES:
-            fitting(f"{each.name} and OWNERREAD", area(attributes=each | Attribute.OWNERREAD))
+            fitting(f"{each.name} and OWNERREAD", area(attributes=each | NvAttribute.OWNERREAD))
         elif each & nv.READS:
-            fitting(f"OWNERWRITE and {each.name}", area(attributes=each | Attribute.OWNERWRITE))
+            fitting(f"OWNERWRITE and {each.name}", area(attributes=each | NvAttribute.OWNERWRITE))
         elif not each & nv_commands.NOT_DEFINED and each != CREATED:
             fitting(f"OWNERWRITE, OWNERREAD and {each.name}", area(attributes=each | BY_OWNER))
     every = nv.NAMED & ~nv_commands.NOT_DEFINED & ~CREATED & ~nv.of_type(nv.TYPE_MASK)
     fitting("All of these", area(attributes=every))
-
-
-def numbers():
-    tpm.chapter("Numbers of indices.")
-    for each in (0x0100_0000, 0x0140_0001, 0x01C0_0000, 0x01FF_FFFF):
-        fitting(f"{each:08X}", area(each))
-    tpm.define("01000001", area())
-    unfitting("The same, or with anything else in it: NV_DEFINED", area(), counter())
-    unfitting(
-        "Also by the platform: NV_DEFINED", area(attributes=BY_OWNER | CREATED), by=RH_PLATFORM
-    )
-    tpm.does("It is undefined", tpm.undefining(FIRST))
 
 
 def limit_of_numbers():
@@ -210,21 +133,19 @@ def limit_of_numbers():
         public = area(index, BY_OWNER | (CREATED if index % 2 else 0))
         words = {FIRST: "64 of them, of eight bytes", FIRST + 32: "The 33rd of them"}
         tpm.define(words.get(index, ""), public, by=by)
-    unfitting(
-        "A 65th, of eight bytes or of none: NV_SPACE", area(0x0100_0100), area(0x0100_0100, size=0)
-    )
+    case = "A 65th, of eight bytes or of none: NV_SPACE"
+    unfitting(case, area(0x0100_0100), area(0x0100_0100, size=0))
     unfitting("One that is there: NV_DEFINED", area(FIRST + 1))
-    tpm.power()
-    tpm.script.startup()
+    tpm.power_cycle()
     unfitting("One more after a power cycle: NV_SPACE", area(0x0100_0100))
-    tpm.does("One is undefined", tpm.undefining(FIRST + 7))
+    tpm("One is undefined").undefining(FIRST + 7)
     tpm.define("And another one defined", area(0x0100_0100))
     unfitting("But no second one: NV_SPACE", area(FIRST + 7))
     for index in (*every, 0x0100_0100):
         if index != FIRST + 7:
             by = RH_PLATFORM if index in every and index % 2 else RH_OWNER
             what = "All are undefined" if index == FIRST else ""
-            tpm.does(what, tpm.undefining(index, by=by))
+            tpm(what).undefining(index, by=by)
 
 
 def limit_of_bytes():
@@ -238,9 +159,9 @@ def limit_of_bytes():
         for half in (0, 1024):
             what = "All are written, each in two halves" if (index, half) == (FIRST, 0) else ""
             part = values[index][half : half + 1024]
-            tpm.does(what, tpm.writing(index, part, offset=half))
+            tpm(what).writing(index, part, offset=half)
     unfitting("Another one, of a byte: NV_SPACE", area(FIRST + 8, size=1))
-    tpm.does("The second is undefined", tpm.undefining(FIRST + 1))
+    tpm("The second is undefined").undefining(FIRST + 1)
     unfitting("One of 2,049 bytes: SIZE/p2", area(FIRST + 8, size=2049))
     for index in (FIRST + 8, FIRST + 9):
         what = "Two of 1,024 bytes are defined" if index == FIRST + 8 else ""
@@ -253,7 +174,7 @@ def limit_of_bytes():
         for half in (0, 1024):
             what = "The others read as written" if (index, half) == (FIRST, 0) else ""
             tpm.read(what, index, values[index][half : half + 1024], offset=half)
-    tpm.does("The last one is undefined", tpm.undefining(FIRST + 9))
+    tpm("The last one is undefined").undefining(FIRST + 9)
     unfitting("One of 1,025 bytes: NV_SPACE", area(FIRST + 9, size=1025))
     tpm.define("One of 1,016", area(FIRST + 9, size=1016))
     unfitting("One of nine: NV_SPACE", area(FIRST + 10, size=9))
@@ -262,10 +183,54 @@ def limit_of_bytes():
     unfitting("An index that is extended: NV_SPACE", extended(FIRST + 11))
 
 
-parameters()
+tpm.chapter("The parameters: auth and publicInfo.")
+good = sized(area().text)
+said = tpm("auth that is cut: before its size, within it, and within its bytes: INSUFFICIENT/p1")
+said.fails(*(raw(it) for it in (b"", b"\0", b"\0\1", b"\0\x20" + bytes(31))))
+said = tpm("auth of 33 bytes, whole or cut, also where they are zeros: SIZE/p1")
+said.fails(raw(sized(b"a" * 33) + good), raw(sized(bytes(33)) + good), raw(number(33, 2)))
+empty = sized(b"")
+tpm.fails(
+    "publicInfo that is cut: before its size, within it, and within its bytes: INSUFFICIENT/p2",
+    *(raw(empty + it) for it in (b"", b"\0", good[:-1], b"\xff\xff")),
+)
+text = area().text
+said = tpm("Its size does not reach to the end of its fields: SIZE/p2")
+said.fails(*(raw(empty + sized(text[:length])) for length in range(len(text))))
+said = tpm("Its size reaches beyond them, or dataSize is behind it: SIZE/p2")
+said.fails(raw(empty + sized(text + b"\0")), raw(empty + sized(text[:-2]) + text[-2:]))
+tpm.fails("A byte behind publicInfo: SIZE", raw(empty + good + b"\0"))
+unfitting(
+    "nvIndex that is no handle of an index: VALUE/p2",
+    *(area(it) for it in (0, 0x0000_0001, 0x0200_0001, RH_OWNER, 0x8100_0001, 0xFFFF_FFFF)),
+)
+for what, code, at, bad in (
+    ("nameAlg: SHA-384, NULL and none", "HASH/p2", 4, (0x000C, 0x0010, 0)),
+    ("Reserved attributes 8, 9 and 20 to 24", "RESERVED_BITS/p2", 6, (1 << 8, 1 << 9)),
+):
+    size = 2 if at == 4 else 4
+    texts = [text[:at] + number(it, size) + text[at + size :] for it in bad]
+    if at == 6:
+        texts += [
+            text[:at] + number(BY_OWNER | 1 << it, 4) + text[at + size :] for it in range(20, 25)
+        ]
+    tpm.fails(f"{what}: {code}", *(raw(empty + sized(it)) for it in texts))
+said = tpm("authPolicy of 33 bytes: SIZE/p2")
+said.fails(*(raw(empty + sized(area(auth_policy=it).text)) for it in (bytes(33), b"p" * 33)))
+said = tpm("A wrong nvIndex is found before a wrong nameAlg, as they are read in order: VALUE/p2")
+said.fails(raw(empty + sized(number(0, 6))))
+
 handles()
 sizes()
 attributes()
-numbers()
+
+tpm.chapter("Numbers of indices.")
+for each in (0x0100_0000, 0x0140_0001, 0x01C0_0000, 0x01FF_FFFF):
+    fitting(f"{each:08X}", area(each))
+tpm.define("01000001", area())
+unfitting("The same, or with anything else in it: NV_DEFINED", area(), counter())
+unfitting("Also by the platform: NV_DEFINED", area(attributes=BY_OWNER | CREATED), by=RH_PLATFORM)
+tpm("It is undefined").undefining(FIRST)
+
 limit_of_numbers()
 limit_of_bytes()

@@ -1,16 +1,10 @@
-"""Writes nv_first_index.tpm: an index is defined, written and read, byte by byte."""
+"""Writes nv_first_index.tpm. A first NV index: 01000001, of SHA-256, with AUTHWRITE and AUTHREAD
+(attributes 00040004), eight bytes and the authorization value "a".
+"""
 
-from tpmsim.caller import BY_VALUE, area
-from tpmsim.standard import RH_OWNER
-from tpmsim.caller.script_caller import FIRST
-from tests.common.teller import Teller
+from tests.common.vocabulary import area, BY_VALUE, FIRST, RH_OWNER, Teller
 
-tpm = Teller(
-    "tests/nv/nv_first_index.tpm",
-    "A first NV index: 01000001, of SHA-256, with AUTHWRITE and AUTHREAD (attributes 00040004), "
-    'eight bytes and the authorization value "a".',
-    starts=False,
-)
+tpm = Teller(__name__, __doc__, starts=False)
 PUBLIC = area(FIRST, BY_VALUE)
 
 
@@ -29,25 +23,18 @@ defining = spelled(
 tpm.define("TPM2_NV_DefineSpace by the owner, whose value is empty", PUBLIC, auth=b"a")
 tpm.fails("The same again: NV_DEFINED", defining)
 tpm.is_now("TPM2_NV_ReadPublic, which needs no authorization", FIRST)
-tpm.fails("TPM2_NV_Read before the first write: NV_UNINITIALIZED", tpm.reading(FIRST, 8))
+tpm("TPM2_NV_Read before the first write: NV_UNINITIALIZED").reading(FIRST, 8)
 
-tpm.does(
-    'TPM2_NV_Write of a byte, 5A, at offset 2, by the password "a"',
-    tpm.writing(FIRST, b"\x5a", offset=2),
-)
-tpm.does("TPM2_NV_Read of all: what was not written is FF", tpm.reading(FIRST, 8))
+said = tpm('TPM2_NV_Write of a byte, 5A, at offset 2, by the password "a"')
+said.writing(FIRST, b"\x5a", offset=2)
+tpm("TPM2_NV_Read of all: what was not written is FF").reading(FIRST, 8)
 assert tpm.last.response == bytes.fromhex(
     "8002 0000001D 00000000 0000000A 0008 FFFF5AFFFFFFFFFF 0000 01 0000"
 )
 tpm.is_now("TPM2_NV_ReadPublic: it has WRITTEN now, and so another Name", FIRST)
-tpm.fails(
-    "TPM2_NV_Write of eight bytes at offset 1: NV_RANGE", tpm.writing(FIRST, bytes(8), offset=1)
-)
-tpm.fails(
-    "TPM2_NV_WriteLock, without WRITEDEFINE and WRITE_STCLEAR: ATTRIBUTES/h2",
-    tpm.write_locking(FIRST),
-)
-tpm.fails("TPM2_NV_ReadLock, without READ_STCLEAR: ATTRIBUTES/h2", tpm.read_locking(FIRST))
+tpm("TPM2_NV_Write of eight bytes at offset 1: NV_RANGE").writing(FIRST, bytes(8), offset=1)
+tpm("TPM2_NV_WriteLock, without WRITEDEFINE and WRITE_STCLEAR: ATTRIBUTES/h2").write_locking(FIRST)
+tpm("TPM2_NV_ReadLock, without READ_STCLEAR: ATTRIBUTES/h2").read_locking(FIRST)
 tpm.read("It is as it was", FIRST, b"\xff\xff\x5a\xff\xff\xff\xff\xff")
 
 tpm.chapter("It is written piece by piece.")
@@ -58,7 +45,7 @@ for what, data, offset in (
     ("No bytes, in the middle", b"", 4),
     ("No bytes, behind the last", b"", 8),
 ):
-    tpm.does(what, tpm.writing(FIRST, data, offset=offset))
+    tpm(what).writing(FIRST, data, offset=offset)
 WHOLE = b"aBCD\xff\xff\xffz"
 tpm.read("TPM2_NV_Read", FIRST, WHOLE)
 for what, size, offset in (
@@ -86,23 +73,21 @@ tpm.fails(
 )
 
 tpm.chapter("Passwords, and the owner, who has neither OWNERWRITE nor OWNERREAD.")
-tpm.fails(
-    "A wrong password of what is protected from guessing: AUTH_FAIL/s1", tpm.reading(FIRST, 8, b"b")
-)
-tpm.fails("The empty password: AUTH_FAIL/s1", tpm.writing(FIRST, b"x", b""))
+tpm("A wrong password of what is protected from guessing: AUTH_FAIL/s1").reading(FIRST, 8, b"b")
+tpm("The empty password: AUTH_FAIL/s1").writing(FIRST, b"x", b"")
 tpm.read("The right one with zeros behind it", FIRST, WHOLE, b"a\0\0")
-tpm.fails("TPM2_NV_Read by the owner: NV_AUTHORIZATION", tpm.reading(FIRST, 8, by=RH_OWNER))
-tpm.fails("TPM2_NV_Write by the owner: NV_AUTHORIZATION", tpm.writing(FIRST, b"x", by=RH_OWNER))
+tpm("TPM2_NV_Read by the owner: NV_AUTHORIZATION").reading(FIRST, 8, by=RH_OWNER)
+tpm("TPM2_NV_Write by the owner: NV_AUTHORIZATION").writing(FIRST, b"x", by=RH_OWNER)
 tpm.fails("No sessions: AUTH_MISSING", tpm.reading(FIRST, 8).but(entries=[]))
 
 tpm.chapter("It outlives a power cycle.")
 tpm.power()
-tpm.fails("TPM2_NV_Read before TPM2_Startup: INITIALIZE", tpm.reading(FIRST, 8))
+tpm("TPM2_NV_Read before TPM2_Startup: INITIALIZE").reading(FIRST, 8)
 tpm.startup()
 tpm.read("TPM2_NV_Read", FIRST, WHOLE)
 tpm.is_now("TPM2_NV_ReadPublic", FIRST)
-tpm.does("TPM2_NV_UndefineSpace by the owner", tpm.undefining(FIRST))
+tpm("TPM2_NV_UndefineSpace by the owner").undefining(FIRST)
 gone = tpm.index_public(FIRST)
 tpm.fails("TPM2_NV_ReadPublic: HANDLE/h1", gone)
 tpm.define("It is defined again, and empty", PUBLIC)
-tpm.fails("TPM2_NV_Read: NV_UNINITIALIZED", tpm.reading(FIRST, 8))
+tpm("TPM2_NV_Read: NV_UNINITIALIZED").reading(FIRST, 8)

@@ -1,18 +1,13 @@
-"""Writes nv_large.tpm: indices that are larger than a buffer."""
+"""Writes nv_large.tpm. 1,024 bytes are written and read at once; an index of 2,048 takes two
+commands.
+"""
 
 import hashlib
 
-from tpmsim.caller import BY_OWNER, area
-from tpmsim.standard import RH_OWNER, number
-from tpmsim.standard.nv import Attribute
-from tpmsim.caller.script_caller import FIRST, SECOND, THIRD
-from tests.common.teller import Teller
+from tests.common.vocabulary import area, BY_OWNER, FIRST, number, NvAttribute, RH_OWNER, SECOND
+from tests.common.vocabulary import Teller, THIRD
 
-tpm = Teller(
-    "tests/nv/nv_large.tpm",
-    "1,024 bytes are written and read at once; an index of 2,048 takes two commands.",
-    starts=False,
-)
+tpm = Teller(__name__, __doc__, starts=False)
 
 
 def some(size, seed=b""):
@@ -22,7 +17,7 @@ def some(size, seed=b""):
 
 
 def write(what, index, data, offset=0):
-    tpm.does(what, tpm.writing(index, data, offset=offset, by=RH_OWNER))
+    tpm(what).writing(index, data, offset=offset, by=RH_OWNER)
 
 
 def read(what, index, data, offset=0):
@@ -77,7 +72,7 @@ tpm.fails(
 read("The first is as it was", FIRST, data)
 
 tpm.chapter("WRITEALL: all bytes at once.")
-public = area(THIRD, BY_OWNER | Attribute.WRITEALL, size=1024)
+public = area(THIRD, BY_OWNER | NvAttribute.WRITEALL, size=1024)
 tpm.define("TPM2_NV_DefineSpace of 1,024 bytes", public)
 tpm.fails(
     "TPM2_NV_Write of fewer bytes, and at another offset: NV_RANGE",
@@ -86,30 +81,27 @@ tpm.fails(
     tpm.writing(THIRD, bytes(1024), offset=1, by=RH_OWNER),
     tpm.writing(THIRD, b"", offset=1024, by=RH_OWNER),
 )
-tpm.fails("It is not written: NV_UNINITIALIZED", tpm.reading(THIRD, 8, by=RH_OWNER))
+tpm("It is not written: NV_UNINITIALIZED").reading(THIRD, 8, by=RH_OWNER)
 write("TPM2_NV_Write of all", THIRD, data)
 read("A piece of it can be read", THIRD, data[100:200], 100)
-tpm.fails("TPM2_NV_Write of fewer bytes: NV_RANGE", tpm.writing(THIRD, b"x", by=RH_OWNER))
+tpm("TPM2_NV_Write of fewer bytes: NV_RANGE").writing(THIRD, b"x", by=RH_OWNER)
 write("TPM2_NV_Write of all again", THIRD, data[::-1])
 read("TPM2_NV_Read", THIRD, data[::-1])
-tpm.does("It is undefined", tpm.undefining(THIRD))
-tpm.define(
-    "One of 1,025 bytes, which cannot be written at all",
-    area(THIRD, BY_OWNER | Attribute.WRITEALL, size=1025),
-)
-tpm.fails("TPM2_NV_Write of 1,024 bytes: NV_RANGE", tpm.writing(THIRD, bytes(1024), by=RH_OWNER))
-tpm.does("It is undefined", tpm.undefining(THIRD))
-tpm.define("One of no bytes", area(THIRD, BY_OWNER | Attribute.WRITEALL, size=0))
-tpm.fails("TPM2_NV_Read: NV_UNINITIALIZED", tpm.reading(THIRD, 0, by=RH_OWNER))
-tpm.fails("TPM2_NV_Write of a byte: NV_RANGE", tpm.writing(THIRD, b"x", by=RH_OWNER))
+tpm("It is undefined").undefining(THIRD)
+said = tpm("One of 1,025 bytes, which cannot be written at all")
+said.define(area(THIRD, BY_OWNER | NvAttribute.WRITEALL, size=1025))
+tpm("TPM2_NV_Write of 1,024 bytes: NV_RANGE").writing(THIRD, bytes(1024), by=RH_OWNER)
+tpm("It is undefined").undefining(THIRD)
+tpm.define("One of no bytes", area(THIRD, BY_OWNER | NvAttribute.WRITEALL, size=0))
+tpm("TPM2_NV_Read: NV_UNINITIALIZED").reading(THIRD, 0, by=RH_OWNER)
+tpm("TPM2_NV_Write of a byte: NV_RANGE").writing(THIRD, b"x", by=RH_OWNER)
 write("TPM2_NV_Write of no bytes, which are all", THIRD, b"")
 tpm.is_now("It is written", THIRD)
 read("TPM2_NV_Read of no bytes", THIRD, b"")
-tpm.fails("Of one: NV_RANGE", tpm.reading(THIRD, 1, by=RH_OWNER))
+tpm("Of one: NV_RANGE").reading(THIRD, 1, by=RH_OWNER)
 
 tpm.chapter("After the next start.")
-tpm.power()
-tpm.startup()
+tpm.power_cycle()
 read("The first", FIRST, data)
 read("The second", SECOND, whole[:1024])
 read("Its second half", SECOND, whole[1024:], 1024)

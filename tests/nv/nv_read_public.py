@@ -1,19 +1,13 @@
-"""Writes nv_read_public.tpm: public areas of indices, and the Names that change with them."""
+"""Writes nv_read_public.tpm. TPM2_NV_ReadPublic needs no authorization. It answers the public area
+with the attributes of now, and the Name, which is nameAlg and the digest of the public area.
+"""
 
-from tpmsim.caller import BY_OWNER, BY_VALUE, Use, area, counter, extended
-from tpmsim.standard import CONTINUE_SESSION, ENCRYPT, RH_NULL, RH_OWNER, digest, digest_bytes
-from tpmsim.standard import frames, number, sized
-from tpmsim.standard.nv import Attribute
-from tpmsim.caller.script_caller import FIRST, HASHES, SECOND
-from tests.common.teller import Teller
+from tests.common.vocabulary import area, BY_OWNER, BY_VALUE, CONTINUE_SESSION, counter, digest
+from tests.common.vocabulary import digest_bytes, ENCRYPT, extended, FIRST, frames, HASHES, LOCKS
+from tests.common.vocabulary import number, NvAttribute, RH_NULL, RH_OWNER, SECOND, sized, Teller
+from tests.common.vocabulary import Use
 
-tpm = Teller(
-    "tests/nv/nv_read_public.tpm",
-    "TPM2_NV_ReadPublic needs no authorization. It answers the public area with the attributes of "
-    "now, and the Name, which is nameAlg and the digest of the public area.",
-    starts=False,
-)
-LOCKS = Attribute.WRITE_STCLEAR | Attribute.READ_STCLEAR
+tpm = Teller(__name__, __doc__, starts=False)
 
 tpm.startup()
 tpm.chapter("Each fact of a public area, in both hash algorithms.")
@@ -29,11 +23,11 @@ for algorithm, name in HASHES:
         ("One that is extended", extended(FIRST, algorithm=algorithm)),
     ):
         tpm.define(what, public)
-        answer = tpm.does("TPM2_NV_ReadPublic", tpm.index_public(public.index))
+        answer = tpm("TPM2_NV_ReadPublic").index_public(public.index)
         text = number(public.index, 4) + number(algorithm, 2) + number(public.attributes, 4)
         text += sized(public.auth_policy) + number(public.data_size, 2)
         assert answer == sized(text) + sized(number(algorithm, 2) + digest(algorithm, text))
-        tpm.does("It is undefined", tpm.undefining(public.index))
+        tpm("It is undefined").undefining(public.index)
 
 tpm.chapter("Attributes that come and go, and the Name with them.")
 tpm.define("An index with WRITE_STCLEAR and READ_STCLEAR", area(FIRST, BY_OWNER | LOCKS))
@@ -48,9 +42,8 @@ for what, prepared in (
     tpm.is_now("TPM2_NV_ReadPublic", FIRST)
     names.add(tpm.names[FIRST])
 assert len(names) == 3
-tpm.power()
-tpm.startup()
-tpm.is_now("After the next start", FIRST, cleared=Attribute.WRITELOCKED | Attribute.READLOCKED)
+tpm.power_cycle()
+tpm.is_now("After the next start", FIRST, cleared=NvAttribute.WRITELOCKED | NvAttribute.READLOCKED)
 assert tpm.names[FIRST] in names
 
 tpm.chapter("With sessions, which authorize nothing.")
@@ -59,7 +52,7 @@ plain = tpm.start("A session that is bound to nothing", bind=RH_NULL)
 encrypting = tpm.start("One that is bound to the other index, with AES", bind=SECOND, aes=True)
 tpm.is_now("With both", SECOND, plain, encrypting)
 tpm.is_now("The public area encrypted", SECOND, Use(encrypting, CONTINUE_SESSION | ENCRYPT), plain)
-tpm.fails("With a password: HANDLE/s1", tpm.index_public(SECOND, b"a"))
+tpm("With a password: HANDLE/s1").index_public(SECOND, b"a")
 tpm.fails(
     "With decrypt, where no parameter is: ATTRIBUTES/s1",
     tpm.index_public(SECOND, plain).but_entry(1, attributes=CONTINUE_SESSION | frames.DECRYPT),
@@ -69,10 +62,8 @@ tpm.fails(
     "AUTH_FAIL/s1",
     tpm.index_public(SECOND, encrypting).but_entry(1, hmac=bytes(32)),
 )
-tpm.fails(
-    "And of the session without a key: BAD_AUTH/s1",
-    tpm.index_public(SECOND, plain).but_entry(1, hmac=bytes(32)),
-)
+said = tpm("And of the session without a key: BAD_AUTH/s1")
+said.fails(tpm.index_public(SECOND, plain).but_entry(1, hmac=bytes(32)))
 tpm.is_now("And it ends with the command", SECOND, Use(plain, 0))
 
 tpm.chapter("Handles.")
@@ -81,8 +72,6 @@ tpm.fails(
     "What is no index: the owner, PCR 0, an object, a persistent one and a session: VALUE/h1",
     *(right.but(handles=[it]) for it in (RH_OWNER, 0, 0x8000_0000, 0x8100_0000, encrypting.handle)),
 )
-tpm.fails(
-    "Indices that are not defined: HANDLE/h1",
-    *(right.but(handles=[it]) for it in (0x0100_0000, 0x0100_0003, 0x01FF_FFFF)),
-)
+said = tpm("Indices that are not defined: HANDLE/h1")
+said.fails(*(right.but(handles=[it]) for it in (0x0100_0000, 0x0100_0003, 0x01FF_FFFF)))
 tpm.fails("A byte behind the handle: SIZE", right.but(parameters=b"\0"))

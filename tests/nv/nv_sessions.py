@@ -1,61 +1,25 @@
-"""Writes nv_sessions.tpm: commands on indices by HMAC sessions."""
+"""Writes nv_sessions.tpm. NV indices and HMAC sessions: the Name of an index, which its first write
+changes, is in the hmacs and in what a session is bound to.
+"""
 
-from tpmsim.caller import BY_OWNER, BY_VALUE, Use, area, bits, counter, extended, flipped
-from tpmsim.standard import CC, CONTINUE_SESSION, DECRYPT, ENCRYPT, RH_NULL, RH_OWNER, SHA1, SHA256
-from tpmsim.standard import frames
-from tpmsim.standard.nv import Attribute
-from tpmsim.caller.script_caller import FIRST, FOURTH, SECOND, THIRD
-from tests.common.teller import Teller
+from tests.common.vocabulary import area, bits, BY_OWNER, BY_VALUE, CC, CONTINUE_SESSION, counter
+from tests.common.vocabulary import DECRYPT, DECRYPTS, ENCRYPT, ENCRYPTS, extended, FIRST, flipped
+from tests.common.vocabulary import FOURTH, frames, LOCKS, NvAttribute, RH_NULL, RH_OWNER, SECOND
+from tests.common.vocabulary import SHA1, SHA256, Teller, THIRD, Use
 
-DECRYPTS, ENCRYPTS = CONTINUE_SESSION | DECRYPT, CONTINUE_SESSION | ENCRYPT
-LOCKS = Attribute.WRITE_STCLEAR | Attribute.READ_STCLEAR
 DATA = b"8 bytes."
 
-tpm = Teller(
-    "tests/nv/nv_sessions.tpm",
-    "NV indices and HMAC sessions: the Name of an index, which its first write changes, is in the "
-    "hmacs and in what a session is bound to.",
-    tries=True,
-)
+tpm = Teller(__name__, __doc__, tries=True)
 
 
 def flush(*held):
     for each in held:
-        tpm.says("A session is flushed: SUCCESS" if each is held[0] else "SUCCESS", tpm.flush(each))
+        tpm("A session is flushed: SUCCESS" if each is held[0] else "SUCCESS").flush(each)
 
 
 def undefine(*indices):
     for index in indices:
-        tpm.does("An index is undefined" if index == indices[0] else "", tpm.undefining(index))
-
-
-def unbound():
-    tpm.chapter("A session that is bound to nothing: the value of the index is the key.")
-    for algorithm, name in ((SHA256, "SHA-256"), (SHA1, "SHA-1")):
-        session = tpm.start(f"A session of {name}", algorithm=algorithm)
-        for index, make, change in (
-            (FIRST, area, lambda: tpm.writing(FIRST, DATA, session)),
-            (SECOND, counter, lambda: tpm.incrementing(SECOND, session)),
-            (THIRD, bits, lambda: tpm.setting(THIRD, 5, session)),
-            (FOURTH, extended, lambda: tpm.extending(FOURTH, DATA, session)),
-        ):
-            public = make(index, BY_VALUE | LOCKS)
-            tpm.define("TPM2_NV_DefineSpace by it, with its empty hmac", public, session, auth=b"a")
-            tpm.does("The first change", change())
-            tpm.does("The second", change())
-            wrong = change()
-            tpm.fails(
-                "A wrong hmac: AUTH_FAIL/s1",
-                wrong.but_entry(1, hmac=flipped(wrong.entries[0].hmac)),
-            )
-            tpm.fails("None: AUTH_FAIL/s1", wrong.but_entry(1, hmac=b""))
-            tpm.does("TPM2_NV_Read", tpm.reading(index, 8, session))
-            tpm.does("TPM2_NV_WriteLock", tpm.write_locking(index, session))
-            tpm.does("TPM2_NV_ReadLock", tpm.read_locking(index, session))
-            tpm.fails("Another change: NV_LOCKED", change())
-            tpm.fails("TPM2_NV_Read: NV_LOCKED", tpm.reading(index, 8, session))
-            tpm.does("TPM2_NV_UndefineSpace", tpm.undefining(index, session))
-        flush(session)
+        tpm("An index is undefined" if index == indices[0] else "").undefining(index)
 
 
 def names():
@@ -63,9 +27,9 @@ def names():
     tpm.define("An index", area(FIRST, BY_VALUE), auth=b"a")
     session = tpm.start("A session")
     before = tpm.writing(FIRST, DATA, session)
-    tpm.does("TPM2_NV_Write by the password", tpm.writing(FIRST, DATA))
+    tpm("TPM2_NV_Write by the password").writing(FIRST, DATA)
     tpm.fails("By the session, as it was prepared before: AUTH_FAIL/s1", before)
-    tpm.does("With the Name of now", tpm.writing(FIRST, DATA, session))
+    tpm("With the Name of now").writing(FIRST, DATA, session)
     tpm.define("Another index with the same value", area(SECOND, BY_VALUE), auth=b"a")
     prepared = tpm.writing(FIRST, DATA, session)
     tpm.fails(
@@ -87,91 +51,72 @@ def bound():
     )
     tpm.define("An index", area(FIRST, BY_VALUE | LOCKS), auth=b"a")
     session = tpm.start("A session that is bound to it", bind=FIRST)
-    tpm.does("TPM2_NV_Write", tpm.writing(FIRST, DATA, session))
-    tpm.does("TPM2_NV_Write: the value is in both keys", tpm.writing(FIRST, DATA, session))
+    tpm("TPM2_NV_Write").writing(FIRST, DATA, session)
+    tpm("TPM2_NV_Write: the value is in both keys").writing(FIRST, DATA, session)
     flush(session)
 
     tpm.chapter("A session that is bound to it as it is written.")
     session = tpm.start("A session that is bound to it", bind=FIRST)
-    tpm.does("TPM2_NV_Write changes no Name now", tpm.writing(FIRST, DATA, session))
+    tpm("TPM2_NV_Write changes no Name now").writing(FIRST, DATA, session)
     tpm.read("TPM2_NV_Read", FIRST, DATA, session)
-    tpm.does("TPM2_NV_ReadLock does", tpm.read_locking(FIRST, session))
-    tpm.does("TPM2_NV_WriteLock", tpm.write_locking(FIRST, session))
-    tpm.power()
-    tpm.script.startup()
-    tpm.is_now("After the next start", FIRST, cleared=Attribute.WRITELOCKED | Attribute.READLOCKED)
+    tpm("TPM2_NV_ReadLock does").read_locking(FIRST, session)
+    tpm("TPM2_NV_WriteLock").write_locking(FIRST, session)
+    tpm.power_cycle()
+    tpm.is_now(
+        "After the next start", FIRST, cleared=NvAttribute.WRITELOCKED | NvAttribute.READLOCKED
+    )
 
     tpm.chapter("A session that is bound to one index, and authorizes another.")
-    tpm.define("Another index", area(SECOND, BY_VALUE | Attribute.NO_DA), auth=b"b")
+    tpm.define("Another index", area(SECOND, BY_VALUE | NvAttribute.NO_DA), auth=b"b")
     session = tpm.start("A session that is bound to the first", bind=FIRST)
-    tpm.does("TPM2_NV_Write of the second", tpm.writing(SECOND, DATA, session))
-    tpm.does("TPM2_NV_Write of the first", tpm.writing(FIRST, DATA, session))
-    tpm.fails(
-        "A wrong hmac on the second, which has NO_DA, is a try at the first: AUTH_FAIL/s1",
-        tpm.writing(SECOND, DATA, session).but_entry(1, hmac=bytes(32)),
-    )
+    tpm("TPM2_NV_Write of the second").writing(SECOND, DATA, session)
+    tpm("TPM2_NV_Write of the first").writing(FIRST, DATA, session)
+    said = tpm("A wrong hmac on the second, which has NO_DA, is a try at the first: AUTH_FAIL/s1")
+    said.fails(tpm.writing(SECOND, DATA, session).but_entry(1, hmac=bytes(32)))
     other = tpm.start("A session that is bound to the second", bind=SECOND)
-    tpm.fails(
-        "A wrong hmac by it on the second is none: BAD_AUTH/s1",
-        tpm.writing(SECOND, DATA, other).but_entry(1, hmac=bytes(32)),
-    )
-    tpm.fails(
-        "On the first it is: AUTH_FAIL/s1",
-        tpm.writing(FIRST, DATA, other).but_entry(1, hmac=bytes(32)),
-    )
-    tpm.fails(
-        "A wrong hmac by the first session on TPM_RH_OWNER: AUTH_FAIL/s1",
-        tpm.undefining(FIRST, session).but_entry(1, hmac=bytes(32)),
-    )
-    tpm.fails(
-        "And by the second: BAD_AUTH/s1", tpm.undefining(FIRST, other).but_entry(1, hmac=bytes(32))
-    )
-    tpm.fails("A wrong password of the second: BAD_AUTH/s1", tpm.reading(SECOND, 1, b"x"))
-    tpm.fails("Of the first: AUTH_FAIL/s1", tpm.reading(FIRST, 1, b"x"))
+    said = tpm("A wrong hmac by it on the second is none: BAD_AUTH/s1")
+    said.fails(tpm.writing(SECOND, DATA, other).but_entry(1, hmac=bytes(32)))
+    said = tpm("On the first it is: AUTH_FAIL/s1")
+    said.fails(tpm.writing(FIRST, DATA, other).but_entry(1, hmac=bytes(32)))
+    said = tpm("A wrong hmac by the first session on TPM_RH_OWNER: AUTH_FAIL/s1")
+    said.fails(tpm.undefining(FIRST, session).but_entry(1, hmac=bytes(32)))
+    said = tpm("And by the second: BAD_AUTH/s1")
+    said.fails(tpm.undefining(FIRST, other).but_entry(1, hmac=bytes(32)))
+    tpm("A wrong password of the second: BAD_AUTH/s1").reading(SECOND, 1, b"x")
+    tpm("Of the first: AUTH_FAIL/s1").reading(FIRST, 1, b"x")
     flush(session, other)
     undefine(FIRST, SECOND)
 
 
 def encryption():
     tpm.chapter("Parameters that are encrypted.")
-    tpm.does('ownerAuth becomes "owner"', tpm.change_auth(RH_OWNER, b"owner", b""))
+    tpm('ownerAuth becomes "owner"').change_auth(RH_OWNER, b"owner", b"")
     owner = tpm.start("A session that is bound to TPM_RH_OWNER, with AES", bind=RH_OWNER, aes=True)
     for index, make in ((FIRST, area), (SECOND, extended), (THIRD, bits), (FOURTH, counter)):
         what = "TPM2_NV_DefineSpace with auth encrypted" if index == FIRST else ""
         tpm.define(what, make(index, BY_VALUE), Use(owner, DECRYPTS), auth=b"hidden")
-    tpm.does("The value is the one that was sent: TPM2_NV_Write", tpm.writing(FIRST, b"x"))
+    tpm("The value is the one that was sent: TPM2_NV_Write").writing(FIRST, b"x")
     session = tpm.start(
         "A session that is bound to the first index, with AES", bind=FIRST, aes=True
     )
     plain = tpm.start("One that is bound to nothing, with AES", aes=True)
     for name, use in (("the bound session", session), ("the other", plain)):
-        tpm.does(
-            f"TPM2_NV_Write with its data encrypted by {name}",
-            tpm.writing(FIRST, DATA, Use(use, DECRYPTS)),
-        )
+        said = tpm(f"TPM2_NV_Write with its data encrypted by {name}")
+        said.writing(FIRST, DATA, Use(use, DECRYPTS))
         tpm.read("TPM2_NV_Read with its answer encrypted", FIRST, DATA, Use(use, ENCRYPTS))
-        tpm.does("TPM2_NV_Extend", tpm.extending(SECOND, DATA, Use(use, DECRYPTS)))
+        tpm("TPM2_NV_Extend").extending(SECOND, DATA, Use(use, DECRYPTS))
         tpm.is_now("TPM2_NV_ReadPublic", SECOND, Use(use, ENCRYPTS))
-    tpm.does(
-        "The password authorizes, and a session beside it encrypts",
-        tpm.writing(FIRST, b"8 others", b"hidden", Use(session, DECRYPTS)),
-    )
+    said = tpm("The password authorizes, and a session beside it encrypts")
+    said.writing(FIRST, b"8 others", b"hidden", Use(session, DECRYPTS))
     tpm.read("So in TPM2_NV_Read", FIRST, b"8 others", b"hidden", Use(owner, ENCRYPTS))
-    tpm.read(
-        "One session authorizes, another encrypts", FIRST, b"8 others", plain, Use(owner, ENCRYPTS)
-    )
-    tpm.does("No bytes to encrypt", tpm.writing(FIRST, b"", Use(session, DECRYPTS), offset=3))
+    said = tpm("One session authorizes, another encrypts")
+    said.read(FIRST, b"8 others", plain, Use(owner, ENCRYPTS))
+    tpm("No bytes to encrypt").writing(FIRST, b"", Use(session, DECRYPTS), offset=3)
     whole = bytes(range(256)) * 4
-    tpm.define(
-        "An index of 1,024 bytes",
-        area(0x0100_0005, BY_VALUE, size=1024),
-        Use(owner, DECRYPTS),
-        auth=b"long",
-    )
-    tpm.does(
-        "TPM2_NV_Write of 1,024 bytes that are encrypted",
-        tpm.writing(0x0100_0005, whole, Use(session, DECRYPTS)),
-    )
+    said = tpm("An index of 1,024 bytes")
+    said.define(area(0x0100_0005, BY_VALUE, size=1024), Use(owner, DECRYPTS), auth=b"long")
+    said = tpm("TPM2_NV_Write of 1,024 bytes that are encrypted")
+    said.writing(0x0100_0005, whole, Use(session, DECRYPTS))
     tpm.read("TPM2_NV_Read", 0x0100_0005, whole, Use(session, ENCRYPTS))
     read = tpm.reading(FIRST, 8, Use(session, 1))
     write = tpm.writing(FIRST, DATA, Use(session, 1))
@@ -199,23 +144,19 @@ def encryption():
             ),
         ),
     ):
-        tpm.fails(
-            f"{what}: ATTRIBUTES/s1",
-            *(it.but_entry(1, attributes=CONTINUE_SESSION | attribute) for it in commands),
-        )
+        said = tpm(f"{what}: ATTRIBUTES/s1")
+        said.fails(*(it.but_entry(1, attributes=CONTINUE_SESSION | attribute) for it in commands))
     none = tpm.start("A session without AES", bind=FIRST)
     tpm.fails(
         "It cannot encrypt: SYMMETRIC/s1",
         tpm.writing(FIRST, DATA, none).but_entry(1, attributes=DECRYPTS),
         tpm.reading(FIRST, 8, none).but_entry(1, attributes=ENCRYPTS),
     )
-    tpm.fails(
-        "Data that are cut, and decrypted: INSUFFICIENT/p1",
-        tpm.prepare(CC.NV_Write, [FIRST, FIRST], b"\0\4abc", Use(session, DECRYPTS)),
-    )
+    said = tpm("Data that are cut, and decrypted: INSUFFICIENT/p1")
+    said.prepare(CC.NV_Write, [FIRST, FIRST], b"\0\4abc", Use(session, DECRYPTS))
     flush(session, plain, none, owner)
     undefine(FIRST, SECOND, THIRD, FOURTH, 0x0100_0005)
-    tpm.does("ownerAuth is empty again", tpm.change_auth(RH_OWNER, b"", b"owner"))
+    tpm("ownerAuth is empty again").change_auth(RH_OWNER, b"", b"owner")
 
 
 def others():
@@ -226,20 +167,16 @@ def others():
     tpm.fails("Bound to what is not there: HANDLE/h2", start.but(handles=[RH_NULL, SECOND]))
     session = tpm.start("A session that is bound to the index", bind=FIRST)
     secret = tpm.policy("A policy session")
-    tpm.accepted(
-        "TPM2_PolicySecret of the index by the session", tpm.secret(secret, session, of=FIRST)
-    )
-    tpm.does("TPM2_NV_Write by it", tpm.writing(FIRST, DATA, session))
-    tpm.accepted("TPM2_PolicySecret: it has another Name", tpm.secret(secret, session, of=FIRST))
-    tpm.fails("A wrong password: AUTH_FAIL/s1", tpm.secret(secret, b"x", of=FIRST))
+    tpm("TPM2_PolicySecret of the index by the session").secret(secret, session, of=FIRST)
+    tpm("TPM2_NV_Write by it").writing(FIRST, DATA, session)
+    tpm("TPM2_PolicySecret: it has another Name").secret(secret, session, of=FIRST)
+    tpm("A wrong password: AUTH_FAIL/s1").secret(secret, b"x", of=FIRST)
     flush(session, secret)
-    only = area(SECOND, BY_OWNER | Attribute.AUTHWRITE)
+    only = area(SECOND, BY_OWNER | NvAttribute.AUTHWRITE)
     tpm.define("An index that its value can only write", only, auth=b"a")
     secret = tpm.policy("A policy session")
-    tpm.fails(
-        "TPM2_PolicySecret asks for what TPM2_NV_Read does: AUTH_UNAVAILABLE",
-        tpm.secret(secret, b"a", of=SECOND),
-    )
+    said = tpm("TPM2_PolicySecret asks for what TPM2_NV_Read does: AUTH_UNAVAILABLE")
+    said.secret(secret, b"a", of=SECOND)
     flush(secret)
     undefine(FIRST, SECOND)
 
@@ -250,7 +187,7 @@ def sent_again():
         'value "a", and is written once by the password.'
     )
     tpm.define("TPM2_NV_DefineSpace", area(FIRST, BY_VALUE), auth=b"a")
-    tpm.does("TPM2_NV_Write by the password", tpm.writing(FIRST, DATA))
+    tpm("TPM2_NV_Write by the password").writing(FIRST, DATA)
     nonce = tpm.nonce()
     handles, parameters = frames.start_auth_session(nonce)
     start = tpm.prepare(CC.StartAuthSession, handles, parameters)
@@ -269,7 +206,7 @@ def sent_again():
     tpm.does("TPM2_NV_Write by it, with continueSession", write)
     tpm.fails("The same buffer again: AUTH_FAIL/s1", write)
     tpm.read("TPM2_NV_Read", FIRST, b"again...", b"a")
-    tpm.does("TPM2_NV_Write of something else", tpm.writing(FIRST, b"other...", b"a"))
+    tpm("TPM2_NV_Write of something else").writing(FIRST, b"other...", b"a")
     flush(session)
     tpm.fails("The same buffer without its session: REFERENCE_S0", write)
     session = start_session("The start with the same bytes, and the same random bytes")
@@ -281,7 +218,31 @@ def sent_again():
     undefine(FIRST)
 
 
-unbound()
+tpm.chapter("A session that is bound to nothing: the value of the index is the key.")
+for algorithm, name in ((SHA256, "SHA-256"), (SHA1, "SHA-1")):
+    session = tpm.start(f"A session of {name}", algorithm=algorithm)
+    for index, make, change in (
+        (FIRST, area, lambda: tpm.writing(FIRST, DATA, session)),
+        (SECOND, counter, lambda: tpm.incrementing(SECOND, session)),
+        (THIRD, bits, lambda: tpm.setting(THIRD, 5, session)),
+        (FOURTH, extended, lambda: tpm.extending(FOURTH, DATA, session)),
+    ):
+        public = make(index, BY_VALUE | LOCKS)
+        tpm.define("TPM2_NV_DefineSpace by it, with its empty hmac", public, session, auth=b"a")
+        tpm.does("The first change", change())
+        tpm.does("The second", change())
+        wrong = change()
+        said = tpm("A wrong hmac: AUTH_FAIL/s1")
+        said.fails(wrong.but_entry(1, hmac=flipped(wrong.entries[0].hmac)))
+        tpm.fails("None: AUTH_FAIL/s1", wrong.but_entry(1, hmac=b""))
+        tpm("TPM2_NV_Read").reading(index, 8, session)
+        tpm("TPM2_NV_WriteLock").write_locking(index, session)
+        tpm("TPM2_NV_ReadLock").read_locking(index, session)
+        tpm.fails("Another change: NV_LOCKED", change())
+        tpm("TPM2_NV_Read: NV_LOCKED").reading(index, 8, session)
+        tpm("TPM2_NV_UndefineSpace").undefining(index, session)
+    flush(session)
+
 names()
 bound()
 encryption()

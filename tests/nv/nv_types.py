@@ -1,17 +1,13 @@
-"""Writes nv_types.tpm: indices of each type, and the commands that do not fit it."""
+"""Writes nv_types.tpm. An ordinary index is written, a counter incremented, bits are set, and what
+is extended is extended. Every other change is refused, before the first one and after it.
+"""
 
-from tpmsim.caller import BY_OWNER, area, bits, counter, extended
-from tpmsim.standard import RH_OWNER, digest, number
-from tpmsim.caller.script_caller import FIRST
-from tests.common.teller import Teller
+from tests.common.vocabulary import area, bits, BY_OWNER, counter, digest, extended, FIRST, number
+from tests.common.vocabulary import RH_OWNER, Teller
 
 SECRET = b"8 bytes."
 
-tpm = Teller(
-    "tests/nv/nv_types.tpm",
-    "An ordinary index is written, a counter incremented, bits are set, and what is extended is "
-    "extended. Every other change is refused, before the first one and after it.",
-)
+tpm = Teller(__name__, __doc__)
 
 
 def writing(index):
@@ -56,10 +52,8 @@ for index, (name, make, change, value) in enumerate(TYPES, FIRST):
     tpm.chapter(f"{name}.")
     tpm.define("TPM2_NV_DefineSpace", make(index, BY_OWNER))
     others(index, change)
-    tpm.fails(
-        "TPM2_NV_Read: it is not written yet: NV_UNINITIALIZED",
-        tpm.reading(index, len(value), by=RH_OWNER),
-    )
+    said = tpm("TPM2_NV_Read: it is not written yet: NV_UNINITIALIZED")
+    said.reading(index, len(value), by=RH_OWNER)
     tpm.is_now("It has none of the attributes of later", index)
     (fitting,) = (what for what, each in CHANGES if each == change)
     tpm.does(fitting, change(index))
@@ -67,8 +61,6 @@ for index, (name, make, change, value) in enumerate(TYPES, FIRST):
     tpm.is_now("It has WRITTEN", index)
     others(index, change)
     tpm.read("It is as it was", index, value, by=RH_OWNER)
-    tpm.fails(
-        "TPM2_NV_WriteLock, which none of the attributes allows: ATTRIBUTES/h2",
-        tpm.write_locking(index, by=RH_OWNER),
-    )
-    tpm.fails("Nor TPM2_NV_ReadLock: ATTRIBUTES/h2", tpm.read_locking(index, by=RH_OWNER))
+    said = tpm("TPM2_NV_WriteLock, which none of the attributes allows: ATTRIBUTES/h2")
+    said.write_locking(index, by=RH_OWNER)
+    tpm("Nor TPM2_NV_ReadLock: ATTRIBUTES/h2").read_locking(index, by=RH_OWNER)

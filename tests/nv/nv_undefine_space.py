@@ -1,26 +1,20 @@
-"""Writes nv_undefine_space.tpm: who takes an index away, and what goes with it."""
+"""Writes nv_undefine_space.tpm. TPM2_NV_UndefineSpace: the owner takes its own indices away, the platform all."""
 
-from tpmsim.caller import BY_OWNER, BY_VALUE, area
-from tpmsim.standard import CC, RH_ENDORSEMENT, RH_NULL, RH_OWNER, RH_PLATFORM
-from tpmsim.standard.nv import Attribute
-from tpmsim.caller.script_caller import FIRST, SECOND, THIRD
-from tests.common.teller import Teller
+from tests.common.vocabulary import area, BY_OWNER, BY_VALUE, CC, FIRST, NvAttribute, RH_ENDORSEMENT
+from tests.common.vocabulary import RH_NULL, RH_OWNER, RH_PLATFORM, SECOND, Teller, THIRD
 
-CREATED = Attribute.PLATFORMCREATE
+CREATED = NvAttribute.PLATFORMCREATE
 
-tpm = Teller(
-    "tests/nv/nv_undefine_space.tpm",
-    "TPM2_NV_UndefineSpace: the owner takes its own indices away, the platform all.",
-)
+tpm = Teller(__name__, __doc__)
 
 tpm.define("An index of the owner's", area(FIRST, BY_VALUE), auth=b"a")
 tpm.define("One of the platform's", area(SECOND, BY_VALUE | CREATED), auth=b"b", by=RH_PLATFORM)
-tpm.does("Both are written", tpm.writing(FIRST, b"first"))
-tpm.does("", tpm.writing(SECOND, b"second"))
+tpm("Both are written").writing(FIRST, b"first")
+tpm("").writing(SECOND, b"second")
 
-tpm.fails("The platform's by the owner: NV_AUTHORIZATION", tpm.undefining(SECOND))
+tpm("The platform's by the owner: NV_AUTHORIZATION").undefining(SECOND)
 tpm.read("It is still there", SECOND, b"second")
-tpm.does("The owner's by the owner, whatever its value is", tpm.undefining(FIRST))
+tpm("The owner's by the owner, whatever its value is").undefining(FIRST)
 tpm.fails(
     "What is gone: in TPM2_NV_UndefineSpace, TPM2_NV_Read and TPM2_NV_Write by the owner: "
     "HANDLE/h2",
@@ -28,58 +22,46 @@ tpm.fails(
     tpm.reading(FIRST, 1, by=RH_OWNER),
     tpm.writing(FIRST, b"x", by=RH_OWNER),
 )
-tpm.fails(
-    "By the index itself, and in TPM2_NV_ReadPublic and TPM2_NV_ChangeAuth: HANDLE/h1",
-    tpm.reading(FIRST, 1),
-    tpm.index_public(FIRST),
-    tpm.changing_auth(FIRST, b"x"),
-)
-tpm.does("The platform's by the platform", tpm.undefining(SECOND, by=RH_PLATFORM))
+said = tpm("By the index itself, and in TPM2_NV_ReadPublic and TPM2_NV_ChangeAuth: HANDLE/h1")
+said.fails(tpm.reading(FIRST, 1), tpm.index_public(FIRST), tpm.changing_auth(FIRST, b"x"))
+tpm("The platform's by the platform").undefining(SECOND, by=RH_PLATFORM)
 
 tpm.chapter("What is defined again is new.")
 tpm.define("01000001, with another value", area(FIRST, BY_VALUE), auth=b"new")
-tpm.fails("The value of before: AUTH_FAIL/s1", tpm.writing(FIRST, b"x", b"a"))
-tpm.fails("TPM2_NV_Read: NV_UNINITIALIZED", tpm.reading(FIRST, 8))
-tpm.does("TPM2_NV_Write of a byte", tpm.writing(FIRST, b"x"))
+tpm("The value of before: AUTH_FAIL/s1").writing(FIRST, b"x", b"a")
+tpm("TPM2_NV_Read: NV_UNINITIALIZED").reading(FIRST, 8)
+tpm("TPM2_NV_Write of a byte").writing(FIRST, b"x")
 tpm.read("TPM2_NV_Read: nothing of before is in it", FIRST, b"x" + b"\xff" * 7)
-tpm.does("The platform takes away what is the owner's, too", tpm.undefining(FIRST, by=RH_PLATFORM))
+tpm("The platform takes away what is the owner's, too").undefining(FIRST, by=RH_PLATFORM)
 
 tpm.chapter("Handles, and authorization values.")
-tpm.define("An index of the owner's", area(FIRST, BY_OWNER | Attribute.AUTHREAD), auth=b"a")
+tpm.define("An index of the owner's", area(FIRST, BY_OWNER | NvAttribute.AUTHREAD), auth=b"a")
 right = tpm.undefining(FIRST)
 tpm.fails(
     "authHandle that is an index, TPM_RH_ENDORSEMENT, TPM_RH_NULL, a PCR or a session: VALUE/h1",
     *(right.but(handles=[it, FIRST]) for it in (FIRST, RH_ENDORSEMENT, RH_NULL, 0, 0x0300_0000)),
 )
-tpm.fails(
-    "nvIndex that is none: VALUE/h2",
-    *(right.but(handles=[RH_OWNER, it]) for it in (RH_OWNER, 0, 0x8000_0000, 0x8100_0000)),
-)
+said = tpm("nvIndex that is none: VALUE/h2")
+said.fails(*(right.but(handles=[RH_OWNER, it]) for it in (RH_OWNER, 0, 0x8000_0000, 0x8100_0000)))
 tpm.fails("An index that is not there: HANDLE/h2", right.but(handles=[RH_OWNER, THIRD]))
 tpm.fails("Without sessions: AUTH_MISSING", right.but(entries=[]))
-tpm.does('ownerAuth becomes "abc"', tpm.change_auth(RH_OWNER, b"abc", b""))
-tpm.fails(
-    "By the empty password, and by the index's: BAD_AUTH/s1", right, tpm.undefining(FIRST, b"a")
-)
+tpm('ownerAuth becomes "abc"').change_auth(RH_OWNER, b"abc", b"")
+said = tpm("By the empty password, and by the index's: BAD_AUTH/s1")
+said.fails(right, tpm.undefining(FIRST, b"a"))
 tpm.fails("A byte behind the area: SIZE", tpm.undefining(FIRST).but(parameters=b"\0"))
-tpm.does("By the right one", tpm.undefining(FIRST))
+tpm("By the right one").undefining(FIRST)
 
 tpm.chapter("Sessions: one that is bound to the owner, and one beside it.")
 bound = tpm.start("A session that is bound to TPM_RH_OWNER", bind=RH_OWNER)
 tpm.define("An index, defined through it", area(FIRST, BY_VALUE), bound, auth=b"a")
 of_index = tpm.start("A session that is bound to the index", bind=FIRST)
-tpm.does("TPM2_NV_Write by it", tpm.writing(FIRST, b"x", of_index))
+tpm("TPM2_NV_Write by it").writing(FIRST, b"x", of_index)
 wrong = tpm.undefining(FIRST, bound)
 tpm.fails("A wrong hmac: BAD_AUTH/s1", wrong.but_entry(1, hmac=bytes(32)))
-tpm.does(
-    "TPM2_NV_UndefineSpace by the first; the second, whose index it is, stands beside it",
-    tpm.undefining(FIRST, bound, of_index),
-)
-tpm.does("The second is there yet, and only encrypts", tpm.random(4, of_index))
-tpm.define(
-    "The index is defined again, with the same value", area(FIRST, BY_VALUE), bound, auth=b"a"
-)
-tpm.does(
-    "Its session is bound to it again, as Name and value are those of then",
-    tpm.writing(FIRST, b"x", of_index),
-)
+said = tpm("TPM2_NV_UndefineSpace by the first; the second, whose index it is, stands beside it")
+said.undefining(FIRST, bound, of_index)
+tpm("The second is there yet, and only encrypts").random(4, of_index)
+said = tpm("The index is defined again, with the same value")
+said.define(area(FIRST, BY_VALUE), bound, auth=b"a")
+said = tpm("Its session is bound to it again, as Name and value are those of then")
+said.writing(FIRST, b"x", of_index)

@@ -1,31 +1,21 @@
-"""Writes order_of_nv_refusals.tpm: many faults at once, repaired one by one."""
+"""Writes order_of_nv_refusals.tpm. The order of refusals in the commands on NV indices: a buffer
+with many faults, of which one after the other is repaired. What is answered is the first that is
+left.
+"""
 
-from tpmsim.caller import BY_OWNER, BY_POLICY, BY_VALUE, Use, area, bits, counter, extended
-from tpmsim.standard import CC, DECRYPT, Entry, RH_LOCKOUT, RH_OWNER, RH_PLATFORM, SHA1
-from tpmsim.standard import area as entries_area, command, frames, handle_kinds, number, policy
-from tpmsim.standard import sized
-from tpmsim.standard.nv import Attribute
-from tests.common.teller import Teller
+from tpmsim.standard import area as entries_area, handle_kinds
+from tests.common.vocabulary import area, bits, BY_OWNER, BY_POLICY, BY_VALUE, CC, command, counter
+from tests.common.vocabulary import DECRYPT, Entry, extended, frames, LOCKS, number, NvAttribute
+from tests.common.vocabulary import others_in, policy, RH_LOCKOUT, RH_OWNER, RH_PLATFORM, SHA1
+from tests.common.vocabulary import sized, Teller, Use
 
 ORDINARY, COUNTER, BITS, EXTENDED = range(0x0100_0001, 0x0100_0005)
 LOCKED_ORDINARY, LOCKED_COUNTER, READ_LOCKED, UNWRITTEN = range(0x0100_0011, 0x0100_0015)
 BY_OTHERS, PLATFORMS, CHANGED, NEW = range(0x0100_0021, 0x0100_0025)
 ABSENT, ABSENT_SESSION = 0x0100_0099, Entry(0x0200_000F, b"", 1, b"")
 VALUE = b"a"
-LOCKS = Attribute.WRITE_STCLEAR | Attribute.READ_STCLEAR
 
-tpm = Teller(
-    "tests/nv/order_of_nv_refusals.tpm",
-    "The order of refusals in the commands on NV indices: a buffer with many faults, of which one "
-    "after the other is repaired. What is answered is the first that is left.",
-    tries=True,
-)
-
-
-def wrong(prepared, *places):
-    for place in places:
-        prepared = prepared.but_entry(place, hmac=b"wrong")
-    return prepared
+tpm = Teller(__name__, __doc__, tries=True)
 
 
 def handles_in_order(code, handles):
@@ -42,10 +32,8 @@ def handles_in_order(code, handles):
             is_of_kind = handle_kinds.IS_OF_KIND[code.handles[place - 1].kind]
             if len(text) == 4 and absent != RH_LOCKOUT and not is_of_kind(absent):
                 continue
-            tpm.raw(
-                f"Handle {place}. {what}, and no sessions: {outcome}",
-                command(code, before + text, frames.NO_SESSIONS),
-            )
+            said = tpm(f"Handle {place}. {what}, and no sessions: {outcome}")
+            said.raw(command(code, before + text, frames.NO_SESSIONS))
 
 
 def general_refusals(code, handles, cut, uses):
@@ -54,27 +42,21 @@ def general_refusals(code, handles, cut, uses):
     text = b"".join(number(it, 4) for it in handles)
     if code.authorized:
         tpm.raw("No sessions: AUTH_MISSING", command(code, text + cut))
-    tpm.raw(
-        "An area of eight bytes: AUTHSIZE",
-        command(code, text + entries_area(bytes(8)) + cut, frames.SESSIONS),
-    )
+    said = tpm("An area of eight bytes: AUTHSIZE")
+    said.raw(command(code, text + entries_area(bytes(8)) + cut, frames.SESSIONS))
     prepared = tpm.prepare(code, handles, cut, *uses)
     last = len(uses)
-    tpm.refused(
-        f"A wrong first entry, and the last one is not there: REFERENCE_S{last - 1}",
-        prepared.but(entries=[*wrong(prepared, 1).entries[:-1], ABSENT_SESSION]),
-    )
+    said = tpm(f"A wrong first entry, and the last one is not there: REFERENCE_S{last - 1}")
+    said.refused(prepared.but(entries=[*others_in(prepared, 1).entries[:-1], ABSENT_SESSION]))
     is_first = handle_kinds.IS_OF_KIND[code.handles[0].kind]
     if code.authorized and is_first(BY_OTHERS) and code != CC.NV_ChangeAuth:
         unavailable = tpm.prepare(code, [BY_OTHERS, *handles[1:]], cut, *uses)
-        tpm.refused(
-            "Both entries are wrong, on an index that no password can use: AUTH_UNAVAILABLE",
-            wrong(unavailable, 1, last),
-        )
+        said = tpm("Both entries are wrong, on an index that no password can use: AUTH_UNAVAILABLE")
+        said.refused(others_in(unavailable, 1, last))
     if last > 1:
         refused = "AUTH_FAIL/s1" if handle_kinds.is_index(handles[0]) else "BAD_AUTH/s1"
-        tpm.refused(f"Both entries are wrong: {refused}", wrong(prepared, 1, last))
-    tpm.refused(f"The last one is: BAD_AUTH/s{last}", wrong(prepared, last))
+        tpm.refused(f"Both entries are wrong: {refused}", others_in(prepared, 1, last))
+    tpm.refused(f"The last one is: BAD_AUTH/s{last}", others_in(prepared, last))
 
 
 def in_order(code, uses, *cases):
@@ -149,30 +131,7 @@ def define_space():
         case("2,048 bytes, for which there is no space", "NV_SPACE", defined(NEW), none),
         case("With nothing wrong", "SUCCESS", defined(NEW, size=4), none),
     )
-    tpm.says("It is undefined: SUCCESS", tpm.undefining(NEW))
-
-
-def undefine_space():
-    tpm.chapter("TPM2_NV_UndefineSpace.")
-    code, uses = CC.NV_UndefineSpace, [b"", Use(session)]
-    general_refusals(code, [RH_OWNER, PLATFORMS], b"\0", uses)
-    in_order(
-        code,
-        uses,
-        ("A byte behind the area", "SIZE", [RH_OWNER, PLATFORMS], b"\0"),
-        ("An index of the platform's", "NV_AUTHORIZATION", [RH_OWNER, PLATFORMS], b""),
-        ("With nothing wrong", "SUCCESS", [RH_PLATFORM, PLATFORMS], b""),
-    )
-
-
-def read_public():
-    tpm.chapter("TPM2_NV_ReadPublic, with a session that authorizes nothing.")
-    general_refusals(CC.NV_ReadPublic, [ORDINARY], b"\0", [Use(session)])
-    wrong_size = tpm.index_public(ORDINARY, session).handles
-    tpm.refused(
-        "A byte behind the handle: SIZE", tpm.prepare(CC.NV_ReadPublic, wrong_size, b"\0", session)
-    )
-    tpm.is_now("With nothing wrong", ORDINARY, session)
+    tpm("It is undefined").undefining(NEW)
 
 
 def read():
@@ -235,54 +194,44 @@ def change_auth():
     both = prepared(cut, Use(told, shows_empty_key=True), hides)
     refused(
         "The last entry is not there: REFERENCE_S1",
-        both.but(entries=[wrong(both, 1).entries[0], ABSENT_SESSION]),
+        both.but(entries=[others_in(both, 1).entries[0], ABSENT_SESSION]),
     )
     trial = tpm.trial("A trial session")
     refused(
         "A trial session, on an index without a policy: ATTRIBUTES/s1",
-        wrong(prepared(cut, Use(trial, shows_empty_key=True), hides, index=ORDINARY), 1, 2),
+        others_in(prepared(cut, Use(trial, shows_empty_key=True), hides, index=ORDINARY), 1, 2),
     )
-    refused("A password: AUTH_UNAVAILABLE", wrong(prepared(cut, VALUE, hides), 1, 2))
+    refused("A password: AUTH_UNAVAILABLE", others_in(prepared(cut, VALUE, hides), 1, 2))
     refused(
         "A policy session, on an index without a policy: AUTH_UNAVAILABLE",
-        wrong(prepared(cut, Use(told, shows_empty_key=True), hides, index=ORDINARY), 1, 2),
+        others_in(prepared(cut, Use(told, shows_empty_key=True), hides, index=ORDINARY), 1, 2),
     )
-    tpm.says("TPM2_PolicyPCR of no PCRs: SUCCESS", tpm.pcrs(told, []))
-    tpm.says(
-        "TPM2_PolicyCommandCode of TPM2_NV_Write: SUCCESS", tpm.command_code(told, CC.NV_Write)
-    )
-    tpm.says("TPM2_PolicyLocality of locality 1: SUCCESS", tpm.locality(told, 2))
-    tpm.does("A PCR is extended", tpm.event(b"", b""))
+    tpm("TPM2_PolicyPCR of no PCRs").pcrs(told, [])
+    tpm("TPM2_PolicyCommandCode of TPM2_NV_Write").command_code(told, CC.NV_Write)
+    tpm("TPM2_PolicyLocality of locality 1").locality(told, 2)
+    tpm("A PCR is extended").event(b"", b"")
 
     def all_wrong():
-        return wrong(prepared(cut, Use(told, shows_empty_key=True), hides), 1, 2)
+        return others_in(prepared(cut, Use(told, shows_empty_key=True), hides), 1, 2)
 
     refused("A PCR has changed, and another code is recorded: PCR_CHANGED", all_wrong())
-    tpm.says("TPM2_PolicyRestart: SUCCESS", tpm.restart(told))
-    tpm.says(
-        "TPM2_PolicyCommandCode of TPM2_NV_Write: SUCCESS", tpm.command_code(told, CC.NV_Write)
-    )
-    tpm.says("TPM2_PolicyLocality of locality 1: SUCCESS", tpm.locality(told, 2))
+    tpm.restarts(told)
+    tpm("TPM2_PolicyCommandCode of TPM2_NV_Write").command_code(told, CC.NV_Write)
+    tpm("TPM2_PolicyLocality of locality 1").locality(told, 2)
     refused("Another code, and another locality: POLICY_CC/s1", all_wrong())
-    tpm.says("TPM2_PolicyRestart: SUCCESS", tpm.restart(told))
-    tpm.says("TPM2_PolicyLocality of locality 1: SUCCESS", tpm.locality(told, 2))
+    tpm.restarts(told)
+    tpm("TPM2_PolicyLocality of locality 1").locality(told, 2)
     refused("No code, and another locality: POLICY_FAIL/s1", all_wrong())
-    tpm.says(
-        "TPM2_PolicyCommandCode of TPM2_NV_ChangeAuth: SUCCESS",
-        tpm.command_code(told, CC.NV_ChangeAuth),
-    )
+    tpm("TPM2_PolicyCommandCode of TPM2_NV_ChangeAuth").command_code(told, CC.NV_ChangeAuth)
     refused("Another locality, and another digest: LOCALITY", all_wrong())
     tpm.locality_is(1)
     refused("Another digest: POLICY_FAIL/s1", all_wrong())
-    tpm.says("TPM2_PolicyRestart: SUCCESS", tpm.restart(told))
-    tpm.says(
-        "TPM2_PolicyCommandCode of TPM2_NV_ChangeAuth: SUCCESS",
-        tpm.command_code(told, CC.NV_ChangeAuth),
-    )
+    tpm.restarts(told)
+    tpm("TPM2_PolicyCommandCode of TPM2_NV_ChangeAuth").command_code(told, CC.NV_ChangeAuth)
     refused("Both hmacs are wrong: BAD_AUTH/s1", all_wrong())
     refused(
         "The last one is: BAD_AUTH/s2",
-        wrong(prepared(cut, Use(told, shows_empty_key=True), hides), 2),
+        others_in(prepared(cut, Use(told, shows_empty_key=True), hides), 2),
     )
     for what, outcome, parameters in (
         ("newAuth is cut", "INSUFFICIENT/p1", cut),
@@ -342,7 +291,7 @@ for index, public in enumerate(
         area(BY_OTHERS, BY_OWNER | BY_POLICY),
         area(
             CHANGED,
-            BY_VALUE | Attribute.NO_DA,
+            BY_VALUE | NvAttribute.NO_DA,
             algorithm=SHA1,
             auth_policy=policy.after_command_code(SHA1, bytes(20), CC.NV_ChangeAuth),
         ),
@@ -350,13 +299,9 @@ for index, public in enumerate(
     )
 ):
     tpm.define("They are defined" if index == 0 else "", public, auth=VALUE)
-tpm.define(
-    "One of the platform's",
-    area(PLATFORMS, BY_VALUE | Attribute.PLATFORMCREATE),
-    auth=VALUE,
-    by=RH_PLATFORM,
-)
-tpm.does("The ordinary one is written", tpm.writing(ORDINARY, b"8 bytes."))
+said = tpm("One of the platform's")
+said.define(area(PLATFORMS, BY_VALUE | NvAttribute.PLATFORMCREATE), auth=VALUE, by=RH_PLATFORM)
+tpm("The ordinary one is written").writing(ORDINARY, b"8 bytes.")
 for index, lock in (
     (LOCKED_ORDINARY, tpm.write_locking),
     (LOCKED_COUNTER, tpm.write_locking),
@@ -366,8 +311,25 @@ for index, lock in (
 session = tpm.start("A session with AES, that is bound to TPM_RH_OWNER", bind=RH_OWNER, aes=True)
 
 define_space()
-undefine_space()
-read_public()
+
+tpm.chapter("TPM2_NV_UndefineSpace.")
+code, uses = CC.NV_UndefineSpace, [b"", Use(session)]
+general_refusals(code, [RH_OWNER, PLATFORMS], b"\0", uses)
+in_order(
+    code,
+    uses,
+    ("A byte behind the area", "SIZE", [RH_OWNER, PLATFORMS], b"\0"),
+    ("An index of the platform's", "NV_AUTHORIZATION", [RH_OWNER, PLATFORMS], b""),
+    ("With nothing wrong", "SUCCESS", [RH_PLATFORM, PLATFORMS], b""),
+)
+
+
+tpm.chapter("TPM2_NV_ReadPublic, with a session that authorizes nothing.")
+general_refusals(CC.NV_ReadPublic, [ORDINARY], b"\0", [Use(session)])
+wrong_size = tpm.index_public(ORDINARY, session).handles
+tpm("A byte behind the handle: SIZE").prepare(CC.NV_ReadPublic, wrong_size, b"\0", session)
+tpm.is_now("With nothing wrong", ORDINARY, session)
+
 LONG = sized(bytes(1025))
 changes(
     CC.NV_Write,

@@ -1,20 +1,17 @@
-"""Writes create.tpm: TPM2_Create, which wraps a new object for its parent."""
+"""Writes create.tpm. TPM2_Create makes an object and gives it out in a private area, which its
+parent alone can load. Nothing of it stays in the device.
+"""
 
-from tpmsim.caller import HERE, OPEN, STORES, Use, hmac_key, sealed, storage_key
+from tpmsim.standard import aes, Fields
+from tests.common.vocabulary import ALG_NULL, CC, CONTINUE_SESSION, DECRYPT, digest, ENCRYPT, frames
+from tests.common.vocabulary import HERE, hmac_key, mac, number, ObjectAttribute, OPEN, Public
+from tests.common.vocabulary import RH_ENDORSEMENT, RH_NULL, RH_OWNER, RH_PLATFORM, sealed, SHA1
+from tests.common.vocabulary import SHA256, storage_key, STORES, SYMCIPHER, Teller, Use
 from tpmsim.model import object_rules
-from tpmsim.standard import ALG_NULL, CC, CONTINUE_SESSION, DECRYPT, ENCRYPT, Fields
-from tpmsim.standard import RH_ENDORSEMENT, RH_NULL, RH_OWNER, RH_PLATFORM, SHA1, SHA256, SYMCIPHER
-from tpmsim.standard import aes, digest, frames, mac, number
-from tpmsim.standard.objects import Attribute, Public
-from tests.common.teller import Teller
 
-ORIGIN = Attribute.SENSITIVE_DATA_ORIGIN
+ORIGIN = ObjectAttribute.SENSITIVE_DATA_ORIGIN
 
-tpm = Teller(
-    "tests/objects/create.tpm",
-    "TPM2_Create makes an object and gives it out in a private area, which its parent alone can "
-    "load. Nothing of it stays in the device.",
-)
+tpm = Teller(__name__, __doc__)
 refused = tpm.says
 
 
@@ -27,30 +24,21 @@ refused(
     "No object's handle: TPM_RH_OWNER, TPM_RH_NULL, PCR 0, an NV index, sessions: VALUE/h1",
     *map(under, (RH_OWNER, RH_NULL, 0, 0x0100_0000, 0x0200_0000, 0x0300_0000, 0x7F00_0000)),
 )
-refused(
-    "A transient object, while there is none: REFERENCE_H0",
-    *map(under, (0x8000_0000, 0x8000_0007, 0x8000_0008, 0x80FF_FFFF)),
-)
-refused(
-    "A persistent object, while there is none: HANDLE/h1",
-    *map(under, (0x8100_0000, 0x8180_0000, 0x81FF_FFFF)),
-)
-parent = tpm.create_primary(
-    'A storage key, whose value is "parent"', RH_OWNER, storage_key(), user_auth=b"parent"
-)
-refused(
-    "Another number is still not there: REFERENCE_H0",
-    *(under(it, b"parent") for it in (0x8000_0001, 0x8000_0007, 0x8001_0000)),
-)
-tpm.raw(
-    "It has to be authorized: no sessions (tag 8001): AUTH_MISSING",
-    frames.command(CC.Create, number(parent, 4)),
-)
+case = "A transient object, while there is none: REFERENCE_H0"
+refused(case, *map(under, (0x8000_0000, 0x8000_0007, 0x8000_0008, 0x80FF_FFFF)))
+case = "A persistent object, while there is none: HANDLE/h1"
+refused(case, *map(under, (0x8100_0000, 0x8180_0000, 0x81FF_FFFF)))
+said = tpm('A storage key, whose value is "parent"')
+parent = said.create_primary(RH_OWNER, storage_key(), user_auth=b"parent")
+case = "Another number is still not there: REFERENCE_H0"
+refused(case, *(under(it, b"parent") for it in (0x8000_0001, 0x8000_0007, 0x8001_0000)))
+said = tpm("It has to be authorized: no sessions (tag 8001): AUTH_MISSING")
+said.raw(frames.command(CC.Create, number(parent, 4)))
 refused("By another password: BAD_AUTH/s1", under(parent, b"Parent"))
 guarded = tpm.create_primary(
     "A storage key without noDA",
     RH_OWNER,
-    storage_key(attributes=HERE | STORES | Attribute.USER_WITH_AUTH),
+    storage_key(attributes=HERE | STORES | ObjectAttribute.USER_WITH_AUTH),
 )
 refused("By another password: AUTH_FAIL/s1", under(guarded, b"Parent"))
 tpm.create("By the right one, the empty one", guarded, sealed(), data=b"x")
@@ -60,15 +48,19 @@ tpm.chapter("Not every object is a parent: that has to be a restricted key to de
 for what, public, data in (
     ("Sealed data", sealed(), b"x"),
     ("An HMAC key", hmac_key(), b"key"),
-    ("A restricted HMAC key", hmac_key(attributes=HERE | OPEN | Attribute.RESTRICTED), b"key"),
+    (
+        "A restricted HMAC key",
+        hmac_key(attributes=HERE | OPEN | ObjectAttribute.RESTRICTED),
+        b"key",
+    ),
     (
         "An AES key to decrypt, which is not restricted",
-        Public(SYMCIPHER, SHA256, HERE | OPEN | Attribute.DECRYPT),
+        Public(SYMCIPHER, SHA256, HERE | OPEN | ObjectAttribute.DECRYPT),
         bytes(16),
     ),
     (
         "One to encrypt and decrypt",
-        Public(SYMCIPHER, SHA256, HERE | OPEN | Attribute.DECRYPT | Attribute.SIGN),
+        Public(SYMCIPHER, SHA256, HERE | OPEN | ObjectAttribute.DECRYPT | ObjectAttribute.SIGN),
         bytes(16),
     ),
 ):
@@ -100,8 +92,7 @@ for what, public, data, key_bytes in (
     ("A storage key", storage_key(), b"", 16),
     ("A storage key, and nameAlg SHA-1", storage_key(SHA1), b"", 16),
 ):
-    answer = tpm.says(f"{what}: SUCCESS", tpm.child(parent, public, data=data))
-    fields = Fields(answer[14:])
+    fields = Fields(tpm(what).child(parent, public, data=data))
     private, made = Fields(fields.sized()), object_rules.Parameters(fields.data)
     made = made.structure(object_rules.read_public)
     seed_end = key_bytes + (20 if public.name_algorithm == SHA1 else 32)
@@ -132,9 +123,8 @@ prepared = tpm.child(
     outside_info=b"o" * 34,
     pcrs=16 * [(SHA256, range(24))],
 )
-response = tpm.raw(
-    "TPM2_Create with three sessions, of which the last ends: SUCCESS", prepared.buffer()
-)
+said = tpm("TPM2_Create with three sessions, of which the last ends: SUCCESS")
+response = said.raw(prepared.buffer())
 tpm.received(prepared, response)
 assert [it.nonce_tpm for it in long] == [RANDOM[at : at + 32] for at in (80, 112, 144)]
 
@@ -190,10 +180,8 @@ tpm.create(
     outside_info=b"o" * 34,
 )
 refused("129 bytes of data: SIZE/p1", tpm.child(parent, sealed(), data=bytes(129)))
-refused(
-    "35 bytes of outsideInfo: SIZE/p3",
-    tpm.child(parent, sealed(), data=b"x", outside_info=bytes(35)),
-)
+case = "35 bytes of outsideInfo: SIZE/p3"
+refused(case, tpm.child(parent, sealed(), data=b"x", outside_info=bytes(35)))
 refused("17 banks: SIZE/p4", tpm.child(parent, sealed(), data=b"x", pcrs=17 * [(SHA1, [])]))
 whole = under(parent)
 refused("A byte behind creationPCR: SIZE", whole.but(parameters=whole.parameters + b"\0"))

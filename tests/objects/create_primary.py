@@ -1,11 +1,11 @@
-"""Writes create_primary.tpm: TPM2_CreatePrimary, and what it answers."""
+"""Writes create_primary.tpm. TPM2_CreatePrimary makes an object out of its template and its
+hierarchy's seed.
+"""
 
-from tpmsim.caller import HERE, OPEN, hmac_key, sealed, storage_key
-from tpmsim.standard import ALG_NULL, CC, RH_ENDORSEMENT, RH_LOCKOUT, RH_NULL, RH_OWNER
-from tpmsim.standard import RH_PLATFORM, SHA1, SHA256, SYMCIPHER, digest, frames, mac, number
-from tpmsim.standard import on_handle, sized
-from tpmsim.standard.objects import Attribute, Public
-from tests.common.teller import Teller
+from tests.common.vocabulary import ALG_NULL, CC, digest, frames, HERE, hmac_key, mac, number
+from tests.common.vocabulary import ObjectAttribute, on_handle, OPEN, Public, RH_ENDORSEMENT
+from tests.common.vocabulary import RH_LOCKOUT, RH_NULL, RH_OWNER, RH_PLATFORM, sealed, SHA1, SHA256
+from tests.common.vocabulary import sized, storage_key, SYMCIPHER, Teller
 
 HIERARCHIES = (
     (RH_OWNER, "TPM_RH_OWNER"),
@@ -16,10 +16,7 @@ HIERARCHIES = (
 ALGORITHMS = ((SHA1, "SHA-1"), (SHA256, "SHA-256"))
 QUESTION = b"what do ya want for nothing?"
 
-tpm = Teller(
-    "tests/objects/create_primary.tpm",
-    "TPM2_CreatePrimary makes an object out of its template and its hierarchy's seed.",
-)
+tpm = Teller(__name__, __doc__)
 
 
 def creates(what, hierarchy, public, **more):
@@ -27,7 +24,7 @@ def creates(what, hierarchy, public, **more):
 
 
 def refused(words, hierarchy, public, *uses, **more):
-    tpm.says(words, tpm.primary(hierarchy, public, *uses, **more))
+    tpm(words).primary(hierarchy, public, *uses, **more)
 
 
 tpm.chapter(
@@ -37,10 +34,8 @@ tpm.chapter(
     "empty. No outsideInfo, and no PCRs."
 )
 jefe = "0008 0000 0004 4A656665 0010 0008 000B 00040440 0000 0005 000B 0000 0000 00000000"
-tpm.raw(
-    "TPM2_CreatePrimary in TPM_RH_OWNER: the object is 80000000: SUCCESS",
-    on_handle(CC.CreatePrimary, RH_OWNER, bytes.fromhex(jefe)),
-)
+said = tpm("TPM2_CreatePrimary in TPM_RH_OWNER: the object is 80000000: SUCCESS")
+said.raw(on_handle(CC.CreatePrimary, RH_OWNER, bytes.fromhex(jefe)))
 FIRST = 0x8000_0000
 answer = tpm.raw(
     'TPM2_HMAC of "what do ya want for nothing?" with SHA-256, which is test case 2 of RFC 4231: '
@@ -48,12 +43,10 @@ answer = tpm.raw(
     on_handle(CC.HMAC, FIRST, sized(QUESTION) + number(SHA256, 2)),
 )
 assert mac(SHA256, b"Jefe", QUESTION) in answer
-tpm.raw(
-    "With SHA-1, which is not its scheme's: VALUE/p2",
-    on_handle(CC.HMAC, FIRST, sized(QUESTION) + number(SHA1, 2)),
-)
+said = tpm("With SHA-1, which is not its scheme's: VALUE/p2")
+said.raw(on_handle(CC.HMAC, FIRST, sized(QUESTION) + number(SHA1, 2)))
 tpm.raw("TPM2_Unseal: it is a key: ATTRIBUTES/h1", on_handle(CC.Unseal, FIRST))
-tpm.says("It is flushed: SUCCESS", tpm.flush(FIRST))
+tpm("It is flushed").flush(FIRST)
 
 tpm.chapter("primaryHandle.")
 tpm.says(
@@ -67,27 +60,21 @@ tpm.says(
         )
     ),
 )
-tpm.raw(
-    "It has to be authorized: no sessions (tag 8001): AUTH_MISSING",
-    frames.command(CC.CreatePrimary, number(RH_OWNER, 4)),
-)
+said = tpm("It has to be authorized: no sessions (tag 8001): AUTH_MISSING")
+said.raw(frames.command(CC.CreatePrimary, number(RH_OWNER, 4)))
 tpm.accepted('The value of TPM_RH_OWNER is "owner"', tpm.change_auth(RH_OWNER, b"owner", b""))
 refused("By the empty password: BAD_AUTH/s1", RH_OWNER, storage_key(), b"")
 session = tpm.start("An HMAC session")
-by_session = tpm.create_primary(
-    "By that session", RH_OWNER, storage_key(), session, user_auth=b"abc"
-)
+said = tpm("By that session")
+by_session = said.create_primary(RH_OWNER, storage_key(), session, user_auth=b"abc")
 tpm.flush_objects("The object is flushed", by_session)
 
 tpm.chapter("The same template and the same hierarchy give the same object, whatever is drawn.")
 names = set()
 for algorithm, hash_name in ALGORITHMS:
     for hierarchy, hierarchy_name in HIERARCHIES:
-        first = creates(
-            f"A storage key in {hierarchy_name} with nameAlg {hash_name}",
-            hierarchy,
-            storage_key(algorithm),
-        )
+        case = f"A storage key in {hierarchy_name} with nameAlg {hash_name}"
+        first = creates(case, hierarchy, storage_key(algorithm))
         second = creates("Once more", hierarchy, storage_key(algorithm))
         assert tpm.names[first] == tpm.names[second]
         names.add(tpm.names[first])
@@ -109,10 +96,10 @@ for what, public, more in (
     ("unique is one zero", storage_key(unique=b"\0"), {}),
     ("32 bytes 11", storage_key(unique=b"\x11" * 32), {}),
     ("An authPolicy", storage_key(auth_policy=bytes(32)), {}),
-    ("stClear", storage_key(attributes=storage_key().attributes | Attribute.ST_CLEAR), {}),
+    ("stClear", storage_key(attributes=storage_key().attributes | ObjectAttribute.ST_CLEAR), {}),
     (
         "adminWithPolicy",
-        storage_key(attributes=storage_key().attributes | Attribute.ADMIN_WITH_POLICY),
+        storage_key(attributes=storage_key().attributes | ObjectAttribute.ADMIN_WITH_POLICY),
         {},
     ),
     (
@@ -147,19 +134,15 @@ for locality in (4, 1, 0):
     tpm.flush_objects("It is flushed", handle)
 assert len({name for name, _ in same}) == 1 and len({data for _, data in same}) == 8
 refused("35 bytes of outsideInfo: SIZE/p3", RH_OWNER, storage_key(), outside_info=bytes(35))
-refused(
-    "16 banks, the most that there may be, and one more: SIZE/p4",
-    RH_OWNER,
-    storage_key(),
-    pcrs=17 * [(SHA1, [])],
-)
+case = "16 banks, the most that there may be, and one more: SIZE/p4"
+refused(case, RH_OWNER, storage_key(), pcrs=17 * [(SHA1, [])])
 creates("16 of them", RH_OWNER, storage_key(), pcrs=16 * [(SHA256, [23])])
 tpm.flush_objects("It is flushed", FIRST)
 whole = tpm.primary(RH_OWNER, storage_key())
 tpm.says("A byte behind creationPCR: SIZE", whole.but(parameters=whole.parameters + b"\0"))
 
 tpm.chapter("Objects of each type, with data that are given and that are generated.")
-GENERATED = Attribute.SENSITIVE_DATA_ORIGIN
+GENERATED = ObjectAttribute.SENSITIVE_DATA_ORIGIN
 for algorithm, hash_name in ALGORITHMS:
     tpm.chapter(f"Their nameAlg is {hash_name}.")
     handle = creates("Sealed data of one byte", RH_OWNER, sealed(algorithm), data=b"x")
@@ -175,27 +158,21 @@ for algorithm, hash_name in ALGORITHMS:
     handle = creates("An HMAC key of 128 bytes", RH_OWNER, hmac_key(algorithm), data=b"k" * 128)
     _, answer = tpm.accepted("TPM2_HMAC", tpm.hmac(handle, b"text", ALG_NULL))
     assert answer == sized(mac(SHA256, b"k" * 128, b"text"))
-    handle = creates(
-        "An HMAC key of SHA-1 that is generated",
-        RH_ENDORSEMENT,
-        hmac_key(algorithm, HERE | OPEN | GENERATED, SHA1),
-    )
+    case = "An HMAC key of SHA-1 that is generated"
+    handle = creates(case, RH_ENDORSEMENT, hmac_key(algorithm, HERE | OPEN | GENERATED, SHA1))
     tpm.accepted("TPM2_HMAC", tpm.hmac(handle, b"text", SHA1))
-    handle = creates(
-        "With scheme NULL: as long as a digest of nameAlg",
-        RH_PLATFORM,
-        hmac_key(algorithm, HERE | OPEN | GENERATED, ALG_NULL),
-    )
+    case = "With scheme NULL: as long as a digest of nameAlg"
+    handle = creates(case, RH_PLATFORM, hmac_key(algorithm, HERE | OPEN | GENERATED, ALG_NULL))
     tpm.accepted("TPM2_HMAC with SHA-256", tpm.hmac(handle, b"text", SHA256))
     handle = creates(
         "A restricted one",
         RH_OWNER,
-        hmac_key(algorithm, HERE | OPEN | GENERATED | Attribute.RESTRICTED),
+        hmac_key(algorithm, HERE | OPEN | GENERATED | ObjectAttribute.RESTRICTED),
     )
     handle = creates(
         "An AES key of 16 bytes, which may sign and decrypt",
         RH_OWNER,
-        Public(SYMCIPHER, algorithm, HERE | OPEN | Attribute.SIGN | Attribute.DECRYPT),
+        Public(SYMCIPHER, algorithm, HERE | OPEN | ObjectAttribute.SIGN | ObjectAttribute.DECRYPT),
         data=bytes(range(16)),
     )
     handle = creates(

@@ -1,11 +1,13 @@
-"""Writes evict_control.tpm: persistent objects, how they come, stay and go."""
+"""Writes evict_control.tpm. TPM2_EvictControl makes a persistent object of a transient one, or
+takes a persistent one away. A persistent object outlives power cycles, has a handle from 81000000
+on, and is used as the transient one was.
+"""
 
-from tpmsim.caller import HERE, OPEN, STATE, STORES, Use, area, hmac_key, sealed, storage_key
-from tpmsim.caller import wrong
-from tpmsim.standard import CC, RH_ENDORSEMENT, RH_LOCKOUT, RH_NULL, RH_OWNER, RH_PLATFORM, SHA256
-from tpmsim.standard import command, frames, number, on_handles
-from tpmsim.standard.objects import Attribute
-from tests.common.teller import Teller
+from tpmsim.standard import on_handles
+from tests.common.vocabulary import area, CC, command, frames, HERE, hmac_key, number
+from tests.common.vocabulary import ObjectAttribute, OPEN, RH_ENDORSEMENT, RH_LOCKOUT, RH_NULL
+from tests.common.vocabulary import RH_OWNER, RH_PLATFORM, sealed, SHA256, STATE, storage_key
+from tests.common.vocabulary import STORES, Teller, Use, wrong
 
 # The handles of persistent objects: the owner's are below 81800000, the platform's from there on.
 FIRST, OWNERS_LAST, PLATFORMS_FIRST, LAST = 0x8100_0000, 0x817F_FFFF, 0x8180_0000, 0x81FF_FFFF
@@ -16,15 +18,9 @@ ENCRYPTING = frames.CONTINUE_SESSION | frames.ENCRYPT
 # The capability of TPM2_GetCapability, and how many persistent objects there may be.
 HANDLES, MOST = 1, 16
 
-ST_CLEAR = HERE | OPEN | STORES | Attribute.ST_CLEAR
+ST_CLEAR = HERE | OPEN | STORES | ObjectAttribute.ST_CLEAR
 
-tpm = Teller(
-    "tests/objects/evict_control.tpm",
-    "TPM2_EvictControl makes a persistent object of a transient one, or takes a persistent one "
-    "away. A persistent object outlives power cycles, has a handle from 81000000 on, and is used "
-    "as the transient one was.",
-    starts=False,
-)
+tpm = Teller(__name__, __doc__, starts=False)
 says = tpm.raw
 
 
@@ -44,7 +40,7 @@ def primary(what, hierarchy, template=None):
 def kept_handles(what, *handles):
     """All persistent objects, as TPM2_GetCapability lists them."""
     listed = number(len(handles), 4) + b"".join(number(it, 4) for it in handles)
-    given = tpm.does(what, tpm.capability(HANDLES, FIRST, 64))
+    given = tpm(what).capability(HANDLES, FIRST, 64)
     assert given == b"\0" + number(HANDLES, 4) + listed, what
 
 
@@ -52,10 +48,8 @@ def handles_and_parameter(owners):
     tpm.chapter("The handles and the parameter.")
     handles = number(RH_OWNER, 4) + number(owners, 4)
     says("No handle: INSUFFICIENT/h1", command(CC.EvictControl, b""))
-    fails(
-        "Who has no persistent objects: VALUE/h1",
-        *((it, owners, FIRST) for it in (RH_ENDORSEMENT, RH_LOCKOUT, RH_NULL, 0, owners)),
-    )
+    case = "Who has no persistent objects: VALUE/h1"
+    fails(case, *((it, owners, FIRST) for it in (RH_ENDORSEMENT, RH_LOCKOUT, RH_NULL, 0, owners)))
     says("No object: INSUFFICIENT/h2", command(CC.EvictControl, handles[:4]))
     fails(
         "What is no object: PCR 0, an NV index, a session, and a hierarchy: VALUE/h2",
@@ -65,10 +59,8 @@ def handles_and_parameter(owners):
     fails("A persistent object that is not there: HANDLE/h2", (RH_OWNER, FIRST, FIRST))
     says("Without sessions: AUTH_MISSING", command(CC.EvictControl, handles + number(FIRST, 4)))
     wrong_password = [frames.entry(hmac=b"x")]
-    says(
-        "A wrong password, and no parameter: BAD_AUTH/s1",
-        on_handles(CC.EvictControl, [RH_OWNER, owners], b"", wrong_password),
-    )
+    case = "A wrong password, and no parameter: BAD_AUTH/s1"
+    says(case, on_handles(CC.EvictControl, [RH_OWNER, owners], b"", wrong_password))
     says(
         "The parameter cut: INSUFFICIENT/p1",
         *(on_handles(CC.EvictControl, [RH_OWNER, owners], bytes([0x81] * it)) for it in (0, 3)),
@@ -77,14 +69,10 @@ def handles_and_parameter(owners):
         "It is no handle of a persistent object: VALUE/p1",
         *((RH_OWNER, owners, it) for it in (0, owners, 0x8200_0000, 0x0100_0000, 0xFFFF_FFFF)),
     )
-    says(
-        "That, and a byte behind it: VALUE/p1",
-        on_handles(CC.EvictControl, [RH_OWNER, owners], number(owners, 4) + b"\0"),
-    )
-    says(
-        "A byte behind a right one: SIZE",
-        on_handles(CC.EvictControl, [RH_OWNER, owners], number(FIRST, 4) + b"\0"),
-    )
+    case = "That, and a byte behind it: VALUE/p1"
+    says(case, on_handles(CC.EvictControl, [RH_OWNER, owners], number(owners, 4) + b"\0"))
+    case = "A byte behind a right one: SIZE"
+    says(case, on_handles(CC.EvictControl, [RH_OWNER, owners], number(FIRST, 4) + b"\0"))
 
 
 def in_order():
@@ -94,9 +82,8 @@ def in_order():
     clears = primary("One with stClear", RH_OWNER, storage_key(attributes=ST_CLEAR))
     endorsements = primary("One of the endorsement hierarchy", RH_ENDORSEMENT)
     platforms = primary("One of the platform", RH_PLATFORM)
-    platforms_clears = primary(
-        "One of the platform with stClear", RH_PLATFORM, storage_key(attributes=ST_CLEAR)
-    )
+    case = "One of the platform with stClear"
+    platforms_clears = primary(case, RH_PLATFORM, storage_key(attributes=ST_CLEAR))
     nulls = primary("One of TPM_RH_NULL with stClear", RH_NULL, storage_key(attributes=ST_CLEAR))
     handles_and_parameter(owners)
 
@@ -125,10 +112,8 @@ def in_order():
         *((RH_OWNER, owners, it) for it in (PLATFORMS_FIRST, LAST)),
         *((RH_OWNER, endorsements, it) for it in (PLATFORMS_FIRST, LAST)),
     )
-    fails(
-        "The platform's begins behind it: RANGE/p1",
-        *((RH_PLATFORM, platforms, it) for it in (FIRST, OWNERS_LAST)),
-    )
+    case = "The platform's begins behind it: RANGE/p1"
+    fails(case, *((RH_PLATFORM, platforms, it) for it in (FIRST, OWNERS_LAST)))
     return owners, endorsements, platforms
 
 
@@ -144,11 +129,8 @@ def borders(owners, endorsements, platforms):
         tpm.keep(words, asker, handle, wanted)
     kept_handles("The four", FIRST, OWNERS_LAST, PLATFORMS_FIRST, LAST)
     tpm.chapter("A persistent object is taken away by its own handle.")
-    fails(
-        "The owner takes the platform's not away, by whatever handle: HIERARCHY/h2",
-        *((RH_OWNER, it, it) for it in (PLATFORMS_FIRST, LAST)),
-        (RH_OWNER, LAST, FIRST),
-    )
+    case = "The owner takes the platform's not away, by whatever handle: HIERARCHY/h2"
+    fails(case, *((RH_OWNER, it, it) for it in (PLATFORMS_FIRST, LAST)), (RH_OWNER, LAST, FIRST))
     fails("The owner's by a handle of the platform: RANGE/p1", (RH_OWNER, FIRST, LAST))
     fails(
         "By another handle, whether there is something or not: HANDLE/h2",
@@ -165,48 +147,13 @@ def borders(owners, endorsements, platforms):
         (RH_PLATFORM, platforms, LAST),
     )
     tpm.remove("The owner takes the last one away", RH_OWNER, OWNERS_LAST)
-    tpm.fails("It is gone: HANDLE/h1", tpm.public(OWNERS_LAST))
+    tpm("It is gone: HANDLE/h1").public(OWNERS_LAST)
     kept_handles("Three are left", FIRST, PLATFORMS_FIRST, LAST)
     tpm.remove("The platform takes away what is the owner's", RH_PLATFORM, FIRST)
     tpm.remove("And its own", RH_PLATFORM, PLATFORMS_FIRST)
     tpm.remove("And its own", RH_PLATFORM, LAST)
     kept_handles("None")
     fails("None is there: HANDLE/h2", (RH_PLATFORM, LAST, LAST), (RH_OWNER, FIRST, FIRST))
-
-
-def places():
-    tpm.chapter("Sixteen persistent objects, and no more.")
-    transient = primary("An object of the owner", RH_OWNER)
-    platforms = primary("And one of the platform", RH_PLATFORM)
-    handles = [FIRST + 3 * it for it in range(MOST - 1)] + [LAST]
-    for handle in handles[:-1]:
-        words = "Fifteen of the owner" if handle == FIRST else ""
-        tpm.keep(words, RH_OWNER, transient, handle)
-    tpm.keep("One of the platform", RH_PLATFORM, platforms, LAST)
-    kept_handles("They are there, and the transient ones beside them", *handles)
-    fails(
-        "One more, of either: NV_SPACE",
-        (RH_OWNER, transient, OTHER),
-        (RH_PLATFORM, platforms, PLATFORMS_FIRST),
-    )
-    fails("At a handle that is taken: NV_DEFINED", (RH_OWNER, transient, FIRST))
-    fails("In the wrong range: RANGE/p1", (RH_OWNER, transient, LAST))
-    tpm.chapter("They take no place of a transient object, and no NV index takes one of theirs.")
-    for count in range(6):
-        primary("Six more transient ones" if not count else "", RH_OWNER)
-    tpm.fails("The ninth: OBJECT_MEMORY", tpm.primary(RH_OWNER, storage_key()))
-    tpm.define("An NV index", area(size=2048))
-    tpm.does("It is undefined", tpm.undefining(0x0100_0001))
-    tpm.remove("One is taken away", RH_OWNER, handles[5])
-    tpm.keep("There is a place for another", RH_OWNER, transient, OTHER)
-    kept_handles("They ascend", *sorted({*handles, OTHER} - {handles[5]}))
-    tpm.power()
-    tpm.startup()
-    kept_handles("A power cycle later", *sorted({*handles, OTHER} - {handles[5]}))
-    for handle in sorted({*handles, OTHER} - {handles[5]}):
-        words = "The platform takes all away" if handle == FIRST else ""
-        tpm.remove(words, RH_PLATFORM, handle)
-    kept_handles("None")
 
 
 def use():
@@ -216,11 +163,11 @@ def use():
     tpm.keep("It stays as 81000000", RH_OWNER, root, FIRST)
     assert tpm.read_public("The same public area and names", FIRST) == (public, qualified)
     tpm.flush_objects("The transient one is flushed", root)
-    tpm.fails("The persistent one cannot be: VALUE/p1", tpm.flush(FIRST))
+    tpm("The persistent one cannot be: VALUE/p1").flush(FIRST)
     secret = tpm.create(
         "TPM2_Create under the persistent one",
         FIRST,
-        sealed(attributes=HERE | Attribute.USER_WITH_AUTH),
+        sealed(attributes=HERE | ObjectAttribute.USER_WITH_AUTH),
         user_auth=b"pin",
         data=b"a secret",
     )
@@ -228,21 +175,14 @@ def use():
     below = tpm.read_public("Its qualified name is of the parent's", handle)
     tpm.keep("It stays as 81000001", RH_OWNER, handle, OTHER)
     assert tpm.read_public("It is the same there", OTHER) == below
-    mac_key = tpm.create_primary(
-        "An HMAC key of the endorsement hierarchy",
-        RH_ENDORSEMENT,
-        hmac_key(),
-        user_auth=b"mac",
-        data=b"a key",
-    )
+    said = tpm("An HMAC key of the endorsement hierarchy")
+    mac_key = said.create_primary(RH_ENDORSEMENT, hmac_key(), user_auth=b"mac", data=b"a key")
     session = tpm.start("A session that is bound to it", mac_key)
     tpm.keep("It stays as 81000002", RH_OWNER, mac_key, 0x8100_0002)
-    first = tpm.does("TPM2_HMAC by it", tpm.hmac(mac_key, b"data", SHA256, session))
+    first = tpm("TPM2_HMAC by it").hmac(mac_key, b"data", SHA256, session)
     tpm.flush_objects("The transient one is flushed", mac_key)
-    second = tpm.does(
-        "The session is bound to the persistent one too, as both have one Name",
-        tpm.hmac(0x8100_0002, b"data", SHA256, session),
-    )
+    said = tpm("The session is bound to the persistent one too, as both have one Name")
+    second = said.hmac(0x8100_0002, b"data", SHA256, session)
     assert first == second
     restarts()
 
@@ -250,29 +190,29 @@ def use():
 def restarts():
     tpm.chapter("After a power cycle.")
     tpm.power()
-    tpm.fails("Before TPM2_Startup: INITIALIZE", tpm.public(OTHER))
+    tpm("Before TPM2_Startup: INITIALIZE").public(OTHER)
     tpm.startup()
     tpm.unseal("TPM2_Unseal by the password", OTHER, b"a secret", b"pin")
     session = tpm.start("A session that is bound to it, with AES", OTHER, aes=True)
     tpm.unseal("TPM2_Unseal by it, encrypted", OTHER, b"a secret", Use(session, ENCRYPTING))
     tpm.fails("A wrong hmac: AUTH_FAIL/s1", wrong(tpm.unsealing(OTHER, session)))
-    tpm.fails("A wrong password: AUTH_FAIL/s1", tpm.unsealing(OTHER, b"nip"))
+    tpm("A wrong password: AUTH_FAIL/s1").unsealing(OTHER, b"nip")
     policy = tpm.policy("A policy session")
     tpm.accepted("TPM2_PolicySecret of it", tpm.secret(policy, b"pin", of=OTHER))
     made = tpm.create("TPM2_Create under 81000000", FIRST, sealed(), data=b"another")
     handle = tpm.load("TPM2_Load", FIRST, made)
     tpm.unseal("TPM2_Unseal", handle, b"another")
-    tpm.fails("A third wrong password locks: AUTH_FAIL/s1", tpm.unsealing(OTHER, b"nip"))
-    tpm.fails("The right one: LOCKOUT", tpm.unsealing(OTHER, b"pin"))
-    tpm.does("TPM2_DictionaryAttackLockReset", tpm.lock_reset())
+    tpm("A third wrong password locks: AUTH_FAIL/s1").unsealing(OTHER, b"nip")
+    tpm("The right one: LOCKOUT").unsealing(OTHER, b"pin")
+    tpm.unlocks()
     start_again()
     tpm.unseal("It is there", OTHER, b"a secret", b"pin")
-    tpm.fails("What was loaded is not: REFERENCE_H0", tpm.public(handle))
+    tpm("What was loaded is not: REFERENCE_H0").public(handle)
 
 
 def start_again():
     """Through TPM2_Shutdown."""
-    tpm.does("TPM2_Shutdown(STATE)", tpm.shutting_down(STATE))
+    tpm("TPM2_Shutdown(STATE)").shutting_down(STATE)
     tpm.power()
     tpm.start_up("TPM2_Startup(STATE)", STATE)
 
@@ -281,7 +221,7 @@ def sessions():
     tpm.chapter("TPM2_EvictControl by sessions.")
     handle = primary("An object of the owner", RH_OWNER)
     wanted = 0x8100_0003
-    tpm.does('ownerAuth is "owner"', tpm.change_auth(RH_OWNER, b"owner", b""))
+    tpm('ownerAuth is "owner"').change_auth(RH_OWNER, b"owner", b"")
     session = tpm.start("An HMAC session, bound to TPM_RH_OWNER", RH_OWNER, aes=True)
     evicting = tpm.evicting(RH_OWNER, handle, wanted, session)
     tpm.fails("A wrong hmac: BAD_AUTH/s1", wrong(evicting))
@@ -295,21 +235,47 @@ def sessions():
         ),
     )
     policy = tpm.policy("A policy session")
-    tpm.fails(
-        "No policy authorizes a hierarchy: AUTH_UNAVAILABLE",
-        tpm.evicting(RH_OWNER, handle, wanted, policy),
-    )
-    tpm.does("ownerAuth is empty", tpm.change_auth(RH_OWNER, b"", b"owner"))
+    said = tpm("No policy authorizes a hierarchy: AUTH_UNAVAILABLE")
+    said.evicting(RH_OWNER, handle, wanted, policy)
+    tpm("ownerAuth is empty").change_auth(RH_OWNER, b"", b"owner")
     for kept in (FIRST, OTHER, 0x8100_0002):
         tpm.remove("All are taken away" if kept == FIRST else "", RH_OWNER, kept)
-    tpm.fails("They are gone: HANDLE/h1", tpm.public(FIRST))
+    tpm("They are gone: HANDLE/h1").public(FIRST)
     kept_handles("None")
 
 
 tpm.startup()
 borders(*in_order())
-tpm.power()
-tpm.startup()
-places()
+tpm.power_cycle()
+
+tpm.chapter("Sixteen persistent objects, and no more.")
+transient = primary("An object of the owner", RH_OWNER)
+platforms = primary("And one of the platform", RH_PLATFORM)
+handles = [FIRST + 3 * it for it in range(MOST - 1)] + [LAST]
+for handle in handles[:-1]:
+    words = "Fifteen of the owner" if handle == FIRST else ""
+    tpm.keep(words, RH_OWNER, transient, handle)
+tpm.keep("One of the platform", RH_PLATFORM, platforms, LAST)
+kept_handles("They are there, and the transient ones beside them", *handles)
+case = "One more, of either: NV_SPACE"
+fails(case, (RH_OWNER, transient, OTHER), (RH_PLATFORM, platforms, PLATFORMS_FIRST))
+fails("At a handle that is taken: NV_DEFINED", (RH_OWNER, transient, FIRST))
+fails("In the wrong range: RANGE/p1", (RH_OWNER, transient, LAST))
+tpm.chapter("They take no place of a transient object, and no NV index takes one of theirs.")
+for count in range(6):
+    primary("Six more transient ones" if not count else "", RH_OWNER)
+tpm("The ninth: OBJECT_MEMORY").primary(RH_OWNER, storage_key())
+tpm.define("An NV index", area(size=2048))
+tpm("It is undefined").undefining(0x0100_0001)
+tpm.remove("One is taken away", RH_OWNER, handles[5])
+tpm.keep("There is a place for another", RH_OWNER, transient, OTHER)
+kept_handles("They ascend", *sorted({*handles, OTHER} - {handles[5]}))
+tpm.power_cycle()
+kept_handles("A power cycle later", *sorted({*handles, OTHER} - {handles[5]}))
+for handle in sorted({*handles, OTHER} - {handles[5]}):
+    words = "The platform takes all away" if handle == FIRST else ""
+    tpm.remove(words, RH_PLATFORM, handle)
+kept_handles("None")
+
 use()
 sessions()

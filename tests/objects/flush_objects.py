@@ -1,18 +1,15 @@
-"""Writes flush_objects.tpm: TPM2_FlushContext of transient objects."""
+"""Writes flush_objects.tpm. TPM2_FlushContext takes a transient object out of the device. There are
+eight places, 80000000 to 80000007, and an object gets the lowest that is free.
+"""
 
 from dataclasses import replace
 
-from tpmsim.caller import hmac_key, sealed, storage_key
-from tpmsim.standard import CC, RH_NULL, RH_OWNER, command, frames, number
-from tests.common.teller import Teller
+from tests.common.vocabulary import CC, command, frames, hmac_key, number, RH_NULL, RH_OWNER, sealed
+from tests.common.vocabulary import storage_key, Teller
 
 FIRST, PLACES = 0x8000_0000, 8
 
-tpm = Teller(
-    "tests/objects/flush_objects.tpm",
-    "TPM2_FlushContext takes a transient object out of the device. There are eight places, "
-    "80000000 to 80000007, and an object gets the lowest that is free.",
-)
+tpm = Teller(__name__, __doc__)
 
 
 def flush(handle):
@@ -34,10 +31,8 @@ for place in range(1, PLACES):
 full = tpm.primary(RH_OWNER, storage_key())
 tpm.says("A ninth object: OBJECT_MEMORY", full)
 tpm.raw("Numbers past the eight: HANDLE/p1", *map(flush, ABSENT[2:]))
-tpm.raw(
-    "With sessions (tag 8002): AUTH_CONTEXT",
-    command(CC.FlushContext, frames.area(frames.entry()) + number(parent, 4), frames.SESSIONS),
-)
+said = tpm("With sessions (tag 8002): AUTH_CONTEXT")
+said.raw(command(CC.FlushContext, frames.area(frames.entry()) + number(parent, 4), frames.SESSIONS))
 tpm.raw("Three bytes of a handle: INSUFFICIENT/p1", command(CC.FlushContext, b"\x80\0\0"))
 tpm.raw("A byte behind it: SIZE", command(CC.FlushContext, number(parent, 4) + b"\0"))
 
@@ -49,26 +44,21 @@ for places in ((7,), (0,), (3, 1), (2, 5, 4), (6, 0, 7)):
         else:
             tpm.flush_objects(f"8000000{place}", FIRST + place)
         tpm.raw("Once more: HANDLE/p1", flush(FIRST + place))
-        tpm.says("It is no more: REFERENCE_H0", tpm.public(FIRST + place))
+        tpm("It is no more: REFERENCE_H0").public(FIRST + place)
     for place in sorted(places):
-        handle = tpm.create_primary(
-            f"TPM2_CreatePrimary: it is 8000000{place}", RH_NULL, hmac_key(), data=b"key"
-        )
+        said = tpm(f"TPM2_CreatePrimary: it is 8000000{place}")
+        handle = said.create_primary(RH_NULL, hmac_key(), data=b"key")
         assert place_of(handle) == place
-    tpm.says("And no more: OBJECT_MEMORY", tpm.primary(RH_NULL, hmac_key(), data=b"key"))
+    tpm("And no more: OBJECT_MEMORY").primary(RH_NULL, hmac_key(), data=b"key")
 
 tpm.chapter("All of them.")
 tpm.flush_objects("From the last to the first", *range(FIRST + 7, FIRST - 1, -1))
 tpm.raw("There is none: HANDLE/p1", *map(flush, range(FIRST, FIRST + PLACES)))
 tpm.chapter("A refused command leaves an object where it is, and a place free.")
 parent = tpm.create_primary("A storage key, 80000000", RH_OWNER, storage_key())
-tpm.says(
-    "TPM2_CreatePrimary by a wrong password: BAD_AUTH/s1", tpm.primary(RH_OWNER, sealed(), b"x")
-)
-tpm.says(
-    "TPM2_Load with another private area: INTEGRITY/p1",
-    tpm.loading(parent, replace(made, private=bytes(60))),
-)
-tpm.says("80000001 is not there: REFERENCE_H0", tpm.public(FIRST + 1))
+tpm("TPM2_CreatePrimary by a wrong password: BAD_AUTH/s1").primary(RH_OWNER, sealed(), b"x")
+said = tpm("TPM2_Load with another private area: INTEGRITY/p1")
+said.loading(parent, replace(made, private=bytes(60)))
+tpm("80000001 is not there: REFERENCE_H0").public(FIRST + 1)
 assert place_of(tpm.load("TPM2_Load takes it", parent, made)) == 1
 tpm.unseal("TPM2_Unseal", FIRST + 1, b"secret")

@@ -1,29 +1,20 @@
-"""Writes load.tpm: TPM2_Load, which takes what TPM2_Create gave."""
+"""Writes load.tpm. TPM2_Load takes a private and a public area that TPM2_Create gave for this
+parent.
+"""
 
 from dataclasses import replace
 
-from tpmsim.caller import HERE, OPEN, STORES, hmac_key, sealed, storage_key
-from tpmsim.standard import CC, RH_ENDORSEMENT, RH_NULL, RH_OWNER, SHA1, SHA256, frames, mac
-from tpmsim.standard import number, sized
-from tpmsim.standard.objects import Attribute
-from tests.common.teller import Teller
+from tests.common.vocabulary import CC, frames, HERE, hmac_key, mac, number, ObjectAttribute, OPEN
+from tests.common.vocabulary import RH_ENDORSEMENT, RH_NULL, RH_OWNER, sealed, SHA1, SHA256, sized
+from tests.common.vocabulary import storage_key, STORES, Teller
 
-tpm = Teller(
-    "tests/objects/load.tpm",
-    "TPM2_Load takes a private and a public area that TPM2_Create gave for this parent.",
-)
+tpm = Teller(__name__, __doc__)
 refused = tpm.says
 
-parent = tpm.create_primary(
-    'A storage key, whose value is "parent"', RH_OWNER, storage_key(), user_auth=b"parent"
-)
-made = tpm.create(
-    'TPM2_Create: sealed data, whose value is "child"',
-    parent,
-    sealed(),
-    user_auth=b"child",
-    data=b"secret",
-)
+said = tpm('A storage key, whose value is "parent"')
+parent = said.create_primary(RH_OWNER, storage_key(), user_auth=b"parent")
+said = tpm('TPM2_Create: sealed data, whose value is "child"')
+made = said.create(parent, sealed(), user_auth=b"child", data=b"secret")
 
 tpm.chapter("parentHandle.")
 refused(
@@ -33,15 +24,11 @@ refused(
         for it in (RH_OWNER, RH_NULL, 0, 0x0100_0000, 0x0200_0000, 0x0300_0000)
     ),
 )
-refused(
-    "A transient object that is not there: REFERENCE_H0",
-    *(tpm.loading(it, made) for it in (0x8000_0001, 0x8000_0008, 0x80FF_FFFF)),
-)
+case = "A transient object that is not there: REFERENCE_H0"
+refused(case, *(tpm.loading(it, made) for it in (0x8000_0001, 0x8000_0008, 0x80FF_FFFF)))
 refused("A persistent object: HANDLE/h1", tpm.loading(0x8100_0000, made))
-tpm.raw(
-    "It has to be authorized: no sessions (tag 8001): AUTH_MISSING",
-    frames.command(CC.Load, number(parent, 4)),
-)
+said = tpm("It has to be authorized: no sessions (tag 8001): AUTH_MISSING")
+said.raw(frames.command(CC.Load, number(parent, 4)))
 refused("By the value of the child: BAD_AUTH/s1", tpm.loading(parent, made, b"child"))
 
 tpm.chapter("An object is loaded as often as there are places.")
@@ -61,20 +48,17 @@ refused("Sealed data are no parent: TYPE/h1", tpm.loading(by_session, made))
 tpm.flush_objects("It is flushed", by_session)
 
 tpm.chapter("inPrivate belongs to one parent and to one public area.")
-twin = tpm.create_primary(
-    "Another primary key", RH_OWNER, storage_key(unique=b"twin"), user_auth=b"parent"
-)
+said = tpm("Another primary key")
+twin = said.create_primary(RH_OWNER, storage_key(unique=b"twin"), user_auth=b"parent")
 refused("TPM2_Load under it: INTEGRITY/p1", tpm.loading(twin, made))
 tpm.flush_objects("It is flushed", twin)
-same = tpm.create_primary(
-    "The same primary key once more", RH_OWNER, storage_key(), user_auth=b"parent"
-)
+said = tpm("The same primary key once more")
+same = said.create_primary(RH_OWNER, storage_key(), user_auth=b"parent")
 loaded = tpm.load("TPM2_Load under it", same, made)
 tpm.unseal("TPM2_Unseal", loaded, b"secret")
 tpm.flush_objects("Both are flushed", loaded, same)
-alien = tpm.create_primary(
-    "The same template in TPM_RH_ENDORSEMENT", RH_ENDORSEMENT, storage_key(), user_auth=b"parent"
-)
+said = tpm("The same template in TPM_RH_ENDORSEMENT")
+alien = said.create_primary(RH_ENDORSEMENT, storage_key(), user_auth=b"parent")
 refused("TPM2_Load under it: INTEGRITY/p1", tpm.loading(alien, made))
 tpm.flush_objects("It is flushed", alien)
 
@@ -86,14 +70,14 @@ def with_public(**changes):
 tpm.chapter("With another public area.")
 for what, changes in (
     ("Another nameAlg", {"name_algorithm": SHA1}),
-    ("stClear in the attributes", {"attributes": HERE | OPEN | Attribute.ST_CLEAR}),
+    ("stClear in the attributes", {"attributes": HERE | OPEN | ObjectAttribute.ST_CLEAR}),
     ("Neither fixedTPM nor fixedParent", {"attributes": OPEN}),
-    ("Without noDA", {"attributes": HERE | Attribute.USER_WITH_AUTH}),
-    ("sign", {"attributes": HERE | OPEN | Attribute.SIGN}),
+    ("Without noDA", {"attributes": HERE | ObjectAttribute.USER_WITH_AUTH}),
+    ("sign", {"attributes": HERE | OPEN | ObjectAttribute.SIGN}),
     ("An authPolicy", {"auth_policy": bytes(32)}),
     ("Another unique", {"unique": bytes(32)}),
     ("Without unique", {"unique": b""}),
-    ("An HMAC key", {"attributes": HERE | OPEN | Attribute.SIGN, "scheme": SHA256}),
+    ("An HMAC key", {"attributes": HERE | OPEN | ObjectAttribute.SIGN, "scheme": SHA256}),
     ("A storage key", {"kind": frames.SYMCIPHER, "attributes": HERE | OPEN | STORES}),
 ):
     refused(f"{what}: INTEGRITY/p1", with_public(**changes))
@@ -118,21 +102,12 @@ refused(
 )
 whole = tpm.loading(parent, made)
 refused("A byte behind inPublic: SIZE", whole.but(parameters=whole.parameters + b"\0"))
-refused(
-    "inPrivate reaches beyond the command: INSUFFICIENT/p1",
-    whole.but(parameters=number(256, 2) + whole.parameters[2:]),
-)
-refused(
-    "inPublic does: INSUFFICIENT/p2",
-    whole.but(parameters=sized(made.private) + number(200, 2) + made.public.text),
-)
-longest = tpm.create(
-    "The longest private area of all: TPM2_Create",
-    parent,
-    sealed(auth_policy=bytes(32)),
-    user_auth=b"a" * 32,
-    data=b"d" * 128,
-)
+case = "inPrivate reaches beyond the command: INSUFFICIENT/p1"
+refused(case, whole.but(parameters=number(256, 2) + whole.parameters[2:]))
+case = "inPublic does: INSUFFICIENT/p2"
+refused(case, whole.but(parameters=sized(made.private) + number(200, 2) + made.public.text))
+said = tpm("The longest private area of all: TPM2_Create")
+longest = said.create(parent, sealed(auth_policy=bytes(32)), user_auth=b"a" * 32, data=b"d" * 128)
 assert len(longest.private) == 254
 handle = tpm.load("TPM2_Load", parent, longest)
 tpm.unseal("TPM2_Unseal", handle, b"d" * 128)
@@ -143,7 +118,7 @@ for what, public, data in (
     ("An HMAC key that is given", hmac_key(), b"key"),
     (
         "One that is generated, of SHA-1",
-        hmac_key(attributes=HERE | OPEN | Attribute.SENSITIVE_DATA_ORIGIN, scheme=SHA1),
+        hmac_key(attributes=HERE | OPEN | ObjectAttribute.SENSITIVE_DATA_ORIGIN, scheme=SHA1),
         b"",
     ),
     ("A storage key", storage_key(), b""),
@@ -152,7 +127,7 @@ for what, public, data in (
 ):
     made = tpm.create(f"{what}: TPM2_Create", parent, public, data=data)
     handle = tpm.load("TPM2_Load", parent, made)
-    if public.has(Attribute.SIGN):
+    if public.has(ObjectAttribute.SIGN):
         _, answer = tpm.accepted("TPM2_HMAC", tpm.hmac(handle, b"text", frames.ALG_NULL))
         assert not data or answer == sized(mac(SHA256, data, b"text"))
     elif not public.is_parent:

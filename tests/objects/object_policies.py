@@ -1,24 +1,17 @@
-"""Writes object_policies.tpm: policies that authorize objects, and what each of them asks."""
+"""Writes object_policies.tpm. A policy session authorizes an object whose authPolicy is its digest.
+What it was told is held against the command and the device, and it counts for one command.
+"""
 
-from tpmsim.caller import HERE, Use, hmac_key, sealed, storage_key
-from tpmsim.standard import ALG_NULL, CC, CONTINUE_SESSION, DECRYPT, ENCRYPT, RH_ENDORSEMENT
-from tpmsim.standard import RH_OWNER, SHA1, SHA256, command_hash, digest, name_of, policy
-from tpmsim.standard import selection
-from tpmsim.standard.objects import Attribute
-from tpmsim.standard.policy import AUTH_VALUE, PASSWORD
-from tpmsim.caller.script_caller import zeros
-from tests.common.teller import Teller
+from tests.common.vocabulary import ALG_NULL, AUTH_VALUE, CC, command_hash, CONTINUE_SESSION
+from tests.common.vocabulary import DECRYPT, digest, ENCRYPT, HERE, hmac_key, name_of
+from tests.common.vocabulary import ObjectAttribute, PASSWORD, policy, RH_ENDORSEMENT, RH_OWNER
+from tests.common.vocabulary import sealed, selection, SHA1, SHA256, storage_key, Teller, Use, zeros
 
-NO_DA, USER = Attribute.NO_DA, Attribute.USER_WITH_AUTH
+NO_DA, USER = ObjectAttribute.NO_DA, ObjectAttribute.USER_WITH_AUTH
 PCR_16 = [(SHA256, [16])]
 SECRET, PIN = b"secret", b"pin"
 
-tpm = Teller(
-    "tests/objects/object_policies.tpm",
-    "A policy session authorizes an object whose authPolicy is its digest. What it was told is "
-    "held against the command and the device, and it counts for one command.",
-    tries=True,
-)
+tpm = Teller(__name__, __doc__, tries=True)
 parent = tpm.create_primary("A storage key", RH_OWNER, storage_key())
 
 
@@ -32,10 +25,6 @@ def sealed_by(what, auth_policy, algorithm=SHA256, attributes=HERE | NO_DA, user
         data=SECRET,
     )
     return tpm.load("TPM2_Load", parent, made)
-
-
-def says(what, prepared):
-    tpm.says(f"{what}: SUCCESS", prepared)
 
 
 def start_again(session):
@@ -56,42 +45,34 @@ for algorithm, hash_name in ((SHA256, "SHA-256"), (SHA1, "SHA-1")):
     )
     handle = sealed_by('Sealed data whose value is "pin"', AFTER_AUTH_VALUE[algorithm], algorithm)
     session = tpm.policy("A policy session", algorithm=algorithm)
-    tpm.refused("Nothing is asserted: POLICY_FAIL/s1", tpm.unsealing(handle, session))
+    tpm("Nothing is asserted: POLICY_FAIL/s1").unsealing(handle, session)
 
     tpm.chapter("TPM2_PolicyPassword: the hmac is the value itself, and is answered empty.")
-    says("TPM2_PolicyPassword", tpm.password_told(session))
+    tpm("TPM2_PolicyPassword").password_told(session)
     by_password = Use(session, demand=PASSWORD)
     right = tpm.unsealing(handle, by_password)
-    tpm.refused(
-        "An empty hmac, as the value is not empty: BAD_AUTH/s1", right.but_entry(1, hmac=b"")
-    )
-    tpm.refused(
-        "Another value: BAD_AUTH/s1",
-        *(right.but_entry(1, hmac=it) for it in (b"pi", b"pin1", b"\0pin", bytes(32))),
-    )
-    tpm.refused(
-        "An hmac with the value in its key: BAD_AUTH/s1",
-        tpm.unsealing(handle, Use(session, demand=AUTH_VALUE)),
-    )
+    said = tpm("An empty hmac, as the value is not empty: BAD_AUTH/s1")
+    said.refused(right.but_entry(1, hmac=b""))
+    said = tpm("Another value: BAD_AUTH/s1")
+    said.refused(*(right.but_entry(1, hmac=it) for it in (b"pi", b"pin1", b"\0pin", bytes(32))))
+    said = tpm("An hmac with the value in its key: BAD_AUTH/s1")
+    said.unsealing(handle, Use(session, demand=AUTH_VALUE))
     tpm.unseal("The value, in plain, with continueSession", handle, SECRET, by_password)
     start_again(session)
-    tpm.refused("Once more: POLICY_FAIL/s1", tpm.unsealing(handle, by_password))
-    says("TPM2_PolicyPassword again", tpm.password_told(session))
+    tpm("Once more: POLICY_FAIL/s1").unsealing(handle, by_password)
+    tpm("TPM2_PolicyPassword again").password_told(session)
     padded = tpm.unsealing(handle, by_password).but_entry(1, hmac=PIN + bytes(29))
     tpm.accepted("The value, and zeros behind it", padded)
 
     tpm.chapter("TPM2_PolicyAuthValue: the value is in the key of the hmac and of the answer's.")
-    says("TPM2_PolicyAuthValue", tpm.auth_value_told(session))
+    tpm("TPM2_PolicyAuthValue").auth_value_told(session)
     by_value = Use(session, demand=AUTH_VALUE)
-    tpm.refused("The value in plain: BAD_AUTH/s1", tpm.unsealing(handle, by_password))
-    tpm.refused("An empty hmac: BAD_AUTH/s1", tpm.unsealing(handle, Use(session)))
-    tpm.refused(
-        "One of an empty key: BAD_AUTH/s1",
-        tpm.unsealing(handle, Use(session, shows_empty_key=True)),
-    )
+    tpm("The value in plain: BAD_AUTH/s1").unsealing(handle, by_password)
+    tpm("An empty hmac: BAD_AUTH/s1").unsealing(handle, Use(session))
+    tpm("One of an empty key: BAD_AUTH/s1").unsealing(handle, Use(session, shows_empty_key=True))
     tpm.unseal("With continueSession", handle, SECRET, by_value)
     start_again(session)
-    tpm.refused("Once more: POLICY_FAIL/s1", tpm.unsealing(handle, by_value))
+    tpm("Once more: POLICY_FAIL/s1").unsealing(handle, by_value)
 
     tpm.chapter("Of the two the later one counts.")
     VALUE, PLAIN = "TPM2_PolicyAuthValue", "TPM2_PolicyPassword"
@@ -101,37 +82,35 @@ for algorithm, hash_name in ((SHA256, "SHA-256"), (SHA1, "SHA-1")):
     ):
         twice = policy.after_auth_value(algorithm, AFTER_AUTH_VALUE[algorithm])
         double = sealed_by("An object with both in its policy", twice, algorithm)
-        says(names[0], first(session))
-        says(names[1], last(session))
+        tpm.comes_to(names[0], first(session))
+        tpm.comes_to(names[1], last(session))
         other = by_value if use is by_password else by_password
-        tpm.refused("What the first asks for: BAD_AUTH/s1", tpm.unsealing(double, other))
+        tpm("What the first asks for: BAD_AUTH/s1").unsealing(double, other)
         tpm.unseal("What the second asks for", double, SECRET, use)
         tpm.flush_objects("The object is flushed", double)
 
     tpm.chapter("Without continueSession the session ends.")
-    says("TPM2_PolicyPassword", tpm.password_told(session))
+    tpm("TPM2_PolicyPassword").password_told(session)
     tpm.unseal("By the password", handle, SECRET, Use(session, 0, demand=PASSWORD))
-    tpm.says("It is no more: REFERENCE_H0", tpm.get_digest(session))
+    tpm("It is no more: REFERENCE_H0").get_digest(session)
 
     tpm.chapter("A session that is bound to the object.")
     session = tpm.policy("The object is bind", bind=handle, algorithm=algorithm, aes=True)
-    says("TPM2_PolicyAuthValue: it is in the key, bound or not", tpm.auth_value_told(session))
-    tpm.refused(
-        "An hmac without the value in its key: BAD_AUTH/s1", tpm.unsealing(handle, Use(session))
-    )
+    tpm("TPM2_PolicyAuthValue: it is in the key, bound or not").auth_value_told(session)
+    tpm("An hmac without the value in its key: BAD_AUTH/s1").unsealing(handle, Use(session))
     tpm.unseal("With it", handle, SECRET, Use(session, demand=AUTH_VALUE))
     tpm.chapter("As a further entry it authorizes nothing, and has an hmac whatever is asked for.")
-    says("TPM2_PolicyPassword", tpm.password_told(session))
+    tpm("TPM2_PolicyPassword").password_told(session)
     beside = tpm.random(2, session)
     tpm.refused("The password there: BAD_AUTH/s1", beside.but_entry(1, hmac=PIN))
     tpm.accepted("The hmac, and it keeps what it was told", beside)
     tpm.digest_is("TPM2_PolicyGetDigest", session, AFTER_AUTH_VALUE[algorithm])
     hidden = Use(session, CONTINUE_SESSION | ENCRYPT, demand=PASSWORD)
     tpm.unseal("TPM2_Unseal by the password, with outData encrypted", handle, SECRET, hidden)
-    says("TPM2_PolicyAuthValue", tpm.auth_value_told(session))
+    tpm("TPM2_PolicyAuthValue").auth_value_told(session)
     hidden = Use(session, CONTINUE_SESSION | ENCRYPT, demand=AUTH_VALUE)
     tpm.unseal("By the hmac, with outData encrypted", handle, SECRET, hidden)
-    says("TPM2_PolicyPassword", tpm.password_told(session))
+    tpm("TPM2_PolicyPassword").password_told(session)
     tpm.unseal("By the password", handle, SECRET, Use(session, 0, demand=PASSWORD))
     tpm.flush_objects("The object is flushed", handle)
 
@@ -142,16 +121,16 @@ for algorithm, hash_name in ((SHA256, "SHA-256"), (SHA1, "SHA-1")):
         ("TPM2_PolicyPassword", tpm.password_told),
         ("TPM2_PolicyAuthValue", tpm.auth_value_told),
     ):
-        says(what, told(session))
+        tpm.comes_to(what, told(session))
         tpm.unseal("With an empty hmac, which is answered by one", handle, SECRET, Use(session))
-    says("TPM2_PolicyAuthValue", tpm.auth_value_told(session))
+    tpm("TPM2_PolicyAuthValue").auth_value_told(session)
     shown = Use(session, shows_empty_key=True, demand=AUTH_VALUE)
     tpm.unseal("With the hmac of an empty key, and it is answered by one", handle, SECRET, shown)
-    says("TPM2_PolicyPassword", tpm.password_told(session))
-    tpm.refused("That, where the password is asked for: BAD_AUTH/s1", tpm.unsealing(handle, shown))
+    tpm("TPM2_PolicyPassword").password_told(session)
+    tpm("That, where the password is asked for: BAD_AUTH/s1").unsealing(handle, shown)
     by_password = tpm.unsealing(handle, Use(session, demand=PASSWORD))
     tpm.accepted("Three zeros, as the password", by_password.but_entry(1, hmac=bytes(3)))
-    says("The session is flushed", tpm.flush(session))
+    tpm("The session is flushed").flush(session)
     tpm.flush_objects("The object is flushed", handle)
 
 # Without a demand.
@@ -160,29 +139,23 @@ tpm.chapter("A policy that asks for no value: the key of the hmac is the session
 AFTER_CODE = policy.after_command_code(SHA256, bytes(32), CC.Unseal)
 handle = sealed_by("An object for TPM2_Unseal alone", AFTER_CODE)
 session = tpm.policy("A session that is bound to nothing")
-says("TPM2_PolicyCommandCode", tpm.command_code(session, CC.Unseal))
-tpm.refused("By the value: BAD_AUTH/s1", tpm.unsealing(handle, Use(session, demand=PASSWORD)))
-tpm.refused(
-    "By an hmac with the value in its key: BAD_AUTH/s1",
-    tpm.unsealing(handle, Use(session, demand=AUTH_VALUE)),
-)
+tpm("TPM2_PolicyCommandCode").command_code(session, CC.Unseal)
+tpm("By the value: BAD_AUTH/s1").unsealing(handle, Use(session, demand=PASSWORD))
+said = tpm("By an hmac with the value in its key: BAD_AUTH/s1")
+said.unsealing(handle, Use(session, demand=AUTH_VALUE))
 tpm.unseal("By an empty hmac, as the key is empty", handle, SECRET, session)
-says("TPM2_PolicyCommandCode", tpm.command_code(session, CC.Unseal))
+tpm("TPM2_PolicyCommandCode").command_code(session, CC.Unseal)
 tpm.unseal("By one of the empty key", handle, SECRET, Use(session, shows_empty_key=True))
 bound = tpm.policy(
     "A session that is bound to TPM_RH_ENDORSEMENT, with AES", bind=RH_ENDORSEMENT, aes=True
 )
-says("TPM2_PolicyCommandCode", tpm.command_code(bound, CC.Unseal))
+tpm("TPM2_PolicyCommandCode").command_code(bound, CC.Unseal)
 tpm.refused("An empty hmac: BAD_AUTH/s1", tpm.unsealing(handle, bound).but_entry(1, hmac=b""))
-tpm.unseal(
-    "The hmac by the session's key; outData is encrypted, with the value in that key",
-    handle,
-    SECRET,
-    Use(bound, CONTINUE_SESSION | ENCRYPT),
-)
-says("TPM2_PolicyCommandCode", tpm.command_code(bound, CC.Unseal))
+said = tpm("The hmac by the session's key; outData is encrypted, with the value in that key")
+said.unseal(handle, SECRET, Use(bound, CONTINUE_SESSION | ENCRYPT))
+tpm("TPM2_PolicyCommandCode").command_code(bound, CC.Unseal)
 tpm.unseal("Beside another session", handle, SECRET, bound, session)
-says("TPM2_PolicyCommandCode", tpm.command_code(bound, CC.Unseal))
+tpm("TPM2_PolicyCommandCode").command_code(bound, CC.Unseal)
 tpm.unseal("The other authorizes nothing, and keeps what it was told", handle, SECRET, bound)
 tpm.flush_objects("The object is flushed", handle)
 
@@ -193,10 +166,10 @@ tpm.chapter("Each condition of a use in its order: all of them fail, and one is 
 
 def tell_all(session, cp_hash, code=CC.Unseal, localities=1):
     """Something of each kind. The last assertion is that of the locality."""
-    says("TPM2_PolicyPCR", tpm.pcrs(session, PCR_16))
-    says("TPM2_PolicyCommandCode", tpm.command_code(session, code))
-    says("TPM2_PolicySecret with a cpHash", tpm.secret(session, cp_hash=cp_hash))
-    says("TPM2_PolicyLocality", tpm.locality(session, localities))
+    tpm("TPM2_PolicyPCR").pcrs(session, PCR_16)
+    tpm("TPM2_PolicyCommandCode").command_code(session, code)
+    tpm("TPM2_PolicySecret with a cpHash").secret(session, cp_hash=cp_hash)
+    tpm("TPM2_PolicyLocality").locality(session, localities)
 
 
 def told_all(algorithm, values_digest, code=CC.Unseal, localities=1):
@@ -210,9 +183,8 @@ def told_all(algorithm, values_digest, code=CC.Unseal, localities=1):
 PCR_16_DIGEST = digest(SHA256, bytes(32))
 right = told_all(SHA256, PCR_16_DIGEST)
 handle = sealed_by("An object with a policy of all of it", right)
-without = tpm.create_primary(
-    "An object that has no policy", RH_OWNER, sealed(), user_auth=PIN, data=SECRET
-)
+said = tpm("An object that has no policy")
+without = said.create_primary(RH_OWNER, sealed(), user_auth=PIN, data=SECRET)
 wrong_hash = bytes([7]) * 32
 
 
@@ -227,69 +199,68 @@ def wrong(handle, session):
 
 trial = tpm.trial("A trial session")
 tell_all(trial, wrong_hash, CC.Load, 2)
-tpm.says("PCR 16 is reset: SUCCESS", tpm.reset(b""))
-tpm.refused(
-    "A trial session, for either object: ATTRIBUTES/s1", wrong(handle, trial), wrong(without, trial)
-)
-says("It is flushed", tpm.flush(trial))
+tpm("PCR 16 is reset").reset(b"")
+said = tpm("A trial session, for either object: ATTRIBUTES/s1")
+said.refused(wrong(handle, trial), wrong(without, trial))
+tpm("It is flushed").flush(trial)
 session = tpm.policy("A policy session, with SHA-256")
 tell_all(session, wrong_hash, CC.Load, 2)
-tpm.says("PCR 16 is reset: SUCCESS", tpm.reset(b""))
+tpm("PCR 16 is reset").reset(b"")
 tpm.refused("An object that has no policy: AUTH_UNAVAILABLE", wrong(without, session))
 tpm.refused("The PCRs have changed: PCR_CHANGED", wrong(handle, session))
-says("TPM2_PolicyRestart", tpm.restart(session))
+tpm.restarts(session)
 tell_all(session, wrong_hash, CC.Load, 2)
 tpm.refused("Another command code: POLICY_CC/s1", wrong(handle, session))
-says("TPM2_PolicyRestart", tpm.restart(session))
+tpm.restarts(session)
 tell_all(session, wrong_hash, CC.Unseal, 2)
 tpm.refused("Another cpHash: POLICY_FAIL/s1", wrong(handle, session))
-says("TPM2_PolicyRestart", tpm.restart(session))
+tpm.restarts(session)
 tell_all(session, cp_hash_of(handle), CC.Unseal, 2)
 tpm.refused("Another locality: LOCALITY", wrong(handle, session))
 tpm.locality_is(1)
 tpm.refused("From that locality: another digest: POLICY_FAIL/s1", wrong(handle, session))
 tpm.locality_is(0)
-says("TPM2_PolicyRestart", tpm.restart(session))
+tpm.restarts(session)
 tell_all(session, cp_hash_of(handle))
 tpm.refused("A wrong hmac: BAD_AUTH/s1", wrong(handle, session))
 tpm.unseal("With nothing wrong", handle, SECRET, session)
 
 tpm.chapter("Each of them alone.")
 tell_all(session, cp_hash_of(handle))
-tpm.says("PCR 16 is reset: SUCCESS", tpm.reset(b""))
-tpm.refused("The PCRs have changed: PCR_CHANGED", tpm.unsealing(handle, session))
-says("TPM2_PolicyRestart", tpm.restart(session))
+tpm("PCR 16 is reset").reset(b"")
+tpm("The PCRs have changed: PCR_CHANGED").unsealing(handle, session)
+tpm.restarts(session)
 tell_all(session, wrong_hash)
-tpm.refused("The cpHash is of another command: POLICY_FAIL/s1", tpm.unsealing(handle, session))
-says("TPM2_PolicyRestart", tpm.restart(session))
+tpm("The cpHash is of another command: POLICY_FAIL/s1").unsealing(handle, session)
+tpm.restarts(session)
 tell_all(session, cp_hash_of(without))
-tpm.refused("Of another object: POLICY_FAIL/s1", tpm.unsealing(handle, session))
-says("TPM2_PolicyRestart", tpm.restart(session))
+tpm("Of another object: POLICY_FAIL/s1").unsealing(handle, session)
+tpm.restarts(session)
 tell_all(session, cp_hash_of(handle))
 for locality in (1, 2, 3, 4):
     tpm.locality_is(locality)
-    tpm.refused("From another locality: LOCALITY", tpm.unsealing(handle, session))
+    tpm("From another locality: LOCALITY").unsealing(handle, session)
 tpm.locality_is(0)
 tpm.unseal("From locality 0", handle, SECRET, session)
-says("The same assertions in another order: first the code", tpm.command_code(session, CC.Unseal))
-says("Then the PCRs", tpm.pcrs(session, PCR_16))
-says("TPM2_PolicySecret", tpm.secret(session, cp_hash=cp_hash_of(handle)))
-says("TPM2_PolicyLocality", tpm.locality(session, 1))
-tpm.refused("It is another digest: POLICY_FAIL/s1", tpm.unsealing(handle, session))
+tpm("The same assertions in another order: first the code").command_code(session, CC.Unseal)
+tpm("Then the PCRs").pcrs(session, PCR_16)
+tpm("TPM2_PolicySecret").secret(session, cp_hash=cp_hash_of(handle))
+tpm("TPM2_PolicyLocality").locality(session, 1)
+tpm("It is another digest: POLICY_FAIL/s1").unsealing(handle, session)
 
 tpm.chapter("The hash of the session is not nameAlg.")
 sha1 = tpm.policy("A session with SHA-1", algorithm=SHA1)
-says("TPM2_PolicyPassword", tpm.password_told(sha1))
+tpm("TPM2_PolicyPassword").password_told(sha1)
 thirty_two = sealed_by("An object with nameAlg SHA-256", AFTER_AUTH_VALUE[SHA256])
 twenty = sealed_by("One with SHA-1", AFTER_AUTH_VALUE[SHA1], SHA1)
-tpm.refused("The first: POLICY_FAIL/s1", tpm.unsealing(thirty_two, Use(sha1, demand=PASSWORD)))
+tpm("The first: POLICY_FAIL/s1").unsealing(thirty_two, Use(sha1, demand=PASSWORD))
 tpm.unseal("The second", twenty, SECRET, Use(sha1, demand=PASSWORD))
-says("TPM2_PolicyRestart", tpm.restart(session))
-says("TPM2_PolicyPassword in the session with SHA-256", tpm.password_told(session))
-tpm.refused("The second: POLICY_FAIL/s1", tpm.unsealing(twenty, Use(session, demand=PASSWORD)))
+tpm.restarts(session)
+tpm("TPM2_PolicyPassword in the session with SHA-256").password_told(session)
+tpm("The second: POLICY_FAIL/s1").unsealing(twenty, Use(session, demand=PASSWORD))
 tpm.unseal("The first", thirty_two, SECRET, Use(session, demand=PASSWORD))
 tpm.flush_objects("All are flushed", handle, without, thirty_two, twenty)
-says("A session, too", tpm.flush(sha1))
+tpm("A session, too").flush(sha1)
 
 tpm.chapter("TPM2_PolicyPCR, a change, another assertion, and then the use.")
 after = policy.after_auth_value(
@@ -297,14 +268,14 @@ after = policy.after_auth_value(
 )
 handle = sealed_by("An object with PCR 16 and TPM2_PolicyPassword in its policy", after)
 by_password = Use(session, demand=PASSWORD)
-says("TPM2_PolicyPCR", tpm.pcrs(session, PCR_16))
-tpm.says("PCR 16 is reset, to what it was: SUCCESS", tpm.reset(b""))
-says("TPM2_PolicyPassword", tpm.password_told(session))
+tpm("TPM2_PolicyPCR").pcrs(session, PCR_16)
+tpm("PCR 16 is reset, to what it was").reset(b"")
+tpm("TPM2_PolicyPassword").password_told(session)
 tpm.digest_is("The digest is the right one", session, after)
-tpm.refused("TPM2_Unseal: PCR_CHANGED", tpm.unsealing(handle, by_password))
-says("TPM2_PolicyRestart", tpm.restart(session))
-says("TPM2_PolicyPCR", tpm.pcrs(session, PCR_16))
-says("TPM2_PolicyPassword", tpm.password_told(session))
+tpm("TPM2_Unseal: PCR_CHANGED").unsealing(handle, by_password)
+tpm.restarts(session)
+tpm("TPM2_PolicyPCR").pcrs(session, PCR_16)
+tpm("TPM2_PolicyPassword").password_told(session)
 tpm.unseal("Without a change between them", handle, SECRET, by_password)
 tpm.flush_objects("It is flushed", handle)
 
@@ -331,12 +302,12 @@ for what, attributes, by_value in (
             tpm.accepted(words, prepared)
         else:
             tpm.refused(f"{words}: AUTH_UNAVAILABLE", prepared)
-    says("TPM2_PolicyCommandCode of TPM2_HMAC", tpm.command_code(session, CC.HMAC))
-    tpm.refused("TPM2_Unseal by this policy: POLICY_CC/s1", tpm.unsealing(handle, session))
-    tpm.accepted("TPM2_HMAC by this policy", tpm.hmac(handle, b"text", ALG_NULL, session))
-    tpm.refused("Once more: POLICY_FAIL/s1", tpm.hmac(handle, b"text", ALG_NULL, session))
+    tpm("TPM2_PolicyCommandCode of TPM2_HMAC").command_code(session, CC.HMAC)
+    tpm("TPM2_Unseal by this policy: POLICY_CC/s1").unsealing(handle, session)
+    tpm("TPM2_HMAC by this policy").hmac(handle, b"text", ALG_NULL, session)
+    tpm("Once more: POLICY_FAIL/s1").hmac(handle, b"text", ALG_NULL, session)
     for each in (plain, bound):
-        says("An HMAC session is flushed", tpm.flush(each))
+        tpm("An HMAC session is flushed").flush(each)
     tpm.flush_objects("The object is flushed", handle)
 
 tpm.chapter("A parent with a policy, by which its children are created and loaded.")
@@ -347,16 +318,15 @@ guarded = tpm.create_primary(
     storage_key(auth_policy=PARENT_POLICY, attributes=storage_key().attributes & ~USER),
     user_auth=b"parent",
 )
-tpm.says("TPM2_Create by the password: AUTH_UNAVAILABLE", tpm.child(guarded, sealed(), data=b"x"))
+tpm("TPM2_Create by the password: AUTH_UNAVAILABLE").child(guarded, sealed(), data=b"x")
 by_value = Use(session, demand=AUTH_VALUE)
-says("TPM2_PolicyAuthValue", tpm.auth_value_told(session))
+tpm("TPM2_PolicyAuthValue").auth_value_told(session)
 made = tpm.create("TPM2_Create by the policy", guarded, sealed(), by_value, data=SECRET)
 aes = tpm.policy("A policy session with AES", aes=True)
-says("TPM2_PolicyAuthValue", tpm.auth_value_told(aes))
+tpm("TPM2_PolicyAuthValue").auth_value_told(aes)
 hidden = Use(aes, DECRYPT | ENCRYPT, demand=AUTH_VALUE)
-child = tpm.load(
-    "TPM2_Load by the policy, with inPrivate and name encrypted", guarded, made, hidden
-)
+said = tpm("TPM2_Load by the policy, with inPrivate and name encrypted")
+child = said.load(guarded, made, hidden)
 tpm.unseal("TPM2_Unseal", child, SECRET)
 tpm.flush_objects("Both are flushed", child, guarded)
 
@@ -366,84 +336,72 @@ for what, attributes, outcome in (
     ("Without noDA", 0, "AUTH_FAIL/s1"),
 ):
     handle = sealed_by(what, AFTER_AUTH_VALUE[SHA256], attributes=HERE | USER | attributes)
-    tpm.says(f"A wrong password: {outcome}", tpm.unsealing(handle, b"nip"))
+    tpm(f"A wrong password: {outcome}").unsealing(handle, b"nip")
     plain = tpm.start("An HMAC session")
-    tpm.refused(
-        f"A wrong hmac: {outcome}", tpm.unsealing(handle, plain).but_entry(1, hmac=bytes(32))
-    )
-    says("TPM2_PolicyPassword", tpm.password_told(session))
-    tpm.refused(
-        f"A wrong password, by the policy: {outcome}",
-        tpm.unsealing(handle, Use(session, demand=PASSWORD)).but_entry(1, hmac=b"nip"),
-    )
-    says("TPM2_PolicyRestart", tpm.restart(session))
-    says("TPM2_PolicyAuthValue", tpm.auth_value_told(session))
+    said = tpm(f"A wrong hmac: {outcome}")
+    said.refused(tpm.unsealing(handle, plain).but_entry(1, hmac=bytes(32)))
+    tpm("TPM2_PolicyPassword").password_told(session)
+    said = tpm(f"A wrong password, by the policy: {outcome}")
+    said.refused(tpm.unsealing(handle, Use(session, demand=PASSWORD)).but_entry(1, hmac=b"nip"))
+    tpm.restarts(session)
+    tpm("TPM2_PolicyAuthValue").auth_value_told(session)
     tpm.refused(
         f"A wrong hmac, by the policy: {outcome}",
         tpm.unsealing(handle, Use(session, demand=AUTH_VALUE)).but_entry(1, hmac=bytes(32)),
     )
     tpm.unseal("The right one", handle, SECRET, Use(session, demand=AUTH_VALUE))
-    says("TPM2_PolicyPassword", tpm.password_told(session))
-    says("TPM2_PolicyCommandCode", tpm.command_code(session, CC.Unseal))
-    tpm.refused(
-        "What is refused before it is compared is no try: POLICY_FAIL/s1",
-        tpm.unsealing(handle, Use(session, demand=PASSWORD)).but_entry(1, hmac=b"nip"),
-    )
-    says("TPM2_PolicyRestart", tpm.restart(session))
-    says("The HMAC session is flushed", tpm.flush(plain))
+    tpm("TPM2_PolicyPassword").password_told(session)
+    tpm("TPM2_PolicyCommandCode").command_code(session, CC.Unseal)
+    said = tpm("What is refused before it is compared is no try: POLICY_FAIL/s1")
+    said.refused(tpm.unsealing(handle, Use(session, demand=PASSWORD)).but_entry(1, hmac=b"nip"))
+    tpm.restarts(session)
+    tpm("The HMAC session is flushed").flush(plain)
     tpm.flush_objects("The object is flushed", handle)
 for what, attributes, outcome in (
     ("With noDA", NO_DA, "BAD_AUTH/s1"),
     ("Without noDA", 0, "AUTH_FAIL/s1"),
 ):
-    handle = sealed_by(
-        f"{what}, and a policy without a demand", AFTER_CODE, attributes=HERE | attributes
-    )
+    case = f"{what}, and a policy without a demand"
+    handle = sealed_by(case, AFTER_CODE, attributes=HERE | attributes)
     bound = tpm.policy("A policy session that is bound to it", bind=handle)
     unbound = tpm.policy("One that is bound to TPM_RH_OWNER", bind=RH_OWNER)
     for words, each, code in (
         ("The first: its key was made of the object's value", bound, outcome),
         ("The second: nothing of it has the value in it", unbound, "BAD_AUTH/s1"),
     ):
-        says("TPM2_PolicyCommandCode", tpm.command_code(each, CC.Unseal))
+        tpm("TPM2_PolicyCommandCode").command_code(each, CC.Unseal)
         tpm.refused(f"{words}: {code}", tpm.unsealing(handle, each).but_entry(1, hmac=bytes(32)))
         tpm.unseal("The right one", handle, SECRET, each)
     for each in (bound, unbound):
-        says("A session is flushed", tpm.flush(each))
+        tpm("A session is flushed").flush(each)
     tpm.flush_objects("The object is flushed", handle)
 
 # TPM2_PolicySecret by a policy.
 
 tpm.chapter("TPM2_PolicySecret of an object, authorized by the very session that it is told to.")
 handle = sealed_by("An object with TPM2_PolicyAuthValue as its policy", AFTER_AUTH_VALUE[SHA256])
-says("TPM2_PolicyAuthValue", tpm.auth_value_told(session))
+tpm("TPM2_PolicyAuthValue").auth_value_told(session)
 told = tpm.secret(session, Use(session, demand=AUTH_VALUE), of=handle)
 tpm.accepted("TPM2_PolicySecret, first asserted, and then the session starts again", told)
 start_again(session)
 other = tpm.policy("Another session")
-says("TPM2_PolicyAuthValue in the first", tpm.auth_value_told(session))
-tpm.accepted(
-    "TPM2_PolicySecret to the other, authorized by the first",
-    tpm.secret(other, Use(session, demand=AUTH_VALUE), of=handle),
-)
+tpm("TPM2_PolicyAuthValue in the first").auth_value_told(session)
+said = tpm("TPM2_PolicySecret to the other, authorized by the first")
+said.secret(other, Use(session, demand=AUTH_VALUE), of=handle)
 start_again(session)
 wanted = policy.after_secret(SHA256, bytes(32), tpm.names[handle], b"")
 tpm.digest_is("The other has the Name of the object in its digest", other, wanted)
-says("TPM2_PolicyPassword in the first", tpm.password_told(session))
-tpm.accepted(
-    "It ends with the command that asserts in it",
-    tpm.secret(session, Use(session, 0, demand=PASSWORD), of=handle),
-)
-tpm.says("It is no more: REFERENCE_H0", tpm.get_digest(session))
+tpm("TPM2_PolicyPassword in the first").password_told(session)
+said = tpm("It ends with the command that asserts in it")
+said.secret(session, Use(session, 0, demand=PASSWORD), of=handle)
+tpm("It is no more: REFERENCE_H0").get_digest(session)
 target = sealed_by("An object with that secret as its policy", wanted)
 tpm.unseal("TPM2_Unseal of it by the other session", target, SECRET, other)
 start_again(other)
-tpm.refused("Once more: POLICY_FAIL/s1", tpm.unsealing(target, other))
+tpm("Once more: POLICY_FAIL/s1").unsealing(target, other)
 trial = tpm.trial("A trial session")
-says("TPM2_PolicyAuthValue in the other", tpm.auth_value_told(other))
-tpm.accepted(
-    "TPM2_PolicySecret to the trial session",
-    tpm.secret(trial, Use(other, demand=AUTH_VALUE), of=handle),
-)
+tpm("TPM2_PolicyAuthValue in the other").auth_value_told(other)
+said = tpm("TPM2_PolicySecret to the trial session")
+said.secret(trial, Use(other, demand=AUTH_VALUE), of=handle)
 tpm.digest_is("It is the same digest", trial, wanted)
-tpm.refused("By the trial session itself: ATTRIBUTES/s1", tpm.secret(trial, trial, of=handle))
+tpm("By the trial session itself: ATTRIBUTES/s1").secret(trial, trial, of=handle)

@@ -1,29 +1,23 @@
-"""Writes object_sessions.tpm: HMAC sessions that authorize objects, or are bound to them."""
+"""Writes object_sessions.tpm. HMAC sessions that authorize objects. The Name of an object stands
+where that of a hierarchy is its handle: in the hash of a command, in a binding, and in
+TPM2_PolicySecret.
+"""
 
-from tpmsim.caller import HERE, Use, hmac_key, sealed, storage_key
-from tpmsim.standard import ALG_NULL, CC, RH_ENDORSEMENT, RH_OWNER, SHA1, SHA256, command, number
-from tpmsim.standard import policy, policy_secret, start_auth_session
-from tpmsim.standard.objects import Attribute
-from tpmsim.caller.script_caller import zeros
-from tests.common.teller import Teller
+from tpmsim.standard import policy_secret, start_auth_session
+from tests.common.vocabulary import ALG_NULL, CC, command, HERE, hmac_key, number, ObjectAttribute
+from tests.common.vocabulary import policy, RH_ENDORSEMENT, RH_OWNER, sealed, SHA1, SHA256
+from tests.common.vocabulary import storage_key, Teller, Use, zeros
 
-PROTECTED = HERE | Attribute.USER_WITH_AUTH
+PROTECTED = HERE | ObjectAttribute.USER_WITH_AUTH
 SECRET, PIN = b"secret", b"pin"
 
-tpm = Teller(
-    "tests/objects/object_sessions.tpm",
-    "HMAC sessions that authorize objects. The Name of an object stands where that of a hierarchy "
-    "is its handle: in the hash of a command, in a binding, and in TPM2_PolicySecret.",
-    tries=True,
-)
+tpm = Teller(__name__, __doc__, tries=True)
 parent = tpm.create_primary("A storage key", RH_OWNER, storage_key())
-made = tpm.create(
-    'TPM2_Create of sealed data, whose value is "pin"', parent, sealed(), user_auth=PIN, data=SECRET
-)
+said = tpm('TPM2_Create of sealed data, whose value is "pin"')
+made = said.create(parent, sealed(), user_auth=PIN, data=SECRET)
 handle = tpm.load("TPM2_Load", parent, made)
-twin = tpm.create_primary(
-    "Other sealed data with the same value", RH_OWNER, sealed(), user_auth=PIN, data=SECRET
-)
+said = tpm("Other sealed data with the same value")
+twin = said.create_primary(RH_OWNER, sealed(), user_auth=PIN, data=SECRET)
 
 for algorithm, hash_name in ((SHA256, "SHA-256"), (SHA1, "SHA-1")):
     tpm.chapter(f"Sessions with {hash_name}.")
@@ -36,53 +30,40 @@ for algorithm, hash_name in ((SHA256, "SHA-256"), (SHA1, "SHA-1")):
         ("By the one that is bound to something else", owner),
     ):
         right = tpm.unsealing(handle, session)
-        tpm.refused(
-            f"{what}: without an hmac, and with a wrong one: BAD_AUTH/s1",
-            right.but_entry(1, hmac=b""),
-            right.but_entry(1, hmac=bytes(32)),
-        )
+        said = tpm(f"{what}: without an hmac, and with a wrong one: BAD_AUTH/s1")
+        said.refused(right.but_entry(1, hmac=b""), right.but_entry(1, hmac=bytes(32)))
         tpm.accepted("TPM2_Unseal", right)
         tpm.refused("The same buffer again: BAD_AUTH/s1", right)
         tpm.unseal("A new one", handle, SECRET, session)
     with tpm.breaking(key=lambda use, handle: use.session.key + PIN):
-        tpm.refused(
-            "By the bound one, with the value in the key: BAD_AUTH/s1", tpm.unsealing(handle, bound)
-        )
+        tpm("By the bound one, with the value in the key: BAD_AUTH/s1").unsealing(handle, bound)
     tpm.unseal("The bound one authorizes the other object, too", twin, SECRET, bound)
     with tpm.breaking(key=lambda use, handle: use.session.key):
-        tpm.refused("But with that one's value in the key: BAD_AUTH/s1", tpm.unsealing(twin, bound))
-    tpm.accepted("And a PCR", tpm.reset(bound))
+        tpm("But with that one's value in the key: BAD_AUTH/s1").unsealing(twin, bound)
+    tpm("And a PCR").reset(bound)
 
     tpm.chapter("The hash of a command has the object's Name in it, and not its handle.")
-    tpm.refused(
-        "An hmac for the one, with the handle of the other: BAD_AUTH/s1",
-        tpm.unsealing(handle, unbound).but(handles=[twin]),
-    )
+    said = tpm("An hmac for the one, with the handle of the other: BAD_AUTH/s1")
+    said.refused(tpm.unsealing(handle, unbound).but(handles=[twin]))
     names = dict(tpm.names)
     tpm.names.clear()
-    tpm.refused(
-        "An hmac with the handle in place of the Name: BAD_AUTH/s1", tpm.unsealing(handle, unbound)
-    )
+    tpm("An hmac with the handle in place of the Name: BAD_AUTH/s1").unsealing(handle, unbound)
     tpm.names.update(names)
     again = tpm.load("The object once more, with another handle", parent, made)
     assert again != handle
     prepared = tpm.unsealing(handle, unbound)
-    tpm.accepted(
-        "An hmac for the first, with the handle of the second", prepared.but(handles=[again])
-    )
+    said = tpm("An hmac for the first, with the handle of the second")
+    said.accepted(prepared.but(handles=[again]))
     prepared = tpm.unsealing(handle, bound)
     tpm.accepted("So it is with the one that is bound to the first", prepared.but(handles=[again]))
     tpm.unseal("It is bound to the second as well", again, SECRET, bound)
 
     tpm.chapter("The object is flushed, and loaded again.")
     tpm.flush_objects("Both are flushed", handle, again)
-    tpm.accepted("The session that is bound to it lives on", tpm.reset(bound))
-    tpm.refused(
-        "But there is no object: REFERENCE_H0", tpm.prepare(CC.Unseal, [handle], b"", bound)
-    )
-    stranger = tpm.create_primary(
-        "Another object takes the place of one", RH_OWNER, sealed(), user_auth=PIN, data=b"x"
-    )
+    tpm("The session that is bound to it lives on").reset(bound)
+    tpm("But there is no object: REFERENCE_H0").prepare(CC.Unseal, [handle], b"", bound)
+    said = tpm("Another object takes the place of one")
+    stranger = said.create_primary(RH_OWNER, sealed(), user_auth=PIN, data=b"x")
     assert stranger in (handle, again)
     tpm.unseal("To that it is not bound, and the value is in the key", stranger, b"x", bound)
     handle = tpm.load("TPM2_Load of the object", parent, made)
@@ -90,7 +71,7 @@ for algorithm, hash_name in ((SHA256, "SHA-256"), (SHA1, "SHA-1")):
     tpm.unseal("To this it is bound: its key is the session's alone", handle, SECRET, bound)
     tpm.flush_objects("The other is flushed", stranger)
     for each in (unbound, bound, owner):
-        tpm.says("A session is flushed: SUCCESS", tpm.flush(each))
+        tpm("A session is flushed").flush(each)
 
 tpm.chapter("TPM2_StartAuthSession: bind is an object.")
 
@@ -99,10 +80,8 @@ def starting(bind):
     return tpm.prepare(CC.StartAuthSession, *start_auth_session(bytes(16), bind))
 
 
-tpm.says(
-    "One that is not there: REFERENCE_H1",
-    *map(starting, (0x8000_0006, 0x8000_0007, 0x8000_0008, 0x80FF_FFFF)),
-)
+said = tpm("One that is not there: REFERENCE_H1")
+said.says(*map(starting, (0x8000_0006, 0x8000_0007, 0x8000_0008, 0x80FF_FFFF)))
 tpm.says("A persistent one: HANDLE/h2", starting(0x8100_0000))
 for what, public, data in (
     ("A storage key", storage_key(), b""),
@@ -111,14 +90,13 @@ for what, public, data in (
 ):
     other = tpm.create_primary(what, RH_ENDORSEMENT, public, user_auth=b"other", data=data)
     session = tpm.start("A session that is bound to it", bind=other)
-    tpm.accepted("TPM2_PCR_Reset by that", tpm.reset(session))
+    tpm("TPM2_PCR_Reset by that").reset(session)
     tpm.flush_objects("The object is flushed", other)
-    tpm.accepted("TPM2_PCR_Reset by the session", tpm.reset(Use(session, 0)))
+    tpm("TPM2_PCR_Reset by the session").reset(Use(session, 0))
 
 tpm.chapter("A wrong entry is a try where it uses the value of an object without noDA.")
-guarded = tpm.create_primary(
-    "Such an object", RH_OWNER, sealed(attributes=PROTECTED), user_auth=PIN, data=SECRET
-)
+said = tpm("Such an object")
+guarded = said.create_primary(RH_OWNER, sealed(attributes=PROTECTED), user_auth=PIN, data=SECRET)
 plain = tpm.start("A session that is bound to nothing")
 to_guarded = tpm.start("One that is bound to this object", bind=guarded)
 to_open = tpm.start("One that is bound to an object with noDA", bind=handle)
@@ -152,35 +130,25 @@ for what, target, cases in (
             prepared = tpm.change_auth(RH_OWNER, b"", session)
         else:
             prepared = tpm.unsealing(target, session)
-        tpm.refused(
-            f"The authorization {what}, by the session that is {name}: {outcome}/s1",
-            wrong(prepared),
-        )
+        said = tpm(f"The authorization {what}, by the session that is {name}: {outcome}/s1")
+        said.refused(wrong(prepared))
         tpm.accepted("The right one", prepared)
 tpm.refused(
     "An entry that authorizes nothing, of the session that is bound to the object: AUTH_FAIL/s1",
     wrong(tpm.random(1, to_guarded)),
 )
-tpm.refused(
-    "Of the session that is bound to the one with noDA: BAD_AUTH/s1", wrong(tpm.random(1, to_open))
-)
+said = tpm("Of the session that is bound to the one with noDA: BAD_AUTH/s1")
+said.refused(wrong(tpm.random(1, to_open)))
 tpm.flush_objects("The object is flushed", guarded)
-tpm.refused(
-    "It is still a try of the session that was bound to it: AUTH_FAIL/s1",
-    wrong(tpm.random(1, to_guarded)),
-)
+said = tpm("It is still a try of the session that was bound to it: AUTH_FAIL/s1")
+said.refused(wrong(tpm.random(1, to_guarded)))
 for each in (plain, to_guarded, to_open):
-    tpm.says("A session is flushed: SUCCESS", tpm.flush(each))
+    tpm("A session is flushed").flush(each)
 
 tpm.chapter("TPM2_PolicySecret with an object as authHandle.")
 for algorithm, hash_name in ((SHA256, "SHA-256"), (SHA1, "SHA-1")):
-    key = tpm.create_primary(
-        f"An object with nameAlg {hash_name}",
-        RH_ENDORSEMENT,
-        hmac_key(algorithm),
-        user_auth=PIN,
-        data=b"key",
-    )
+    said = tpm(f"An object with nameAlg {hash_name}")
+    key = said.create_primary(RH_ENDORSEMENT, hmac_key(algorithm), user_auth=PIN, data=b"key")
     session = tpm.policy("A policy session")
     handles = number(key, 4), number(session.handle, 4)
     for what, outcome, handle_text in (
@@ -190,41 +158,32 @@ for algorithm, hash_name in ((SHA256, "SHA-256"), (SHA1, "SHA-1")):
         ("No sessions (tag 8001)", "AUTH_MISSING", handles[1]),
     ):
         tpm.raw(f"{what}: {outcome}", command(CC.PolicySecret, handles[0] + handle_text))
-    tpm.says("By a wrong value: BAD_AUTH/s1", tpm.secret(session, b"nip", of=key))
+    tpm("By a wrong value: BAD_AUTH/s1").secret(session, b"nip", of=key)
     tpm.accepted("By its value", tpm.secret(session, PIN, of=key, policy_ref=b"ref"))
     told = policy.after_secret(SHA256, zeros(session), tpm.names[key], b"ref")
     tpm.digest_is("The Name of the object is in the digest", session, told)
     bound = tpm.start("An HMAC session that is bound to it", bind=key, algorithm=algorithm)
-    tpm.accepted("By that session", tpm.secret(session, bound, of=key))
+    tpm("By that session").secret(session, bound, of=key)
     told = policy.after_secret(SHA256, told, tpm.names[key], b"")
     tpm.digest_is("The digest goes on", session, told)
-    made = tpm.create(
-        "An object with this policy: TPM2_Create",
-        parent,
-        sealed(attributes=HERE, auth_policy=told),
-        data=SECRET,
-    )
+    said = tpm("An object with this policy: TPM2_Create")
+    made = said.create(parent, sealed(attributes=HERE, auth_policy=told), data=SECRET)
     target = tpm.load("TPM2_Load", parent, made)
     tpm.flush_objects("The key is flushed", key)
     tpm.unseal("TPM2_Unseal: what was shown counts", target, SECRET, session)
-    tpm.says(
-        "The key is no more: REFERENCE_H0",
-        tpm.prepare(CC.PolicySecret, [key, session.handle], policy_secret(), b""),
-    )
+    said = tpm("The key is no more: REFERENCE_H0")
+    said.prepare(CC.PolicySecret, [key, session.handle], policy_secret(), b"")
     tpm.flush_objects("The object is flushed", target)
     for each in (session, bound):
-        tpm.says("A session is flushed: SUCCESS", tpm.flush(each))
+        tpm("A session is flushed").flush(each)
 
 tpm.chapter("Three sessions at once.")
 first, second, third = (tpm.start("One with AES", bind=it, aes=True) for it in (handle, twin, 10))
-tpm.unseal(
-    "The first authorizes, the second encrypts", handle, SECRET, first, Use(second, 0x41), third
-)
+said = tpm("The first authorizes, the second encrypts")
+said.unseal(handle, SECRET, first, Use(second, 0x41), third)
 key = tpm.create_primary(
     "An HMAC key", RH_OWNER, hmac_key(), third, Use(first, 0x21), Use(second, 0x41), data=b"k"
 )
-tpm.accepted(
-    "The second authorizes, the third decrypts, and the first encrypts",
-    tpm.hmac(key, b"text", ALG_NULL, second, Use(third, 0x21), Use(first, 0x41)),
-)
+said = tpm("The second authorizes, the third decrypts, and the first encrypts")
+said.hmac(key, b"text", ALG_NULL, second, Use(third, 0x21), Use(first, 0x41))
 tpm.flush_objects("All are flushed", key, handle, twin, parent)

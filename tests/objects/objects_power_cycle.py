@@ -1,9 +1,10 @@
-"""Writes objects_power_cycle.tpm: what a power cycle leaves of objects."""
+"""Writes objects_power_cycle.tpm. Transient objects are gone after a power cycle. The seeds of the
+owner's, the endorsement and the platform hierarchy stay, and so the same primary objects can be
+made again. The null hierarchy has a new seed and a new proof after each TPM2_Startup(CLEAR).
+"""
 
-from tpmsim.caller import hmac_key, sealed, storage_key
-from tpmsim.standard import CC, RH_ENDORSEMENT, RH_NULL, RH_OWNER, RH_PLATFORM, SHA1, frames
-from tpmsim.standard import number
-from tests.common.teller import Teller
+from tests.common.vocabulary import CC, frames, hmac_key, number, RH_ENDORSEMENT, RH_NULL, RH_OWNER
+from tests.common.vocabulary import RH_PLATFORM, sealed, SHA1, storage_key, Teller
 
 NAMES = (
     (RH_OWNER, "TPM_RH_OWNER"),
@@ -12,13 +13,7 @@ NAMES = (
     (RH_NULL, "TPM_RH_NULL"),
 )
 
-tpm = Teller(
-    "tests/objects/objects_power_cycle.tpm",
-    "Transient objects are gone after a power cycle. The seeds of the owner's, the endorsement and "
-    "the platform hierarchy stay, and so the same primary objects can be made again. The null "
-    "hierarchy has a new seed and a new proof after each TPM2_Startup(CLEAR).",
-    starts=False,
-)
+tpm = Teller(__name__, __doc__, starts=False)
 
 
 def start(what, seed):
@@ -33,9 +28,8 @@ def primaries():
     for hierarchy, name in NAMES:
         handle = tpm.create_primary(f"A storage key in {name}", hierarchy, storage_key())
         names[hierarchy] = tpm.names[handle]
-        children[hierarchy] = tpm.create(
-            "TPM2_Create of sealed data", handle, sealed(), data=b"secret"
-        )
+        said = tpm("TPM2_Create of sealed data")
+        children[hierarchy] = said.create(handle, sealed(), data=b"secret")
         tpm.flush_objects("It is flushed", handle)
     return names, children
 
@@ -58,13 +52,11 @@ handles = [
     for hierarchy, name in NAMES
 ]
 tpm.power()
-tpm.says("Before TPM2_Startup: INITIALIZE", tpm.public(handles[0]))
+tpm("Before TPM2_Startup: INITIALIZE").public(handles[0])
 tpm.chapter("A refused TPM2_Startup draws nothing, and starts nothing.")
 tpm.script.entropy(bytes(range(128, 192)))
-tpm.raw(
-    "TPM2_Startup(STATE), while no state is saved: VALUE/p1",
-    frames.command(CC.Startup, number(1, 2)),
-)
+said = tpm("TPM2_Startup(STATE), while no state is saved: VALUE/p1")
+said.raw(frames.command(CC.Startup, number(1, 2)))
 start("The second start, with other random bytes.", bytes(range(64, 128)))
 tpm.forget(*handles)
 tpm.says("The objects are gone: REFERENCE_H0", *map(tpm.public, handles))

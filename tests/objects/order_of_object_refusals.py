@@ -1,24 +1,16 @@
-"""Writes order_of_object_refusals.tpm: many faults at once, repaired one by one."""
+"""Writes order_of_object_refusals.tpm. The order of refusals in the commands of objects: a buffer
+with many faults, of which one after the other is repaired. What is answered is the first that is
+left.
+"""
 
-from tpmsim.caller import HERE, OPEN, Use, hmac_key, sealed, storage_key
-from tpmsim.standard import ALG_NULL, CC, DECRYPT, Entry, RH_LOCKOUT, RH_OWNER, SHA1, SHA256, area
-from tpmsim.standard import command, frames, number, sized
-from tpmsim.standard.objects import Attribute
-from tests.common.teller import Teller
+from tpmsim.standard import area
+from tests.common.vocabulary import ALG_NULL, CC, command, DECRYPT, Entry, frames, HERE, hmac_key
+from tests.common.vocabulary import number, ObjectAttribute, OPEN, others_in, RH_LOCKOUT, RH_OWNER
+from tests.common.vocabulary import sealed, SHA1, SHA256, sized, storage_key, Teller, Use
 
-tpm = Teller(
-    "tests/objects/order_of_object_refusals.tpm",
-    "The order of refusals in the commands of objects: a buffer with many faults, of which one "
-    "after the other is repaired. What is answered is the first that is left.",
-)
+tpm = Teller(__name__, __doc__)
 ABSENT, SECRET = 0x8000_0007, b"secret"
 ABSENT_SESSION = Entry(0x0200_000F, b"", 1, b"")
-
-
-def wrong(prepared, *places):
-    for place in places:
-        prepared = prepared.but_entry(place, hmac=b"wrong")
-    return prepared
 
 
 def general_refusals(code, handle, other_handle, cut, uses):
@@ -29,36 +21,30 @@ def general_refusals(code, handle, other_handle, cut, uses):
     def raw(handle_text, rest=b"", tag=frames.SESSIONS):
         return command(code, handle_text + rest, tag)
 
-    tpm.raw(
-        "Half a handle, and no sessions (tag 8001): INSUFFICIENT/h1",
-        raw(b"\x80\0", tag=frames.NO_SESSIONS),
-    )
-    tpm.raw(
-        "A handle of another kind, and no sessions: VALUE/h1",
-        raw(number(other_handle, 4), tag=frames.NO_SESSIONS),
-    )
+    said = tpm("Half a handle, and no sessions (tag 8001): INSUFFICIENT/h1")
+    said.raw(raw(b"\x80\0", tag=frames.NO_SESSIONS))
+    said = tpm("A handle of another kind, and no sessions: VALUE/h1")
+    said.raw(raw(number(other_handle, 4), tag=frames.NO_SESSIONS))
     if code != CC.CreatePrimary:
-        tpm.raw(
-            "An object that is not there, and no sessions: REFERENCE_H0",
-            raw(number(ABSENT, 4), tag=frames.NO_SESSIONS),
-        )
+        said = tpm("An object that is not there, and no sessions: REFERENCE_H0")
+        said.raw(raw(number(ABSENT, 4), tag=frames.NO_SESSIONS))
     if code != CC.ReadPublic:
         tpm.raw("No sessions: AUTH_MISSING", raw(number(handle, 4), cut, tag=frames.NO_SESSIONS))
     tpm.raw("An area of eight bytes: AUTHSIZE", raw(number(handle, 4), area(bytes(8)) + cut))
     prepared = tpm.prepare(code, [handle], cut, *uses)
     last = len(uses)
-    tpm.refused(
-        f"A wrong first entry, and the last one is not there: REFERENCE_S{last - 1}",
-        wrong(prepared, 1).but(entries=[*wrong(prepared, 1).entries[:-1], ABSENT_SESSION]),
+    said = tpm(f"A wrong first entry, and the last one is not there: REFERENCE_S{last - 1}")
+    said.refused(
+        others_in(prepared, 1).but(entries=[*others_in(prepared, 1).entries[:-1], ABSENT_SESSION])
     )
     if last > 1:
-        tpm.refused("Both entries are wrong: BAD_AUTH/s1", wrong(prepared, 1, 2))
-    tpm.refused(f"The last one is: BAD_AUTH/s{last}", wrong(prepared, last))
+        tpm.refused("Both entries are wrong: BAD_AUTH/s1", others_in(prepared, 1, 2))
+    tpm.refused(f"The last one is: BAD_AUTH/s{last}", others_in(prepared, last))
 
 
 def parameters_in_order(code, handle, uses, cases):
     for what, outcome, parameters in cases:
-        tpm.refused(f"{what}: {outcome}", tpm.prepare(code, [handle], parameters, *uses))
+        tpm(f"{what}: {outcome}").prepare(code, [handle], parameters, *uses)
 
 
 parent = tpm.create_primary("A storage key", RH_OWNER, storage_key(), user_auth=b"parent")
@@ -68,7 +54,7 @@ key = tpm.create_primary("An HMAC key", RH_OWNER, hmac_key(), user_auth=b"k", da
 restricted = tpm.create_primary(
     "A restricted one",
     RH_OWNER,
-    hmac_key(attributes=HERE | OPEN | Attribute.RESTRICTED),
+    hmac_key(attributes=HERE | OPEN | ObjectAttribute.RESTRICTED),
     user_auth=b"r",
     data=b"key",
 )
@@ -76,7 +62,7 @@ session = tpm.start("A session with AES, that is bound to TPM_RH_OWNER", bind=RH
 DECRYPTS = Use(session, 1 | DECRYPT)
 
 # A template whose authPolicy, attributes and scheme are wrong, and a userAuth that is too long.
-WRONG = hmac_key(SHA1, HERE | OPEN | Attribute.RESTRICTED, ALG_NULL, auth_policy=b"p")
+WRONG = hmac_key(SHA1, HERE | OPEN | ObjectAttribute.RESTRICTED, ALG_NULL, auth_policy=b"p")
 GOOD_SENSITIVE = frames.sensitive_create(data=SECRET)
 LONG_SENSITIVE = frames.sensitive_create(b"a" * 21, SECRET)
 BANK = number(1, 4) + number(0x000C, 2) + b"\x03\0\0\0"
@@ -118,17 +104,13 @@ for code, name, on, uses in (
         ),
     )
     if code == CC.Create:
-        tpm.refused(
-            "Under what is no parent: TYPE/h1",
-            tpm.prepare(
-                code, [handle], LONG_SENSITIVE + wrong_public + none + rest, b"s", DECRYPTS
-            ),
-        )
+        said = tpm("Under what is no parent: TYPE/h1")
+        said.prepare(code, [handle], LONG_SENSITIVE + wrong_public + none + rest, b"s", DECRYPTS)
 
     def with_public(public, first=LONG_SENSITIVE):
         return first + sized(public.text) + none + rest
 
-    both = HERE | OPEN | Attribute.SENSITIVE_DATA_ORIGIN
+    both = HERE | OPEN | ObjectAttribute.SENSITIVE_DATA_ORIGIN
     parameters_in_order(
         code,
         on,
@@ -138,7 +120,7 @@ for code, name, on, uses in (
             (
                 "fixedTPM without fixedParent",
                 "ATTRIBUTES/p2",
-                with_public(sealed(SHA1, Attribute.FIXED_TPM | OPEN, scheme=SHA1)),
+                with_public(sealed(SHA1, ObjectAttribute.FIXED_TPM | OPEN, scheme=SHA1)),
             ),
             ("Scheme HMAC without sign", "SCHEME/p2", with_public(sealed(SHA1, scheme=SHA1))),
             ("userAuth of 21 bytes", "SIZE/p1", with_public(sealed(SHA1, both))),
@@ -151,7 +133,7 @@ for code, name, on, uses in (
     )
     good = tpm.prepare(code, [on], with_public(sealed(SHA1), GOOD_SENSITIVE), *uses)
     tpm.accepted("With nothing wrong", good)
-tpm.says("The object of the first is flushed: SUCCESS", tpm.flush(0x8000_0004))
+tpm("The object of the first is flushed").flush(0x8000_0004)
 
 tpm.chapter("TPM2_Load, with inPrivate encrypted.")
 uses = [b"parent", DECRYPTS]
@@ -168,10 +150,8 @@ parameters_in_order(
         ("A byte behind inPublic", "SIZE", sized(b"") + sized(WRONG.text) + b"\0"),
     ),
 )
-tpm.refused(
-    "Under what is no parent: TYPE/h1",
-    tpm.prepare(CC.Load, [handle], sized(b"") + sized(WRONG.text), b"s", DECRYPTS),
-)
+said = tpm("Under what is no parent: TYPE/h1")
+said.prepare(CC.Load, [handle], sized(b"") + sized(WRONG.text), b"s", DECRYPTS)
 parameters_in_order(
     CC.Load,
     parent,
@@ -181,7 +161,7 @@ parameters_in_order(
         (
             "fixedTPM without fixedParent",
             "ATTRIBUTES/p2",
-            sized(b"") + sized(sealed(SHA1, Attribute.FIXED_TPM | OPEN, scheme=SHA1).text),
+            sized(b"") + sized(sealed(SHA1, ObjectAttribute.FIXED_TPM | OPEN, scheme=SHA1).text),
         ),
         (
             "Scheme HMAC without sign",
@@ -206,16 +186,14 @@ tpm.flush_objects("It is flushed", again)
 
 tpm.chapter("TPM2_ReadPublic, with a session that authorizes nothing.")
 general_refusals(CC.ReadPublic, key, RH_OWNER, b"\0", [Use(session)])
-tpm.refused("A byte behind the handle: SIZE", tpm.prepare(CC.ReadPublic, [key], b"\0", session))
+tpm("A byte behind the handle: SIZE").prepare(CC.ReadPublic, [key], b"\0", session)
 tpm.read_public("With nothing wrong", key, session)
 
 tpm.chapter("TPM2_Unseal.")
 general_refusals(CC.Unseal, key, RH_OWNER, b"\0", [b"k", Use(session)])
-tpm.refused(
-    "A byte behind the area, of a key: SIZE", tpm.prepare(CC.Unseal, [key], b"\0", b"k", session)
-)
-tpm.refused("A storage key: TYPE/h1", tpm.prepare(CC.Unseal, [parent], b"", b"parent", session))
-tpm.refused("An HMAC key: ATTRIBUTES/h1", tpm.prepare(CC.Unseal, [key], b"", b"k", session))
+tpm("A byte behind the area, of a key: SIZE").prepare(CC.Unseal, [key], b"\0", b"k", session)
+tpm("A storage key: TYPE/h1").prepare(CC.Unseal, [parent], b"", b"parent", session)
+tpm("An HMAC key: ATTRIBUTES/h1").prepare(CC.Unseal, [key], b"", b"k", session)
 tpm.unseal("With nothing wrong", handle, SECRET, b"s", session)
 
 tpm.chapter("TPM2_HMAC, with the buffer encrypted.")
@@ -240,5 +218,5 @@ for what, outcome, on, value in (
     ("Sealed data", "KEY/h1", handle, b"s"),
     ("Another hash algorithm than the scheme's", "VALUE/p2", key, b"k"),
 ):
-    tpm.refused(f"{what}: {outcome}", tpm.prepare(CC.HMAC, [on], by_sha1, value, DECRYPTS))
-tpm.accepted("With nothing wrong", tpm.hmac(key, b"text", SHA256, *uses))
+    tpm(f"{what}: {outcome}").prepare(CC.HMAC, [on], by_sha1, value, DECRYPTS)
+tpm("With nothing wrong").hmac(key, b"text", SHA256, *uses)

@@ -1,18 +1,16 @@
-"""Writes private_area.tpm: private areas that were changed, or that were made outside."""
+"""Writes private_area.tpm. A private area is an integrity value, the first block of the cipher, and
+the encrypted sensitive area. TPM2_Load takes it where its parent made it for this public area.
+"""
 
-from tpmsim.caller import HERE, Made, OPEN, STORES, flipped, hmac_key, sealed, storage_key
+from tpmsim.caller import Made
+from tpmsim.standard import aes, kdfa, KEYEDHASH
+from tests.common.vocabulary import digest, digest_bytes, flipped, HERE, hmac_key, mac, number, OPEN
+from tests.common.vocabulary import Public, RH_OWNER, sealed, SHA1, SHA256, sized, storage_key
+from tests.common.vocabulary import STORES, SYMCIPHER, Teller
 from tpmsim.model import object_rules
 from tpmsim.model.object_rules import Sensitive
-from tpmsim.standard import KEYEDHASH, RH_OWNER, SHA1, SHA256, SYMCIPHER, aes, digest, digest_bytes
-from tpmsim.standard import kdfa, mac, number, sized
-from tpmsim.standard.objects import Public
-from tests.common.teller import Teller
 
-tpm = Teller(
-    "tests/objects/private_area.tpm",
-    "A private area is an integrity value, the first block of the cipher, and the encrypted "
-    "sensitive area. TPM2_Load takes it where its parent made it for this public area.",
-)
+tpm = Teller(__name__, __doc__)
 
 
 def refused(what, parent, public, *privates):
@@ -25,17 +23,12 @@ for algorithm, hash_name, step, words in (
     (SHA1, "SHA-1", 1, "each shorter length"),
     (SHA256, "SHA-256", 6, "shorter lengths"),
 ):
-    parent = tpm.create_primary(
-        f"A storage key with nameAlg {hash_name}", RH_OWNER, storage_key(algorithm)
-    )
+    said = tpm(f"A storage key with nameAlg {hash_name}")
+    parent = said.create_primary(RH_OWNER, storage_key(algorithm))
     made = tpm.create("TPM2_Create of a byte", parent, sealed(SHA1), data=b"x")
     private = made.private
-    refused(
-        "TPM2_Load, with one bit changed in each byte in turn",
-        parent,
-        made.public,
-        *(flipped(private, at) for at in range(len(private))),
-    )
+    case = "TPM2_Load, with one bit changed in each byte in turn"
+    refused(case, parent, made.public, *(flipped(private, at) for at in range(len(private))))
     refused(
         f"Cut to {words}",
         parent,
@@ -71,9 +64,8 @@ def sensitive(data=b"forged", auth=b"", seed=b"s" * 32, kind=KEYEDHASH):
 
 
 for algorithm, hash_name in ((SHA1, "SHA-1"), (SHA256, "SHA-256")):
-    parent = tpm.create_primary(
-        f"A storage key with nameAlg {hash_name}", RH_OWNER, storage_key(algorithm)
-    )
+    said = tpm(f"A storage key with nameAlg {hash_name}")
+    parent = said.create_primary(RH_OWNER, storage_key(algorithm))
     public = sealed(unique=b"u" * 32)
     private = forge(parent, public, sensitive())
     known = tpm.script.device.objects[parent]
@@ -89,12 +81,8 @@ for algorithm, hash_name in ((SHA1, "SHA-1"), (SHA256, "SHA-256")):
     other = storage_key().name
     refused("With another Name", parent, public, forge(parent, public, sensitive(), name=other))
     other = SHA256 if algorithm == SHA1 else SHA1
-    refused(
-        "By the other hash algorithm",
-        parent,
-        public,
-        forge(parent, public, sensitive(), algorithm=other),
-    )
+    case = "By the other hash algorithm"
+    refused(case, parent, public, forge(parent, public, sensitive(), algorithm=other))
     size = digest_bytes(algorithm)
     value, rest = private[2 : 2 + size], private[2 + size :]
     refused(
@@ -186,8 +174,8 @@ for algorithm, hash_name in ((SHA1, "SHA-1"), (SHA256, "SHA-256")):
         tpm.unseal("TPM2_Unseal", handle, b"forged")
         session = tpm.start("A session that is bound to it", bind=handle)
         tpm.unseal("TPM2_Unseal by that", handle, b"forged", session)
-        tpm.says("By another value: BAD_AUTH/s1", tpm.unsealing(handle, b"b"))
-        tpm.says("The session is flushed: SUCCESS", tpm.flush(session))
+        tpm("By another value: BAD_AUTH/s1").unsealing(handle, b"b")
+        tpm("The session is flushed").flush(session)
         tpm.flush_objects("The object is flushed", handle)
     first, second = (
         Made(forge(parent, public, sensitive(auth=it)), public, it) for it in (b"a", b"b")
@@ -196,19 +184,17 @@ for algorithm, hash_name in ((SHA1, "SHA-1"), (SHA256, "SHA-256")):
     session = tpm.start("A session that is bound to it", bind=handle)
     twin = tpm.load('That of the second is "b"', parent, second)
     assert tpm.names[handle] == tpm.names[twin]
-    tpm.unseal(
-        "To this the session is not bound: its value is in the key", twin, b"forged", session
-    )
+    said = tpm("To this the session is not bound: its value is in the key")
+    said.unseal(twin, b"forged", session)
     with tpm.breaking(key=lambda use, handle: use.session.key):
-        tpm.refused("Without it: BAD_AUTH/s1", tpm.unsealing(twin, session))
+        tpm("Without it: BAD_AUTH/s1").unsealing(twin, session)
     tpm.unseal("To the first it is", handle, b"forged", session)
-    tpm.says("The session is flushed: SUCCESS", tpm.flush(session))
+    tpm("The session is flushed").flush(session)
     tpm.flush_objects("The objects are flushed", handle, twin)
     short = sealed(SHA1, unique=b"")
     private = forge(parent, short, sensitive(auth=b"a" * 32))
-    handle = tpm.load(
-        "A value that is longer than a digest of nameAlg", parent, Made(private, short, b"a" * 32)
-    )
+    said = tpm("A value that is longer than a digest of nameAlg")
+    handle = said.load(parent, Made(private, short, b"a" * 32))
     tpm.unseal("TPM2_Unseal", handle, b"forged")
     tpm.flush_objects("It is flushed", handle)
     private = forge(parent, public, sensitive(data=b"", seed=b""))
@@ -227,11 +213,8 @@ for algorithm, hash_name in ((SHA1, "SHA-1"), (SHA256, "SHA-256")):
     tpm.flush_objects("It is flushed", handle)
     chosen = Public(SYMCIPHER, SHA256, HERE | OPEN | STORES)
     private = forge(parent, chosen, sensitive(kind=SYMCIPHER, data=b"k", seed=b"chosen"))
-    handle = tpm.load(
-        "A storage key whose seed he chose, and whose key is of one byte",
-        parent,
-        Made(private, chosen, b""),
-    )
+    said = tpm("A storage key whose seed he chose, and whose key is of one byte")
+    handle = said.load(parent, Made(private, chosen, b""))
     made = tpm.create("TPM2_Create under it", handle, sealed(), data=b"secret")
     key = kdfa(SHA256, b"chosen", b"STORAGE", made.public.name, b"", 16)
     plain = aes.cfb_decrypt(key, made.private[36:52], made.private[52:])

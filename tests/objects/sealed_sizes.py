@@ -1,33 +1,24 @@
-"""Writes sealed_sizes.tpm: what is sealed, loaded and unsealed in encrypted parameters."""
+"""Writes sealed_sizes.tpm. Sealed data of up to 128 bytes, which a session hides on the wire:
+inSensitive of TPM2_Create, inPrivate of TPM2_Load, outData of TPM2_Unseal, and what TPM2_HMAC takes
+and answers.
+"""
 
-from tpmsim.caller import Use, hmac_key, sealed, storage_key
-from tpmsim.standard import ALG_NULL, CC, CONTINUE_SESSION, DECRYPT, ENCRYPT, RH_OWNER, SHA1
-from tpmsim.standard import SHA256, mac, number, sized
-from tests.common.teller import Teller
+from tests.common.vocabulary import ALG_NULL, CC, CONTINUE_SESSION, DECRYPT, ENCRYPT, hmac_key, mac
+from tests.common.vocabulary import number, RH_OWNER, sealed, SHA1, SHA256, sized, storage_key
+from tests.common.vocabulary import Teller, Use
 
 IN, OUT = CONTINUE_SESSION | DECRYPT, CONTINUE_SESSION | ENCRYPT
 BOTH = CONTINUE_SESSION | DECRYPT | ENCRYPT
 
-tpm = Teller(
-    "tests/objects/sealed_sizes.tpm",
-    "Sealed data of up to 128 bytes, which a session hides on the wire: inSensitive of "
-    "TPM2_Create, inPrivate of TPM2_Load, outData of TPM2_Unseal, and what TPM2_HMAC takes and "
-    "answers.",
-)
-parent = tpm.create_primary(
-    'A storage key, whose value is "parent"', RH_OWNER, storage_key(), user_auth=b"parent"
-)
+tpm = Teller(__name__, __doc__)
+said = tpm('A storage key, whose value is "parent"')
+parent = said.create_primary(RH_OWNER, storage_key(), user_auth=b"parent")
 
 for algorithm, hash_name in ((SHA256, "SHA-256"), (SHA1, "SHA-1")):
     tpm.chapter(f"AES sessions with {hash_name}.")
     data = bytes(range(128))
-    made = tpm.create(
-        'TPM2_Create of 128 bytes, whose value is "pin"',
-        parent,
-        sealed(algorithm),
-        user_auth=b"pin",
-        data=data,
-    )
+    said = tpm('TPM2_Create of 128 bytes, whose value is "pin"')
+    made = said.create(parent, sealed(algorithm), user_auth=b"pin", data=data)
     handle = tpm.load("TPM2_Load", parent, made)
     session = tpm.start("A session with AES", algorithm=algorithm, aes=True)
     prepared = tpm.unsealing(handle, Use(session, OUT))
@@ -48,28 +39,21 @@ for algorithm, hash_name in ((SHA256, "SHA-256"), (SHA1, "SHA-1")):
     tpm.unseal("Beside the one that authorizes", handle, data, session, Use(unrelated, OUT))
     tpm.unseal("Beside a password", handle, data, b"pin", Use(unrelated, OUT))
     for size in (1, 16, 17, 127):
-        small = tpm.create(
-            f"{size} bytes: TPM2_Create, with inSensitive encrypted",
-            parent,
-            sealed(),
-            Use(session, IN),
-            user_auth=b"pin",
-            data=data[:size],
-        )
+        said = tpm(f"{size} bytes: TPM2_Create, with inSensitive encrypted")
+        small = said.create(parent, sealed(), Use(session, IN), user_auth=b"pin", data=data[:size])
         again = tpm.load("TPM2_Load, with inPrivate encrypted", parent, small, Use(session, IN))
         tpm.unseal("TPM2_Unseal, encrypted", again, data[:size], Use(session, OUT))
         tpm.flush_objects("It is flushed", again)
 
     tpm.chapter("129 bytes.")
-    tpm.says("In plain: SIZE/p1", tpm.child(parent, sealed(), data=bytes(129)))
+    tpm("In plain: SIZE/p1").child(parent, sealed(), data=bytes(129))
     long = tpm.child(parent, sealed(), Use(session, IN), data=bytes(129))
     tpm.refused("Encrypted: SIZE/p1", long)
     with tpm.breaking(encrypted=lambda use, handle, parameters: parameters):
-        tpm.refused(
+        tpm(
             "128 bytes that are said to be encrypted, and are not: they are read as something "
-            "else: SIZE/p1",
-            tpm.child(parent, sealed(), Use(session, IN), data=data),
-        )
+            "else: SIZE/p1"
+        ).child(parent, sealed(), Use(session, IN), data=data)
     whole = tpm.child(parent, sealed(), data=data).parameters
     tpm.refused(
         "inSensitive is cut, and encrypted: INSUFFICIENT/p1",
@@ -85,36 +69,18 @@ for algorithm, hash_name in ((SHA256, "SHA-256"), (SHA1, "SHA-1")):
         user_auth=b"pin",
         data=data,
     )
-    again = tpm.load(
-        "TPM2_Load with inPrivate and name encrypted by another",
-        parent,
-        made,
-        session,
-        Use(unrelated, BOTH),
-    )
+    said = tpm("TPM2_Load with inPrivate and name encrypted by another")
+    again = said.load(parent, made, session, Use(unrelated, BOTH))
     tpm.unseal("TPM2_Unseal", again, data, Use(bound, OUT), session)
     tpm.flush_objects("It is flushed", again)
-    made = tpm.create(
-        "inSensitive by one, outPrivate by another, and a third authorizes",
-        parent,
-        storage_key(),
-        session,
-        Use(unrelated, IN),
-        Use(bound, OUT),
-    )
+    said = tpm("inSensitive by one, outPrivate by another, and a third authorizes")
+    made = said.create(parent, storage_key(), session, Use(unrelated, IN), Use(bound, OUT))
     again = tpm.load("TPM2_Load", parent, made)
     tpm.flush_objects("It is flushed", again)
-    first = tpm.create_primary(
-        "TPM2_CreatePrimary with inSensitive and outPublic encrypted",
-        RH_OWNER,
-        sealed(),
-        Use(session, BOTH),
-        user_auth=b"pin",
-        data=data,
-    )
-    second = tpm.create_primary(
-        "In plain it is the same object", RH_OWNER, sealed(), user_auth=b"pin", data=data
-    )
+    said = tpm("TPM2_CreatePrimary with inSensitive and outPublic encrypted")
+    first = said.create_primary(RH_OWNER, sealed(), Use(session, BOTH), user_auth=b"pin", data=data)
+    said = tpm("In plain it is the same object")
+    second = said.create_primary(RH_OWNER, sealed(), user_auth=b"pin", data=data)
     assert tpm.names[first] == tpm.names[second]
     tpm.flush_objects("Both are flushed", first, second)
 
@@ -127,29 +93,22 @@ for algorithm, hash_name in ((SHA256, "SHA-256"), (SHA1, "SHA-1")):
             what, tpm.hmac(key, b"a text of some length", SHA256, Use(session, use))
         )
         assert answer == sized(mac(SHA256, b"key", b"a text of some length"))
-    _, answer = tpm.accepted(
-        "An empty buffer", tpm.hmac(key, b"", SHA1, session, Use(unrelated, BOTH))
-    )
+    said = tpm("An empty buffer")
+    _, answer = said.accepted(tpm.hmac(key, b"", SHA1, session, Use(unrelated, BOTH)))
     assert answer == sized(mac(SHA1, b"key", b""))
     tpm.read_public("TPM2_ReadPublic with outPublic encrypted", key, Use(session, OUT))
     tpm.flush_objects("All but the parent are flushed", key, handle)
     for each in (session, bound, unrelated):
-        tpm.says("A session is flushed: SUCCESS", tpm.flush(each))
+        tpm("A session is flushed").flush(each)
 
 tpm.chapter("What cannot be encrypted.")
 plain = tpm.start("A session without AES")
 aes = tpm.start("One with AES", aes=True)
 handle = tpm.create_primary("Sealed data", RH_OWNER, sealed(), data=b"secret")
-tpm.refused(
-    "TPM2_Unseal, encrypted by the one without: SYMMETRIC/s1",
-    tpm.unsealing(handle, plain).but_entry(1, attributes=OUT),
-)
-tpm.refused(
-    "TPM2_Unseal has no parameter to decrypt: ATTRIBUTES/s1",
-    tpm.unsealing(handle, aes).but_entry(1, attributes=IN),
-)
-tpm.refused(
-    "Encrypted twice: ATTRIBUTES/s2",
-    tpm.unsealing(handle, Use(aes, OUT), plain).but_entry(2, attributes=OUT),
-)
+said = tpm("TPM2_Unseal, encrypted by the one without: SYMMETRIC/s1")
+said.refused(tpm.unsealing(handle, plain).but_entry(1, attributes=OUT))
+said = tpm("TPM2_Unseal has no parameter to decrypt: ATTRIBUTES/s1")
+said.refused(tpm.unsealing(handle, aes).but_entry(1, attributes=IN))
+said = tpm("Encrypted twice: ATTRIBUTES/s2")
+said.refused(tpm.unsealing(handle, Use(aes, OUT), plain).but_entry(2, attributes=OUT))
 tpm.refused("By a password: ATTRIBUTES/s1", tpm.unsealing(handle).but_entry(1, attributes=OUT))

@@ -1,20 +1,16 @@
-"""Writes sealed_to_pcrs.tpm: data that are given out while a PCR has the value of then."""
+"""Writes sealed_to_pcrs.tpm. Sealed data whose authPolicy is that of TPM2_PolicyPCR over PCR 10: a
+trial session tells its digest, and a policy session authorizes TPM2_Unseal while PCR 10 has the
+same value.
+"""
 
-from tpmsim.caller import HERE, sealed, storage_key
-from tpmsim.standard import CC, RH_NULL, RH_OWNER, SHA256, digest, digests, policy, selection
-from tpmsim.standard.objects import Attribute
-from tpmsim.caller.script_caller import zeros
-from tests.common.teller import Teller
+from tpmsim.standard import digests
+from tests.common.vocabulary import CC, digest, HERE, ObjectAttribute, policy, RH_NULL, RH_OWNER
+from tests.common.vocabulary import sealed, selection, SHA256, storage_key, Teller, zeros
 
 CHOSEN = [(SHA256, [10])]
 SECRET = b"the secret"
 
-tpm = Teller(
-    "tests/objects/sealed_to_pcrs.tpm",
-    "Sealed data whose authPolicy is that of TPM2_PolicyPCR over PCR 10: a trial session tells its "
-    "digest, and a policy session authorizes TPM2_Unseal while PCR 10 has the same value.",
-    starts=False,
-)
+tpm = Teller(__name__, __doc__, starts=False)
 
 
 def measured():
@@ -28,7 +24,7 @@ def extend(pcr, value=b"\1" * 32):
 
 
 def asserts(what, session):
-    tpm.says(f"{what}: SUCCESS", tpm.pcrs(session, CHOSEN))
+    tpm(what).pcrs(session, CHOSEN)
 
 
 def policy_session(what="A policy session"):
@@ -44,52 +40,49 @@ asserts("TPM2_PolicyPCR", trial)
 value = digest(SHA256, bytes(32) + digest(SHA256, b"program"))
 AUTH_POLICY = policy.after_pcr(SHA256, bytes(32), selection(*CHOSEN), digest(SHA256, value))
 tpm.digest_is("TPM2_PolicyGetDigest: it will be the authPolicy", trial, AUTH_POLICY)
-tpm.says("The trial session is flushed: SUCCESS", tpm.flush(trial))
+tpm("The trial session is flushed").flush(trial)
 parent = tpm.create_primary("A storage key", RH_OWNER, storage_key())
 made = tpm.create(
     "TPM2_Create of sealed data with this authPolicy, and without userWithAuth",
     parent,
-    sealed(attributes=HERE | Attribute.NO_DA, auth_policy=AUTH_POLICY),
+    sealed(attributes=HERE | ObjectAttribute.NO_DA, auth_policy=AUTH_POLICY),
     data=SECRET,
     pcrs=CHOSEN,
 )
 handle = tpm.load("TPM2_Load", parent, made)
 
 tpm.chapter("PCR 10 is as it was.")
-tpm.says("By a password: AUTH_UNAVAILABLE", tpm.unsealing(handle))
+tpm("By a password: AUTH_UNAVAILABLE").unsealing(handle)
 plain = tpm.start("An HMAC session")
-tpm.refused("By it: AUTH_UNAVAILABLE", tpm.unsealing(handle, plain))
+tpm("By it: AUTH_UNAVAILABLE").unsealing(handle, plain)
 session = tpm.policy("A policy session")
-tpm.refused("Before TPM2_PolicyPCR: POLICY_FAIL/s1", tpm.unsealing(handle, session))
+tpm("Before TPM2_PolicyPCR: POLICY_FAIL/s1").unsealing(handle, session)
 asserts("TPM2_PolicyPCR", session)
 tpm.unseal("TPM2_Unseal", handle, SECRET, session)
 tpm.digest_is("What was asserted counts once: the digest is zeros", session, zeros(session))
-tpm.refused("TPM2_Unseal again: POLICY_FAIL/s1", tpm.unsealing(handle, session))
+tpm("TPM2_Unseal again: POLICY_FAIL/s1").unsealing(handle, session)
 asserts("TPM2_PolicyPCR again", session)
 tpm.unseal("TPM2_Unseal", handle, SECRET, session)
 
 tpm.chapter("PCR 10 is extended between the assertion and its use.")
 asserts("TPM2_PolicyPCR", session)
 tpm.says("TPM2_PCR_Extend of PCR 10: SUCCESS", extend(10))
-tpm.refused("TPM2_Unseal: PCR_CHANGED", tpm.unsealing(handle, session))
-tpm.refused("And again: PCR_CHANGED", tpm.unsealing(handle, session))
+tpm("TPM2_Unseal: PCR_CHANGED").unsealing(handle, session)
+tpm("And again: PCR_CHANGED").unsealing(handle, session)
 tpm.digest_is("The policy digest is as it was", session, AUTH_POLICY)
-tpm.says("TPM2_PolicyPCR in this session: PCR_CHANGED", tpm.pcrs(session, CHOSEN))
-tpm.says("TPM2_PolicyRestart: SUCCESS", tpm.restart(session))
+tpm("TPM2_PolicyPCR in this session: PCR_CHANGED").pcrs(session, CHOSEN)
+tpm.restarts(session)
 asserts("TPM2_PolicyPCR, which makes another digest", session)
-tpm.refused("TPM2_Unseal: POLICY_FAIL/s1", tpm.unsealing(handle, session))
+tpm("TPM2_Unseal: POLICY_FAIL/s1").unsealing(handle, session)
 other = policy_session("Nor can a new session")
-tpm.refused("TPM2_Unseal: POLICY_FAIL/s1", tpm.unsealing(handle, other))
-tpm.says("TPM2_PolicyRestart: SUCCESS", tpm.restart(other))
-tpm.says(
-    "TPM2_PolicyPCR with the digest of the value of then: VALUE/p1",
-    tpm.pcrs(other, CHOSEN, digest(SHA256, value)),
-)
-tpm.refused("TPM2_Unseal: POLICY_FAIL/s1", tpm.unsealing(handle, other))
+tpm("TPM2_Unseal: POLICY_FAIL/s1").unsealing(handle, other)
+tpm.restarts(other)
+said = tpm("TPM2_PolicyPCR with the digest of the value of then: VALUE/p1")
+said.pcrs(other, CHOSEN, digest(SHA256, value))
+tpm("TPM2_Unseal: POLICY_FAIL/s1").unsealing(handle, other)
 
 tpm.chapter("The next start with the same measurement.")
-tpm.power()
-tpm.startup()
+tpm.power_cycle()
 tpm.forget(handle, parent)
 measured()
 parent = tpm.create_primary("The same storage key", RH_OWNER, storage_key())
@@ -105,27 +98,22 @@ for what, prepared in (
 ):
     asserts("TPM2_PolicyPCR", session)
     tpm.accepted(what, prepared)
-    tpm.refused("TPM2_Unseal: PCR_CHANGED", tpm.unsealing(handle, session))
-    tpm.says("TPM2_PolicyRestart: SUCCESS", tpm.restart(session))
+    tpm("TPM2_Unseal: PCR_CHANGED").unsealing(handle, session)
+    tpm.restarts(session)
     asserts("TPM2_PolicyPCR", session)
     tpm.unseal("TPM2_Unseal", handle, SECRET, session)
 
 tpm.chapter("What changes no PCR does not.")
 asserts("TPM2_PolicyPCR", session)
 tpm.accepted("TPM2_PCR_Extend on TPM_RH_NULL", extend(RH_NULL))
-tpm.says(
-    "TPM2_PCR_Extend of PCR 10 by no digest: SUCCESS",
-    tpm.prepare(CC.PCR_Extend, [10], digests(), b""),
-)
+tpm("TPM2_PCR_Extend of PCR 10 by no digest").prepare(CC.PCR_Extend, [10], digests(), b"")
 tpm.says("Of PCR 17, which is refused here: LOCALITY", extend(17))
 tpm.accepted("TPM2_PCR_Read", tpm.read_pcr(10))
-tpm.accepted("TPM2_GetRandom beside the session", tpm.random(2, session))
+tpm("TPM2_GetRandom beside the session").random(2, session)
 tpm.unseal("TPM2_Unseal", handle, SECRET, session)
 
 tpm.chapter("Somebody extends PCR 10 in the moment between: the session of another caller.")
 asserts("TPM2_PolicyPCR", session)
 own = tpm.start("A session of the other", bind=RH_OWNER)
-tpm.accepted(
-    "TPM2_PCR_Extend by it", tpm.prepare(CC.PCR_Extend, [10], digests((SHA256, bytes(32))), own)
-)
-tpm.refused("TPM2_Unseal: PCR_CHANGED", tpm.unsealing(handle, session))
+tpm("TPM2_PCR_Extend by it").prepare(CC.PCR_Extend, [10], digests((SHA256, bytes(32))), own)
+tpm("TPM2_Unseal: PCR_CHANGED").unsealing(handle, session)

@@ -1,17 +1,14 @@
-"""Writes sha1_parent.tpm: parents with nameAlg SHA-1, and what parents hand on."""
+"""Writes sha1_parent.tpm. A private area is protected by the nameAlg of the parent; the Name, the
+qualified name, the hashes in the creation data and unique are by the nameAlg of the object itself.
+The hierarchy comes from the parent.
+"""
 
-from tpmsim.caller import OPEN, STORES, hmac_key, sealed, storage_key
-from tpmsim.standard import CC, Fields, RH_ENDORSEMENT, RH_NULL, RH_OWNER, RH_PLATFORM, SHA1
-from tpmsim.standard import SHA256, digest, digest_bytes, number, policy
-from tpmsim.standard.objects import Attribute
-from tests.common.teller import Teller
+from tpmsim.standard import Fields
+from tests.common.vocabulary import CC, digest, digest_bytes, hmac_key, number, ObjectAttribute
+from tests.common.vocabulary import OPEN, policy, RH_ENDORSEMENT, RH_NULL, RH_OWNER, RH_PLATFORM
+from tests.common.vocabulary import sealed, SHA1, SHA256, storage_key, STORES, Teller
 
-tpm = Teller(
-    "tests/objects/sha1_parent.tpm",
-    "A private area is protected by the nameAlg of the parent; the Name, the qualified name, the "
-    "hashes in the creation data and unique are by the nameAlg of the object itself. The hierarchy "
-    "comes from the parent.",
-)
+tpm = Teller(__name__, __doc__)
 ALGORITHMS = ((SHA1, "SHA-1"), (SHA256, "SHA-256"))
 
 
@@ -21,9 +18,8 @@ def qualified(above, name, algorithm):
 
 for parent_algorithm, parent_hash in ALGORITHMS:
     tpm.chapter(f"A parent with nameAlg {parent_hash}.")
-    parent = tpm.create_primary(
-        "TPM2_CreatePrimary", RH_OWNER, storage_key(parent_algorithm), user_auth=b"parent"
-    )
+    said = tpm("TPM2_CreatePrimary")
+    parent = said.create_primary(RH_OWNER, storage_key(parent_algorithm), user_auth=b"parent")
     _, above = tpm.read_public("TPM2_ReadPublic", parent)
     assert above == qualified(number(RH_OWNER, 4), tpm.names[parent], parent_algorithm)
     for algorithm, hash_name in ALGORITHMS:
@@ -65,12 +61,8 @@ above.append(answered)
 links = []
 for place, algorithm in enumerate((SHA256, SHA1, SHA1, SHA256), 1):
     name = "SHA-1" if algorithm == SHA1 else "SHA-256"
-    made = tpm.create(
-        f"TPM2_Create of a storage key with {name}",
-        chain[-1],
-        storage_key(algorithm),
-        user_auth=b"%d" % place,
-    )
+    said = tpm(f"TPM2_Create of a storage key with {name}")
+    made = said.create(chain[-1], storage_key(algorithm), user_auth=b"%d" % place)
     links.append(made)
     chain.append(tpm.load("TPM2_Load", chain[-1], made))
     public, answered = tpm.read_public("TPM2_ReadPublic", chain[-1])
@@ -81,10 +73,8 @@ handle = tpm.load("TPM2_Load", chain[-1], leaf)
 tpm.unseal("TPM2_Unseal", handle, b"deep")
 _, answered = tpm.read_public("TPM2_ReadPublic", handle)
 assert answered == qualified(above[-1], leaf.public.name, SHA1)
-tpm.says(
-    "It is loaded under its own parent alone: INTEGRITY/p1",
-    *(tpm.loading(it, leaf) for it in chain[:-1]),
-)
+said = tpm("It is loaded under its own parent alone: INTEGRITY/p1")
+said.says(*(tpm.loading(it, leaf) for it in chain[:-1]))
 tpm.flush_objects("The parents are flushed", *chain)
 tpm.unseal("What was under them stays", handle, b"deep")
 _, again = tpm.read_public("And keeps its qualified name", handle)
@@ -123,13 +113,11 @@ for hierarchy, name in (
 tpm.chapter("fixedTPM: what is under a parent without it is without it, down to the last.")
 movable = storage_key(attributes=OPEN | STORES)
 primary = tpm.create_primary("A parent without fixedTPM", RH_OWNER, movable)
-inner = storage_key(SHA1, attributes=OPEN | STORES | Attribute.FIXED_PARENT)
+inner = storage_key(SHA1, attributes=OPEN | STORES | ObjectAttribute.FIXED_PARENT)
 made = tpm.create("TPM2_Create of a storage key with fixedParent", primary, inner)
 child = tpm.load("TPM2_Load", primary, made)
-tpm.says(
-    "TPM2_Create under that, with fixedTPM and fixedParent: ATTRIBUTES/p2",
-    tpm.child(child, sealed(), data=b"leaf"),
-)
+said = tpm("TPM2_Create under that, with fixedTPM and fixedParent: ATTRIBUTES/p2")
+said.child(child, sealed(), data=b"leaf")
 leaf = tpm.create("With neither of them", child, sealed(attributes=OPEN), data=b"leaf")
 handle = tpm.load("TPM2_Load", child, leaf)
 tpm.unseal("TPM2_Unseal", handle, b"leaf")
@@ -142,12 +130,12 @@ made = tpm.create(
     parent,
     sealed(
         SHA1,
-        attributes=sealed().attributes & ~Attribute.USER_WITH_AUTH,
+        attributes=sealed().attributes & ~ObjectAttribute.USER_WITH_AUTH,
         auth_policy=policy.after_command_code(SHA1, bytes(20), CC.Unseal),
     ),
     data=b"secret",
 )
 handle = tpm.load("TPM2_Load", parent, made)
 session = tpm.policy("A policy session with SHA-1", algorithm=SHA1)
-tpm.says("TPM2_PolicyCommandCode: SUCCESS", tpm.command_code(session, CC.Unseal))
+tpm("TPM2_PolicyCommandCode").command_code(session, CC.Unseal)
 tpm.unseal("TPM2_Unseal", handle, b"secret", session)

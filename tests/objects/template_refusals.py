@@ -1,23 +1,24 @@
-"""Writes template_refusals.tpm: what is refused of an object that is asked for, in order."""
+"""Writes template_refusals.tpm. What TPM2_CreatePrimary, TPM2_Create and TPM2_Load refuse of
+inSensitive and inPublic: first what cannot be read, in reading order, then what is asked of every
+public area, and then what is asked of what is created.
+"""
 
-from tpmsim.caller import HERE, OPEN, STORES, hmac_key, sealed, storage_key
+from tpmsim.standard import AES, ALG_HMAC, CFB, KEYEDHASH
+from tests.common.vocabulary import ALG_NULL, CC, frames, HERE, hmac_key, number, ObjectAttribute
+from tests.common.vocabulary import OPEN, Public, RH_OWNER, sealed, SHA1, SHA256, sized, storage_key
+from tests.common.vocabulary import STORES, SYMCIPHER, Teller
 from tpmsim.model.object_rules import NAMED
-from tpmsim.standard import AES, ALG_HMAC, ALG_NULL, CC, CFB, KEYEDHASH, RH_OWNER, SHA1, SHA256
-from tpmsim.standard import SYMCIPHER, frames, number, sized
-from tpmsim.standard.objects import Attribute, Public
-from tests.common.teller import Teller
 
-RESTRICTED, SIGN, DECRYPT = Attribute.RESTRICTED, Attribute.SIGN, Attribute.DECRYPT
-FIXED_TPM, FIXED_PARENT = Attribute.FIXED_TPM, Attribute.FIXED_PARENT
-DUPLICATION, ORIGIN = Attribute.ENCRYPTED_DUPLICATION, Attribute.SENSITIVE_DATA_ORIGIN
+RESTRICTED, SIGN, DECRYPT = (
+    ObjectAttribute.RESTRICTED,
+    ObjectAttribute.SIGN,
+    ObjectAttribute.DECRYPT,
+)
+FIXED_TPM, FIXED_PARENT = ObjectAttribute.FIXED_TPM, ObjectAttribute.FIXED_PARENT
+DUPLICATION, ORIGIN = ObjectAttribute.ENCRYPTED_DUPLICATION, ObjectAttribute.SENSITIVE_DATA_ORIGIN
 UNUSED_BITS = [1 << bit for bit in range(32) if not NAMED >> bit & 1]
 
-tpm = Teller(
-    "tests/objects/template_refusals.tpm",
-    "What TPM2_CreatePrimary, TPM2_Create and TPM2_Load refuse of inSensitive and inPublic: first "
-    "what cannot be read, in reading order, then what is asked of every public area, and then what "
-    "is asked of what is created.",
-)
+tpm = Teller(__name__, __doc__)
 
 
 def raw(code, handle, first, public):
@@ -59,20 +60,12 @@ for code, handle, name in TARGETS[:2]:
         sized(number(33, 2) + bytes(5)),
         sized(b"\xff\xff"),
     )
-    sensitive(
-        "data of 129 bytes, whole and cut: SIZE/p1",
-        sized(sized(b"") + sized(bytes(129))),
-        sized(sized(b"abc") + number(129, 2)),
-    )
-    sensitive(
-        "A size that reaches beyond the command: INSUFFICIENT/p1",
-        number(300, 2) + whole,
-        b"\xff\xff" + sized(bytes(33)),
-    )
-    tpm.says(
-        "It is read before inPublic is, of which here the type is wrong: SIZE/p1",
-        raw(code, handle, sized(whole + b"\0"), sized(number(1, 2))),
-    )
+    case = "data of 129 bytes, whole and cut: SIZE/p1"
+    sensitive(case, sized(sized(b"") + sized(bytes(129))), sized(sized(b"abc") + number(129, 2)))
+    case = "A size that reaches beyond the command: INSUFFICIENT/p1"
+    sensitive(case, number(300, 2) + whole, b"\xff\xff" + sized(bytes(33)))
+    said = tpm("It is read before inPublic is, of which here the type is wrong: SIZE/p1")
+    said.says(raw(code, handle, sized(whole + b"\0"), sized(number(1, 2))))
 
 # inPublic. With TPM2_Load the private area in front of it is empty, which would be refused later.
 
@@ -166,10 +159,8 @@ for code, handle, name in TARGETS:
         raw(code, handle, first, b"\xff\xff" + number(1, 2)),
     )
     behind = raw(code, handle, first, sized(number(1, 2)))
-    tpm.says(
-        "It is read before what is behind it, here too many bytes: TYPE/p2",
-        behind.but(parameters=behind.parameters + bytes(80)),
-    )
+    said = tpm("It is read before what is behind it, here too many bytes: TYPE/p2")
+    said.says(behind.but(parameters=behind.parameters + bytes(80)))
     behind = raw(code, handle, first, sized(hmac_key(auth_policy=b"p").text))
     tpm.says(
         "All is read before authPolicy is compared with nameAlg: "
@@ -242,22 +233,16 @@ for code, handle, name in TARGETS:
         asked(f"{what}: SCHEME/p2", *publics)
 
     tpm.chapter("Two faults at once.")
-    asked(
-        "authPolicy, and fixedTPM without fixedParent: SIZE/p2",
-        sealed(attributes=FIXED_TPM | OPEN, auth_policy=b"p"),
-    )
-    asked(
-        "authPolicy, and scheme HMAC without sign: SIZE/p2", sealed(auth_policy=b"p", scheme=SHA256)
-    )
-    asked(
-        "fixedTPM without fixedParent, and scheme HMAC without sign: ATTRIBUTES/p2",
-        sealed(attributes=FIXED_TPM | OPEN, scheme=SHA256),
-    )
+    case = "authPolicy, and fixedTPM without fixedParent: SIZE/p2"
+    asked(case, sealed(attributes=FIXED_TPM | OPEN, auth_policy=b"p"))
+    case = "authPolicy, and scheme HMAC without sign: SIZE/p2"
+    asked(case, sealed(auth_policy=b"p", scheme=SHA256))
+    case = "fixedTPM without fixedParent, and scheme HMAC without sign: ATTRIBUTES/p2"
+    asked(case, sealed(attributes=FIXED_TPM | OPEN, scheme=SHA256))
 
 tpm.chapter("Under a parent without fixedTPM nothing has it; fixedParent may be or not.")
-movable = tpm.create_primary(
-    "A storage key without fixedTPM", RH_OWNER, storage_key(attributes=OPEN | STORES)
-)
+said = tpm("A storage key without fixedTPM")
+movable = said.create_primary(RH_OWNER, storage_key(attributes=OPEN | STORES))
 for code, name in ((CC.Create, "TPM2_Create"), (CC.Load, "TPM2_Load")):
     first = sized(b"") if code == CC.Load else SECRET
     tpm.says(
@@ -297,46 +282,27 @@ for code, handle, name in TARGETS[:2]:
         given(b"a" * 32, b"secret"),
         given(bytes(20) + b"a" + bytes(11), b"secret"),
     )
-    created(
-        "sensitiveDataOrigin, with data: ATTRIBUTES/p2",
-        hmac_key(attributes=HERE | OPEN | ORIGIN),
-        given(data=b"key"),
-    )
-    created(
-        "On a SYMCIPHER, of whatever size the data are: ATTRIBUTES/p2",
-        storage_key(),
-        *(given(data=bytes(it)) for it in (1, 15, 16, 17)),
-    )
+    case = "sensitiveDataOrigin, with data: ATTRIBUTES/p2"
+    created(case, hmac_key(attributes=HERE | OPEN | ORIGIN), given(data=b"key"))
+    case = "On a SYMCIPHER, of whatever size the data are: ATTRIBUTES/p2"
+    created(case, storage_key(), *(given(data=bytes(it)) for it in (1, 15, 16, 17)))
     created("Neither sensitiveDataOrigin nor data: ATTRIBUTES/p2", sealed(), NOTHING)
     created("For an HMAC key: ATTRIBUTES/p2", hmac_key(), NOTHING)
     without_origin = Public(SYMCIPHER, SHA256, HERE | OPEN | STORES)
     created("For a SYMCIPHER: ATTRIBUTES/p2", without_origin, NOTHING)
-    created(
-        "sensitiveDataOrigin for what is sealed: ATTRIBUTES/p2",
-        sealed(attributes=HERE | OPEN | ORIGIN),
-        NOTHING,
-        SECRET,
-    )
-    created(
-        "The key of a SYMCIPHER is not of 16 bytes: SIZE/p1",
-        without_origin,
-        *(given(data=bytes(it)) for it in (1, 15, 17, 32, 128)),
-    )
+    case = "sensitiveDataOrigin for what is sealed: ATTRIBUTES/p2"
+    created(case, sealed(attributes=HERE | OPEN | ORIGIN), NOTHING, SECRET)
+    case = "The key of a SYMCIPHER is not of 16 bytes: SIZE/p1"
+    created(case, without_origin, *(given(data=bytes(it)) for it in (1, 15, 17, 32, 128)))
 
     tpm.chapter("Two faults at once.")
     long = given(b"a" * 21, b"secret")
     created("authPolicy, and userAuth: SIZE/p2", sealed(SHA1, auth_policy=b"p"), long)
     created("Scheme HMAC without sign, and userAuth: SCHEME/p2", sealed(SHA1, scheme=SHA1), long)
-    created(
-        "userAuth, and neither sensitiveDataOrigin nor data: SIZE/p1",
-        sealed(SHA1),
-        given(b"a" * 21),
-    )
-    created(
-        "sensitiveDataOrigin, and data of 15 bytes for a SYMCIPHER: ATTRIBUTES/p2",
-        storage_key(),
-        given(data=bytes(15)),
-    )
+    case = "userAuth, and neither sensitiveDataOrigin nor data: SIZE/p1"
+    created(case, sealed(SHA1), given(b"a" * 21))
+    case = "sensitiveDataOrigin, and data of 15 bytes for a SYMCIPHER: ATTRIBUTES/p2"
+    created(case, storage_key(), given(data=bytes(15)))
     created("Scheme HMAC without sign, and no data: SCHEME/p2", sealed(scheme=SHA256), NOTHING)
 
     tpm.chapter("What is just right.")
@@ -364,17 +330,13 @@ child = tpm.create("TPM2_Create of sealed data", parent, sealed(), data=b"secret
 key = tpm.load("TPM2_Load", parent, child)
 for code, name in ((CC.Create, "TPM2_Create"), (CC.Load, "TPM2_Load")):
     first = sized(b"") if code == CC.Load else SECRET
-    tpm.says(
-        f"{name} under what is no parent, of a wrong authPolicy: TYPE/h1",
-        raw(code, key, first, sized(sealed(auth_policy=b"p").text)),
-    )
+    said = tpm(f"{name} under what is no parent, of a wrong authPolicy: TYPE/h1")
+    said.says(raw(code, key, first, sized(sealed(auth_policy=b"p").text)))
     tpm.says(f"{name}, of what cannot be read: TYPE/p2", raw(code, key, first, sized(number(1, 2))))
 for place in range(6):
     tpm.load("" if place else "Eight objects are there", parent, child)
-tpm.says(
-    "TPM2_CreatePrimary of a ninth, with scheme HMAC and without sign: SCHEME/p2",
-    raw(CC.CreatePrimary, RH_OWNER, SECRET, sized(sealed(scheme=SHA256).text)),
-)
+said = tpm("TPM2_CreatePrimary of a ninth, with scheme HMAC and without sign: SCHEME/p2")
+said.says(raw(CC.CreatePrimary, RH_OWNER, SECRET, sized(sealed(scheme=SHA256).text)))
 tpm.says(
     "With a key of 15 bytes for a SYMCIPHER: SIZE/p1",
     raw(
@@ -385,13 +347,9 @@ tpm.says(
     ),
 )
 tpm.says("With nothing wrong: OBJECT_MEMORY", raw(CC.CreatePrimary, RH_OWNER, SECRET, GOOD))
-tpm.says(
-    "TPM2_Load of a ninth, with an empty private area: INTEGRITY/p1",
-    raw(CC.Load, parent, sized(b""), GOOD),
-)
-tpm.says(
-    "And fixedTPM without fixedParent: ATTRIBUTES/p2",
-    raw(CC.Load, parent, sized(b""), sized(sealed(attributes=FIXED_TPM | OPEN).text)),
-)
-tpm.says("With nothing wrong: OBJECT_MEMORY", tpm.loading(parent, child))
+said = tpm("TPM2_Load of a ninth, with an empty private area: INTEGRITY/p1")
+said.says(raw(CC.Load, parent, sized(b""), GOOD))
+said = tpm("And fixedTPM without fixedParent: ATTRIBUTES/p2")
+said.says(raw(CC.Load, parent, sized(b""), sized(sealed(attributes=FIXED_TPM | OPEN).text)))
+tpm("With nothing wrong: OBJECT_MEMORY").loading(parent, child)
 tpm.create("TPM2_Create needs no place", parent, sealed(), data=b"secret")

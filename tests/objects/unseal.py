@@ -1,24 +1,16 @@
-"""Writes unseal.tpm: TPM2_Unseal, which gives out what is sealed."""
+"""Writes unseal.tpm. TPM2_Unseal gives out the data of a sealed object, by its authorization."""
 
-from tpmsim.caller import HERE, OPEN, hmac_key, sealed, storage_key
-from tpmsim.standard import CC, RH_NULL, RH_OWNER, SHA1, SHA256, SYMCIPHER, frames, number
-from tpmsim.standard.objects import Attribute, Public
-from tests.common.teller import Teller
+from tests.common.vocabulary import CC, frames, HERE, hmac_key, number, ObjectAttribute, OPEN
+from tests.common.vocabulary import Public, RH_NULL, RH_OWNER, sealed, SHA1, SHA256, storage_key
+from tests.common.vocabulary import SYMCIPHER, Teller
 
-tpm = Teller(
-    "tests/objects/unseal.tpm",
-    "TPM2_Unseal gives out the data of a sealed object, by its authorization.",
-)
+tpm = Teller(__name__, __doc__)
 refused = tpm.says
 
-refused(
-    "No object's handle: TPM_RH_OWNER, TPM_RH_NULL, PCR 0, an NV index, sessions: VALUE/h1",
-    *map(tpm.unsealing, (RH_OWNER, RH_NULL, 0, 0x0100_0000, 0x0200_0000, 0x0300_0000)),
-)
-refused(
-    "A transient object, while there is none: REFERENCE_H0",
-    *map(tpm.unsealing, (0x8000_0000, 0x8000_0008, 0x80FF_FFFF)),
-)
+case = "No object's handle: TPM_RH_OWNER, TPM_RH_NULL, PCR 0, an NV index, sessions: VALUE/h1"
+refused(case, *map(tpm.unsealing, (RH_OWNER, RH_NULL, 0, 0x0100_0000, 0x0200_0000, 0x0300_0000)))
+case = "A transient object, while there is none: REFERENCE_H0"
+refused(case, *map(tpm.unsealing, (0x8000_0000, 0x8000_0008, 0x80FF_FFFF)))
 refused("A persistent object, while there is none: HANDLE/h1", tpm.unsealing(0x8100_0000))
 parent = tpm.create_primary("A storage key", RH_OWNER, storage_key())
 
@@ -41,13 +33,11 @@ for what, value, passwords, wrong in (
 ):
     made = tpm.create(f"{what}: TPM2_Create", parent, sealed(), user_auth=value, data=b"secret")
     handle = tpm.load("TPM2_Load", parent, made)
-    tpm.says(
-        "TPM2_Unseal by it, also with zeros behind it: SUCCESS",
-        *(tpm.unsealing(handle, it) for it in passwords),
-    )
+    said = tpm("TPM2_Unseal by it, also with zeros behind it: SUCCESS")
+    said.says(*(tpm.unsealing(handle, it) for it in passwords))
     refused("By others: BAD_AUTH/s1", *(tpm.unsealing(handle, it) for it in wrong))
     tpm.flush_objects("It is flushed", handle)
-guarded = sealed(attributes=HERE | Attribute.USER_WITH_AUTH)
+guarded = sealed(attributes=HERE | ObjectAttribute.USER_WITH_AUTH)
 made = tpm.create("Without noDA", parent, guarded, data=b"secret")
 handle = tpm.load("TPM2_Load", parent, made)
 refused("TPM2_Unseal by another: AUTH_FAIL/s1", tpm.unsealing(handle, b"pin"))
@@ -56,28 +46,23 @@ tpm.flush_objects("It is flushed", handle)
 made = tpm.create(
     "Without userWithAuth, and without a policy",
     parent,
-    sealed(attributes=HERE | Attribute.NO_DA),
+    sealed(attributes=HERE | ObjectAttribute.NO_DA),
     user_auth=b"pin",
     data=b"secret",
 )
 handle = tpm.load("TPM2_Load", parent, made)
 session = tpm.start("An HMAC session")
 policy = tpm.policy("A policy session")
-refused(
-    "Nothing authorizes it: the right password, and a wrong one: AUTH_UNAVAILABLE",
-    tpm.unsealing(handle, b"pin"),
-    tpm.unsealing(handle, b"nip"),
-)
-tpm.refused("Nor a session: AUTH_UNAVAILABLE", tpm.unsealing(handle, session))
-tpm.refused("Of either type: AUTH_UNAVAILABLE", tpm.unsealing(handle, policy))
-tpm.raw(
-    "It has to be authorized: no sessions (tag 8001): AUTH_MISSING",
-    frames.command(CC.Unseal, number(handle, 4)),
-)
+case = "Nothing authorizes it: the right password, and a wrong one: AUTH_UNAVAILABLE"
+refused(case, tpm.unsealing(handle, b"pin"), tpm.unsealing(handle, b"nip"))
+tpm("Nor a session: AUTH_UNAVAILABLE").unsealing(handle, session)
+tpm("Of either type: AUTH_UNAVAILABLE").unsealing(handle, policy)
+said = tpm("It has to be authorized: no sessions (tag 8001): AUTH_MISSING")
+said.raw(frames.command(CC.Unseal, number(handle, 4)))
 tpm.flush_objects("It is flushed", handle)
 
 tpm.chapter("What is not sealed is not given out.")
-KEYS = Attribute.SIGN | Attribute.DECRYPT
+KEYS = ObjectAttribute.SIGN | ObjectAttribute.DECRYPT
 for what, public, data, outcome in (
     ("A storage key", storage_key(), b"", "TYPE/h1"),
     ("With nameAlg SHA-1", storage_key(SHA1), b"", "TYPE/h1"),
@@ -86,7 +71,7 @@ for what, public, data, outcome in (
     ("With scheme NULL", hmac_key(scheme=frames.ALG_NULL), b"key", "ATTRIBUTES/h1"),
     (
         "A restricted one",
-        hmac_key(attributes=HERE | OPEN | Attribute.RESTRICTED),
+        hmac_key(attributes=HERE | OPEN | ObjectAttribute.RESTRICTED),
         b"key",
         "ATTRIBUTES/h1",
     ),

@@ -7,7 +7,7 @@ top=${tests%/*}
 
 # The tools that it needs, and in other folders those that it can do without.
 mkdir tools_there rt_there linters_there
-for tool in cat cut git grep mv sed sh sort; do
+for tool in cat cut getconf git grep mv sed sh sort xargs; do
     ln -s "$(command -v "$tool")" "tools_there/$tool"
 done
 ln -s "$(python3 -c 'import sys; print(sys.executable)')" tools_there/python3

@@ -52,7 +52,9 @@ def main(folder: pathlib.Path, runs: bool) -> int:
             if runs and command not in done and not command.startswith(("apt-get ", "git ")):
                 done.add(command)
                 sys.stdout.flush()
-                subprocess.run(command, shell=True, cwd=folder, check=True)
+                if subprocess.run(command, shell=True, cwd=folder, check=False).returncode:
+                    print(f"        {command} fails")
+                    return 1
     return status
 
 

@@ -1,17 +1,14 @@
-"""Writes long_policy.tpm: a policy of all assertions, in a trial and a policy session."""
+"""Writes long_policy.tpm. A policy of many assertions. A trial session comes to the digest that a
+policy session comes to, without anything being so yet.
+"""
 
-from tpmsim.standard import CC, RH_OWNER, SHA1, SHA256, digest, frames, name_of, policy
-from tpmsim.caller.script_caller import HASHES, zeros
-from tests.common.teller import Teller
+from tests.common.vocabulary import CC, digest, frames, HASHES, name_of, policy, RH_OWNER, SHA1
+from tests.common.vocabulary import SHA256, Teller, zeros
 
 BANKS = [(SHA1, [0, 7]), (SHA256, [0, 1, 2, 3, 4, 5, 6, 7, 8])]
 REFERENCE = b"first of January"
 
-tpm = Teller(
-    "tests/policies/long_policy.tpm",
-    "A policy of many assertions. A trial session comes to the digest that a policy session comes "
-    "to, without anything being so yet.",
-)
+tpm = Teller(__name__, __doc__)
 
 
 def values_digest(algorithm):
@@ -37,11 +34,9 @@ for algorithm, name in HASHES:
     wanted = zeros(session)
 
     given = values_digest(algorithm)
-    tpm.says(
-        "TPM2_PolicyPCR in the trial session, with the digest that the values will have: SUCCESS",
-        tpm.pcrs(trial, BANKS, given),
-    )
-    tpm.says("In the policy session, without: SUCCESS", tpm.pcrs(session, BANKS))
+    said = tpm("TPM2_PolicyPCR in the trial session, with the digest that the values will have")
+    said.pcrs(trial, BANKS, given)
+    tpm("In the policy session, without").pcrs(session, BANKS)
     wanted = policy.after_pcr(algorithm, wanted, frames.selection(*BANKS), given)
 
     both("For the localities 0 and 1", trial, session, lambda it: tpm.locality(it, 3))
@@ -52,10 +47,8 @@ for algorithm, name in HASHES:
     wanted = policy.after_or(algorithm, branches)
 
     for it in (trial, session):
-        tpm.accepted(
-            "TPM2_PolicySecret of TPM_RH_OWNER, with a policyRef",
-            tpm.secret(it, b"owner", of=RH_OWNER, policy_ref=REFERENCE),
-        )
+        said = tpm("TPM2_PolicySecret of TPM_RH_OWNER, with a policyRef")
+        said.accepted(tpm.secret(it, b"owner", of=RH_OWNER, policy_ref=REFERENCE))
     wanted = policy.after_secret(algorithm, wanted, name_of(RH_OWNER), REFERENCE)
 
     both("For Unseal", trial, session, lambda it: tpm.command_code(it, CC.Unseal))
@@ -70,11 +63,11 @@ for algorithm, name in HASHES:
     tpm.chapter("A trial session makes it with nothing being so, and a policy session does not.")
     both("Both from the start", trial, session, tpm.restart)
     future = digest(algorithm, b"values that the PCRs do not have")
-    tpm.says("PCRs of a future: SUCCESS", tpm.pcrs(trial, BANKS, future))
-    tpm.says("In the policy session: VALUE/p1", tpm.pcrs(session, BANKS, future))
-    tpm.says("Branches of which it is none: SUCCESS", tpm.branches(trial, *branches))
-    tpm.says("In the policy session: VALUE/p1", tpm.branches(session, *branches))
+    tpm("PCRs of a future").pcrs(trial, BANKS, future)
+    tpm("In the policy session: VALUE/p1").pcrs(session, BANKS, future)
+    tpm("Branches of which it is none").branches(trial, *branches)
+    tpm("In the policy session: VALUE/p1").branches(session, *branches)
     tpm.digest_is("The trial session's digest", trial, policy.after_or(algorithm, branches))
     tpm.digest_is("The policy session's is zeros yet", session, zeros(session))
     for it in (trial, session):
-        tpm.says("It is flushed: SUCCESS", tpm.flush(it))
+        tpm("It is flushed").flush(it)

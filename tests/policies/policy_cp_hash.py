@@ -1,22 +1,16 @@
-"""Writes policy_cp_hash.tpm: TPM2_PolicyCpHash, and policies for one command."""
+"""Writes policy_cp_hash.tpm. TPM2_PolicyCpHash: the policy is for one command alone, with its
+handles and its parameters. Its parameter is the cpHash of that command, by the session's hash.
+"""
 
 import hashlib
 
-from tpmsim.caller import BY_OWNER, BY_POLICY, HERE, Use, area, flipped, sealed, storage_key
-from tpmsim.standard import CC, CONTINUE_SESSION, DECRYPT, RH_ENDORSEMENT, RH_OWNER, SHA1, SHA256
-from tpmsim.standard import command_hash, digest_bytes, name_of, number, policy, sized
-from tpmsim.standard.objects import Attribute
-from tpmsim.caller.script_caller import FIRST, is_trial, zeros
-from tests.common.teller import Teller
+from tests.common.vocabulary import area, BY_OWNER, BY_POLICY, CC, command_hash, DECRYPTS
+from tests.common.vocabulary import digest_bytes, FIRST, flipped, HERE, is_trial, name_of, number
+from tests.common.vocabulary import ObjectAttribute, policy, RH_ENDORSEMENT, RH_OWNER, sealed, SHA1
+from tests.common.vocabulary import SHA256, sized, storage_key, Teller, Use, zeros
 
-DECRYPTS = CONTINUE_SESSION | DECRYPT
 
-tpm = Teller(
-    "tests/policies/policy_cp_hash.tpm",
-    "TPM2_PolicyCpHash: the policy is for one command alone, with its handles and its parameters. "
-    "Its parameter is the cpHash of that command, by the session's hash.",
-    tries=True,
-)
+tpm = Teller(__name__, __doc__, tries=True)
 
 
 def says(words, session, *hashes):
@@ -31,27 +25,18 @@ for session in tpm.each_session():
     algorithm = session.algorithm
     size = digest_bytes(algorithm)
     one, other = bytes([1]) * size, bytes([2]) * size
-    says(
-        "One of another size than a digest: none, a byte, a byte too few: SIZE/p1",
-        *(session, b"", b"\1", bytes(size - 1)),
-    )
+    case = "One of another size than a digest: none, a byte, a byte too few: SIZE/p1"
+    says(case, *(session, b"", b"\1", bytes(size - 1)))
     if algorithm == SHA1:
         says("A byte too many, and one of SHA-256: SIZE/p1", session, bytes(21), bytes(32))
     else:
         says("One of SHA-1: SIZE/p1", session, bytes(20))
-    tpm.says(
-        "Over 32 bytes, whole or cut: SIZE/p1",
-        *(raw(session, it) for it in (sized(bytes(33)), b"\0\x21", b"\xff\xff")),
-    )
-    tpm.says(
-        "Cut: no size, half of it, no bytes and one too few: INSUFFICIENT/p1",
-        *(raw(session, it) for it in (b"", b"\0", number(size, 2), sized(one)[:-1])),
-    )
-    tpm.says(
-        "A byte behind it, also behind one of another size: SIZE",
-        raw(session, sized(one) + b"\0"),
-        raw(session, sized(b"") + b"\0"),
-    )
+    said = tpm("Over 32 bytes, whole or cut: SIZE/p1")
+    said.says(*(raw(session, it) for it in (sized(bytes(33)), b"\0\x21", b"\xff\xff")))
+    said = tpm("Cut: no size, half of it, no bytes and one too few: INSUFFICIENT/p1")
+    said.says(*(raw(session, it) for it in (b"", b"\0", number(size, 2), sized(one)[:-1])))
+    said = tpm("A byte behind it, also behind one of another size: SIZE")
+    said.says(raw(session, sized(one) + b"\0"), raw(session, sized(b"") + b"\0"))
     tpm.digest_is("The digest is zeros", session, zeros(session))
 
     says("A cpHash: SUCCESS", session, one)
@@ -68,19 +53,19 @@ for session in tpm.each_session():
 
     tpm.chapter("With TPM2_PolicySecret, which records a cpHash too.")
     outcome = "SUCCESS" if is_trial(session) else "CPHASH"
-    tpm.says(f"Another one by it: {outcome}", tpm.secret(session, cp_hash=other))
+    tpm(f"Another one by it: {outcome}").secret(session, cp_hash=other)
     recorded, wrong = (other, one) if is_trial(session) else (one, other)
     says("TPM2_PolicyCpHash of the one that is not recorded: CPHASH", session, wrong)
     says("Of the one that is: SUCCESS", session, recorded)
     same = tpm.secret(session, cp_hash=recorded)
     tpm.says("The same by TPM2_PolicySecret: SUCCESS", same)
-    tpm.says("None by TPM2_PolicySecret, which leaves it: SUCCESS", tpm.secret(session))
+    tpm("None by TPM2_PolicySecret, which leaves it").secret(session)
     says("TPM2_PolicyCpHash of the other: CPHASH", session, wrong)
-    tpm.says("TPM2_PolicyRestart: SUCCESS", tpm.restart(session))
-    tpm.says("TPM2_PolicySecret with a cpHash: SUCCESS", tpm.secret(session, cp_hash=one))
+    tpm.restarts(session)
+    tpm("TPM2_PolicySecret with a cpHash").secret(session, cp_hash=one)
     says("TPM2_PolicyCpHash of another: CPHASH", session, other)
     says("Of the same: SUCCESS", session, one)
-    tpm.says("TPM2_PolicyRestart: SUCCESS", tpm.restart(session))
+    tpm.restarts(session)
     says("Nothing is recorded: any one: SUCCESS", session, other)
     after = policy.after_cp_hash(algorithm, zeros(session), other)
     tpm.digest_is("From zeros", session, after)
@@ -91,9 +76,9 @@ one = bytes([1]) * 32
 once = policy.after_cp_hash(SHA256, zeros(session), one)
 for name, choices in (("AES", dict(aes=True)), ("TPM_ALG_XOR", dict(xor=True))):
     other = tpm.start(f"A session, bound to TPM_RH_OWNER, with {name}", RH_OWNER, **choices)
-    tpm.accepted("TPM2_PolicyCpHash", tpm.cp_hash_told(session, one, Use(other, DECRYPTS)))
+    tpm("TPM2_PolicyCpHash").cp_hash_told(session, one, Use(other, DECRYPTS))
     tpm.digest_is("Its digest, of the cpHash in plain", session, once)
-    tpm.says("TPM2_PolicyRestart: SUCCESS", tpm.restart(session))
+    tpm.restarts(session)
 
 tpm.chapter(
     "A use. The Name of what is authorized is in cpHash, and has the authPolicy in it: so none "
@@ -102,7 +87,7 @@ tpm.chapter(
 )
 public = area(FIRST, BY_OWNER | BY_POLICY, auth_policy=policy.after_locality(SHA256, bytes(32), 2))
 tpm.define("An index whose policy is that of locality 1", public)
-tpm.does("It is written by the owner", tpm.writing(FIRST, b"data", by=RH_OWNER))
+tpm("It is written by the owner").writing(FIRST, b"data", by=RH_OWNER)
 
 
 def hash_of(prepared, algorithm=SHA256):
@@ -122,69 +107,58 @@ WRONG = (
     ("of another command", hash_of(tpm.extending(FIRST, b"data"))),
     ("of one bit more", flipped(RIGHT)),
 )
-tpm.says("TPM2_PolicyLocality of locality 1: SUCCESS", tpm.locality(session, 2))
+tpm("TPM2_PolicyLocality of locality 1").locality(session, 2)
 tpm.fails("TPM2_NV_Write from locality 0: LOCALITY", writes())
 says('The cpHash of TPM2_NV_Write of "data" at 0: SUCCESS', session, RIGHT)
 tpm.fails("TPM2_NV_Write of it: the cpHash holds, the locality does not: LOCALITY", writes())
-tpm.fails(
-    "Of other data, or at another offset, from this locality too: POLICY_FAIL/s1",
-    *(writes(b"date"), writes(offset=1), writes(b""), writes(b"data\0")),
-)
-tpm.fails("TPM2_NV_Read: POLICY_FAIL/s1", tpm.reading(FIRST, 4, session))
+said = tpm("Of other data, or at another offset, from this locality too: POLICY_FAIL/s1")
+said.fails(*(writes(b"date"), writes(offset=1), writes(b""), writes(b"data\0")))
+tpm("TPM2_NV_Read: POLICY_FAIL/s1").reading(FIRST, 4, session)
 for words, other in WRONG:
-    tpm.says(
-        "TPM2_PolicyRestart, and TPM2_PolicyLocality: SUCCESS",
-        tpm.restart(session),
-        tpm.locality(session, 2),
-    )
+    said = tpm("TPM2_PolicyRestart, and TPM2_PolicyLocality: SUCCESS")
+    said.says(tpm.restart(session), tpm.locality(session, 2))
     says(f"The cpHash {words}: SUCCESS", session, other)
     tpm.fails('TPM2_NV_Write of "data" at 0: POLICY_FAIL/s1', writes())
 tpm.locality_is(1)
 tpm.fails("From locality 1: POLICY_FAIL/s1", writes())
-tpm.says("TPM2_PolicyRestart: SUCCESS", tpm.restart(session))
-tpm.says("TPM2_PolicyLocality: SUCCESS", tpm.locality(session, 2))
+tpm.restarts(session)
+tpm("TPM2_PolicyLocality").locality(session, 2)
 says("The right cpHash, which is not in the authPolicy: SUCCESS", session, RIGHT)
 tpm.fails("TPM2_NV_Write from locality 1: POLICY_FAIL/s1", writes())
-tpm.says(
-    "TPM2_PolicyRestart, and TPM2_PolicyLocality alone: SUCCESS",
-    tpm.restart(session),
-    tpm.locality(session, 2),
-)
+said = tpm("TPM2_PolicyRestart, and TPM2_PolicyLocality alone: SUCCESS")
+said.says(tpm.restart(session), tpm.locality(session, 2))
 tpm.does("TPM2_NV_Write", writes())
 tpm.locality_is(0)
 
 tpm.chapter("What comes before the cpHash: the PCRs, and the command code.")
 says("Another cpHash: SUCCESS", session, bytes(32))
-tpm.says("TPM2_PolicyCommandCode of NV_Read: SUCCESS", tpm.command_code(session, CC.NV_Read))
-tpm.says("TPM2_PolicyPCR of no PCR: SUCCESS", tpm.pcrs(session, []))
+tpm("TPM2_PolicyCommandCode of NV_Read").command_code(session, CC.NV_Read)
+tpm("TPM2_PolicyPCR of no PCR").pcrs(session, [])
 tpm.fails("TPM2_NV_Write: POLICY_CC/s1", writes())
 tpm.accepted("TPM2_PCR_Reset of PCR 16", tpm.reset(b""))
 tpm.fails("TPM2_NV_Write: PCR_CHANGED", writes())
-tpm.says("TPM2_PolicyRestart: SUCCESS", tpm.restart(session))
+tpm.restarts(session)
 
 tpm.chapter("An object: sealed data whose policy is TPM2_PolicySecret of TPM_RH_ENDORSEMENT.")
 parent = tpm.create_primary("A storage key", RH_OWNER, storage_key())
 by_secret = policy.after_secret(SHA256, bytes(32), name_of(RH_ENDORSEMENT), b"")
-attributes = HERE | Attribute.NO_DA
-made = tpm.create(
-    "TPM2_Create", parent, sealed(attributes=attributes, auth_policy=by_secret), data=b"secret"
-)
+attributes = HERE | ObjectAttribute.NO_DA
+said = tpm("TPM2_Create")
+made = said.create(parent, sealed(attributes=attributes, auth_policy=by_secret), data=b"secret")
 handle = tpm.load("TPM2_Load", parent, made)
 OPENS = hash_of(tpm.unsealing(handle, session))
-tpm.says(
-    "TPM2_PolicySecret with the cpHash of TPM2_Unseal, which is not in the digest: SUCCESS",
-    tpm.secret(session, cp_hash=OPENS),
-)
+said = tpm("TPM2_PolicySecret with the cpHash of TPM2_Unseal, which is not in the digest")
+said.secret(session, cp_hash=OPENS)
 tpm.unseal("TPM2_Unseal", handle, b"secret", session)
-tpm.says("TPM2_PolicySecret with another: SUCCESS", tpm.secret(session, cp_hash=RIGHT))
-tpm.refused("TPM2_Unseal: POLICY_FAIL/s1", tpm.unsealing(handle, session))
+tpm("TPM2_PolicySecret with another").secret(session, cp_hash=RIGHT)
+tpm("TPM2_Unseal: POLICY_FAIL/s1").unsealing(handle, session)
 says("TPM2_PolicyCpHash of TPM2_Unseal: CPHASH", session, OPENS)
-tpm.says("TPM2_PolicyRestart: SUCCESS", tpm.restart(session))
-tpm.says("TPM2_PolicySecret with it: SUCCESS", tpm.secret(session, cp_hash=OPENS))
+tpm.restarts(session)
+tpm("TPM2_PolicySecret with it").secret(session, cp_hash=OPENS)
 says("TPM2_PolicyCpHash too, which is in the digest: SUCCESS", session, OPENS)
-tpm.refused("TPM2_Unseal: POLICY_FAIL/s1", tpm.unsealing(handle, session))
+tpm("TPM2_Unseal: POLICY_FAIL/s1").unsealing(handle, session)
 
 tpm.chapter("In a trial session that is to authorize.")
 trial = tpm.trial("A trial session")
-tpm.says("The cpHash of TPM2_Unseal: SUCCESS", tpm.cp_hash_told(trial, OPENS))
-tpm.refused("TPM2_Unseal: ATTRIBUTES/s1", tpm.unsealing(handle, trial))
+tpm("The cpHash of TPM2_Unseal").cp_hash_told(trial, OPENS)
+tpm("TPM2_Unseal: ATTRIBUTES/s1").unsealing(handle, trial)

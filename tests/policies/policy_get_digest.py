@@ -1,14 +1,10 @@
-"""Writes policy_get_digest.tpm: what a policy session's digest is."""
+"""Writes policy_get_digest.tpm. TPM2_PolicyGetDigest answers the digest that a policy session or a
+trial session has come to. It has no parameters, and changes nothing.
+"""
 
-from tpmsim.standard import CC, policy
-from tpmsim.caller.script_caller import zeros
-from tests.common.teller import Teller
+from tests.common.vocabulary import CC, policy, Teller, zeros
 
-tpm = Teller(
-    "tests/policies/policy_get_digest.tpm",
-    "TPM2_PolicyGetDigest answers the digest that a policy session or a trial session has come to. "
-    "It has no parameters, and changes nothing.",
-)
+tpm = Teller(__name__, __doc__)
 
 for session in tpm.each_session(size=20):
     tpm.digest_is("It begins with zeros", session, zeros(session))
@@ -18,24 +14,22 @@ for session in tpm.each_session(size=20):
         tpm.told(CC.PolicyGetDigest, session, b"\0"),
         tpm.told(CC.PolicyGetDigest, session, b"\0\0"),
     )
-    tpm.says("TPM2_PolicyAuthValue: SUCCESS", tpm.auth_value_told(session))
+    tpm("TPM2_PolicyAuthValue").auth_value_told(session)
     digest = policy.after_auth_value(session.algorithm, zeros(session))
     tpm.digest_is("The digest of that", session, digest)
-    tpm.says("TPM2_PolicyAuthValue once more: SUCCESS", tpm.auth_value_told(session))
+    tpm("TPM2_PolicyAuthValue once more").auth_value_told(session)
     again = policy.after_auth_value(session.algorithm, digest)
     tpm.digest_is("Its digest", session, again)
-    tpm.accepted(
-        "With the session itself as an entry, which authorizes nothing",
-        tpm.get_digest(session, session),
-    )
-    tpm.accepted("With it once more|and a new nonce", tpm.get_digest(session, session))
+    said = tpm("With the session itself as an entry, which authorizes nothing")
+    said.get_digest(session, session)
+    tpm("With it once more|and a new nonce").get_digest(session, session)
     tpm.digest_is("And without", session, again)
 
 tpm.chapter("Two sessions have a digest each.")
 first, second = tpm.policy("The first"), tpm.policy("The second")
-tpm.says("TPM2_PolicyLocality of locality 3 in the first: SUCCESS", tpm.locality(first, 8))
+tpm("TPM2_PolicyLocality of locality 3 in the first").locality(first, 8)
 after = policy.after_locality(first.algorithm, zeros(first), 8)
 tpm.digest_is("The first one's digest", first, after)
 tpm.digest_is("The second one's", second, zeros(second))
-tpm.says("TPM2_PolicyAuthValue in the second: SUCCESS", tpm.auth_value_told(second))
+tpm("TPM2_PolicyAuthValue in the second").auth_value_told(second)
 tpm.digest_is("The first one's again", first, after)

@@ -1,16 +1,13 @@
-"""Writes policy_handles.tpm: the handles of the policy commands, and their entries."""
+"""Writes policy_handles.tpm. The commands of policies have the handle of a policy session or a
+trial session, which needs no authorization; TPM2_PolicySecret has it as its second one.
+"""
 
-from tpmsim.caller import flipped
-from tpmsim.standard import CC, RH_ENDORSEMENT, RH_NULL, RH_OWNER, RS_PW, SHA1, SHA256, area, entry
-from tpmsim.standard import frames, number
-from tests.common.teller import Teller
+from tpmsim.standard import area
+from tests.common.vocabulary import CC, entry, flipped, frames, number, RH_ENDORSEMENT, RH_NULL
+from tests.common.vocabulary import RH_OWNER, RS_PW, SHA1, SHA256, Teller
 
-tpm = Teller(
-    "tests/policies/policy_handles.tpm",
-    "The commands of policies have the handle of a policy session or a trial session, which needs "
-    "no authorization; TPM2_PolicySecret has it as its second one.",
-    starts=False,
-)
+tpm = Teller(__name__, __doc__, starts=False)
+refused = tpm.raw
 
 COMMANDS = (
     ("TPM2_PolicyRestart", CC.PolicyRestart, b""),
@@ -47,10 +44,6 @@ def by_password(handle, session, parameters, cut=None):
     return frames.command(CC.PolicySecret, text[:cut] + area(entry()) + parameters, frames.SESSIONS)
 
 
-def refused(words, *buffers):
-    tpm.raw(words, *buffers)
-
-
 NOTHING = frames.policy_secret()
 refused(
     "Before TPM2_Startup: INITIALIZE",
@@ -72,33 +65,23 @@ assert (hmac.handle, policy.handle, trial.handle) == (0x0200_0000, 0x0300_0001, 
 def handles_of(name, code, text):
     tpm.chapter(f"{name}.")
     refused("No handle: INSUFFICIENT/h1", plain(code, b""), plain(code, b"\3\0\0"))
-    refused(
-        "A handle of another kind: VALUE/h1",
-        *(plain(code, number(it, 4) + text) for it in OTHER_KINDS),
-    )
-    refused(
-        "A session that is not there, the first where an HMAC session is: REFERENCE_H0",
-        *(plain(code, number(it, 4) + text) for it in ABSENT),
-    )
-    refused(
-        "With sessions (tag 8002), and no authorization area; the handle comes first: AUTHSIZE",
-        frames.command(code, number(policy.handle, 4), frames.SESSIONS),
-    )
-    refused(
-        "The handle comes before it: REFERENCE_H0",
-        frames.command(code, number(0x0300_0000, 4), frames.SESSIONS),
-    )
+    case = "A handle of another kind: VALUE/h1"
+    refused(case, *(plain(code, number(it, 4) + text) for it in OTHER_KINDS))
+    case = "A session that is not there, the first where an HMAC session is: REFERENCE_H0"
+    refused(case, *(plain(code, number(it, 4) + text) for it in ABSENT))
+    case = "With sessions (tag 8002), and no authorization area; the handle comes first: AUTHSIZE"
+    refused(case, frames.command(code, number(policy.handle, 4), frames.SESSIONS))
+    case = "The handle comes before it: REFERENCE_H0"
+    refused(case, frames.command(code, number(0x0300_0000, 4), frames.SESSIONS))
     refused(
         "A password, which authorizes nothing here: HANDLE/s1",
         frames.command(code, number(policy.handle, 4) + area(entry()) + text, frames.SESSIONS),
     )
     in_policy = tpm.told(code, policy, text, hmac, policy, trial)
-    tpm.refused(
-        "Three sessions, of which the second has a wrong hmac: BAD_AUTH/s2",
-        in_policy.but_entry(2, hmac=flipped(in_policy.entries[1].hmac)),
-    )
+    said = tpm("Three sessions, of which the second has a wrong hmac: BAD_AUTH/s2")
+    said.refused(in_policy.but_entry(2, hmac=flipped(in_policy.entries[1].hmac)))
     tpm.accepted("And the right one", in_policy)
-    tpm.accepted("The trial session alone", tpm.told(code, trial, text, trial))
+    tpm("The trial session alone").told(code, trial, text, trial)
     tpm.says("They are restarted: SUCCESS", tpm.restart(policy), tpm.restart(trial))
     tpm.says(
         "Each without sessions (tag 8001), and restarted again: SUCCESS",
@@ -113,11 +96,8 @@ for command in COMMANDS:
     handles_of(*command)
 
 tpm.chapter("TPM2_PolicySecret, whose first handle needs authorization.")
-refused(
-    "No authHandle: INSUFFICIENT/h1",
-    plain(CC.PolicySecret, b""),
-    plain(CC.PolicySecret, b"\x40\0\0"),
-)
+case = "No authHandle: INSUFFICIENT/h1"
+refused(case, plain(CC.PolicySecret, b""), plain(CC.PolicySecret, b"\x40\0\0"))
 refused(
     "An authHandle that is no entity of its own: TPM_RH_NULL, PCR 24, TPM_RS_PW, two other "
     "permanent handles, sessions, and a number of no kind: VALUE/h1",
@@ -129,10 +109,8 @@ refused(
         )
     ),
 )
-refused(
-    "It is looked at before policySession is read: VALUE/h1",
-    plain(CC.PolicySecret, number(RH_NULL, 4)),
-)
+case = "It is looked at before policySession is read: VALUE/h1"
+refused(case, plain(CC.PolicySecret, number(RH_NULL, 4)))
 refused(
     "A transient object, while there is none: REFERENCE_H0",
     by_password(0x8000_0000, policy.handle, NOTHING),
@@ -148,37 +126,25 @@ refused(
     plain(CC.PolicySecret, number(RH_OWNER, 4)),
     plain(CC.PolicySecret, number(RH_OWNER, 4) + b"\3\0\0"),
 )
-refused(
-    "A policySession of another kind: VALUE/h2",
-    *(by_password(RH_OWNER, it, NOTHING) for it in OTHER_KINDS),
-)
-refused(
-    "One that is not there: REFERENCE_H1", *(by_password(RH_OWNER, it, NOTHING) for it in ABSENT)
-)
-refused(
-    "Without sessions (tag 8001), behind the handles: AUTH_MISSING",
-    plain(CC.PolicySecret, number(RH_OWNER, 4) + number(policy.handle, 4) + NOTHING),
-)
-refused(
-    "Which are looked at before: REFERENCE_H1",
-    plain(CC.PolicySecret, number(RH_OWNER, 4) + number(0x0300_0000, 4) + NOTHING),
-)
+case = "A policySession of another kind: VALUE/h2"
+refused(case, *(by_password(RH_OWNER, it, NOTHING) for it in OTHER_KINDS))
+case = "One that is not there: REFERENCE_H1"
+refused(case, *(by_password(RH_OWNER, it, NOTHING) for it in ABSENT))
+case = "Without sessions (tag 8001), behind the handles: AUTH_MISSING"
+refused(case, plain(CC.PolicySecret, number(RH_OWNER, 4) + number(policy.handle, 4) + NOTHING))
+case = "Which are looked at before: REFERENCE_H1"
+refused(case, plain(CC.PolicySecret, number(RH_OWNER, 4) + number(0x0300_0000, 4) + NOTHING))
 tpm.refused("A second password, which authorizes nothing: HANDLE/s2", tpm.secret(policy, b"", b""))
-tpm.accepted(
-    "A password, the HMAC session and the policy session itself",
-    tpm.secret(policy, b"", hmac, policy),
-)
+tpm("A password, the HMAC session and the policy session itself").secret(policy, b"", hmac, policy)
 
 tpm.chapter("The place of an HMAC session is no policy session's, and the other way round.")
 other = tpm.start("An HMAC session, 02000003", algorithm=SHA1)
-refused(
-    "TPM2_PolicyGetDigest of 03000003: REFERENCE_H0",
-    plain(CC.PolicyGetDigest, number(0x0300_0003, 4)),
-)
-tpm.says("It is flushed: SUCCESS", tpm.flush(other))
+case = "TPM2_PolicyGetDigest of 03000003: REFERENCE_H0"
+refused(case, plain(CC.PolicyGetDigest, number(0x0300_0003, 4)))
+tpm("It is flushed").flush(other)
 other = tpm.policy("A policy session takes its place", algorithm=SHA1)
 assert other.handle == 0x0300_0003
-tpm.says("Its digest: SUCCESS", tpm.get_digest(other))
+tpm("Its digest").get_digest(other)
 
 for command in LATER:
     handles_of(*command)

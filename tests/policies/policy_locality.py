@@ -1,14 +1,11 @@
-"""Writes policy_locality.tpm: TPM2_PolicyLocality, and how its localities become fewer."""
+"""Writes policy_locality.tpm. TPM2_PolicyLocality: the policy is for some localities alone. Its
+parameter has a bit for each of the localities 0 to 4, and what is left is what all such parameters
+have in common.
+"""
 
-from tpmsim.standard import CC, policy
-from tpmsim.caller.script_caller import zeros
-from tests.common.teller import Teller
+from tests.common.vocabulary import CC, policy, Teller, zeros
 
-tpm = Teller(
-    "tests/policies/policy_locality.tpm",
-    "TPM2_PolicyLocality: the policy is for some localities alone. Its parameter has a bit for "
-    "each of the localities 0 to 4, and what is left is what all such parameters have in common.",
-)
+tpm = Teller(__name__, __doc__)
 
 
 def says(words, session, *masks):
@@ -18,11 +15,9 @@ def says(words, session, *masks):
 for session in tpm.each_session():
     algorithm, digest = session.algorithm, zeros(session)
     says("No locality: RANGE/p1", session, 0)
-    says(
-        "Localities that there are not: bit 5, 6 and 7, alone and beside others: RANGE/p1",
-        *(session, 0x20, 0x21, 0x3F, 0x40, 0x5F, 0x80, 0x81, 0xE0, 0xFF),
-    )
-    tpm.says("No parameter: INSUFFICIENT/p1", tpm.told(CC.PolicyLocality, session, b""))
+    case = "Localities that there are not: bit 5, 6 and 7, alone and beside others: RANGE/p1"
+    says(case, *(session, 0x20, 0x21, 0x3F, 0x40, 0x5F, 0x80, 0x81, 0xE0, 0xFF))
+    tpm("No parameter: INSUFFICIENT/p1").told(CC.PolicyLocality, session, b"")
     tpm.says(
         "A byte behind it, also where it is 0: SIZE",
         tpm.told(CC.PolicyLocality, session, b"\1\0"),
@@ -51,12 +46,8 @@ for session in tpm.each_session():
     tpm.chapter("Each locality alone, from the start.")
     for locality in range(5):
         mask = 1 << locality
-        tpm.says(
-            f"Locality {locality}: SUCCESS",
-            tpm.restart(session),
-            tpm.locality(session, mask),
-            tpm.locality(session, mask),
-        )
+        said = tpm(f"Locality {locality}: SUCCESS")
+        said.says(tpm.restart(session), tpm.locality(session, mask), tpm.locality(session, mask))
         says("The others: RANGE/p1", session, 0x1F & ~mask)
         once = policy.after_locality(algorithm, zeros(session), mask)
         twice = policy.after_locality(algorithm, once, mask)

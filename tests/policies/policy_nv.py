@@ -1,13 +1,14 @@
-"""Writes policy_nv.tpm: TPM2_PolicyNV, its comparisons, and what it is hashed of."""
+"""Writes policy_nv.tpm. TPM2_PolicyNV: the policy is for when an index holds what is compared with
+it. Its parameters are operandB, offset and operation; the index stands at the left of the
+comparison.
+"""
 
 import hashlib
 
-from tpmsim.caller import BY_OWNER, BY_PLATFORM, BY_POLICY, BY_VALUE, Use, area, bits, counter
-from tpmsim.caller import extended
-from tpmsim.standard import CC, RH_OWNER, RH_PLATFORM, SHA1, SHA256, frames, number, policy, sized
-from tpmsim.standard.nv import Attribute
-from tpmsim.caller.script_caller import FIRST, FOURTH, SECOND, THIRD, is_trial, zeros
-from tests.common.teller import Teller
+from tests.common.vocabulary import area, bits, BY_OWNER, BY_PLATFORM, BY_POLICY, BY_VALUE, CC
+from tests.common.vocabulary import counter, extended, FIRST, FOURTH, frames, is_trial, number
+from tests.common.vocabulary import NvAttribute, policy, RH_OWNER, RH_PLATFORM, SECOND, SHA1, SHA256
+from tests.common.vocabulary import sized, Teller, THIRD, Use, zeros
 
 NAMES = (
     *("equal", "not equal", "greater, signed", "greater", "less, signed", "less"),
@@ -15,13 +16,9 @@ NAMES = (
     *("all bits of the operand are set", "all bits of the operand are clear"),
 )
 EQ, NEQ, SIGNED_GT, GT, SIGNED_LT, LT, SIGNED_GE, GE, SIGNED_LE, LE, BITSET, BITCLEAR = range(12)
-READ_CLEAR = Attribute.READ_STCLEAR
+READ_CLEAR = NvAttribute.READ_STCLEAR
 
-tpm = Teller(
-    "tests/policies/policy_nv.tpm",
-    "TPM2_PolicyNV: the policy is for when an index holds what is compared with it. Its parameters "
-    "are operandB, offset and operation; the index stands at the left of the comparison.",
-)
+tpm = Teller(__name__, __doc__)
 
 
 def of(algorithm):
@@ -40,9 +37,7 @@ def restarted(session, what=""):
 
 
 def holds(what, session, operation, operand, offset=0, index=FIRST, by=RH_OWNER):
-    tpm.does(
-        what, tpm.comparing(session, index, operand, offset=offset, operation=operation, by=by)
-    )
+    tpm(what).comparing(session, index, operand, offset=offset, operation=operation, by=by)
 
 
 def fails(
@@ -57,32 +52,6 @@ def fails(
     )
 
 
-def digests():
-    for session in tpm.each_session():
-        old = zeros(session)
-        for what, operand, offset, operation in (
-            ("Equal to eight bytes at 0", b"8 bytes.", 0, EQ),
-            ("Equal to a byte at 7", b".", 7, EQ),
-            ("The same comparison, once more", b".", 7, EQ),
-            ("Not equal to zeros", bytes(8), 0, NEQ),
-            ("Greater or equal, at 2", b"byte", 2, GE),
-            ("No bytes, behind the last", b"", 8, EQ),
-        ):
-            holds(what, session, operation, operand, offset)
-            old = after(session, old, FIRST, operand, offset, operation)
-            tpm.digest_is("Its digest", session, old)
-        fails(
-            "What does not hold",
-            session,
-            EQ,
-            b"9",
-            outcome="SUCCESS" if is_trial(session) else "POLICY",
-        )
-        if is_trial(session):
-            old = after(session, old, FIRST, b"9", 0, EQ)
-        tpm.digest_is("Its digest", session, old)
-
-
 def the_name_of_now():
     tpm.chapter("The digest has the Name of the index as it is then.")
     trial = tpm.trial("A trial session")
@@ -91,10 +60,9 @@ def the_name_of_now():
     before = after(trial, zeros(trial), SECOND, bytes(8), 0, EQ)
     tpm.digest_is("The digest is of its Name of now", trial, before)
     session = tpm.policy("A policy session")
-    fails(
-        "A policy session does not", session, EQ, bytes(8), index=SECOND, outcome="NV_UNINITIALIZED"
-    )
-    tpm.does("It is written", tpm.writing(SECOND, bytes(8), by=RH_OWNER))
+    case = "A policy session does not"
+    fails(case, session, EQ, bytes(8), index=SECOND, outcome="NV_UNINITIALIZED")
+    tpm("It is written").writing(SECOND, bytes(8), by=RH_OWNER)
     holds("Now it does", session, EQ, bytes(8), index=SECOND)
     written = after(session, zeros(session), SECOND, bytes(8), 0, EQ)
     assert written != before
@@ -103,8 +71,8 @@ def the_name_of_now():
     holds("So in the trial session", trial, EQ, bytes(8), index=SECOND)
     tpm.digest_is("It is the same", trial, written)
     for each in (trial, session):
-        tpm.says("It is flushed: SUCCESS", tpm.flush(each))
-    tpm.does("The index is undefined", tpm.undefining(SECOND))
+        tpm("It is flushed").flush(each)
+    tpm("The index is undefined").undefining(SECOND)
 
 
 # What an index of four bytes holds, and for each operand how it compares: unsigned, and signed.
@@ -160,20 +128,14 @@ def numbers():
     session = tpm.policy("A policy session")
     for held, operands in ((HELD, OPERANDS), (NEGATIVE, NEGATIVE_OPERANDS)):
         tpm.chapter(f"Comparisons with {held:08X}.")
-        tpm.does("It is written", tpm.writing(SECOND, number(held, 4), by=RH_OWNER))
+        tpm("It is written").writing(SECOND, number(held, 4), by=RH_OWNER)
         for operation, compare in COMPARISONS.items():
             true = [number(it, 4) for it, how in operands.items() if compare(*how)]
             false = [number(it, 4) for it, how in operands.items() if not compare(*how)]
-            both(
-                f"Operation {operation:X}, {NAMES[operation]}",
-                session,
-                operation,
-                true,
-                false,
-                index=SECOND,
-            )
+            case = f"Operation {operation:X}, {NAMES[operation]}"
+            both(case, session, operation, true, false, index=SECOND)
     tpm.chapter("Bits of A5A5A5A5.")
-    tpm.does("It is written", tpm.writing(SECOND, b"\xa5" * 4, by=RH_OWNER))
+    tpm("It is written").writing(SECOND, b"\xa5" * 4, by=RH_OWNER)
     zero, one, all_bits = bytes(4), number(1, 4), b"\xff" * 4
     both(
         f"Operation {BITSET:X}, {NAMES[BITSET]}",
@@ -199,7 +161,7 @@ def numbers():
         else:
             holds(what, session, operation, b"", index=SECOND)
             holds("At the end", session, operation, b"", 4, index=SECOND)
-    tpm.says("The session is flushed: SUCCESS", tpm.flush(session))
+    tpm("The session is flushed").flush(session)
 
 
 def sizes_and_offsets():
@@ -209,7 +171,7 @@ def sizes_and_offsets():
     session = tpm.policy("A policy session")
     data = bytes([0x80, 0x00, 0x7F, 0xFF]) + bytes(range(60))
     tpm.define("An index of 64 bytes", area(THIRD, BY_OWNER, size=64))
-    tpm.does("It is written", tpm.writing(THIRD, data, by=RH_OWNER))
+    tpm("It is written").writing(THIRD, data, by=RH_OWNER)
     for size, offset in ((1, 0), (2, 2), (3, 1), (32, 0), (32, 32), (31, 33), (1, 63)):
         piece = data[offset : offset + size]
         holds(f"{size} bytes at {offset}, equal", session, EQ, piece, offset, index=THIRD)
@@ -219,33 +181,17 @@ def sizes_and_offsets():
     holds("80 is less than 7F, signed", session, SIGNED_LT, b"\x7f", 0, index=THIRD)
     fails("And not unsigned", session, LT, b"\x7f", index=THIRD)
     holds("8000 is less than 0000, signed", session, SIGNED_LT, b"\0\0", 0, index=THIRD)
-    holds(
-        "007FFF is less than 008000, signed or not", session, SIGNED_LT, b"\0\x80\0", 1, index=THIRD
-    )
+    case = "007FFF is less than 008000, signed or not"
+    holds(case, session, SIGNED_LT, b"\0\x80\0", 1, index=THIRD)
     holds("", session, LT, b"\0\x80\0", 1, index=THIRD)
-    fails(
-        "Past the end",
-        session,
-        EQ,
-        b"\x3b\0",
-        bytes(32),
-        offset=63,
-        index=THIRD,
-        outcome="NV_RANGE",
-    )
-    fails(
-        "One byte, and none, behind it",
-        session,
-        EQ,
-        b"x",
-        offset=64,
-        index=THIRD,
-        outcome="NV_RANGE",
-    )
+    case = "Past the end"
+    fails(case, session, EQ, b"\x3b\0", bytes(32), offset=63, index=THIRD, outcome="NV_RANGE")
+    case = "One byte, and none, behind it"
+    fails(case, session, EQ, b"x", offset=64, index=THIRD, outcome="NV_RANGE")
     fails("", session, EQ, b"", offset=65, index=THIRD, outcome="NV_RANGE")
     fails("At FFFF", session, EQ, bytes(32), b"", offset=0xFFFF, index=THIRD, outcome="NV_RANGE")
-    tpm.does("The index is undefined", tpm.undefining(THIRD))
-    tpm.says("The session is flushed: SUCCESS", tpm.flush(session))
+    tpm("The index is undefined").undefining(THIRD)
+    tpm("The session is flushed").flush(session)
 
 
 def types():
@@ -270,8 +216,8 @@ def types():
         else:
             fails("It is another", session, EQ, held, index=index)
     for index in (THIRD, FOURTH, 0x0100_0005):
-        tpm.does("They are undefined" if index == THIRD else "", tpm.undefining(index))
-    tpm.says("The session is flushed: SUCCESS", tpm.flush(session))
+        tpm("They are undefined" if index == THIRD else "").undefining(index)
+    tpm("The session is flushed").flush(session)
 
 
 def refusals():
@@ -279,7 +225,7 @@ def refusals():
     session = tpm.policy("A policy session")
     trial = tpm.trial("A trial session")
     tpm.define("An index", area(THIRD, BY_VALUE | BY_PLATFORM | READ_CLEAR), auth=b"a")
-    tpm.does("TPM2_NV_ReadLock", tpm.read_locking(THIRD))
+    tpm("TPM2_NV_ReadLock").read_locking(THIRD)
     bad = {"offset": 9, "operation": EQ, "operand": b"x", "index": THIRD}
 
     def refused(words, by, **changes):
@@ -289,20 +235,19 @@ def refusals():
     refused("By another index: NV_AUTHORIZATION", FIRST)
     refused("By the index: NV_LOCKED", THIRD)
     refused("By the platform: NV_LOCKED", RH_PLATFORM)
-    tpm.power()
-    tpm.script.startup()
+    tpm.power_cycle()
     session = tpm.policy("A policy session")
     trial = tpm.trial("A trial session")
-    tpm.is_now("It is open", THIRD, cleared=Attribute.READLOCKED)
+    tpm.is_now("It is open", THIRD, cleared=NvAttribute.READLOCKED)
     refused("By the platform: NV_UNINITIALIZED", RH_PLATFORM)
-    tpm.does("It is written", tpm.writing(THIRD, b"x"))
+    tpm("It is written").writing(THIRD, b"x")
     refused("Past the end: NV_RANGE", THIRD)
     refused("What does not hold: POLICY", THIRD, offset=1)
     tpm.digest_is("The digest is zeros", session, zeros(session))
     refused("What holds: SUCCESS", THIRD, offset=0)
 
     tpm.chapter("In a trial session none of these stands.")
-    tpm.does("TPM2_NV_ReadLock", tpm.read_locking(THIRD))
+    tpm("TPM2_NV_ReadLock").read_locking(THIRD)
     old = zeros(trial)
     for what, by, offset in (
         ("By the owner", RH_OWNER, 0),
@@ -317,9 +262,9 @@ def refusals():
         tpm.digest_is("Its digest", trial, old)
     tpm.chapter("But the authorization does, and so do handles and parameters.")
     right = tpm.comparing(trial, THIRD, b"x")
-    tpm.fails("A wrong password: AUTH_FAIL/s1", tpm.comparing(trial, THIRD, b"x", b"wrong"))
+    tpm("A wrong password: AUTH_FAIL/s1").comparing(trial, THIRD, b"x", b"wrong")
     tpm.define("An index that its value cannot read", area(FOURTH, BY_OWNER | BY_POLICY), auth=b"a")
-    tpm.fails("By it: AUTH_UNAVAILABLE", tpm.comparing(trial, FOURTH, b"x"))
+    tpm("By it: AUTH_UNAVAILABLE").comparing(trial, FOURTH, b"x")
     tpm.fails("Without sessions: AUTH_MISSING", right.but(entries=[]))
     for what, outcome, handles in (
         ("authHandle of another kind", "VALUE/h1", [frames.RH_NULL, THIRD, trial.handle]),
@@ -353,37 +298,53 @@ def sessions(session, trial):
     tpm.chapter("By sessions.")
     hmac = tpm.start("An HMAC session that is bound to the index, with AES", bind=FIRST, aes=True)
     restarted(session)
-    tpm.does("By it", tpm.comparing(session, FIRST, b"8", hmac))
+    tpm("By it").comparing(session, FIRST, b"8", hmac)
     hidden = Use(hmac, frames.CONTINUE_SESSION | frames.DECRYPT)
-    tpm.does("With operandB encrypted", tpm.comparing(session, FIRST, b"8 bytes.", hidden))
+    tpm("With operandB encrypted").comparing(session, FIRST, b"8 bytes.", hidden)
     old = after(session, zeros(session), FIRST, b"8", 0, EQ)
     old = after(session, old, FIRST, b"8 bytes.", 0, EQ)
     tpm.digest_is("What is hashed is plain", session, old)
-    tpm.fails(
-        "encrypt, where nothing is answered: ATTRIBUTES/s1",
-        tpm.comparing(session, FIRST, b"8", hmac).but_entry(1, attributes=0x41),
-    )
+    said = tpm("encrypt, where nothing is answered: ATTRIBUTES/s1")
+    said.fails(tpm.comparing(session, FIRST, b"8", hmac).but_entry(1, attributes=0x41))
     tpm.chapter("By a policy: the index authorizes itself to the very session that is told.")
     auth_policy = policy.after_auth_value(SHA256, bytes(32))
     tpm.define("An index", area(0x0100_0005, BY_POLICY, auth_policy=auth_policy), auth=b"a")
     by_value = lambda: Use(session, demand=policy.AUTH_VALUE)
     restarted(session)
-    tpm.says("TPM2_PolicyAuthValue: SUCCESS", tpm.auth_value_told(session))
-    tpm.does("TPM2_NV_Write", tpm.writing(0x0100_0005, b"x", by_value()))
-    tpm.says("TPM2_PolicyAuthValue: SUCCESS", tpm.auth_value_told(session))
-    tpm.does(
-        "TPM2_PolicyNV to the session by itself: it is asserted, and then the session starts again",
-        tpm.comparing(session, 0x0100_0005, b"x", by_value()),
-    )
+    tpm("TPM2_PolicyAuthValue").auth_value_told(session)
+    tpm("TPM2_NV_Write").writing(0x0100_0005, b"x", by_value())
+    tpm("TPM2_PolicyAuthValue").auth_value_told(session)
+    tpm(
+        "TPM2_PolicyNV to the session by itself: it is asserted, and then the session starts again"
+    ).comparing(session, 0x0100_0005, b"x", by_value())
     tpm.digest_is("The digest is zeros", session, zeros(session))
-    tpm.says("TPM2_PolicyAuthValue: SUCCESS", tpm.auth_value_told(session))
-    tpm.does("To the trial session", tpm.comparing(trial, 0x0100_0005, b"x", by_value()))
-    tpm.fails("By the trial session: ATTRIBUTES/s1", tpm.comparing(trial, 0x0100_0005, b"x", trial))
+    tpm("TPM2_PolicyAuthValue").auth_value_told(session)
+    tpm("To the trial session").comparing(trial, 0x0100_0005, b"x", by_value())
+    tpm("By the trial session: ATTRIBUTES/s1").comparing(trial, 0x0100_0005, b"x", trial)
 
 
 tpm.define("An index that holds eight bytes", area(FIRST, BY_OWNER | BY_VALUE), auth=b"")
-tpm.does("It is written", tpm.writing(FIRST, b"8 bytes."))
-digests()
+tpm("It is written").writing(FIRST, b"8 bytes.")
+
+for session in tpm.each_session():
+    old = zeros(session)
+    for what, operand, offset, operation in (
+        ("Equal to eight bytes at 0", b"8 bytes.", 0, EQ),
+        ("Equal to a byte at 7", b".", 7, EQ),
+        ("The same comparison, once more", b".", 7, EQ),
+        ("Not equal to zeros", bytes(8), 0, NEQ),
+        ("Greater or equal, at 2", b"byte", 2, GE),
+        ("No bytes, behind the last", b"", 8, EQ),
+    ):
+        holds(what, session, operation, operand, offset)
+        old = after(session, old, FIRST, operand, offset, operation)
+        tpm.digest_is("Its digest", session, old)
+    case = "What does not hold"
+    fails(case, session, EQ, b"9", outcome="SUCCESS" if is_trial(session) else "POLICY")
+    if is_trial(session):
+        old = after(session, old, FIRST, b"9", 0, EQ)
+    tpm.digest_is("Its digest", session, old)
+
 the_name_of_now()
 tpm.define("An index of four bytes", area(SECOND, BY_OWNER, size=4))
 numbers()

@@ -1,24 +1,17 @@
-"""Writes policy_nv_written.tpm: TPM2_PolicyNvWritten, and indices that are written once."""
+"""Writes policy_nv_written.tpm. TPM2_PolicyNvWritten: the policy is for an NV index that is written
+(1), or for one that is not (0). Whether it is, is looked at when the session authorizes.
+"""
 
 import hashlib
 
-from tpmsim.caller import BY_OWNER, BY_POLICY, HERE, Use, area, counter, flipped, sealed
-from tpmsim.caller import storage_key
-from tpmsim.standard import CC, RH_OWNER, SHA1, SHA256, command_hash, frames, policy
-from tpmsim.standard.nv import Attribute
-from tpmsim.standard.objects import Attribute as ObjectAttribute
-from tpmsim.caller.script_caller import FIRST, FOURTH, SECOND, THIRD, zeros
-from tests.common.teller import Teller
+from tests.common.vocabulary import area, BY_OWNER, BY_POLICY, CC, command_hash, counter, FIFTH
+from tests.common.vocabulary import FIRST, flipped, FOURTH, frames, HERE, NvAttribute
+from tests.common.vocabulary import ObjectAttribute, policy, RH_OWNER, sealed, SECOND, SHA1, SHA256
+from tests.common.vocabulary import storage_key, Teller, THIRD, Use, zeros
 
 NO, YES = False, True
-FIFTH = 0x0100_0005
 
-tpm = Teller(
-    "tests/policies/policy_nv_written.tpm",
-    "TPM2_PolicyNvWritten: the policy is for an NV index that is written (1), or for one that is "
-    "not (0). Whether it is, is looked at when the session authorizes.",
-    tries=True,
-)
+tpm = Teller(__name__, __doc__, tries=True)
 
 
 def says(words, session, *values):
@@ -32,10 +25,8 @@ def raw(session, text):
 for session in tpm.each_session():
     algorithm = session.algorithm
     tpm.says("No parameter: INSUFFICIENT/p1", raw(session, b""))
-    tpm.says(
-        "What is neither 0 nor 1, also with a byte behind it: VALUE/p1",
-        *(raw(session, it) for it in (b"\2", b"\x80", b"\xff", b"\2\0")),
-    )
+    said = tpm("What is neither 0 nor 1, also with a byte behind it: VALUE/p1")
+    said.says(*(raw(session, it) for it in (b"\2", b"\x80", b"\xff", b"\2\0")))
     tpm.says("A byte behind it: SIZE", raw(session, b"\0\0"), raw(session, b"\1\0"))
     tpm.digest_is("The digest is zeros", session, zeros(session))
     for value, other in ((NO, YES), (YES, NO)):
@@ -51,7 +42,7 @@ for session in tpm.each_session():
         twice = policy.after_nv_written(algorithm, once, value)
         tpm.digest_is("And it is in the digest again", session, twice)
         says(f"{other:d}: VALUE/p1", session, other)
-        tpm.says("TPM2_PolicyRestart: SUCCESS", tpm.restart(session))
+        tpm.restarts(session)
         tpm.digest_is("The digest is zeros", session, zeros(session))
 
 for algorithm, hash_name, index in ((SHA256, "SHA-256", FIRST), (SHA1, "SHA-1", SECOND)):
@@ -61,50 +52,47 @@ for algorithm, hash_name, index in ((SHA256, "SHA-256", FIRST), (SHA1, "SHA-1", 
     public = area(index, BY_OWNER | BY_POLICY, algorithm=algorithm, auth_policy=once)
     tpm.define("Its policy is TPM2_PolicyNvWritten of 0", public)
     session = tpm.policy("A policy session", algorithm=algorithm)
-    tpm.fails("TPM2_NV_Write without it: POLICY_FAIL/s1", tpm.writing(index, b"1", session))
+    tpm("TPM2_NV_Write without it: POLICY_FAIL/s1").writing(index, b"1", session)
     says("1, which is another policy: SUCCESS", session, YES)
-    tpm.fails("TPM2_NV_Write: POLICY_FAIL/s1", tpm.writing(index, b"1", session))
-    tpm.says("TPM2_PolicyRestart: SUCCESS", tpm.restart(session))
+    tpm("TPM2_NV_Write: POLICY_FAIL/s1").writing(index, b"1", session)
+    tpm.restarts(session)
     says("0: SUCCESS", session, NO)
-    tpm.does("TPM2_NV_Write, the first one", tpm.writing(index, b"first", session))
+    tpm("TPM2_NV_Write, the first one").writing(index, b"first", session)
     tpm.digest_is("It counted once: the digest is zeros", session, zeros(session))
     says("0 once more, which the session does not know better: SUCCESS", session, NO)
-    tpm.fails(
-        "TPM2_NV_Write, the second one, of anything: POLICY_FAIL/s1",
-        *(tpm.writing(index, it, session) for it in (b"other", b"first", b"")),
-    )
-    tpm.fails("TPM2_NV_Read by it: POLICY_FAIL/s1", tpm.reading(index, 5, session))
-    tpm.says("TPM2_PolicyRestart: SUCCESS", tpm.restart(session))
+    said = tpm("TPM2_NV_Write, the second one, of anything: POLICY_FAIL/s1")
+    said.fails(*(tpm.writing(index, it, session) for it in (b"other", b"first", b"")))
+    tpm("TPM2_NV_Read by it: POLICY_FAIL/s1").reading(index, 5, session)
+    tpm.restarts(session)
     says("1 is what holds now, and is not its policy: SUCCESS", session, YES)
-    tpm.fails("TPM2_NV_Write: POLICY_FAIL/s1", tpm.writing(index, b"other", session))
+    tpm("TPM2_NV_Write: POLICY_FAIL/s1").writing(index, b"other", session)
     tpm.read("It is as it was first written", index, b"first", by=RH_OWNER)
-    tpm.does("The owner may write all the same", tpm.writing(index, b"again", by=RH_OWNER))
-    tpm.says("It ends: SUCCESS", tpm.flush(session))
+    tpm("The owner may write all the same").writing(index, b"again", by=RH_OWNER)
+    tpm("It ends").flush(session)
 
 tpm.chapter("An index that is read by its policy as soon as it is written.")
 written = policy.after_nv_written(SHA256, bytes(32), YES)
 tpm.define("An index", area(THIRD, BY_OWNER | BY_POLICY, auth_policy=written))
 session = tpm.policy("A policy session")
 says("1: SUCCESS", session, YES)
-tpm.fails("TPM2_NV_Read before it is: POLICY_FAIL/s1", tpm.reading(THIRD, 4, session))
-tpm.fails("TPM2_NV_Write: POLICY_FAIL/s1", tpm.writing(THIRD, b"data", session))
-tpm.does("The owner writes it", tpm.writing(THIRD, b"data", by=RH_OWNER))
+tpm("TPM2_NV_Read before it is: POLICY_FAIL/s1").reading(THIRD, 4, session)
+tpm("TPM2_NV_Write: POLICY_FAIL/s1").writing(THIRD, b"data", session)
+tpm("The owner writes it").writing(THIRD, b"data", by=RH_OWNER)
 tpm.read("TPM2_NV_Read by the same assertion", THIRD, b"data", session)
 says("1: SUCCESS", session, YES)
-tpm.does("TPM2_NV_Write too", tpm.writing(THIRD, b"more", session))
+tpm("TPM2_NV_Write too").writing(THIRD, b"more", session)
 
 tpm.chapter("What a startup clears is not written any more, and may be written once again.")
-by_clear = Attribute.CLEAR_STCLEAR | BY_OWNER | BY_POLICY
+by_clear = NvAttribute.CLEAR_STCLEAR | BY_OWNER | BY_POLICY
 unwritten = policy.after_nv_written(SHA256, bytes(32), NO)
 tpm.define("An index with CLEAR_STCLEAR", area(FOURTH, by_clear, auth_policy=unwritten))
 for words in ("TPM2_NV_Write", "After a startup it is a first one again"):
     session = tpm.policy("A policy session")
     says("0: SUCCESS", session, NO)
-    tpm.does(words, tpm.writing(FOURTH, b"data", session))
+    tpm(words).writing(FOURTH, b"data", session)
     says("0: SUCCESS", session, NO)
-    tpm.fails("Another TPM2_NV_Write: POLICY_FAIL/s1", tpm.writing(FOURTH, b"x", session))
-    tpm.power()
-    tpm.script.startup()
+    tpm("Another TPM2_NV_Write: POLICY_FAIL/s1").writing(FOURTH, b"x", session)
+    tpm.power_cycle()
     tpm.read_index_public("TPM2_NV_ReadPublic: not written", FOURTH)
 
 tpm.chapter("Defined anew, an index is not written.")
@@ -112,11 +100,11 @@ tpm.define("A counter", counter(FIFTH, BY_OWNER | BY_POLICY, auth_policy=unwritt
 session = tpm.policy("A policy session")
 for _ in range(2):
     says("0: SUCCESS", session, NO)
-    tpm.does("TPM2_NV_Increment", tpm.incrementing(FIFTH, session))
+    tpm("TPM2_NV_Increment").incrementing(FIFTH, session)
     says("0: SUCCESS", session, NO)
-    tpm.fails("Once more: POLICY_FAIL/s1", tpm.incrementing(FIFTH, session))
-    tpm.says("TPM2_PolicyRestart: SUCCESS", tpm.restart(session))
-    tpm.does("It is undefined", tpm.undefining(FIFTH))
+    tpm("Once more: POLICY_FAIL/s1").incrementing(FIFTH, session)
+    tpm.restarts(session)
+    tpm("It is undefined").undefining(FIFTH)
     tpm.define("And defined again", counter(FIFTH, BY_OWNER | BY_POLICY, auth_policy=unwritten))
 
 tpm.chapter(
@@ -130,13 +118,13 @@ for value in (NO, YES):
     made = tpm.create(f"Sealed data, with that of {value:d}", parent, template, data=b"data")
     handle = tpm.load("TPM2_Load", parent, made)
     says(f"{value:d}: SUCCESS", session, value)
-    tpm.fails("TPM2_Unseal: POLICY_FAIL/s1", tpm.unsealing(handle, session))
+    tpm("TPM2_Unseal: POLICY_FAIL/s1").unsealing(handle, session)
     tpm.digest_is("The digest is its authPolicy", session, digest)
-    tpm.says("TPM2_PolicyRestart: SUCCESS", tpm.restart(session))
+    tpm.restarts(session)
     trial = tpm.trial("A trial session")
     says(f"{value:d}: SUCCESS", trial, value)
-    tpm.fails("TPM2_Unseal by it: ATTRIBUTES/s1", tpm.unsealing(handle, trial))
-    tpm.says("It is flushed: SUCCESS", tpm.flush(trial))
+    tpm("TPM2_Unseal by it: ATTRIBUTES/s1").unsealing(handle, trial)
+    tpm("It is flushed").flush(trial)
     tpm.accepted("The object is flushed", tpm.flush(handle))
 
 tpm.chapter(
@@ -156,16 +144,14 @@ tpm.says(
 )
 writes = tpm.writing(SIXTH, b"data", session)
 tpm.fails("Not written: the locality refuses: LOCALITY", writes)
-tpm.does("The owner writes it", tpm.writing(SIXTH, b"data", by=RH_OWNER))
-tpm.fails(
-    "Written: it refuses before the locality: POLICY_FAIL/s1", tpm.writing(SIXTH, b"data", session)
-)
+tpm("The owner writes it").writing(SIXTH, b"data", by=RH_OWNER)
+tpm("Written: it refuses before the locality: POLICY_FAIL/s1").writing(SIXTH, b"data", session)
 reads = tpm.reading(SIXTH, 4, session)
 tpm.fails("The command code refuses before it: POLICY_CC/s1", reads)
-tpm.says("TPM2_PolicyPCR of no PCR: SUCCESS", tpm.pcrs(session, []))
+tpm("TPM2_PolicyPCR of no PCR").pcrs(session, [])
 tpm.accepted("TPM2_PCR_Reset of PCR 16", tpm.reset(b""))
-tpm.fails("And a PCR before that: PCR_CHANGED", tpm.reading(SIXTH, 4, session))
-tpm.says("TPM2_PolicyRestart: SUCCESS", tpm.restart(session))
+tpm("And a PCR before that: PCR_CHANGED").reading(SIXTH, 4, session)
+tpm.restarts(session)
 
 
 def hash_of(prepared):
@@ -192,15 +178,15 @@ for words, cp_hash, value, outcome in (
         tpm.locality(session, 2),
     )
     tpm.fails(f"TPM2_NV_Write: {outcome}", writes)
-    tpm.says("TPM2_PolicyRestart: SUCCESS", tpm.restart(session))
+    tpm.restarts(session)
 
 tpm.chapter("The role ADMIN asks for the command code before.")
 changes = policy.after_nv_written(SHA256, bytes(32), NO)
 SEVENTH = 0x0100_0007
 tpm.define("An index", area(SEVENTH, BY_OWNER | BY_POLICY, auth_policy=changes))
 says("0, and no command code: SUCCESS", session, NO)
-tpm.fails("TPM2_NV_ChangeAuth: POLICY_FAIL/s1", tpm.changing_auth(SEVENTH, b"new", session))
-tpm.does("TPM2_NV_Write, in the role USER", tpm.writing(SEVENTH, b"data", session))
+tpm("TPM2_NV_ChangeAuth: POLICY_FAIL/s1").changing_auth(SEVENTH, b"new", session)
+tpm("TPM2_NV_Write, in the role USER").writing(SEVENTH, b"data", session)
 
 tpm.chapter("With an hmac, and by a session that ends.")
 EIGHTH = 0x0100_0008
@@ -208,10 +194,8 @@ tpm.define("An index", area(EIGHTH, BY_OWNER | BY_POLICY, auth_policy=unwritten)
 bound = tpm.policy("A policy session, bound to TPM_RH_OWNER", bind=RH_OWNER, xor=True)
 says("0: SUCCESS", bound, NO)
 prepared = tpm.writing(EIGHTH, b"data", Use(bound, frames.DECRYPT))
-tpm.fails(
-    "With a wrong hmac, which is compared last: BAD_AUTH/s1",
-    prepared.but_entry(1, hmac=flipped(prepared.entries[0].hmac)),
-)
+said = tpm("With a wrong hmac, which is compared last: BAD_AUTH/s1")
+said.fails(prepared.but_entry(1, hmac=flipped(prepared.entries[0].hmac)))
 tpm.does("TPM2_NV_Write of a buffer that it masks", prepared)
 tpm.read("The data in plain", EIGHTH, b"data", by=RH_OWNER)
-tpm.says("It is no more: REFERENCE_H0", tpm.get_digest(bound))
+tpm("It is no more: REFERENCE_H0").get_digest(bound)

@@ -1,13 +1,11 @@
-"""Writes policy_or.tpm: TPM2_PolicyOR, and of which lists it is."""
+"""Writes policy_or.tpm. TPM2_PolicyOR: the digest is one of two to eight in a list, and becomes
+that of the list.
+"""
 
-from tpmsim.standard import CC, digest, frames, number, policy, sized
-from tpmsim.caller.script_caller import is_trial, zeros
-from tests.common.teller import Teller
+from tests.common.vocabulary import CC, digest, frames, is_trial, number, policy, sized, Teller
+from tests.common.vocabulary import zeros
 
-tpm = Teller(
-    "tests/policies/policy_or.tpm",
-    "TPM2_PolicyOR: the digest is one of two to eight in a list, and becomes that of the list.",
-)
+tpm = Teller(__name__, __doc__)
 
 
 def other(session, count):
@@ -16,13 +14,13 @@ def other(session, count):
 
 
 def joins(what, session, *branches):
-    tpm.does(what, tpm.branches(session, *branches))
+    tpm(what).branches(session, *branches)
     tpm.digest_is("Its digest", session, policy.after_or(session.algorithm, branches))
 
 
 def again(session):
     """As a new one; its digest is zeros."""
-    tpm.says("TPM2_PolicyRestart: SUCCESS", tpm.restart(session))
+    tpm.restarts(session)
     return zeros(session)
 
 
@@ -37,7 +35,7 @@ for session in tpm.each_session():
     joins("The last of eight", session, *other(session, 7), again(session))
     joins("The fourth of seven", session, *other(session, 3), again(session), *other(session, 3))
     joins("Two that are the same", session, *2 * [again(session)])
-    tpm.says("TPM2_PolicyAuthValue: SUCCESS", tpm.auth_value_told(session))
+    tpm("TPM2_PolicyAuthValue").auth_value_told(session)
     branches = [b"", zeros(session)]
     current = policy.after_auth_value(
         session.algorithm, policy.after_or(session.algorithm, 2 * [zeros(session)])
@@ -55,12 +53,8 @@ for session in tpm.each_session():
     joins("The digest of that, the second of them", session, *other(session, 1), current)
 
     current = again(session)
-    joins(
-        "Elements of other lengths beside it, of 0, 1, 19, 20, 21, 31 and 32 bytes",
-        session,
-        *(bytes([it]) * it for it in (0, 1, 19, 20, 21, 31, 32)),
-        current,
-    )
+    case = "Elements of other lengths beside it, of 0, 1, 19, 20, 21, 31 and 32 bytes"
+    joins(case, session, *(bytes([it]) * it for it in (0, 1, 19, 20, 21, 31, 32)), current)
     current = again(session)
     absent = [
         ("The digest is not among two", other(session, 2)),
@@ -76,7 +70,7 @@ for session in tpm.each_session():
             again(session)
             joins(f"{what}, which a trial session does not look at", session, *branches)
         else:
-            tpm.says(f"{what}: VALUE/p1", tpm.branches(session, *branches))
+            tpm(f"{what}: VALUE/p1").branches(session, *branches)
             tpm.digest_is("Its digest is as it was", session, current)
 
     current = again(session)
@@ -87,11 +81,8 @@ for session in tpm.each_session():
         tpm.branches(session, *9 * [current]),
         tpm.branches(session, current, current, count=0xFFFF_FFFF),
     )
-    tpm.says(
-        "The number of one and of nine, and nothing behind it: SIZE/p1",
-        raw(session, number(1, 4)),
-        raw(session, number(9, 4)),
-    )
+    said = tpm("The number of one and of nine, and nothing behind it: SIZE/p1")
+    said.says(raw(session, number(1, 4)), raw(session, number(9, 4)))
     tpm.says(
         "An element of 33 bytes, the first or the second, whole or cut: SIZE/p1",
         tpm.branches(session, bytes(33), current),
@@ -107,10 +98,8 @@ for session in tpm.each_session():
         *(raw(session, whole[:it]) for it in (0, 3, 4, 5, 6, 3 + size, 4 + size, 5 + size)),
         raw(session, whole[:-1]),
     )
-    tpm.says(
-        "A list that says three and has two: INSUFFICIENT/p1",
-        tpm.branches(session, current, current, count=3),
-    )
+    said = tpm("A list that says three and has two: INSUFFICIENT/p1")
+    said.branches(session, current, current, count=3)
     tpm.says(
         "A byte behind the list, also where the digest is not among it, and a list that says two "
         "and has three: SIZE",
@@ -130,12 +119,12 @@ tpm.says(
     tpm.pcrs(session, [(frames.SHA256, [0])]),
     tpm.secret(session, cp_hash=cp_hash),
 )
-response = tpm.says("Its digest: SUCCESS", tpm.get_digest(session))
+response = tpm("Its digest").get_digest(session)
 current = response[-len(zeros(session)) :]
 joins("The digest is the first of two", session, current, *other(session, 1))
-tpm.says("Another command: VALUE/p1", tpm.command_code(session, CC.PCR_Read))
-tpm.says("Localities of which none is left: RANGE/p1", tpm.locality(session, 0b10011))
+tpm("Another command: VALUE/p1").command_code(session, CC.PCR_Read)
+tpm("Localities of which none is left: RANGE/p1").locality(session, 0b10011)
 another = digest(session.algorithm, b"another command")
-tpm.says("Another cpHash: CPHASH", tpm.secret(session, cp_hash=another))
+tpm("Another cpHash: CPHASH").secret(session, cp_hash=another)
 tpm.accepted("TPM2_PCR_Reset of PCR 16", tpm.reset(b""))
-tpm.says("PCRs, of which one changed: PCR_CHANGED", tpm.pcrs(session, [(frames.SHA256, [0])]))
+tpm("PCRs, of which one changed: PCR_CHANGED").pcrs(session, [(frames.SHA256, [0])])

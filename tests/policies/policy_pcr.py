@@ -1,17 +1,13 @@
-"""Writes policy_pcr.tpm: TPM2_PolicyPCR, its selections, and PCRs that change behind it."""
+"""Writes policy_pcr.tpm. TPM2_PolicyPCR: the policy is for PCRs that have the values of now. Its
+parameters are the digest that they should have, if any, and the selection of PCRs.
+"""
 
-from tpmsim.standard import CC, RH_NULL, SHA1, SHA256, digest, frames, number, policy, selection
-from tpmsim.standard import sized
-from tpmsim.caller.script_caller import is_trial, zeros
-from tests.common.teller import Teller
+from tests.common.vocabulary import CC, digest, frames, is_trial, number, policy, RH_NULL, selection
+from tests.common.vocabulary import SHA1, SHA256, sized, Teller, zeros
 
 ALL = range(24)
 
-tpm = Teller(
-    "tests/policies/policy_pcr.tpm",
-    "TPM2_PolicyPCR: the policy is for PCRs that have the values of now. Its parameters are the "
-    "digest that they should have, if any, and the selection of PCRs.",
-)
+tpm = Teller(__name__, __doc__)
 
 
 def values_digest(session, banks):
@@ -26,14 +22,10 @@ def after(session, banks, old=None, given=b""):
     return policy.after_pcr(session.algorithm, before, selection(*banks), hashed)
 
 
-def restarted(session):
-    tpm.says("TPM2_PolicyRestart: SUCCESS", tpm.restart(session))
-
-
 def changed(what, session, banks):
     """Refused in a policy session, and not in a trial session."""
     outcome = "SUCCESS" if is_trial(session) else "PCR_CHANGED"
-    tpm.says(f"{what}: {outcome}", tpm.pcrs(session, banks))
+    tpm(f"{what}: {outcome}").pcrs(session, banks)
 
 
 def raw(session, text):
@@ -43,10 +35,8 @@ def raw(session, text):
 def edges(session):
     """What is refused of the parameters, and the digest is zeros behind it."""
     one = selection((SHA256, [0]))
-    tpm.says(
-        "pcrDigest that is cut: INSUFFICIENT/p1",
-        *(raw(session, it) for it in (b"", b"\0", b"\0\x01", number(32, 2) + bytes(31))),
-    )
+    said = tpm("pcrDigest that is cut: INSUFFICIENT/p1")
+    said.says(*(raw(session, it) for it in (b"", b"\0", b"\0\x01", number(32, 2) + bytes(31))))
     tpm.says(
         "One of 33 bytes, whole or cut: SIZE/p1",
         raw(session, sized(bytes(33)) + one),
@@ -77,11 +67,8 @@ def edges(session):
         raw(session, sized(b"") + number(1, 4) + number(SHA256, 2) + b"\2\0\0"),
         raw(session, sized(b"") + number(1, 4) + number(SHA256, 2) + b"\4\0\0\0\0"),
     )
-    tpm.says(
-        "A byte behind them, also where pcrDigest is another: SIZE",
-        raw(session, sized(b"") + one + b"\0"),
-        raw(session, sized(bytes(32)) + one + b"\0"),
-    )
+    said = tpm("A byte behind them, also where pcrDigest is another: SIZE")
+    said.says(raw(session, sized(b"") + one + b"\0"), raw(session, sized(bytes(32)) + one + b"\0"))
     tpm.digest_is("The digest is zeros", session, zeros(session))
 
 
@@ -112,12 +99,12 @@ for session in tpm.each_session():
     tpm.chapter("A digest that is given.")
     both = [(SHA1, [1]), (SHA256, [0, 23])]
     right = values_digest(session, both)
-    restarted(session)
-    tpm.says("The right one: SUCCESS", tpm.pcrs(session, both, right))
+    tpm.restarts(session)
+    tpm("The right one").pcrs(session, both, right)
     once = after(session, both)
     tpm.digest_is("It is as if none were given", session, once)
     nothing = digest(session.algorithm, b"")
-    tpm.says("The right one of no values: SUCCESS", tpm.pcrs(session, [], nothing))
+    tpm("The right one of no values").pcrs(session, [], nothing)
     twice = after(session, [], once)
     tpm.digest_is("Its digest, behind the one before", session, twice)
     for words, given in (
@@ -131,87 +118,82 @@ for session in tpm.each_session():
     ):
         if given == right:
             continue
-        restarted(session)
+        tpm.restarts(session)
         outcome = "SUCCESS" if is_trial(session) else "VALUE/p1"
-        tpm.says(f"{words}: {outcome}", tpm.pcrs(session, both, given))
+        tpm(f"{words}: {outcome}").pcrs(session, both, given)
         wanted = after(session, both, given=given) if is_trial(session) else zeros(session)
         words = "It is in the digest as it is" if is_trial(session) else "The digest is as it was"
         tpm.digest_is(words, session, wanted)
 
     tpm.chapter("PCRs that change behind it.")
     zero = [(SHA256, [0])]
-    restarted(session)
-    tpm.says("PCR 0: SUCCESS", tpm.pcrs(session, zero))
-    tpm.says("Once more, and nothing has changed: SUCCESS", tpm.pcrs(session, zero))
+    tpm.restarts(session)
+    tpm("PCR 0").pcrs(session, zero)
+    tpm("Once more, and nothing has changed").pcrs(session, zero)
     value = digest(SHA256, b"more")
     extend = frames.digests((SHA256, value))
     tpm.accepted("TPM2_PCR_Extend of PCR 0", tpm.prepare(CC.PCR_Extend, [0], extend, b""))
     changed("TPM2_PolicyPCR again", session, zero)
     changed("And of PCRs that are as they were, or of none", session, [(SHA256, [1])])
     changed("", session, [])
-    tpm.says(
+    tpm(
         "With a wrong digest it is no other refusal: "
-        + ("SUCCESS" if is_trial(session) else "PCR_CHANGED"),
-        tpm.pcrs(session, zero, b"wrong"),
-    )
-    restarted(session)
-    tpm.says("A policy from the start has the new value: SUCCESS", tpm.pcrs(session, zero))
+        + ("SUCCESS" if is_trial(session) else "PCR_CHANGED")
+    ).pcrs(session, zero, b"wrong")
+    tpm.restarts(session)
+    tpm("A policy from the start has the new value").pcrs(session, zero)
     tpm.digest_is("Its digest", session, after(session, zero))
-    tpm.accepted(
-        "PCR 16, which is not selected, is extended in one bank",
-        tpm.prepare(CC.PCR_Extend, [16], frames.digests((SHA1, bytes(20))), b""),
-    )
+    said = tpm("PCR 16, which is not selected, is extended in one bank")
+    said.accepted(tpm.prepare(CC.PCR_Extend, [16], frames.digests((SHA1, bytes(20))), b""))
     changed("TPM2_PolicyPCR again", session, zero)
-    restarted(session)
-    tpm.says("From the start: SUCCESS", tpm.pcrs(session, zero))
+    tpm.restarts(session)
+    tpm("From the start").pcrs(session, zero)
     tpm.accepted("TPM2_PCR_Reset of PCR 23", tpm.reset(b"", pcr=23))
     changed("TPM2_PolicyPCR again", session, zero)
-    restarted(session)
-    tpm.says("From the start: SUCCESS", tpm.pcrs(session, zero))
+    tpm.restarts(session)
+    tpm("From the start").pcrs(session, zero)
     tpm.accepted("TPM2_PCR_Event into PCR 23", tpm.event(b"abc", b"", pcr=23))
     changed("TPM2_PolicyPCR again", session, zero)
 
     tpm.chapter("What changes no PCR.")
-    restarted(session)
-    tpm.says("From the start: SUCCESS", tpm.pcrs(session, zero))
+    tpm.restarts(session)
+    tpm("From the start").pcrs(session, zero)
     tpm.accepted("TPM2_PCR_Event on TPM_RH_NULL", tpm.event(b"abc", b"", pcr=RH_NULL))
-    tpm.accepted(
-        "TPM2_PCR_Extend of PCR 0 by no digest",
-        tpm.prepare(CC.PCR_Extend, [0], frames.digests(), b""),
-    )
+    said = tpm("TPM2_PCR_Extend of PCR 0 by no digest")
+    said.accepted(tpm.prepare(CC.PCR_Extend, [0], frames.digests(), b""))
     tpm.refused("TPM2_PCR_Reset of PCR 0: LOCALITY", tpm.reset(b"", pcr=0))
     tpm.refused("TPM2_PCR_Event by a wrong password: BAD_AUTH/s1", tpm.event(b"a", b"x"))
     tpm.accepted("TPM2_PCR_Read", tpm.read_pcr(0))
-    tpm.says("TPM2_PolicyPCR again: SUCCESS", tpm.pcrs(session, zero))
+    tpm("TPM2_PolicyPCR again").pcrs(session, zero)
     twice = after(session, zero, after(session, zero))
     tpm.digest_is("Its digest, of twice the same", session, twice)
 
 tpm.chapter("Other assertions are not refused where a PCR has changed.")
 session = tpm.policy("A policy session")
 zero = [(SHA256, [0])]
-tpm.says("TPM2_PolicyPCR: SUCCESS", tpm.pcrs(session, zero))
+tpm("TPM2_PolicyPCR").pcrs(session, zero)
 told = after(session, zero)
 tpm.accepted("TPM2_PCR_Event into PCR 0", tpm.event(b"abc", b"", pcr=0))
-tpm.says("TPM2_PolicyAuthValue: SUCCESS", tpm.auth_value_told(session))
+tpm("TPM2_PolicyAuthValue").auth_value_told(session)
 told = policy.after_auth_value(session.algorithm, told)
 tpm.digest_is("Its digest", session, told)
 
 tpm.chapter("That nothing changes is asked from the first one on, also where it selects none.")
-restarted(session)
-tpm.says("No PCR: SUCCESS", tpm.pcrs(session, []))
+tpm.restarts(session)
+tpm("No PCR").pcrs(session, [])
 tpm.accepted("TPM2_PCR_Event into PCR 0", tpm.event(b"abc", b"", pcr=0))
-tpm.says("PCR 0: PCR_CHANGED", tpm.pcrs(session, zero))
+tpm("PCR 0: PCR_CHANGED").pcrs(session, zero)
 
 tpm.chapter("But not from one that was refused.")
-restarted(session)
-tpm.says("A wrong digest: VALUE/p1", tpm.pcrs(session, zero, bytes(32)))
+tpm.restarts(session)
+tpm("A wrong digest: VALUE/p1").pcrs(session, zero, bytes(32))
 tpm.digest_is("The digest is zeros", session, zeros(session))
 tpm.accepted("TPM2_PCR_Event into PCR 0", tpm.event(b"abc", b"", pcr=0))
-tpm.says("PCR 0: SUCCESS", tpm.pcrs(session, zero))
+tpm("PCR 0").pcrs(session, zero)
 tpm.digest_is("Its digest", session, after(session, zero))
 
 tpm.chapter("Each session by itself.")
 other = tpm.policy("Another policy session")
 tpm.accepted("TPM2_PCR_Reset of PCR 16", tpm.reset(b""))
-tpm.says("It has not been told of a PCR: SUCCESS", tpm.pcrs(other, zero))
-tpm.says("But the one before has: PCR_CHANGED", tpm.pcrs(session, zero))
+tpm("It has not been told of a PCR").pcrs(other, zero)
+tpm("But the one before has: PCR_CHANGED").pcrs(session, zero)

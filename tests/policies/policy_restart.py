@@ -1,14 +1,11 @@
-"""Writes policy_restart.tpm: TPM2_PolicyRestart, by which a session forgets its policy."""
+"""Writes policy_restart.tpm. TPM2_PolicyRestart: the session has forgotten what it was told, and
+keeps all else.
+"""
 
-from tpmsim.caller import Use
-from tpmsim.standard import CC, RH_OWNER, SHA1, SHA256, digest_bytes, frames, policy
-from tpmsim.caller.script_caller import is_trial, zeros
-from tests.common.teller import Teller
+from tests.common.vocabulary import CC, digest_bytes, frames, is_trial, policy, RH_OWNER, SHA1
+from tests.common.vocabulary import SHA256, Teller, Use, zeros
 
-tpm = Teller(
-    "tests/policies/policy_restart.tpm",
-    "TPM2_PolicyRestart: the session has forgotten what it was told, and keeps all else.",
-)
+tpm = Teller(__name__, __doc__)
 PCR_0 = [(SHA256, [0])]
 
 
@@ -16,32 +13,30 @@ def forgets(what, session, *told):
     """What is told, restarted, and what was in its way."""
     for prepared in told:
         tpm.says(f"{what}: SUCCESS", prepared)
-    tpm.says("TPM2_PolicyRestart: SUCCESS", tpm.restart(session))
+    tpm.restarts(session)
     tpm.digest_is("The digest is zeros", session, zeros(session))
 
 
 for session in tpm.each_session():
-    tpm.says("On a new session it changes nothing: SUCCESS", tpm.restart(session))
+    tpm("On a new session it changes nothing").restart(session)
     tpm.digest_is("The digest is zeros", session, zeros(session))
-    tpm.says(
-        "There are no parameters: a byte behind the handle: SIZE",
-        tpm.told(CC.PolicyRestart, session, b"\0"),
-    )
+    said = tpm("There are no parameters: a byte behind the handle: SIZE")
+    said.told(CC.PolicyRestart, session, b"\0")
 
-    tpm.says("TPM2_PolicyCommandCode of Unseal: SUCCESS", tpm.command_code(session, 0x15E))
-    tpm.says("Of NV_Read: VALUE/p1", tpm.command_code(session, 0x14E))
+    tpm("TPM2_PolicyCommandCode of Unseal").command_code(session, 0x15E)
+    tpm("Of NV_Read: VALUE/p1").command_code(session, 0x14E)
     forgets("Of Unseal again", session, tpm.command_code(session, 0x15E))
-    tpm.says("Of NV_Read: SUCCESS", tpm.command_code(session, 0x14E))
+    tpm("Of NV_Read").command_code(session, 0x14E)
     code_digest = policy.after_command_code(session.algorithm, zeros(session), 0x14E)
     tpm.digest_is("From zeros", session, code_digest)
 
-    tpm.says("TPM2_PolicyLocality of locality 0: SUCCESS", tpm.locality(session, 1))
-    tpm.says("Of locality 4: RANGE/p1", tpm.locality(session, 16))
+    tpm("TPM2_PolicyLocality of locality 0").locality(session, 1)
+    tpm("Of locality 4: RANGE/p1").locality(session, 16)
     forgets("Of locality 0 again", session, tpm.locality(session, 1))
-    tpm.says("Of locality 4: SUCCESS", tpm.locality(session, 16))
+    tpm("Of locality 4").locality(session, 16)
     locality_digest = policy.after_locality(session.algorithm, zeros(session), 16)
     tpm.digest_is("From zeros", session, locality_digest)
-    tpm.says("Of locality 0: RANGE/p1", tpm.locality(session, 1))
+    tpm("Of locality 0: RANGE/p1").locality(session, 1)
 
     size = digest_bytes(session.algorithm)
     one, other = bytes([1]) * size, bytes([2]) * size
@@ -53,36 +48,31 @@ for session in tpm.each_session():
     if not is_trial(session):
         tpm.refused("With the first: CPHASH", tpm.secret(session, cp_hash=one))
 
-    tpm.says("TPM2_PolicyPCR of PCR 0: SUCCESS", tpm.pcrs(session, PCR_0))
+    tpm("TPM2_PolicyPCR of PCR 0").pcrs(session, PCR_0)
     tpm.accepted("TPM2_PCR_Event into PCR 16", tpm.event(b"abc", b""))
     if not is_trial(session):
-        tpm.says("TPM2_PolicyPCR of PCR 0: PCR_CHANGED", tpm.pcrs(session, PCR_0))
+        tpm("TPM2_PolicyPCR of PCR 0: PCR_CHANGED").pcrs(session, PCR_0)
     forgets("TPM2_PolicyAuthValue", session, tpm.auth_value_told(session))
-    tpm.says("TPM2_PolicyPCR of PCR 0: SUCCESS", tpm.pcrs(session, PCR_0))
+    tpm("TPM2_PolicyPCR of PCR 0").pcrs(session, PCR_0)
 
 tpm.chapter("The nonce, the key, the hash and the encryption stay.")
 for algorithm in (SHA1, SHA256):
     session = tpm.policy(
         "A session bound to TPM_RH_OWNER", bind=RH_OWNER, algorithm=algorithm, aes=True
     )
-    tpm.says("TPM2_PolicyRestart: SUCCESS", tpm.restart(session))
-    tpm.accepted(
-        "TPM2_PolicySecret with its nonceTPM", tpm.secret(session, nonce_tpm=session.nonce_tpm)
-    )
-    tpm.accepted("TPM2_PolicyRestart by its own hmac", tpm.restart(session, session))
+    tpm.restarts(session)
+    said = tpm("TPM2_PolicySecret with its nonceTPM")
+    said.accepted(tpm.secret(session, nonce_tpm=session.nonce_tpm))
+    tpm("TPM2_PolicyRestart by its own hmac").restart(session, session)
     tpm.digest_is("The digest is zeros", session, zeros(session))
-    tpm.accepted(
-        "TPM2_GetRandom, which it encrypts", tpm.random(8, Use(session, frames.ENCRYPT | 1))
-    )
+    tpm("TPM2_GetRandom, which it encrypts").random(8, Use(session, frames.ENCRYPT | 1))
 
 tpm.chapter("Only the session that is named is restarted.")
 other = tpm.policy("Another one")
-tpm.says("TPM2_PolicyAuthValue in it: SUCCESS", tpm.auth_value_told(other))
-tpm.says("TPM2_PolicyRestart of the one before: SUCCESS", tpm.restart(session))
+tpm("TPM2_PolicyAuthValue in it").auth_value_told(other)
+tpm("TPM2_PolicyRestart of the one before").restart(session)
 told = policy.after_auth_value(other.algorithm, zeros(other))
 tpm.digest_is("The other one's digest stays", other, told)
-tpm.accepted(
-    "TPM2_PolicyRestart without continueSession|it is restarted, and ends",
-    tpm.restart(other, Use(other, 0)),
-)
-tpm.says("It is no more: REFERENCE_H0", tpm.get_digest(other))
+said = tpm("TPM2_PolicyRestart without continueSession|it is restarted, and ends")
+said.restart(other, Use(other, 0))
+tpm("It is no more: REFERENCE_H0").get_digest(other)

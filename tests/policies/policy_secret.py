@@ -1,10 +1,11 @@
-"""Writes policy_secret.tpm: TPM2_PolicySecret, its parameters and what it is hashed of."""
+"""Writes policy_secret.tpm. TPM2_PolicySecret: the policy is for who knows the authorization value
+of an entity, and shows it now. Its parameters are nonceTPM, cpHashA, policyRef and expiration. Here
+by the empty password alone.
+"""
 
-from tpmsim.caller import Use, flipped
-from tpmsim.standard import RH_ENDORSEMENT, RH_LOCKOUT, RH_OWNER, RH_PLATFORM, SHA1, SHA256
-from tpmsim.standard import digest_bytes, frames, name_of, number, policy, sized
-from tpmsim.caller.script_caller import is_trial, zeros
-from tests.common.teller import Teller
+from tests.common.vocabulary import digest_bytes, flipped, frames, is_trial, name_of, number, policy
+from tests.common.vocabulary import RH_ENDORSEMENT, RH_LOCKOUT, RH_OWNER, RH_PLATFORM, SHA1, SHA256
+from tests.common.vocabulary import sized, Teller, Use, zeros
 
 ENTITIES = (
     (RH_OWNER, "TPM_RH_OWNER"),
@@ -15,12 +16,7 @@ ENTITIES = (
     (23, "PCR 23"),
 )
 
-tpm = Teller(
-    "tests/policies/policy_secret.tpm",
-    "TPM2_PolicySecret: the policy is for who knows the authorization value of an entity, and "
-    "shows it now. Its parameters are nonceTPM, cpHashA, policyRef and expiration. Here by the "
-    "empty password alone.",
-)
+tpm = Teller(__name__, __doc__)
 
 
 def after(session, old, of=RH_ENDORSEMENT, policy_ref=b""):
@@ -31,16 +27,12 @@ def raw(session, text):
     return tpm.secret(session).but(parameters=text)
 
 
-def restarted(session):
-    tpm.says("TPM2_PolicyRestart: SUCCESS", tpm.restart(session))
-
-
 def digests(session):
     for handle, name in ENTITIES:
-        restarted(session)
+        tpm.restarts(session)
         tpm.accepted(f"By {name}", tpm.secret(session, of=handle))
         tpm.digest_is("Its digest", session, after(session, zeros(session), handle))
-    restarted(session)
+    tpm.restarts(session)
     digest = zeros(session)
     for policy_ref, words in (
         (b"", "No policyRef, which is hashed all the same"),
@@ -55,7 +47,7 @@ def digests(session):
 
 
 def nonces(session):
-    restarted(session)
+    tpm.restarts(session)
     right = session.nonce_tpm
     tpm.accepted("nonceTPM, the right one", tpm.secret(session, nonce_tpm=right))
     digest = after(session, zeros(session))
@@ -75,7 +67,7 @@ def nonces(session):
     else:
         tpm.refused(f"{what}: NONCE/p1", *buffers)
     tpm.digest_is("Its digest", session, digest)
-    tpm.accepted("The session has a new nonce, by TPM2_GetRandom", tpm.random(1, session))
+    tpm("The session has a new nonce, by TPM2_GetRandom").random(1, session)
     if not is_trial(session):
         tpm.refused("The one before: NONCE/p1", tpm.secret(session, nonce_tpm=right))
     tpm.accepted("The new one", tpm.secret(session, nonce_tpm=session.nonce_tpm))
@@ -85,7 +77,7 @@ def nonces(session):
 def cp_hashes(session):
     size = digest_bytes(session.algorithm)
     one, other = bytes([1]) * size, bytes(size)
-    restarted(session)
+    tpm.restarts(session)
     tpm.refused(
         "cpHashA of another size than the session's digests, also where it is in a trial session: "
         "SIZE/p2",
@@ -110,10 +102,9 @@ def cp_hashes(session):
         tpm.refused(f"{what}: CPHASH", *buffers)
     tpm.accepted("The first", tpm.secret(session, cp_hash=one))
     tpm.digest_is("Its digest", session, after(session, digest))
-    restarted(session)
-    tpm.refused(
-        "One in a command that is refused: VALUE/p4", tpm.secret(session, cp_hash=one, expiration=1)
-    )
+    tpm.restarts(session)
+    said = tpm("One in a command that is refused: VALUE/p4")
+    said.refused(tpm.secret(session, cp_hash=one, expiration=1))
     if not is_trial(session):
         refused = tpm.secret(session, cp_hash=one, nonce_tpm=b"x")
         tpm.refused("And by its nonceTPM: NONCE/p1", refused)
@@ -124,7 +115,7 @@ def cp_hashes(session):
 
 
 def edges(session):
-    restarted(session)
+    tpm.restarts(session)
     tpm.refused(
         "expiration that is not 0, of either sign: VALUE/p4",
         *(tpm.secret(session, expiration=it) for it in (1, 0x100, 0x0100_0000, 0xFFFF_FFFF)),
@@ -147,10 +138,8 @@ def edges(session):
             raw(session, before + number(33, 2)),
             raw(session, before + b"\xff\xff"),
         )
-    tpm.refused(
-        "expiration that is cut: INSUFFICIENT/p4",
-        *(raw(session, 3 * empty + bytes(it)) for it in (0, 1, 3)),
-    )
+    said = tpm("expiration that is cut: INSUFFICIENT/p4")
+    said.refused(*(raw(session, 3 * empty + bytes(it)) for it in (0, 1, 3)))
     tpm.refused(
         "A byte behind them, also where expiration is 1: SIZE",
         raw(session, frames.policy_secret() + b"\0"),
@@ -173,17 +162,14 @@ other = tpm.policy("Another session", size=32)
 tpm.refused("The other's: NONCE/p1", tpm.secret(session, nonce_tpm=other.nonce_tpm))
 tpm.refused("The other way round: NONCE/p1", tpm.secret(other, nonce_tpm=session.nonce_tpm))
 
-tpm.accepted(
-    "nonceTPM, cpHashA and policyRef of 32 bytes, and two entries of 32 bytes each behind",
-    tpm.secret(
-        session,
-        b"",
-        session,
-        Use(other, shows_empty_key=True),
-        nonce_tpm=session.nonce_tpm,
-        cp_hash=bytes(range(32)),
-        policy_ref=bytes(32),
-    ),
+tpm("nonceTPM, cpHashA and policyRef of 32 bytes, and two entries of 32 bytes each behind").secret(
+    session,
+    b"",
+    session,
+    Use(other, shows_empty_key=True),
+    nonce_tpm=session.nonce_tpm,
+    cp_hash=bytes(range(32)),
+    policy_ref=bytes(32),
 )
 digest = after(session, after(session, zeros(session)), policy_ref=bytes(32))
 tpm.digest_is("Its digest", session, digest)
@@ -191,23 +177,18 @@ tpm.digest_is("Its digest", session, digest)
 tpm.chapter("On the policy session that is named as a further entry too.")
 session = tpm.policy("The session, bound to TPM_RH_OWNER", bind=RH_OWNER, algorithm=SHA256)
 old = session.nonce_tpm
-tpm.accepted(
-    "With its nonceTPM of before, as it has the new one behind the command",
-    tpm.secret(session, b"", session, nonce_tpm=old),
-)
-tpm.refused("The same again: NONCE/p1", tpm.secret(session, b"", session, nonce_tpm=old))
-tpm.accepted("With the new one", tpm.secret(session, b"", session, nonce_tpm=session.nonce_tpm))
+said = tpm("With its nonceTPM of before, as it has the new one behind the command")
+said.secret(session, b"", session, nonce_tpm=old)
+tpm("The same again: NONCE/p1").secret(session, b"", session, nonce_tpm=old)
+tpm("With the new one").secret(session, b"", session, nonce_tpm=session.nonce_tpm)
 twice = after(session, after(session, zeros(session)))
 tpm.digest_is("Its digest", session, twice)
 right = tpm.secret(session, b"", session)
-tpm.refused(
-    "Its hmac is wrong: BAD_AUTH/s2", right.but_entry(2, hmac=flipped(right.entries[1].hmac))
-)
-tpm.accepted("It ends with the command", tpm.secret(session, b"", Use(session, 0)))
-tpm.says("It is no more: REFERENCE_H0", tpm.get_digest(session))
+said = tpm("Its hmac is wrong: BAD_AUTH/s2")
+said.refused(right.but_entry(2, hmac=flipped(right.entries[1].hmac)))
+tpm("It ends with the command").secret(session, b"", Use(session, 0))
+tpm("It is no more: REFERENCE_H0").get_digest(session)
 unbound = tpm.policy("One that is bound to nothing", algorithm=SHA1)
-tpm.accepted("It has neither key nor hmac", tpm.secret(unbound, b"", unbound))
-tpm.accepted(
-    "With an hmac by the empty key", tpm.secret(unbound, b"", Use(unbound, shows_empty_key=True))
-)
+tpm("It has neither key nor hmac").secret(unbound, b"", unbound)
+tpm("With an hmac by the empty key").secret(unbound, b"", Use(unbound, shows_empty_key=True))
 tpm.digest_is("Its digest", unbound, after(unbound, after(unbound, zeros(unbound))))

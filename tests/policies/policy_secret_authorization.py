@@ -1,10 +1,10 @@
-"""Writes policy_secret_authorization.tpm: by what entries TPM2_PolicySecret is authorized."""
+"""Writes policy_secret_authorization.tpm. TPM2_PolicySecret is authorized by the value of its first
+handle, in a password or an HMAC session, as any other command. Of the policy session nothing is
+asked.
+"""
 
-from tpmsim.caller import Use, flipped
-from tpmsim.standard import RH_ENDORSEMENT, RH_LOCKOUT, RH_OWNER, RH_PLATFORM, SHA1, SHA256
-from tpmsim.standard import name_of, policy
-from tpmsim.caller.script_caller import HASHES, zeros
-from tests.common.teller import Teller
+from tests.common.vocabulary import HASHES, name_of, policy, RH_ENDORSEMENT, RH_LOCKOUT, RH_OWNER
+from tests.common.vocabulary import RH_PLATFORM, SHA1, SHA256, Teller, Use, wrong_in, zeros
 
 VALUES = (
     (RH_OWNER, "TPM_RH_OWNER", b"owner"),
@@ -13,17 +13,7 @@ VALUES = (
     (RH_LOCKOUT, "TPM_RH_LOCKOUT", b"lockout"),
 )
 
-tpm = Teller(
-    "tests/policies/policy_secret_authorization.tpm",
-    "TPM2_PolicySecret is authorized by the value of its first handle, in a password or an HMAC "
-    "session, as any other command. Of the policy session nothing is asked.",
-    tries=True,
-)
-
-
-def wrong(prepared, place=1):
-    hmac = prepared.entries[place - 1].hmac
-    return prepared.but_entry(place, hmac=flipped(hmac) if hmac else b"\0")
+tpm = Teller(__name__, __doc__, tries=True)
 
 
 tpm.script.wait_each_time()
@@ -57,29 +47,20 @@ for handle, name, value in VALUES:
             ),
         )
         accepted("By the session that is bound to it", session, bound, of=handle)
-        tpm.refused(f"A wrong hmac of it: {code}", wrong(tpm.secret(session, bound, of=handle)))
+        tpm.refused(f"A wrong hmac of it: {code}", wrong_in(tpm.secret(session, bound, of=handle)))
         accepted("By the session that is bound to nothing", session, unbound, of=handle)
         tpm.refused(
             f"A wrong hmac of it, and none: {code}",
-            wrong(tpm.secret(session, unbound, of=handle)),
+            wrong_in(tpm.secret(session, unbound, of=handle)),
             tpm.secret(session, unbound, of=handle).but_entry(1, hmac=b""),
         )
     right = tpm.secret(target, bound, of=handle)
-    tpm.refused(
-        f"The right hmac, and another policy session than it is of: {code}",
-        right.but(handles=[handle, trial.handle]),
-    )
-    tpm.refused(
-        f"Another policyRef than it is of: {code}",
-        right.but(parameters=tpm.secret(target, policy_ref=b"r").parameters),
-    )
-    accepted(
-        "As the first entry it decrypts nonceTPM",
-        target,
-        Use(bound, 0x21),
-        of=handle,
-        nonce_tpm=target.nonce_tpm,
-    )
+    said = tpm(f"The right hmac, and another policy session than it is of: {code}")
+    said.refused(right.but(handles=[handle, trial.handle]))
+    said = tpm(f"Another policyRef than it is of: {code}")
+    said.refused(right.but(parameters=tpm.secret(target, policy_ref=b"r").parameters))
+    case = "As the first entry it decrypts nonceTPM"
+    accepted(case, target, Use(bound, 0x21), of=handle, nonce_tpm=target.nonce_tpm)
     accepted(
         "It ends, and decrypts and encrypts, though there is nothing to encrypt",
         target,
@@ -96,7 +77,7 @@ for algorithm, hash_name in HASHES:
     bound = tpm.start(f"An HMAC session of {hash_name}, bound to PCR 7", 7, algorithm=algorithm)
     accepted("By the empty password", target, b"", of=7)
     accepted("By the session that is bound to it", target, bound, of=7)
-    tpm.refused("A wrong hmac of it: BAD_AUTH/s1", wrong(tpm.secret(target, bound, of=7)))
+    tpm.refused("A wrong hmac of it: BAD_AUTH/s1", wrong_in(tpm.secret(target, bound, of=7)))
     accepted("By it on another, PCR 8", target, bound, of=8)
 accepted("By the session that is bound to nothing, with no hmac", trial, unbound, of=7)
 tpm.refused("A password: BAD_AUTH/s1", tpm.secret(target, b"x", of=7))
@@ -106,34 +87,22 @@ for session in (target, trial):
 tpm.chapter("With further entries.")
 bound = tpm.start("An HMAC session that is bound to TPM_RH_LOCKOUT", RH_LOCKOUT, algorithm=SHA1)
 accepted("Behind a password", target, b"owner", bound, of=RH_OWNER)
-accepted(
-    "Behind a session, and before the policy session", target, unbound, bound, target, of=RH_OWNER
-)
+case = "Behind a session, and before the policy session"
+accepted(case, target, unbound, bound, target, of=RH_OWNER)
 tpm.refused(
     "A wrong hmac behind a password, of a session that is bound to TPM_RH_LOCKOUT: AUTH_FAIL/s2",
-    wrong(tpm.secret(target, b"owner", bound, of=RH_OWNER), 2),
+    wrong_in(tpm.secret(target, b"owner", bound, of=RH_OWNER), 2),
 )
-tpm.refused(
-    "A wrong one behind it: BAD_AUTH/s3",
-    wrong(tpm.secret(target, b"owner", bound, target, of=RH_OWNER), 3),
-)
+said = tpm("A wrong one behind it: BAD_AUTH/s3")
+said.refused(wrong_in(tpm.secret(target, b"owner", bound, target, of=RH_OWNER), 3))
 locked = tpm.policy("A policy session that is bound to TPM_RH_LOCKOUT", bind=RH_LOCKOUT)
-tpm.refused(
-    "A wrong hmac of it, as a further entry: AUTH_FAIL/s2",
-    wrong(tpm.secret(target, b"owner", locked, of=RH_OWNER), 2),
-)
+said = tpm("A wrong hmac of it, as a further entry: AUTH_FAIL/s2")
+said.refused(wrong_in(tpm.secret(target, b"owner", locked, of=RH_OWNER), 2))
 accepted("A right one", target, b"owner", locked, of=RH_OWNER)
 owned = tpm.policy("One that is bound to TPM_RH_OWNER", bind=RH_OWNER, algorithm=SHA256)
-tpm.refused(
-    "A wrong hmac of it, where the first entry is of TPM_RH_LOCKOUT: BAD_AUTH/s2",
-    wrong(tpm.secret(target, b"lockout", owned, of=RH_LOCKOUT), 2),
-)
-accepted(
-    "A right one, on TPM_RH_OWNER: it has the session's key alone, and no authorization value",
-    target,
-    b"owner",
-    owned,
-    of=RH_OWNER,
-)
+said = tpm("A wrong hmac of it, where the first entry is of TPM_RH_LOCKOUT: BAD_AUTH/s2")
+said.refused(wrong_in(tpm.secret(target, b"lockout", owned, of=RH_LOCKOUT), 2))
+case = "A right one, on TPM_RH_OWNER: it has the session's key alone, and no authorization value"
+accepted(case, target, b"owner", owned, of=RH_OWNER)
 for session in (target, trial):
     tpm.digest_is("The digest", session, after[session.handle])

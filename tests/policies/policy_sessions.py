@@ -1,20 +1,14 @@
-"""Writes policy_sessions.tpm: where policy sessions have their place, and how they end."""
+"""Writes policy_sessions.tpm. Policy sessions and trial sessions have the sixteen places that HMAC
+sessions have. Their handles begin with 03, and those of HMAC sessions with 02.
+"""
 
-from tpmsim.caller import Use, flipped
-from tpmsim.standard import CC, Entry, RH_LOCKOUT, RH_OWNER, SE_HMAC, SE_POLICY, SE_TRIAL, SHA1
-from tpmsim.standard import SHA256, frames, number
-from tpmsim.caller.script_caller import HASHES, zeros
-from tests.common.teller import Teller
+from tests.common.vocabulary import CC, Entry, flipped, frames, HASHES, number, RH_LOCKOUT, RH_OWNER
+from tests.common.vocabulary import SE_HMAC, SE_POLICY, SE_TRIAL, SHA1, SHA256, Teller, Use, zeros
 
 PLACES = 16
 NAMES = {SE_HMAC: "HMAC", SE_POLICY: "policy", SE_TRIAL: "trial"}
 
-tpm = Teller(
-    "tests/policies/policy_sessions.tpm",
-    "Policy sessions and trial sessions have the sixteen places that HMAC sessions have. Their "
-    "handles begin with 03, and those of HMAC sessions with 02.",
-    starts=False,
-)
+tpm = Teller(__name__, __doc__, starts=False)
 
 
 def start(kind, place, what=None, **choices):
@@ -47,20 +41,17 @@ for place in range(PLACES):
     what = "" if place else "Each has the lowest free place"
     sessions.append(start(kind, place, what, bind=RH_OWNER, algorithm=algorithm))
 for kind, name in NAMES.items():
-    tpm.says(
-        f"A seventeenth one: a {name} session: SESSION_MEMORY",
-        tpm.prepare(CC.StartAuthSession, *frames.start_auth_session(bytes(16), kind=kind)),
-    )
+    said = tpm(f"A seventeenth one: a {name} session: SESSION_MEMORY")
+    said.prepare(CC.StartAuthSession, *frames.start_auth_session(bytes(16), kind=kind))
 tpm.says("Each has zeros: SUCCESS", *map(tpm.get_digest, sessions))
-tpm.says("The ninth is told something: SUCCESS", tpm.auth_value_told(sessions[8]))
+tpm("The ninth is told something").auth_value_told(sessions[8])
 tpm.digest_is("The eleventh is not", sessions[10], zeros(sessions[10]))
-tpm.accepted("Three of them beside TPM2_GetRandom", tpm.random(4, *sessions[2:5]))
+tpm("Three of them beside TPM2_GetRandom").random(4, *sessions[2:5])
 ending = tpm.prepare(
     CC.StartAuthSession, *frames.start_auth_session(bytes(16), kind=SE_POLICY), Use(sessions[4], 0)
 )
-tpm.refused(
-    "A session beside it that would end gives its place up too late: SESSION_MEMORY", ending
-)
+said = tpm("A session beside it that would end gives its place up too late: SESSION_MEMORY")
+said.refused(ending)
 flushed = sessions[5], sessions[3]
 tpm.says("The sixth and the fourth are flushed: SUCCESS", *map(tpm.flush, flushed))
 tpm.says("They are no more: REFERENCE_H0", *map(tpm.get_digest, flushed))
@@ -69,26 +60,20 @@ policy = start(SE_POLICY, 5, "And a policy session the other", bind=RH_OWNER)
 tpm.digest_is("It begins with zeros", policy, zeros(policy))
 
 tpm.chapter("A handle is that of a place and a kind.")
-tpm.raw(
-    "The place of the HMAC session, as a policy session's: REFERENCE_H0", get_digest(0x0300_0003)
-)
+said = tpm("The place of the HMAC session, as a policy session's: REFERENCE_H0")
+said.raw(get_digest(0x0300_0003))
 tpm.raw("In TPM2_FlushContext: HANDLE/p1", flush(0x0300_0003))
 tpm.refused("As an entry: REFERENCE_S0", random_by(0x0300_0003))
-tpm.raw(
-    "The place of a policy session, as an HMAC session's: HANDLE/p1",
-    flush(0x0200_0005),
-    flush(0x0200_0000),
-)
+said = tpm("The place of a policy session, as an HMAC session's: HANDLE/p1")
+said.raw(flush(0x0200_0005), flush(0x0200_0000))
 tpm.refused("As an entry: REFERENCE_S0", random_by(0x0200_0005), random_by(0x0200_0000))
-tpm.raw(
-    "Handles of places that there are not: HANDLE/p1",
-    *map(flush, (0x0300_0010, 0x0300_0100, 0x0301_0000, 0x03FF_FFFF)),
-)
-tpm.accepted("The two of those places, by their right handles", tpm.reset(hmac, policy))
-tpm.says("The HMAC session is flushed: SUCCESS", tpm.flush(hmac))
+said = tpm("Handles of places that there are not: HANDLE/p1")
+said.raw(*map(flush, (0x0300_0010, 0x0300_0100, 0x0301_0000, 0x03FF_FFFF)))
+tpm("The two of those places, by their right handles").reset(hmac, policy)
+tpm("The HMAC session is flushed").flush(hmac)
 trial = start(SE_TRIAL, 3, "A trial session has its place", bind=RH_OWNER)
 tpm.raw("And the handle 02000003 is no more: HANDLE/p1", flush(0x0200_0003))
-tpm.refused("As an entry: REFERENCE_S0", tpm.random(1, hmac))
+tpm("As an entry: REFERENCE_S0").random(1, hmac)
 
 tpm.chapter("A new session in the place of one that was told something knows nothing of it.")
 CP_HASHES = bytes([1]) * 32, bytes([2]) * 32
@@ -112,24 +97,24 @@ def is_policy_session(session):
 
 
 def is_trial_session(session):
-    tpm.says("As a trial session it takes any: SUCCESS", tpm.branches(session, b"x", b"y"))
+    tpm("As a trial session it takes any").branches(session, b"x", b"y")
 
 
-tpm.says("A trial session ends: SUCCESS", tpm.flush(sessions[7]))
+tpm("A trial session ends").flush(sessions[7])
 told = start(SE_POLICY, 7, "A policy session in its place")
 is_policy_session(told)
 tell(told, 0x15E, 1, CP_HASHES[0])
 tpm.accepted("TPM2_PCR_Reset of PCR 16", tpm.reset(b""))
-tpm.accepted("It ends by its use", tpm.random(1, Use(told, 0)))
+tpm("It ends by its use").random(1, Use(told, 0))
 told = start(SE_POLICY, 7, "A policy session in its place")
 tell(told, 0x14E, 2, CP_HASHES[1])
 is_policy_session(told)
 tpm.accepted("TPM2_PCR_Reset of PCR 16", tpm.reset(b""))
-tpm.says("It ends by TPM2_FlushContext: SUCCESS", tpm.flush(told))
+tpm("It ends by TPM2_FlushContext").flush(told)
 told = start(SE_TRIAL, 7, "A trial session in its place")
 tell(told, 0x15E, 4, CP_HASHES[0])
 is_trial_session(told)
-tpm.says("It ends by TPM2_FlushContext: SUCCESS", tpm.flush(told))
+tpm("It ends by TPM2_FlushContext").flush(told)
 told = start(SE_POLICY, 7, "And a policy session again")
 tpm.digest_is("It begins with zeros", told, zeros(told))
 is_policy_session(told)
@@ -140,14 +125,12 @@ for session, words in ((policy, "policy"), (trial, "trial")):
     told = tpm.random(2, session)
     tpm.accepted(f"The {words} session beside TPM2_GetRandom", told)
     tpm.refused("The same again, of a nonce that is past: BAD_AUTH/s1", told)
-    tpm.accepted("Without continueSession|and it ends", tpm.random(2, Use(session, 0)))
-    tpm.refused("As an entry: REFERENCE_S0", tpm.random(2, session))
-    tpm.says("Its digest: REFERENCE_H0", tpm.get_digest(session))
-tpm.refused(
-    "A session that would end by a refused command: REFERENCE_S1",
-    tpm.random(1, Use(sessions[0], 0), policy),
-)
-tpm.says("Is there: SUCCESS", tpm.get_digest(sessions[0]))
+    tpm("Without continueSession|and it ends").random(2, Use(session, 0))
+    tpm("As an entry: REFERENCE_S0").random(2, session)
+    tpm("Its digest: REFERENCE_H0").get_digest(session)
+said = tpm("A session that would end by a refused command: REFERENCE_S1")
+said.random(1, Use(sessions[0], 0), policy)
+tpm("Is there").get_digest(sessions[0])
 
 tpm.chapter("A refused command changes neither nonce nor policy.")
 session = sessions[1]
@@ -160,22 +143,20 @@ tpm.digest_is("The digest is zeros", session, zeros(session))
 tpm.accepted("The right one", right)
 
 tpm.chapter("A power cycle ends them all.")
-tpm.power()
-tpm.startup()
-tpm.raw(
-    "No session has a digest: REFERENCE_H0", *(get_digest(0x0300_0000 + it) for it in range(16))
-)
+tpm.power_cycle()
+said = tpm("No session has a digest: REFERENCE_H0")
+said.raw(*(get_digest(0x0300_0000 + it) for it in range(16)))
 tpm.raw("Nor can it be flushed: HANDLE/p1", flush(0x0300_0000), flush(0x0300_000F))
 again = start(SE_POLICY, 0, "The first place is free", algorithm=SHA1)
 tpm.digest_is("A new policy is there", again, zeros(again))
-tpm.says("It is flushed: SUCCESS", tpm.flush(again))
+tpm("It is flushed").flush(again)
 
 tpm.chapter("Nor is anything left in the eighth place, whose session was told something.")
 MIXED = (SE_POLICY, SE_HMAC, SE_TRIAL)
 for place in range(8):
     last = start(MIXED[place % 3], place, "" if place else "Eight of each kind are started")
 assert last.handle == 0x0200_0007
-tpm.says("An HMAC session has the eighth: SUCCESS", tpm.flush(last))
+tpm("An HMAC session has the eighth").flush(last)
 last = start(SE_POLICY, 7, "And a policy session has it then")
 tpm.digest_is("It begins with zeros", last, zeros(last))
 tell(last, 0x14E, 16, bytes([3]) * 32)
@@ -197,4 +178,4 @@ for bind, words in ((frames.RH_NULL, "nothing"), (RH_LOCKOUT, "TPM_RH_LOCKOUT"),
                 size=size,
                 aes=size > 16,
             )
-            tpm.accepted("TPM2_GetRandom, and it ends", tpm.random(1, Use(session, 0)))
+            tpm("TPM2_GetRandom, and it ends").random(1, Use(session, 0))

@@ -1,16 +1,13 @@
-"""Writes policy_sessions_authorize_nothing.tpm: policy sessions as the first entry."""
+"""Writes policy_sessions_authorize_nothing.tpm. A policy session authorizes what has a policy.
+Hierarchies and PCRs have none: they are authorized by their authorization value alone. A trial
+session never authorizes.
+"""
 
-from tpmsim.caller import Use, flipped
-from tpmsim.standard import CC, CONTINUE_SESSION, DECRYPT, Entry, RH_ENDORSEMENT, RH_LOCKOUT
-from tpmsim.standard import RH_NULL, RH_OWNER, RH_PLATFORM, frames
-from tpmsim.caller.script_caller import zeros
-from tests.common.teller import Teller
+from tests.common.vocabulary import CC, CONTINUE_SESSION, DECRYPT, Entry, flipped, frames
+from tests.common.vocabulary import RH_ENDORSEMENT, RH_LOCKOUT, RH_NULL, RH_OWNER, RH_PLATFORM
+from tests.common.vocabulary import Teller, Use, zeros
 
-tpm = Teller(
-    "tests/policies/policy_sessions_authorize_nothing.tpm",
-    "A policy session authorizes what has a policy. Hierarchies and PCRs have none: they are "
-    "authorized by their authorization value alone. A trial session never authorizes.",
-)
+tpm = Teller(__name__, __doc__)
 
 tpm.accepted('ownerAuth is "owner"', tpm.change_auth(RH_OWNER, b"owner", b""))
 hmac = tpm.start("An HMAC session, bound to TPM_RH_OWNER, with AES", RH_OWNER, aes=True)
@@ -52,8 +49,8 @@ for what, told in (
     ("TPM2_PolicyPassword", tpm.password_told),
 ):
     tpm.says(f"{what}: SUCCESS", told(policy), told(trial))
-    tpm.refused("TPM2_PCR_Reset by the policy session: AUTH_UNAVAILABLE", tpm.reset(policy))
-    tpm.refused("By the trial session: ATTRIBUTES/s1", tpm.reset(trial))
+    tpm("TPM2_PCR_Reset by the policy session: AUTH_UNAVAILABLE").reset(policy)
+    tpm("By the trial session: ATTRIBUTES/s1").reset(trial)
 for session in (policy, trial):
     tpm.says(
         "TPM2_PolicyCommandCode of another command, and of locality 4: SUCCESS",
@@ -61,12 +58,10 @@ for session in (policy, trial):
         tpm.locality(session, 16),
         tpm.pcrs(session, [(frames.SHA256, [16])]),
     )
-tpm.accepted(
-    "PCR 16 changes behind TPM2_PolicyPCR, by the session bound to TPM_RH_OWNER",
-    tpm.event(b"abc", hmac),
-)
-tpm.refused("TPM2_PCR_Reset by the policy session: AUTH_UNAVAILABLE", tpm.reset(policy))
-tpm.refused("By the trial session: ATTRIBUTES/s1", tpm.reset(trial))
+said = tpm("PCR 16 changes behind TPM2_PolicyPCR, by the session bound to TPM_RH_OWNER")
+said.event(b"abc", hmac)
+tpm("TPM2_PCR_Reset by the policy session: AUTH_UNAVAILABLE").reset(policy)
+tpm("By the trial session: ATTRIBUTES/s1").reset(trial)
 
 tpm.chapter("It comes before its own hmac, right or wrong, and before the entries behind.")
 reset = tpm.reset(bound, hmac)
@@ -93,38 +88,25 @@ tpm.chapter("But what is refused of entries whatever their hmacs are comes befor
 absent = Entry(0x0300_0009, b"", CONTINUE_SESSION, b"")
 for session in (bound, keyed):
     right = tpm.reset(session)
-    tpm.refused(
-        "A session that is not there as the second entry: REFERENCE_S1",
-        right.but(entries=[*right.entries, absent]),
-    )
+    said = tpm("A session that is not there as the second entry: REFERENCE_S1")
+    said.refused(right.but(entries=[*right.entries, absent]))
     tpm.refused("The same session twice: HANDLE/s2", right.but(entries=2 * right.entries))
-    tpm.refused(
-        "decrypt, where the first parameter is no sized buffer: ATTRIBUTES/s1",
-        right.but_entry(1, attributes=CONTINUE_SESSION | DECRYPT),
-    )
+    said = tpm("decrypt, where the first parameter is no sized buffer: ATTRIBUTES/s1")
+    said.refused(right.but_entry(1, attributes=CONTINUE_SESSION | DECRYPT))
     tpm.refused("A reserved attribute: RESERVED_BITS/s1", right.but_entry(1, attributes=0x08))
 for session in (policy, trial):
-    tpm.refused(
-        "decrypt in a session without AES, TPM2_PCR_Event: SYMMETRIC/s1",
-        tpm.event(b"abc", Use(session, CONTINUE_SESSION | DECRYPT)),
-    )
-tpm.refused(
-    "A parameter that cannot be decrypted comes behind: AUTH_UNAVAILABLE",
-    tpm.event(b"abc", Use(bound, DECRYPT)).but(parameters=b"\0"),
-)
-tpm.refused(
-    "And in a trial session: ATTRIBUTES/s1",
-    tpm.event(b"abc", Use(keyed, DECRYPT)).but(parameters=b"\0"),
-)
-tpm.refused(
-    "And so do parameters, and LOCALITY of PCR 0: AUTH_UNAVAILABLE",
-    tpm.reset(policy).but(parameters=b"\0"),
-    tpm.reset(policy, pcr=0),
-)
+    said = tpm("decrypt in a session without AES, TPM2_PCR_Event: SYMMETRIC/s1")
+    said.event(b"abc", Use(session, CONTINUE_SESSION | DECRYPT))
+said = tpm("A parameter that cannot be decrypted comes behind: AUTH_UNAVAILABLE")
+said.refused(tpm.event(b"abc", Use(bound, DECRYPT)).but(parameters=b"\0"))
+said = tpm("And in a trial session: ATTRIBUTES/s1")
+said.refused(tpm.event(b"abc", Use(keyed, DECRYPT)).but(parameters=b"\0"))
+said = tpm("And so do parameters, and LOCALITY of PCR 0: AUTH_UNAVAILABLE")
+said.refused(tpm.reset(policy).but(parameters=b"\0"), tpm.reset(policy, pcr=0))
 
 tpm.chapter("No session was changed, nor anything else.")
 tpm.digest_is("The session that was to be told something", target, zeros(target))
 for session in (policy, bound, lockout, trial, keyed):
-    tpm.accepted("TPM2_GetRandom beside it", tpm.random(1, session))
+    tpm("TPM2_GetRandom beside it").random(1, session)
 tpm.accepted("ownerAuth", tpm.change_auth(RH_OWNER, b"owner", b"owner"))
 tpm.accepted("The others are empty", tpm.secret(target, b"", of=RH_LOCKOUT))

@@ -1,25 +1,16 @@
-"""Writes policy_sessions_that_encrypt.tpm: policy sessions that authorize nothing."""
+"""Writes policy_sessions_that_encrypt.tpm. Policy sessions and trial sessions as further entries:
+they authorize nothing there, and are held against their hmac as HMAC sessions are. They can decrypt
+and encrypt, and keep what they were told.
+"""
 
-from tpmsim.caller import Use, flipped
-from tpmsim.standard import CC, CONTINUE_SESSION, DECRYPT, ENCRYPT, RH_ENDORSEMENT, RH_LOCKOUT
-from tpmsim.standard import RH_OWNER, SE_POLICY, SE_TRIAL, SHA1, digest, frames, name_of, policy
-from tpmsim.caller.script_caller import HASHES, KINDS, zeros
-from tests.common.teller import Teller
-
-DECRYPTS, ENCRYPTS = CONTINUE_SESSION | DECRYPT, CONTINUE_SESSION | ENCRYPT
-
-tpm = Teller(
-    "tests/policies/policy_sessions_that_encrypt.tpm",
-    "Policy sessions and trial sessions as further entries: they authorize nothing there, and are "
-    "held against their hmac as HMAC sessions are. They can decrypt and encrypt, and keep what "
-    "they were told.",
-    tries=True,
-)
+from tpmsim.caller.script_caller import KINDS
+from tests.common.vocabulary import CC, CONTINUE_SESSION, DECRYPTS, digest, ENCRYPT, ENCRYPTS
+from tests.common.vocabulary import flipped, frames, HASHES, name_of, policy, RH_ENDORSEMENT
+from tests.common.vocabulary import RH_LOCKOUT, RH_OWNER, SE_POLICY, SE_TRIAL, SHA1, Teller, Use
+from tests.common.vocabulary import wrong_in, zeros
 
 
-def wrong(prepared, place):
-    hmac = prepared.entries[place - 1].hmac
-    return prepared.but_entry(place, hmac=flipped(hmac) if hmac else b"\0")
+tpm = Teller(__name__, __doc__, tries=True)
 
 
 tpm.accepted('ownerAuth is "owner"', tpm.change_auth(RH_OWNER, b"owner", b""))
@@ -28,82 +19,57 @@ hmac = tpm.start("An HMAC session, bound to TPM_RH_OWNER, with AES", RH_OWNER, a
 for algorithm, hash_name in HASHES:
     for kind, name in KINDS:
         tpm.chapter(f"A {name} session of {hash_name}, bound to TPM_RH_OWNER.")
-        session = tpm.start(
-            "It is started", RH_OWNER, algorithm=algorithm, aes=True, kind=kind, size=20
-        )
-        tpm.says("TPM2_PolicyAuthValue: SUCCESS", tpm.auth_value_told(session))
+        said = tpm("It is started")
+        session = said.start(RH_OWNER, algorithm=algorithm, aes=True, kind=kind, size=20)
+        tpm("TPM2_PolicyAuthValue").auth_value_told(session)
         told = policy.after_auth_value(algorithm, zeros(session))
-        tpm.accepted(
-            "TPM2_PCR_Event by a password, and the data is encrypted by it",
-            tpm.event(b"event data", b"", Use(session, DECRYPTS)),
-        )
-        tpm.accepted(
-            "TPM2_HierarchyChangeAuth by a password: its key has no authorization value",
-            tpm.change_auth(RH_OWNER, b"another", b"owner", Use(session, DECRYPTS)),
-        )
-        tpm.accepted(
-            "By an HMAC session, whose hmac has its nonce",
-            tpm.change_auth(RH_OWNER, b"owner", hmac, Use(session, DECRYPTS)),
-        )
-        tpm.accepted("TPM2_GetRandom, which it encrypts", tpm.random(20, Use(session, ENCRYPTS)))
-        tpm.accepted("TPM2_GetRandom that it does not encrypt", tpm.random(20, hmac, session))
+        said = tpm("TPM2_PCR_Event by a password, and the data is encrypted by it")
+        said.event(b"event data", b"", Use(session, DECRYPTS))
+        said = tpm("TPM2_HierarchyChangeAuth by a password: its key has no authorization value")
+        said.change_auth(RH_OWNER, b"another", b"owner", Use(session, DECRYPTS))
+        said = tpm("By an HMAC session, whose hmac has its nonce")
+        said.change_auth(RH_OWNER, b"owner", hmac, Use(session, DECRYPTS))
+        tpm("TPM2_GetRandom, which it encrypts").random(20, Use(session, ENCRYPTS))
+        tpm("TPM2_GetRandom that it does not encrypt").random(20, hmac, session)
         tpm.digest_is("Its digest is as it was", session, told)
         encrypted = tpm.get_digest(session, Use(session, ENCRYPTS))
         tpm.accepted("TPM2_PolicyGetDigest, which it encrypts itself", encrypted)
-        tpm.accepted(
-            "And which the HMAC session encrypts",
-            tpm.get_digest(session, session, Use(hmac, ENCRYPTS)),
-        )
+        tpm("And which the HMAC session encrypts").get_digest(session, session, Use(hmac, ENCRYPTS))
         right = tpm.event(b"event data", b"", Use(session, DECRYPTS))
         tpm.refused(
             "A wrong hmac: by a bit, none, and the attribute taken away: BAD_AUTH/s2",
-            wrong(right, 2),
+            wrong_in(right, 2),
             right.but_entry(2, hmac=b""),
             right.but_entry(2, attributes=CONTINUE_SESSION),
         )
         with tpm.breaking(key=lambda *_: session.key + b"owner"):
             valued = tpm.event(b"event data", b"", Use(session, DECRYPTS))
         tpm.refused("ownerAuth in its key: BAD_AUTH/s2", valued)
-        tpm.refused(
-            "Parameters that cannot be decrypted: INSUFFICIENT/p1",
-            tpm.prepare(CC.PCR_Event, [16], b"\0\1", b"", Use(session, DECRYPTS)),
-        )
+        said = tpm("Parameters that cannot be decrypted: INSUFFICIENT/p1")
+        said.prepare(CC.PCR_Event, [16], b"\0\1", b"", Use(session, DECRYPTS))
         tpm.accepted("The right one", right)
         tpm.refused("It is of a nonce that is past: BAD_AUTH/s2", right)
         tpm.digest_is("Its digest is as it was", session, told)
 
-        tpm.accepted(
-            "TPM2_PolicyPCR whose digest it decrypts itself|and its digest is of the plain one",
-            tpm.pcrs(session, [], digest(algorithm, b""), [Use(session, DECRYPTS)]),
-        )
+        tpm(
+            "TPM2_PolicyPCR whose digest it decrypts itself|and its digest is of the plain one"
+        ).pcrs(session, [], digest(algorithm, b""), [Use(session, DECRYPTS)])
         told = policy.after_pcr(algorithm, told, frames.selection(), digest(algorithm, b""))
         tpm.digest_is("Its digest", session, told)
-        tpm.accepted(
-            "TPM2_PolicySecret, of which it decrypts nonceTPM itself: the one of before",
-            tpm.secret(
-                session, b"owner", Use(session, DECRYPTS), of=RH_OWNER, nonce_tpm=session.nonce_tpm
-            ),
+        tpm("TPM2_PolicySecret, of which it decrypts nonceTPM itself: the one of before").secret(
+            session, b"owner", Use(session, DECRYPTS), of=RH_OWNER, nonce_tpm=session.nonce_tpm
         )
-        tpm.accepted(
-            "And which the HMAC session decrypts, that authorizes",
-            tpm.secret(
-                session, Use(hmac, DECRYPTS), session, of=RH_OWNER, nonce_tpm=session.nonce_tpm
-            ),
+        said = tpm("And which the HMAC session decrypts, that authorizes")
+        said.secret(session, Use(hmac, DECRYPTS), session, of=RH_OWNER, nonce_tpm=session.nonce_tpm)
+        tpm("Decrypted by it, where the HMAC session authorizes and encrypts").secret(
+            session,
+            Use(hmac, ENCRYPTS),
+            Use(session, DECRYPTS),
+            of=RH_OWNER,
+            nonce_tpm=session.nonce_tpm,
         )
-        tpm.accepted(
-            "Decrypted by it, where the HMAC session authorizes and encrypts",
-            tpm.secret(
-                session,
-                Use(hmac, ENCRYPTS),
-                Use(session, DECRYPTS),
-                of=RH_OWNER,
-                nonce_tpm=session.nonce_tpm,
-            ),
-        )
-        tpm.accepted(
-            "It encrypts, behind a password, and there is nothing to encrypt",
-            tpm.secret(session, b"owner", Use(session, ENCRYPTS), of=RH_OWNER),
-        )
+        said = tpm("It encrypts, behind a password, and there is nothing to encrypt")
+        said.secret(session, b"owner", Use(session, ENCRYPTS), of=RH_OWNER)
         for _ in range(4):
             told = policy.after_secret(algorithm, told, name_of(RH_OWNER), b"")
         tpm.digest_is("Its digest", session, told)
@@ -154,7 +120,7 @@ for algorithm, hash_name in HASHES:
                 )
             ),
         )
-        tpm.accepted("It encrypts, and ends", tpm.random(20, Use(session, ENCRYPT)))
+        tpm("It encrypts, and ends").random(20, Use(session, ENCRYPT))
 
 tpm.chapter("Without a key: the hmac may be left out.")
 for algorithm, hash_name in HASHES:
@@ -165,30 +131,18 @@ for algorithm, hash_name in HASHES:
             aes=True,
             kind=kind,
         )
-        tpm.accepted(
-            "Behind a password, with no hmac|and none is answered",
-            tpm.event(b"event data", b"", Use(session, DECRYPTS)),
-        )
-        tpm.accepted(
-            "With an hmac by the empty key",
-            tpm.event(b"event data", b"", Use(session, DECRYPTS, shows_empty_key=True)),
-        )
+        said = tpm("Behind a password, with no hmac|and none is answered")
+        said.event(b"event data", b"", Use(session, DECRYPTS))
+        said = tpm("With an hmac by the empty key")
+        said.event(b"event data", b"", Use(session, DECRYPTS, shows_empty_key=True))
         shown = tpm.event(b"event data", b"", Use(session, DECRYPTS, shows_empty_key=True))
-        tpm.refused(
-            "With a wrong one, and with a byte: BAD_AUTH/s2",
-            wrong(shown, 2),
-            shown.but_entry(2, hmac=b"\0"),
-        )
+        said = tpm("With a wrong one, and with a byte: BAD_AUTH/s2")
+        said.refused(wrong_in(shown, 2), shown.but_entry(2, hmac=b"\0"))
         tpm.accepted("The right one", shown)
-        tpm.accepted(
-            "TPM2_GetRandom, which it encrypts without a key", tpm.random(8, Use(session, ENCRYPTS))
-        )
-        tpm.accepted(
-            "TPM2_PolicyGetDigest, which it encrypts",
-            tpm.get_digest(session, Use(session, ENCRYPTS)),
-        )
+        tpm("TPM2_GetRandom, which it encrypts without a key").random(8, Use(session, ENCRYPTS))
+        tpm("TPM2_PolicyGetDigest, which it encrypts").get_digest(session, Use(session, ENCRYPTS))
         tpm.digest_is("Its digest is zeros", session, zeros(session))
-        tpm.says("It is flushed: SUCCESS", tpm.flush(session))
+        tpm("It is flushed").flush(session)
 
 tpm.chapter("Without AES.")
 plain = tpm.policy("A policy session", bind=RH_OWNER)
@@ -197,29 +151,19 @@ tpm.refused(
     tpm.pcrs(plain, [], b"", [Use(plain, DECRYPTS)]),
     tpm.get_digest(plain, Use(plain, ENCRYPTS)),
 )
-tpm.refused("Behind a password: SYMMETRIC/s2", tpm.event(b"a", b"", Use(plain, DECRYPTS)))
+tpm("Behind a password: SYMMETRIC/s2").event(b"a", b"", Use(plain, DECRYPTS))
 
 tpm.chapter("Started beside others, and with others beside it.")
 first = tpm.policy("A policy session, with AES", bind=RH_OWNER, aes=True)
-second = tpm.start(
-    "TPM2_StartAuthSession of another, by which it is encrypted in both directions",
-    RH_ENDORSEMENT,
-    kind=SE_TRIAL,
-    aes=True,
-    uses=[Use(first, DECRYPTS | ENCRYPT)],
-)
-third = tpm.start(
-    "Of an HMAC session: the trial session decrypts and the policy session encrypts",
-    RH_OWNER,
-    aes=True,
-    uses=[Use(second, DECRYPTS), Use(first, ENCRYPTS)],
-)
-tpm.accepted("Three beside a password would be four; two", tpm.event(b"a", b"", first, second))
-tpm.accepted(
+said = tpm("TPM2_StartAuthSession of another, by which it is encrypted in both directions")
+second = said.start(RH_ENDORSEMENT, kind=SE_TRIAL, aes=True, uses=[Use(first, DECRYPTS | ENCRYPT)])
+said = tpm("Of an HMAC session: the trial session decrypts and the policy session encrypts")
+third = said.start(RH_OWNER, aes=True, uses=[Use(second, DECRYPTS), Use(first, ENCRYPTS)])
+tpm("Three beside a password would be four; two").event(b"a", b"", first, second)
+tpm(
     "TPM2_HierarchyChangeAuth by the HMAC session, with both: the first hmac has the nonce of the "
-    "one that decrypts",
-    tpm.change_auth(RH_OWNER, b"owner", third, second, Use(first, DECRYPTS)),
-)
+    "one that decrypts"
+).change_auth(RH_OWNER, b"owner", third, second, Use(first, DECRYPTS))
 with tpm.breaking(nonces_of_others=lambda *_: []):
     left_out = tpm.change_auth(RH_OWNER, b"owner", third, second, Use(first, DECRYPTS))
 tpm.refused("Where it is left out: BAD_AUTH/s1", left_out)
@@ -239,7 +183,7 @@ tpm.accepted("One does both", secret(second, Use(first, DECRYPTS | ENCRYPT)))
 with tpm.breaking(nonces_of_others=lambda *_: [first.nonce_tpm, second.nonce_tpm]):
     turned = secret(Use(first, ENCRYPTS), Use(second, DECRYPTS))
 tpm.refused("In the other order: BAD_AUTH/s1", turned)
-tpm.says("TPM2_PolicyRestart: SUCCESS", tpm.restart(first))
+tpm.restarts(first)
 for it, kind in ((first, SE_POLICY), (second, SE_TRIAL)):
     assert it.kind == kind
     tpm.digest_is("Its digest is zeros", it, zeros(it))
@@ -249,10 +193,8 @@ tpm.script.wait_each_time()
 locked = tpm.policy("A policy session", bind=RH_LOCKOUT)
 trial = tpm.trial("A trial session, of SHA-1", bind=RH_LOCKOUT, algorithm=SHA1)
 for it in (locked, trial):
-    tpm.refused("Behind a password: AUTH_FAIL/s2", wrong(tpm.event(b"a", b"", it), 2))
-    tpm.refused("As the first entry: AUTH_FAIL/s1", wrong(tpm.random(1, it), 1))
-    tpm.accepted("A right one", tpm.random(1, it))
-tpm.refused(
-    "One that is bound to TPM_RH_OWNER, beside them: BAD_AUTH/s3",
-    wrong(tpm.random(1, locked, trial, first), 3),
-)
+    tpm.refused("Behind a password: AUTH_FAIL/s2", wrong_in(tpm.event(b"a", b"", it), 2))
+    tpm.refused("As the first entry: AUTH_FAIL/s1", wrong_in(tpm.random(1, it), 1))
+    tpm("A right one").random(1, it)
+said = tpm("One that is bound to TPM_RH_OWNER, beside them: BAD_AUTH/s3")
+said.refused(wrong_in(tpm.random(1, locked, trial, first), 3))

@@ -1,13 +1,10 @@
-"""Writes written_policies.tpm: uses of entities by policies that have branches, and by other
-ones, and what is refused of them. tests/python/policy_audit.sh has these policies in words.
+"""Writes written_policies.tpm. Policies with branches, each of them taken, and each refused; and
+other policies. tests/python/policy_audit.sh tells tools/audit.py these policies in words.
 """
 
-from tpmsim.caller import BY_OWNER, HERE, Use
-from tpmsim.standard import CC, RH_ENDORSEMENT, RH_OWNER, SHA1, SHA256, digest, name_of, number
-from tpmsim.standard import policy, selection
-from tpmsim.standard.nv import Attribute
-from tpmsim.standard.objects import Attribute as ObjectAttribute
-from tpmsim.standard.policy import AUTH_VALUE, PASSWORD
+from tests.common.vocabulary import AUTH_VALUE, BY_OWNER, CC, digest, HERE, name_of, number
+from tests.common.vocabulary import NvAttribute, ObjectAttribute, PASSWORD, policy, RH_ENDORSEMENT
+from tests.common.vocabulary import RH_OWNER, selection, SHA1, SHA256, Use
 from tests.sessions.grounds_caller import (
     AFTER_AUTH_VALUE,
     PIN,
@@ -25,12 +22,7 @@ LEAST, VERSION, AT_LEAST, EQUAL = number(5, 8), number(6, 8), 7, 0
 LOCALITY_0, LOCALITIES_3_AND_4 = 0b00001, 0b11000
 OF_NO_COMMAND = b"\x11" * 32
 
-tpm = GroundsCaller(
-    "tests/policies/written_policies.tpm",
-    "Policies with branches, each of them taken, and each refused; and other policies. "
-    "tests/python/policy_audit.sh tells tools/audit.py these policies in words.",
-    tries=True,
-)
+tpm = GroundsCaller(__name__, __doc__, tries=True)
 lost, asserts = tpm.lost, tpm.asserts
 
 
@@ -66,24 +58,11 @@ def ends(session):
     return tpm.branches(session, *WAYS), tpm.command_code(session, CC.Unseal)
 
 
-def ways_of_disk(session, disk):
-    tpm.chapter("THE DISK. By the system, and the value in the key of the hmac.")
-    asserts("TPM2_PolicyPCR, PolicyAuthValue, PolicyOR, PolicyCommandCode", *system(session))
-    asserts("", *ends(session))
-    tpm.unseal("TPM2_Unseal", disk, SECRET, Use(session, demand=AUTH_VALUE))
-    tpm.chapter("By the system, and the value in plain, as TPM2_PolicyPassword asks for.")
-    asserts("The same", *system(session, tpm.password_told), *ends(session))
-    tpm.unseal("TPM2_Unseal", disk, SECRET, Use(session, demand=PASSWORD))
-    tpm.chapter("By the recovery secret.")
-    asserts("TPM2_PolicySecret, PolicyOR, PolicyCommandCode", recovery(session), *ends(session))
-    tpm.unseal("TPM2_Unseal", disk, SECRET, session)
-
-
 def lost_ways_of_disk(session, disk):
     unsealing = lambda **demand: tpm.unsealing(disk, Use(session, **demand))
     tpm.chapter("What is refused. A PCR is written behind TPM2_PolicyPCR.")
     asserts("By the system", *system(session), *ends(session))
-    tpm.does("TPM2_PCR_Event of PCR 16", tpm.event(b"event", b"", pcr=16))
+    tpm("TPM2_PCR_Event of PCR 16").event(b"event", b"", pcr=16)
     lost("TPM2_Unseal: PCR_CHANGED", unsealing(demand=AUTH_VALUE))
     tpm.chapter("The value is another.")
     asserts("By the system", tpm.restart(session), *system(session), *ends(session))
@@ -114,18 +93,6 @@ def lost_ways_of_disk(session, disk):
         tpm.says("TPM2_PolicyOR: VALUE/p1", ends(session)[0])
         asserts("TPM2_PolicyCommandCode", ends(session)[1])
         lost("TPM2_Unseal: POLICY_FAIL/s1", unsealing())
-
-
-def moved_pcr(session, disk):
-    tpm.chapter("PCR 11 is another at all.")
-    tpm.does("TPM2_PCR_Event of PCR 11", tpm.event(b"other", b"", pcr=11))
-    asserts("By the system", tpm.restart(session), *system(session))
-    tpm.says("TPM2_PolicyOR: VALUE/p1", ends(session)[0])
-    asserts("TPM2_PolicyCommandCode", ends(session)[1])
-    lost("TPM2_Unseal: POLICY_FAIL/s1", tpm.unsealing(disk, Use(session, demand=AUTH_VALUE)))
-    tpm.chapter("The recovery secret still does.")
-    asserts("TPM2_PolicySecret", tpm.restart(session), recovery(session), *ends(session))
-    tpm.unseal("TPM2_Unseal", disk, SECRET, session)
 
 
 # A policy of an update: from locality 0, or from 3 or 4, and a version that an index has; or the
@@ -159,19 +126,6 @@ class Update:
 
 def compares(session, index, operand=LEAST, operation=AT_LEAST):
     return tpm.comparing(session, index, operand, operation=operation, by=RH_OWNER)
-
-
-def ways_of_update(session, update, index, key):
-    for locality, localities in ((0, LOCALITY_0), (4, LOCALITIES_3_AND_4)):
-        tpm.chapter(f"THE UPDATE. From locality {locality}, with a version that is high enough.")
-        asserts("TPM2_PolicyLocality, PolicyOR", *update.from_locality(session, localities))
-        asserts("TPM2_PolicyNV, PolicyOR", compares(session, index), update.end(session))
-        tpm.locality_is(locality)
-        tpm.unseal("TPM2_Unseal", key, SECRET, session)
-        tpm.locality_is(0)
-    tpm.chapter("By the value of the index.")
-    asserts("TPM2_PolicySecret", recovery(session, of=index, ref=b""), update.end(session))
-    tpm.unseal("TPM2_Unseal", key, SECRET, session)
 
 
 def other_comparisons(session, index, other):
@@ -223,7 +177,7 @@ def other_policies(session):
     asserts("TPM2_PolicyRestart", tpm.restart(session))
     tpm.chapter("An index is written once.")
     auth_policy = policy.after_nv_written(SHA256, ZEROS, False)
-    index = tpm.index("It has this policy", Attribute.POLICYWRITE | BY_OWNER, auth_policy)
+    index = tpm.index("It has this policy", NvAttribute.POLICYWRITE | BY_OWNER, auth_policy)
     for is_lost in (False, True):
         asserts("TPM2_PolicyNvWritten of 0", tpm.written_told(session, False))
         writing = tpm.writing(index, VERSION, session)
@@ -243,25 +197,57 @@ def other_policies(session):
     tpm.sealed_object("An object with a policy that is not in words", AFTER_AUTH_VALUE)
 
 
-tpm.does("A recovery secret", tpm.change_auth(RH_ENDORSEMENT, RECOVERY, b""))
-tpm.does("That secure boot is on, into PCR 7", tpm.event(SECURE_BOOT, b"", pcr=7))
-tpm.does("The kernel, into PCR 11", tpm.event(KERNEL, b"", pcr=11))
+tpm("A recovery secret").change_auth(RH_ENDORSEMENT, RECOVERY, b"")
+tpm("That secure boot is on, into PCR 7").event(SECURE_BOOT, b"", pcr=7)
+tpm("The kernel, into PCR 11").event(KERNEL, b"", pcr=11)
 index, other = (
-    tpm.index(words, Attribute.AUTHREAD | BY_OWNER) for words in ("A version", "Another index")
+    tpm.index(words, NvAttribute.AUTHREAD | BY_OWNER) for words in ("A version", "Another index")
 )
 for it in (index, other):
-    tpm.does("It is written" if it == index else "", tpm.writing(it, VERSION, by=RH_OWNER))
+    tpm("It is written" if it == index else "").writing(it, VERSION, by=RH_OWNER)
 update = Update(index)
 NO_DA = ObjectAttribute.NO_DA
 disk = tpm.sealed_object("The disk's key", DISK, HERE | NO_DA)
 openly = tpm.sealed_object("The same, with userWithAuth", DISK, HERE | NO_DA | USER)
 key = tpm.sealed_object("The key of the update", update.digest)
 session = tpm.policy("A policy session")
-ways_of_disk(session, disk)
+
+tpm.chapter("THE DISK. By the system, and the value in the key of the hmac.")
+asserts("TPM2_PolicyPCR, PolicyAuthValue, PolicyOR, PolicyCommandCode", *system(session))
+asserts("", *ends(session))
+tpm.unseal("TPM2_Unseal", disk, SECRET, Use(session, demand=AUTH_VALUE))
+tpm.chapter("By the system, and the value in plain, as TPM2_PolicyPassword asks for.")
+asserts("The same", *system(session, tpm.password_told), *ends(session))
+tpm.unseal("TPM2_Unseal", disk, SECRET, Use(session, demand=PASSWORD))
+tpm.chapter("By the recovery secret.")
+asserts("TPM2_PolicySecret, PolicyOR, PolicyCommandCode", recovery(session), *ends(session))
+tpm.unseal("TPM2_Unseal", disk, SECRET, session)
+
 tpm.unseal("The other object is unsealed by its value alone", openly, SECRET, PIN)
 lost_ways_of_disk(session, disk)
-moved_pcr(session, disk)
-ways_of_update(session, update, index, key)
+
+tpm.chapter("PCR 11 is another at all.")
+tpm("TPM2_PCR_Event of PCR 11").event(b"other", b"", pcr=11)
+asserts("By the system", tpm.restart(session), *system(session))
+tpm.says("TPM2_PolicyOR: VALUE/p1", ends(session)[0])
+asserts("TPM2_PolicyCommandCode", ends(session)[1])
+lost("TPM2_Unseal: POLICY_FAIL/s1", tpm.unsealing(disk, Use(session, demand=AUTH_VALUE)))
+tpm.chapter("The recovery secret still does.")
+asserts("TPM2_PolicySecret", tpm.restart(session), recovery(session), *ends(session))
+tpm.unseal("TPM2_Unseal", disk, SECRET, session)
+
+
+for locality, localities in ((0, LOCALITY_0), (4, LOCALITIES_3_AND_4)):
+    tpm.chapter(f"THE UPDATE. From locality {locality}, with a version that is high enough.")
+    asserts("TPM2_PolicyLocality, PolicyOR", *update.from_locality(session, localities))
+    asserts("TPM2_PolicyNV, PolicyOR", compares(session, index), update.end(session))
+    tpm.locality_is(locality)
+    tpm.unseal("TPM2_Unseal", key, SECRET, session)
+    tpm.locality_is(0)
+tpm.chapter("By the value of the index.")
+asserts("TPM2_PolicySecret", recovery(session, of=index, ref=b""), update.end(session))
+tpm.unseal("TPM2_Unseal", key, SECRET, session)
+
 lost_ways_of_update(session, update, index, other, key)
 tpm.flushed(openly, key)
 version_alone(session, index, other)

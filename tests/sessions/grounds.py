@@ -1,14 +1,15 @@
-"""Writes grounds.tpm: each ground on which an entity is authorized, and one use of it."""
+"""Writes grounds.tpm. By what an entity may be authorized: each ground once, and accepted. The same
+grounds are lost in tests/sessions/lost_grounds.tpm. A ground is a password, the hmac of an HMAC
+session, or a policy session whose policy holds.
+"""
 
 from dataclasses import dataclass
 from typing import Callable
 
-from tpmsim.caller import BY_OWNER, BY_PLATFORM, BY_POLICY, HERE, Use, sealed
-from tpmsim.standard import CC, RH_ENDORSEMENT, RH_LOCKOUT, RH_NULL, RH_OWNER, RH_PLATFORM, SHA1
-from tpmsim.standard import SHA256, name_of, policy
-from tpmsim.standard.nv import Attribute
-from tpmsim.standard.objects import Attribute as ObjectAttribute
-from tpmsim.standard.policy import AUTH_VALUE, PASSWORD
+from tests.common.vocabulary import AUTH_VALUE, BY_OWNER, BY_PLATFORM, BY_POLICY, CC, ENDS, HERE
+from tests.common.vocabulary import name_of, NvAttribute, ObjectAttribute, PASSWORD, policy
+from tests.common.vocabulary import RH_ENDORSEMENT, RH_LOCKOUT, RH_NULL, RH_OWNER, RH_PLATFORM
+from tests.common.vocabulary import sealed, SHA1, SHA256, Use
 from tests.sessions.grounds_caller import (
     AFTER_AUTH_VALUE,
     AFTER_LOCALITY_1,
@@ -28,7 +29,6 @@ from tests.sessions.grounds_caller import (
 from tests.sessions.grounds_caller import after_equal_data, after_secret
 
 USER = ObjectAttribute.USER_WITH_AUTH
-ENDS = 0x00
 KEPT = 0x8100_0001
 REF = b"disk"
 HIERARCHIES = {
@@ -38,13 +38,7 @@ HIERARCHIES = {
     RH_LOCKOUT: ("TPM_RH_LOCKOUT", b"lockout"),
 }
 
-tpm = GroundsCaller(
-    "tests/sessions/grounds.tpm",
-    "By what an entity may be authorized: each ground once, and accepted. The same grounds are "
-    "lost in tests/sessions/lost_grounds.tpm. A ground is a password, the hmac of an HMAC session, "
-    "or a "
-    "policy session whose policy holds.",
-)
+tpm = GroundsCaller(__name__, __doc__)
 
 
 # Authorization values: by a password, and in the key of an HMAC session.
@@ -76,17 +70,16 @@ def entities():
     tpm.chapter('The entities of this script. The value of objects and indices is "pin".')
     for handle, (name, value) in HIERARCHIES.items():
         what = f'{name}, whose value is empty at first, and "{value.decode("ascii")}" from here on'
-        tpm.does(what, tpm.change_auth(handle, value, b""))
+        tpm(what).change_auth(handle, value, b"")
     loaded = tpm.sealed_object("An object with userWithAuth", attributes=HERE | USER, by=RH_OWNER)
     tpm.keep("A persistent copy of it", RH_OWNER, loaded, KEPT)
-    to_write = tpm.index("An index with AUTHWRITE", Attribute.AUTHWRITE | Attribute.OWNERREAD)
-    tpm.does("It is written", tpm.writing(to_write, DATA))
-    to_read = tpm.written_index(
-        "One with AUTHREAD, which the owner writes", Attribute.AUTHREAD | Attribute.OWNERWRITE
-    )
+    to_write = tpm.index("An index with AUTHWRITE", NvAttribute.AUTHWRITE | NvAttribute.OWNERREAD)
+    tpm("It is written").writing(to_write, DATA)
+    said = tpm("One with AUTHREAD, which the owner writes")
+    to_read = said.written_index(NvAttribute.AUTHREAD | NvAttribute.OWNERWRITE)
     of_owner = tpm.written_index("One with OWNERWRITE and OWNERREAD", BY_OWNER)
     of_platform = tpm.index("One with PPWRITE and PPREAD", BY_PLATFORM)
-    tpm.does("It is written", tpm.writing(of_platform, DATA, by=RH_PLATFORM))
+    tpm("It is written").writing(of_platform, DATA, by=RH_PLATFORM)
 
     def writes(words, asker, index):
         use = lambda by: tpm.writing(index, DATA, by, by=asker)
@@ -117,18 +110,6 @@ def at_null(*uses):
     return tpm.primary(RH_NULL, sealed(), *uses, data=SECRET)
 
 
-def by_passwords(found):
-    tpm.chapter("PASSWORDS. The password is the authorization value of the entity.")
-    for entity in found:
-        tpm.does(f"{entity.words}: {entity.command}", entity.prepare(entity.value))
-    tpm.does("A PCR, whose value is always empty: TPM2_PCR_Reset", tpm.reset(b""))
-    tpm.flushed_new("TPM_RH_NULL, whose is too: TPM2_CreatePrimary", at_null(b""))
-    for entity in found[:8]:
-        what = "With zeros behind the value, which do not count" if entity is found[0] else ""
-        tpm.does(what, entity.prepare(entity.value + bytes(2)))
-    tpm.does("And where it is empty", tpm.reset(bytes(32)))
-
-
 def by_hmac_sessions(found):
     tpm.chapter(
         "HMAC SESSIONS. The key of the hmac is the session key, which an unbound session has not, "
@@ -155,7 +136,7 @@ def by_hmac_sessions(found):
     openly = tpm.sealed_object(
         "An object with userWithAuth, whose value is empty", attributes=HERE | USER, value=b""
     )
-    tpm.does("A PCR: TPM2_PCR_Reset", tpm.reset(unbound))
+    tpm("A PCR: TPM2_PCR_Reset").reset(unbound)
     tpm.flushed_new("TPM_RH_NULL: TPM2_CreatePrimary", at_null(unbound))
     tpm.unseal("The object: TPM2_Unseal", openly, SECRET, unbound)
     shown = Use(unbound, shows_empty_key=True)
@@ -211,24 +192,6 @@ def in_turn(session, condition):
     tpm.flushed(handle)
 
 
-def demanding_nothing(session, bound):
-    tpm.chapter(
-        "Nothing is demanded: the key of the hmac is the session key alone. Here the policy has no "
-        "assertion either: authPolicy is the digest that a session starts with, 32 zeros."
-    )
-    handle, index = with_policy(ZEROS)
-    for name, prepare in uses_of(handle, index):
-        tpm.does(f"{name}: key and hmac are both empty", prepare(session))
-        shown = Use(session, shows_empty_key=True)
-        tpm.does("Or it is the hmac of the empty key", prepare(shown))
-        tpm.does("Or by the session that has a key", prepare(bound))
-    tpm.flushed(handle)
-    both = tpm.sealed_object("An object with userWithAuth and this policy", ZEROS, HERE | USER)
-    tpm.unseal("TPM2_Unseal by the policy", both, SECRET, session)
-    tpm.unseal("And by the password", both, SECRET, PIN)
-    tpm.flushed(both)
-
-
 def demanding_the_value(bound):
     tpm.chapter("What is demanded, with other keys and other values.")
     handle = tpm.sealed_object("An object whose policy is either of the two", AFTER_AUTH_VALUE)
@@ -240,16 +203,11 @@ def demanding_the_value(bound):
     tpm.unseal("TPM2_Unseal by the value, and by no key", handle, SECRET, demanded)
     to_it = tpm.policy("A policy session bound to the object", bind=handle)
     tpm.asserts_value(to_it)
-    tpm.unseal(
-        "TPM2_Unseal: here the value is in the key all the same",
-        handle,
-        SECRET,
-        Use(to_it, demand=AUTH_VALUE),
-    )
+    said = tpm("TPM2_Unseal: here the value is in the key all the same")
+    said.unseal(handle, SECRET, Use(to_it, demand=AUTH_VALUE))
     tpm.flushed(to_it, handle)
-    openly = tpm.sealed_object(
-        "An object with this policy, whose value is empty", AFTER_AUTH_VALUE, value=b""
-    )
+    said = tpm("An object with this policy, whose value is empty")
+    openly = said.sealed_object(AFTER_AUTH_VALUE, value=b"")
     unbound = tpm.policy("A policy session bound to nothing")
     for told, demand in ((tpm.asserts_value, AUTH_VALUE), (tpm.asserts_password, PASSWORD)):
         told(unbound)
@@ -263,15 +221,11 @@ def command_codes(session):
         "indices have each a policy of their own. All three are in the USER role."
     )
     handle = tpm.sealed_object("An object for TPM2_Unseal", after_code(CC.Unseal))
-    written = tpm.index(
-        "An index for TPM2_NV_Write",
-        Attribute.POLICYWRITE | Attribute.OWNERREAD,
-        after_code(CC.NV_Write),
-    )
-    read = tpm.written_index(
-        "One for TPM2_NV_Read, which the owner writes",
-        Attribute.POLICYREAD | Attribute.OWNERWRITE,
-        after_code(CC.NV_Read),
+    said = tpm("An index for TPM2_NV_Write")
+    written = said.index(NvAttribute.POLICYWRITE | NvAttribute.OWNERREAD, after_code(CC.NV_Write))
+    said = tpm("One for TPM2_NV_Read, which the owner writes")
+    read = said.written_index(
+        NvAttribute.POLICYREAD | NvAttribute.OWNERWRITE, after_code(CC.NV_Read)
     )
     for name, code, prepared in (
         ("TPM2_Unseal", CC.Unseal, lambda: tpm.unsealing(handle, session)),
@@ -292,21 +246,16 @@ def admin_role(session):
     recorded = after_code(code)
     index = tpm.index("An index whose policy is that command", BY_OWNER, recorded)
     tpm.asserts_code(session, code, name)
-    tpm.does(name, tpm.changing_auth(index, b"new", session))
-    index = tpm.index(
-        "One whose policy has TPM2_PolicyAuthValue or TPM2_PolicyPassword behind it",
-        BY_OWNER,
-        policy.after_auth_value(SHA256, recorded),
-    )
+    tpm(name).changing_auth(index, b"new", session)
+    said = tpm("One whose policy has TPM2_PolicyAuthValue or TPM2_PolicyPassword behind it")
+    index = said.index(BY_OWNER, policy.after_auth_value(SHA256, recorded))
     tpm.asserts_code(session, code, name)
     tpm.asserts_value(session)
-    tpm.does(
-        f"{name} by the value, and its answer is by the new one",
-        tpm.changing_auth(index, b"new", Use(session, demand=AUTH_VALUE)),
-    )
+    said = tpm(f"{name} by the value, and its answer is by the new one")
+    said.changing_auth(index, b"new", Use(session, demand=AUTH_VALUE))
     tpm.asserts_code(session, code, name)
     tpm.asserts_password(session)
-    tpm.does(f"{name} by it", tpm.changing_auth(index, PIN, Use(session, demand=PASSWORD)))
+    tpm(f"{name} by it").changing_auth(index, PIN, Use(session, demand=PASSWORD))
 
 
 def conditions():
@@ -431,25 +380,48 @@ def all_at_once(session):
     tpm.locality_is(0)
 
 
-def by_policy_sessions():
-    tpm.chapter(
-        "POLICY SESSIONS, on objects and NV indices: nothing else has a policy. The session is no "
-        "trial session, its hash is the nameAlg of the entity, and its policy digest the "
-        "authPolicy. What it was told holds as the command comes, and counts for one command."
-    )
-    session = tpm.policy("A policy session, which is bound to nothing and so has no key")
-    bound = tpm.policy("One bound to the owner, which has a key", bind=RH_OWNER)
-    demanding_nothing(session, bound)
-    for condition in conditions():
-        in_turn(session, condition)
-    demanding_the_value(bound)
-    command_codes(session)
-    admin_role(session)
-    all_at_once(session)
-    tpm.flushed(session, bound)
-
-
 found = entities()
-by_passwords(found)
+
+tpm.chapter("PASSWORDS. The password is the authorization value of the entity.")
+for entity in found:
+    tpm.does(f"{entity.words}: {entity.command}", entity.prepare(entity.value))
+tpm("A PCR, whose value is always empty: TPM2_PCR_Reset").reset(b"")
+tpm.flushed_new("TPM_RH_NULL, whose is too: TPM2_CreatePrimary", at_null(b""))
+for entity in found[:8]:
+    what = "With zeros behind the value, which do not count" if entity is found[0] else ""
+    tpm.does(what, entity.prepare(entity.value + bytes(2)))
+tpm("And where it is empty").reset(bytes(32))
+
 by_hmac_sessions(found)
-by_policy_sessions()
+
+tpm.chapter(
+    "POLICY SESSIONS, on objects and NV indices: nothing else has a policy. The session is no "
+    "trial session, its hash is the nameAlg of the entity, and its policy digest the "
+    "authPolicy. What it was told holds as the command comes, and counts for one command."
+)
+session = tpm.policy("A policy session, which is bound to nothing and so has no key")
+bound = tpm.policy("One bound to the owner, which has a key", bind=RH_OWNER)
+
+tpm.chapter(
+    "Nothing is demanded: the key of the hmac is the session key alone. Here the policy has no "
+    "assertion either: authPolicy is the digest that a session starts with, 32 zeros."
+)
+handle, index = with_policy(ZEROS)
+for name, prepare in uses_of(handle, index):
+    tpm.does(f"{name}: key and hmac are both empty", prepare(session))
+    shown = Use(session, shows_empty_key=True)
+    tpm.does("Or it is the hmac of the empty key", prepare(shown))
+    tpm.does("Or by the session that has a key", prepare(bound))
+tpm.flushed(handle)
+both = tpm.sealed_object("An object with userWithAuth and this policy", ZEROS, HERE | USER)
+tpm.unseal("TPM2_Unseal by the policy", both, SECRET, session)
+tpm.unseal("And by the password", both, SECRET, PIN)
+tpm.flushed(both)
+
+for condition in conditions():
+    in_turn(session, condition)
+demanding_the_value(bound)
+command_codes(session)
+admin_role(session)
+all_at_once(session)
+tpm.flushed(session, bound)

@@ -34,8 +34,8 @@ def after_equal_data(name, old=ZEROS):
 
 
 class GroundsCaller(Teller):
-    def __init__(self, path, head, **choices):
-        super().__init__(path, head, **choices)
+    def __init__(self, name, told, **choices):
+        super().__init__(name, told, **choices)
         self.free_indices = iter(range(0x0100_0001, 0x0100_0020))
 
     # Entities.
@@ -72,9 +72,6 @@ class GroundsCaller(Teller):
         self.forget(*objects)
 
     # What a policy session is told.
-
-    def restarts(self, session):
-        self.does("TPM2_PolicyRestart", self.restart(session))
 
     def asserts(self, what, *told):
         """Assertions, in their order."""

@@ -1,11 +1,14 @@
-"""Writes lost_grounds.tpm: each way in which a ground of tests/sessions/grounds.tpm is lost."""
+"""Writes lost_grounds.tpm. How the grounds of tests/sessions/grounds.tpm are lost: each way is
+refused, by G9 where nothing else is said, and beside it stands the same with the condition met. How
+a session itself is lost shows tests/sessions/replays.tpm.
+"""
 
-from tpmsim.caller import BY_OWNER, BY_POLICY, BY_VALUE, HERE, Use, flipped, sealed
-from tpmsim.standard import CC, RH_ENDORSEMENT, RH_LOCKOUT, RH_NULL, RH_OWNER, RH_PLATFORM, SHA1
-from tpmsim.standard import SHA256, digests, frames, name_of, policy
-from tpmsim.standard.nv import Attribute
-from tpmsim.standard.objects import Attribute as ObjectAttribute
-from tpmsim.standard.policy import ALL_LOCALITIES, AUTH_VALUE, PASSWORD
+from tpmsim.standard import digests
+from tpmsim.standard.policy import ALL_LOCALITIES
+from tests.common.vocabulary import AUTH_VALUE, BY_OWNER, BY_POLICY, BY_VALUE, CC, ENDS, flipped
+from tests.common.vocabulary import frames, HERE, name_of, NvAttribute, ObjectAttribute, PASSWORD
+from tests.common.vocabulary import policy, RH_ENDORSEMENT, RH_LOCKOUT, RH_NULL, RH_OWNER
+from tests.common.vocabulary import RH_PLATFORM, sealed, SHA1, SHA256, Use
 from tests.sessions.grounds_caller import (
     AFTER_AUTH_VALUE,
     AFTER_LOCALITY_1,
@@ -25,88 +28,15 @@ from tests.sessions.grounds_caller import (
 from tests.sessions.grounds_caller import after_equal_data, after_secret
 
 USER = ObjectAttribute.USER_WITH_AUTH
-ENDS = 0x00
 AFTER_UNSEAL = after_code(CC.Unseal)
 EQUAL, AT_LEAST = 0, 7  # operations of TPM2_PolicyNV
 AT_LOCALITY_0_OR_1 = 0b11
 
-tpm = GroundsCaller(
-    "tests/sessions/lost_grounds.tpm",
-    "How the grounds of tests/sessions/grounds.tpm are lost: each way is refused, by G9 where "
-    "nothing else "
-    "is said, and beside it stands the same with the condition met. How a session itself is lost "
-    "shows tests/sessions/replays.tpm.",
-    tries=True,
-)
+tpm = GroundsCaller(__name__, __doc__, tries=True)
 lost = tpm.lost
 
 
 # Passwords and HMAC sessions.
-
-
-def wrong_passwords(handle):
-    tpm.chapter("PASSWORDS. The password is not the value. Protected is what has no noDA.")
-    lost("A hierarchy: BAD_AUTH/s1", tpm.change_auth(RH_OWNER, OWNER, b"other"))
-    tpm.does("By the value", tpm.change_auth(RH_OWNER, OWNER, OWNER))
-    lost("A PCR, whose value is empty: BAD_AUTH/s1", tpm.reset(b"other"))
-    tpm.does("By the empty one", tpm.reset(b""))
-    lost(
-        "A protected object: another password, a part of the value, more than it, and none: "
-        "AUTH_FAIL/s1",
-        *(tpm.unsealing(handle, it) for it in (b"other", PIN[:-1], PIN + b"1", b"")),
-    )
-    tpm.unseal("By the value", handle, SECRET, PIN)
-    for words, attributes, outcome in (
-        ("A protected index", BY_VALUE, "AUTH_FAIL/s1"),
-        ("An index with NO_DA", BY_VALUE | Attribute.NO_DA, "BAD_AUTH/s1"),
-    ):
-        index = tpm.index(words, attributes)
-        lost(f"By another password: {outcome}", tpm.writing(index, DATA, b"other"))
-        tpm.does("By the value", tpm.writing(index, DATA))
-
-
-def value_of_no_use(hmac):
-    tpm.chapter("THE VALUE IS OF NO USE. It is right, in a password and in an HMAC session.")
-    closed = tpm.sealed_object("An object without userWithAuth", AFTER_UNSEAL)
-    lost("TPM2_Unseal: AUTH_UNAVAILABLE", tpm.unsealing(closed, PIN), tpm.unsealing(closed, hmac))
-    usable = tpm.sealed_object("The same with userWithAuth", AFTER_UNSEAL, HERE | USER)
-    tpm.unseal("TPM2_Unseal by the password", usable, SECRET, PIN)
-    tpm.unseal("And by the HMAC session", usable, SECRET, hmac)
-    tpm.flushed(closed, usable)
-    to_write = tpm.written_index(
-        "An index with AUTHWRITE and without AUTHREAD", Attribute.AUTHWRITE | BY_OWNER
-    )
-    lost(
-        "TPM2_NV_Read: AUTH_UNAVAILABLE",
-        tpm.reading(to_write, 8, PIN),
-        tpm.reading(to_write, 8, hmac),
-    )
-    tpm.does("TPM2_NV_Write", tpm.writing(to_write, DATA, PIN))
-    to_read = tpm.written_index(
-        "One with AUTHREAD and without AUTHWRITE", Attribute.AUTHREAD | BY_OWNER
-    )
-    lost(
-        "TPM2_NV_Write: AUTH_UNAVAILABLE",
-        tpm.writing(to_read, DATA, PIN),
-        tpm.writing(to_read, DATA, hmac),
-    )
-    tpm.read("TPM2_NV_Read", to_read, DATA, PIN)
-    admin = tpm.index(
-        "One whose policy is the command TPM2_NV_ChangeAuth", BY_VALUE, after_code(CC.NV_ChangeAuth)
-    )
-    lost(
-        "TPM2_NV_ChangeAuth, which is in the ADMIN role: AUTH_UNAVAILABLE",
-        tpm.changing_auth(admin, PIN, PIN),
-        tpm.changing_auth(admin, PIN, hmac),
-    )
-    tpm.does("TPM2_NV_Write, in the USER role", tpm.writing(admin, DATA, PIN))
-    tpm.refused_by(
-        "A1",
-        "The owner, for this index without OWNERREAD, is refused by the command: NV_AUTHORIZATION",
-        tpm.reading(admin, 8, by=RH_OWNER),
-    )
-    tpm.read("And not for one that has it", to_read, DATA, by=RH_OWNER)
-    return to_write
 
 
 def with_key(key, prepare, *arguments):
@@ -152,11 +82,8 @@ def other_keys(handle, unbound):
     tpm.chapter("One under another key: here TPM2_Unseal of a protected object.")
     bound = tpm.start("A session bound to the object", handle)
     other = tpm.start("One bound to TPM_RH_ENDORSEMENT", RH_ENDORSEMENT)
-    lost(
-        "Unbound, with another value in the key, and with none: AUTH_FAIL/s1",
-        by_key(b"other", handle, unbound),
-        by_key(b"", handle, unbound),
-    )
+    case = "Unbound, with another value in the key, and with none: AUTH_FAIL/s1"
+    lost(case, by_key(b"other", handle, unbound), by_key(b"", handle, unbound))
     tpm.unseal("With the value", handle, SECRET, unbound)
     lost(
         "Bound to the object, with the value in the key all the same, and by another session's "
@@ -178,17 +105,17 @@ def other_keys(handle, unbound):
 def lapsed_bindings():
     tpm.chapter("A binding that has lapsed, by another value or by another Name.")
     bound = tpm.start("A session bound to the owner", RH_OWNER)
-    tpm.does("ownerAuth is another", tpm.change_auth(RH_OWNER, b"other", OWNER))
+    tpm("ownerAuth is another").change_auth(RH_OWNER, b"other", OWNER)
     changing = tpm.change_auth, RH_OWNER, OWNER, bound
     lost("Without the value in the key: BAD_AUTH/s1", with_key(bound.key, *changing))
-    tpm.does("With it, and ownerAuth is as it was", tpm.change_auth(RH_OWNER, OWNER, bound))
-    tpm.does("Without it, as it holds again", tpm.change_auth(RH_OWNER, OWNER, bound))
+    tpm("With it, and ownerAuth is as it was").change_auth(RH_OWNER, OWNER, bound)
+    tpm("Without it, as it holds again").change_auth(RH_OWNER, OWNER, bound)
     index = tpm.index("An index that is not written", BY_VALUE)
     to_index = tpm.start("A session bound to it", index)
-    tpm.does("TPM2_NV_Write gives it another Name", tpm.writing(index, DATA))
+    tpm("TPM2_NV_Write gives it another Name").writing(index, DATA)
     writing = tpm.writing, index, DATA, to_index
     lost("Without the value in the key: AUTH_FAIL/s1", with_key(to_index.key, *writing))
-    tpm.does("With it", tpm.writing(index, DATA, to_index))
+    tpm("With it").writing(index, DATA, to_index)
     tpm.flushed(bound, to_index)
 
 
@@ -217,8 +144,8 @@ def no_policy(openly, session):
     )
     for words, attributes, auth_policy, authorized in (
         ("An index with an empty authPolicy", BY_POLICY, b"", None),
-        ("One of 32 zeros, without POLICYREAD", Attribute.POLICYWRITE, ZEROS, CC.NV_Write),
-        ("One of 32 zeros, without POLICYWRITE", Attribute.POLICYREAD, ZEROS, CC.NV_Read),
+        ("One of 32 zeros, without POLICYREAD", NvAttribute.POLICYWRITE, ZEROS, CC.NV_Write),
+        ("One of 32 zeros, without POLICYWRITE", NvAttribute.POLICYREAD, ZEROS, CC.NV_Read),
     ):
         index = tpm.written_index(words, attributes | BY_OWNER, auth_policy)
         for code, name, prepare in (
@@ -241,11 +168,8 @@ def changed_pcrs(session):
     value = SHA256, b"\1" * 32
 
     def told(words):
-        tpm.asserts(
-            f"TPM2_PolicyRestart, TPM2_PolicyPCR, and {words}",
-            tpm.restart(session),
-            tpm.pcrs(session, PCR_16),
-        )
+        said = tpm(f"TPM2_PolicyRestart, TPM2_PolicyPCR, and {words}")
+        said.asserts(tpm.restart(session), tpm.pcrs(session, PCR_16))
 
     def is_lost(words, write):
         told(words)
@@ -256,11 +180,11 @@ def changed_pcrs(session):
     told("no more")
     other = tpm.unsealing(handle, session)
     lost("TPM2_Unseal: POLICY_FAIL/s1, as the digest is another", other)
-    tpm.does("TPM2_PCR_Reset of PCR 16 makes it zeros", tpm.reset(b""))
+    tpm("TPM2_PCR_Reset of PCR 16 makes it zeros").reset(b"")
     is_lost("TPM2_PCR_Reset of PCR 16, which is zeros already", tpm.reset(b""))
     is_lost("TPM2_PCR_Event of PCR 23, which is not selected", tpm.event(b"event", b"", pcr=23))
     is_lost("TPM2_Clear, which writes none", tpm.clearing(RH_PLATFORM))
-    tpm.does('ownerAuth is "owner" again', tpm.change_auth(RH_OWNER, OWNER, b""))
+    tpm('ownerAuth is "owner" again').change_auth(RH_OWNER, OWNER, b"")
     told("what neither writes one nor clears")
     tpm.says("SUCCESS", extending(16), tpm.event(b"event", b"", pcr=RH_NULL))
     tpm.unseal("TPM2_Unseal", handle, SECRET, session)
@@ -270,7 +194,7 @@ def changed_pcrs(session):
     either = tpm.sealed_object("An object with its policy", policy.after_or(SHA256, branches))
     both = tpm.pcrs(session, PCR_16), tpm.branches(session, *branches)
     tpm.asserts("TPM2_PolicyPCR and TPM2_PolicyOR", *both)
-    tpm.does("TPM2_PCR_Event of PCR 23", tpm.event(b"event", b"", pcr=23))
+    tpm("TPM2_PCR_Event of PCR 23").event(b"event", b"", pcr=23)
     lost("TPM2_Unseal: PCR_CHANGED", tpm.unsealing(either, session))
     tpm.asserts("Both from the start", tpm.restart(session), *both)
     tpm.unseal("TPM2_Unseal", either, SECRET, session)
@@ -279,9 +203,8 @@ def changed_pcrs(session):
 
 def other_commands(session):
     tpm.chapter("The command is another than the one recorded (condition 4).")
-    index = tpm.written_index(
-        "An index whose policy is TPM2_NV_Read", BY_POLICY | BY_OWNER, after_code(CC.NV_Read)
-    )
+    said = tpm("An index whose policy is TPM2_NV_Read")
+    index = said.written_index(BY_POLICY | BY_OWNER, after_code(CC.NV_Read))
     tpm.asserts_code(session, CC.NV_Read, "TPM2_NV_Read")
     lost("TPM2_NV_Write: POLICY_CC/s1", tpm.writing(index, DATA, session))
     tpm.read("TPM2_NV_Read", index, DATA, session)
@@ -291,15 +214,14 @@ def admin_role(session):
     tpm.chapter("The ADMIN role, and no command is recorded (condition 5), or another.")
     index = tpm.index("An index whose authPolicy is 32 zeros", BY_POLICY, ZEROS)
     lost("TPM2_NV_ChangeAuth: POLICY_FAIL/s1", tpm.changing_auth(index, PIN, session))
-    tpm.does("TPM2_NV_Write, in the USER role", tpm.writing(index, DATA, session))
-    admin = tpm.index(
-        "One whose policy is TPM2_NV_ChangeAuth", BY_POLICY, after_code(CC.NV_ChangeAuth)
-    )
+    tpm("TPM2_NV_Write, in the USER role").writing(index, DATA, session)
+    said = tpm("One whose policy is TPM2_NV_ChangeAuth")
+    admin = said.index(BY_POLICY, after_code(CC.NV_ChangeAuth))
     tpm.asserts_code(session, CC.NV_Read, "TPM2_NV_Read")
     lost("TPM2_NV_ChangeAuth: POLICY_CC/s1", tpm.changing_auth(admin, PIN, session))
     tpm.restarts(session)
     tpm.asserts_code(session, CC.NV_ChangeAuth, "TPM2_NV_ChangeAuth")
-    tpm.does("TPM2_NV_ChangeAuth", tpm.changing_auth(admin, PIN, session))
+    tpm("TPM2_NV_ChangeAuth").changing_auth(admin, PIN, session)
 
 
 def other_cp_hashes(session):
@@ -337,7 +259,7 @@ def other_written_values(session):
     asserts = lambda: tpm.asserts("TPM2_PolicyNvWritten of 0", tpm.written_told(session, False))
     asserts()
     lost("TPM2_Unseal of the object: POLICY_FAIL/s1", tpm.unsealing(handle, session))
-    tpm.does("TPM2_NV_Write, the first one", tpm.writing(index, DATA, session))
+    tpm("TPM2_NV_Write, the first one").writing(index, DATA, session)
     asserts()
     lost("The second one: POLICY_FAIL/s1", tpm.writing(index, DATA, session))
     tpm.restarts(session)
@@ -362,9 +284,8 @@ def other_hashes(handle, session):
     by_sha1 = tpm.policy("A policy session of SHA-1", algorithm=SHA1)
     tpm.asserts_code(by_sha1)
     lost("The nameAlg is SHA-256: POLICY_FAIL/s1", tpm.unsealing(handle, by_sha1))
-    of_sha1 = tpm.sealed_object(
-        "An object with nameAlg SHA-1", after_code(CC.Unseal, SHA1), algorithm=SHA1
-    )
+    said = tpm("An object with nameAlg SHA-1")
+    of_sha1 = said.sealed_object(after_code(CC.Unseal, SHA1), algorithm=SHA1)
     tpm.unseal("It is authorized", of_sha1, SECRET, by_sha1)
     tpm.asserts_code(session)
     lost("And not by a session of SHA-256: POLICY_FAIL/s1", tpm.unsealing(of_sha1, session))
@@ -439,9 +360,8 @@ def session_keys(session):
 
 def demands(session):
     tpm.chapter("TPM2_PolicyPassword: the hmac is not the value in plain.")
-    handle = tpm.sealed_object(
-        "An object with its policy, which is that of TPM2_PolicyAuthValue, too", AFTER_AUTH_VALUE
-    )
+    said = tpm("An object with its policy, which is that of TPM2_PolicyAuthValue, too")
+    handle = said.sealed_object(AFTER_AUTH_VALUE)
     by_password = lambda: tpm.unsealing(handle, Use(session, demand=PASSWORD))
     by_value = lambda: tpm.unsealing(handle, Use(session, demand=AUTH_VALUE))
     by_nothing = lambda: tpm.unsealing(handle, Use(session, shows_empty_key=True))
@@ -466,16 +386,14 @@ def locked(openly, demanding, undemanding, hmac, session):
     tpm.chapter("LOCKOUT. Who would compare the value of a protected entity is refused.")
     bound = tpm.start("A session bound to the object", openly)
     tpm.set_protection("maxTries is 1, and there were more", 1, 1000, 1)
-    lost(
-        "By the password, by an unbound session and by the bound one: LOCKOUT",
-        *(tpm.unsealing(openly, it) for it in (PIN, hmac, bound)),
-    )
+    case = "By the password, by an unbound session and by the bound one: LOCKOUT"
+    lost(case, *(tpm.unsealing(openly, it) for it in (PIN, hmac, bound)))
     use = lambda: tpm.unsealing(demanding, Use(session, demand=AUTH_VALUE))
     tpm.asserts_value(session)
     lost("By a policy that demands the value: LOCKOUT", use())
     tpm.asserts("TPM2_PolicyRestart", tpm.restart(session))
     tpm.unseal("By a policy that demands none", undemanding, SECRET, session)
-    tpm.does("TPM2_DictionaryAttackLockReset", tpm.lock_reset())
+    tpm.unlocks()
     for what, by in (("By the password, and by both sessions", PIN), ("", hmac), ("", bound)):
         tpm.unseal(what, openly, SECRET, by)
     tpm.asserts_value(session)
@@ -488,29 +406,76 @@ def asked_once(session, compared):
         "WHAT IS ASKED ONCE. TPM2_PolicyNV and TPM2_PolicySecret look at data and at a value as "
         "they are told, and not as the command comes."
     )
-    handle = tpm.sealed_object(
-        "An object whose policy is what an index holds", after_equal_data(tpm.name(compared))
-    )
+    said = tpm("An object whose policy is what an index holds")
+    handle = said.sealed_object(after_equal_data(tpm.name(compared)))
     told = tpm.comparing(session, compared, DATA, by=RH_OWNER)
     tpm.does("TPM2_PolicyNV", told)
-    tpm.does("Other data are written", tpm.writing(compared, DATA[::-1], by=RH_OWNER))
+    tpm("Other data are written").writing(compared, DATA[::-1], by=RH_OWNER)
     tpm.unseal("TPM2_Unseal", handle, SECRET, session)
     tpm.refused_by("A5", "TPM2_PolicyNV once more: POLICY", told)
-    handle = tpm.sealed_object(
-        "An object whose policy is the owner's value", after_secret(name_of(RH_OWNER))
-    )
+    said = tpm("An object whose policy is the owner's value")
+    handle = said.sealed_object(after_secret(name_of(RH_OWNER)))
     told = tpm.secret(session, OWNER, of=RH_OWNER)
     tpm.does("TPM2_PolicySecret", told)
-    tpm.does("ownerAuth is another", tpm.change_auth(RH_OWNER, b"other", OWNER))
+    tpm("ownerAuth is another").change_auth(RH_OWNER, b"other", OWNER)
     tpm.unseal("TPM2_Unseal", handle, SECRET, session)
     lost("TPM2_PolicySecret once more: BAD_AUTH/s1", told)
 
 
-tpm.does('ownerAuth is "owner" from here on', tpm.change_auth(RH_OWNER, OWNER, b""))
+tpm('ownerAuth is "owner" from here on').change_auth(RH_OWNER, OWNER, b"")
 openly = tpm.sealed_object("A protected object with userWithAuth", attributes=HERE | USER)
 hmac = tpm.start("An HMAC session, which is unbound")
-wrong_passwords(openly)
-to_write = value_of_no_use(hmac)
+
+handle = openly
+tpm.chapter("PASSWORDS. The password is not the value. Protected is what has no noDA.")
+lost("A hierarchy: BAD_AUTH/s1", tpm.change_auth(RH_OWNER, OWNER, b"other"))
+tpm("By the value").change_auth(RH_OWNER, OWNER, OWNER)
+lost("A PCR, whose value is empty: BAD_AUTH/s1", tpm.reset(b"other"))
+tpm("By the empty one").reset(b"")
+lost(
+    "A protected object: another password, a part of the value, more than it, and none: "
+    "AUTH_FAIL/s1",
+    *(tpm.unsealing(handle, it) for it in (b"other", PIN[:-1], PIN + b"1", b"")),
+)
+tpm.unseal("By the value", handle, SECRET, PIN)
+for words, attributes, outcome in (
+    ("A protected index", BY_VALUE, "AUTH_FAIL/s1"),
+    ("An index with NO_DA", BY_VALUE | NvAttribute.NO_DA, "BAD_AUTH/s1"),
+):
+    index = tpm.index(words, attributes)
+    lost(f"By another password: {outcome}", tpm.writing(index, DATA, b"other"))
+    tpm("By the value").writing(index, DATA)
+
+
+tpm.chapter("THE VALUE IS OF NO USE. It is right, in a password and in an HMAC session.")
+closed = tpm.sealed_object("An object without userWithAuth", AFTER_UNSEAL)
+lost("TPM2_Unseal: AUTH_UNAVAILABLE", tpm.unsealing(closed, PIN), tpm.unsealing(closed, hmac))
+usable = tpm.sealed_object("The same with userWithAuth", AFTER_UNSEAL, HERE | USER)
+tpm.unseal("TPM2_Unseal by the password", usable, SECRET, PIN)
+tpm.unseal("And by the HMAC session", usable, SECRET, hmac)
+tpm.flushed(closed, usable)
+said = tpm("An index with AUTHWRITE and without AUTHREAD")
+to_write = said.written_index(NvAttribute.AUTHWRITE | BY_OWNER)
+case = "TPM2_NV_Read: AUTH_UNAVAILABLE"
+lost(case, tpm.reading(to_write, 8, PIN), tpm.reading(to_write, 8, hmac))
+tpm("TPM2_NV_Write").writing(to_write, DATA, PIN)
+said = tpm("One with AUTHREAD and without AUTHWRITE")
+to_read = said.written_index(NvAttribute.AUTHREAD | BY_OWNER)
+case = "TPM2_NV_Write: AUTH_UNAVAILABLE"
+lost(case, tpm.writing(to_read, DATA, PIN), tpm.writing(to_read, DATA, hmac))
+tpm.read("TPM2_NV_Read", to_read, DATA, PIN)
+said = tpm("One whose policy is the command TPM2_NV_ChangeAuth")
+admin = said.index(BY_VALUE, after_code(CC.NV_ChangeAuth))
+case = "TPM2_NV_ChangeAuth, which is in the ADMIN role: AUTH_UNAVAILABLE"
+lost(case, tpm.changing_auth(admin, PIN, PIN), tpm.changing_auth(admin, PIN, hmac))
+tpm("TPM2_NV_Write, in the USER role").writing(admin, DATA, PIN)
+tpm.refused_by(
+    "A1",
+    "The owner, for this index without OWNERREAD, is refused by the command: NV_AUTHORIZATION",
+    tpm.reading(admin, 8, by=RH_OWNER),
+)
+tpm.read("And not for one that has it", to_read, DATA, by=RH_OWNER)
+
 other_texts(to_write, hmac)
 other_keys(openly, hmac)
 lapsed_bindings()

@@ -1,27 +1,15 @@
-"""Writes order_of_session_refusals.tpm: commands with sessions and many faults."""
+"""Writes order_of_session_refusals.tpm. The order of refusals of commands with sessions: of many
+faults one after the other is repaired. What is answered is the first that is left, in the order of
+docs/table/order_of_refusals.md.
+"""
 
-from tpmsim.caller import Use, flipped
-from tpmsim.standard import CC, CONTINUE_SESSION, DECRYPT, ENCRYPT, Entry, RH_NULL, RH_OWNER
-from tpmsim.standard import frames, number, sized
-from tests.common.teller import Teller
+from tests.common.vocabulary import CC, CONTINUE_SESSION, DECRYPTS, ENCRYPT, Entry, frames, number
+from tests.common.vocabulary import RH_NULL, RH_OWNER, sized, Teller, Use, wrong_in
 
-DECRYPTS = CONTINUE_SESSION | DECRYPT
 ENCRYPTS = CONTINUE_SESSION | ENCRYPT
 NULLS = [RH_NULL, RH_NULL]
 
-tpm = Teller(
-    "tests/sessions/order_of_session_refusals.tpm",
-    "The order of refusals of commands with sessions: of many faults one after the other is "
-    "repaired. What is answered is the first that is left, in the order of "
-    "docs/table/order_of_refusals.md.",
-)
-
-
-def wrong(prepared, *places):
-    for place in places:
-        hmac = prepared.entries[place - 1].hmac
-        prepared = prepared.but_entry(place, hmac=flipped(hmac) if hmac else b"\0")
-    return prepared
+tpm = Teller(__name__, __doc__)
 
 
 first = tpm.start("A session", RH_OWNER, aes=True)
@@ -40,45 +28,33 @@ def start(handles, parameters, *uses):
 uses = Use(first, DECRYPTS), Use(second, ENCRYPTS)
 cut = sized(bytes(16))[:-1]
 absent = Entry(0x0200_0005, b"", 0xFF, b"")
-tpm.refused(
-    "tpmKey is not TPM_RH_NULL, and bind is not there: VALUE/h1",
-    wrong(start([RH_OWNER, 0x8000_0000], cut, *uses), 1, 2).but(entries=[absent]),
-)
-tpm.refused(
-    "An object that is not there, as bind: REFERENCE_H1",
-    wrong(start([RH_NULL, 0x8000_0000], cut, *uses), 1, 2).but(entries=[absent]),
-)
-tpm.refused(
-    "An NV index that is not there: HANDLE/h2",
-    wrong(start([RH_NULL, 0x0100_0000], cut, *uses), 1, 2).but(entries=[absent]),
-)
-tpm.refused(
-    "A bind that is no entity: VALUE/h2",
-    wrong(start([RH_NULL, 0x0200_0000], cut, *uses), 1, 2).but(entries=[absent]),
-)
-tpm.refused(
-    "A session that is not there, as the first entry: REFERENCE_S0",
-    start(NULLS, cut, *uses).but(entries=[absent]),
-)
+said = tpm("tpmKey is not TPM_RH_NULL, and bind is not there: VALUE/h1")
+said.refused(wrong_in(start([RH_OWNER, 0x8000_0000], cut, *uses), 1, 2).but(entries=[absent]))
+said = tpm("An object that is not there, as bind: REFERENCE_H1")
+said.refused(wrong_in(start([RH_NULL, 0x8000_0000], cut, *uses), 1, 2).but(entries=[absent]))
+said = tpm("An NV index that is not there: HANDLE/h2")
+said.refused(wrong_in(start([RH_NULL, 0x0100_0000], cut, *uses), 1, 2).but(entries=[absent]))
+said = tpm("A bind that is no entity: VALUE/h2")
+said.refused(wrong_in(start([RH_NULL, 0x0200_0000], cut, *uses), 1, 2).but(entries=[absent]))
+said = tpm("A session that is not there, as the first entry: REFERENCE_S0")
+said.refused(start(NULLS, cut, *uses).but(entries=[absent]))
 tpm.refused(
     "As the second, whose fault comes before the first one's wrong hmac: REFERENCE_S1",
-    wrong(start(NULLS, cut, uses[0]), 1).but(
-        entries=[*wrong(start(NULLS, cut, uses[0]), 1).entries, absent]
+    wrong_in(start(NULLS, cut, uses[0]), 1).but(
+        entries=[*wrong_in(start(NULLS, cut, uses[0]), 1).entries, absent]
     ),
 )
-tpm.refused("Both hmacs: BAD_AUTH/s1", wrong(start(NULLS, cut, *uses), 1, 2))
-tpm.refused("The second one's: BAD_AUTH/s2", wrong(start(NULLS, cut, *uses), 2))
-tpm.refused(
-    "The first parameter, which cannot be decrypted: INSUFFICIENT/p1", start(NULLS, cut, *uses)
-)
+tpm.refused("Both hmacs: BAD_AUTH/s1", wrong_in(start(NULLS, cut, *uses), 1, 2))
+tpm.refused("The second one's: BAD_AUTH/s2", wrong_in(start(NULLS, cut, *uses), 2))
+said = tpm("The first parameter, which cannot be decrypted: INSUFFICIENT/p1")
+said.refused(start(NULLS, cut, *uses))
 no_type = sized(bytes(15)) + sized(b"\1") + b"\2" + frames.symmetric(False) + number(4, 2) + b"\0"
 tpm.refused("It is whole, and sessionType is 02: VALUE/p3", start(NULLS, no_type, *uses))
 hmac = sized(bytes(15)) + sized(b"\1") + b"\0" + frames.symmetric(False) + number(4, 2)
 tpm.refused("A byte behind the parameters: SIZE", start(NULLS, hmac + b"\0", *uses))
 tpm.refused("A nonce of 15 bytes: SIZE/p1", start(NULLS, hmac, *uses))
-tpm.refused(
-    "A salt: VALUE/p2", start(NULLS, frames.start_auth_session(bytes(16), salt=b"\1")[1], *uses)
-)
+said = tpm("A salt: VALUE/p2")
+said.refused(start(NULLS, frames.start_auth_session(bytes(16), salt=b"\1")[1], *uses))
 tpm.accepted("No fault is left", start(NULLS, frames.start_auth_session(bytes(16))[1], *uses))
 
 tpm.chapter("TPM2_PCR_Event into PCR 17 from locality 0, with two sessions and a cut parameter.")
@@ -90,40 +66,31 @@ def event(text, *uses, pcr=17):
 
 tpm.refused("PCR 24, and no sessions (tag 8001): VALUE/h1", event(b"", pcr=24))
 tpm.refused("No sessions (tag 8001): AUTH_MISSING", event(b""))
-tpm.refused(
-    "encrypt, as the first answer is no sized buffer, in the second entry: ATTRIBUTES/s2",
-    wrong(event(b"\0", first, Use(second, ENCRYPTS)), 1, 2),
-)
-tpm.refused(
-    "The first hmac of two that are wrong: BAD_AUTH/s1",
-    wrong(event(b"\0", first, Use(second, DECRYPTS)), 1, 2),
-)
-tpm.refused("A wrong password: BAD_AUTH/s1", wrong(event(b"\0", b"x", Use(second, DECRYPTS)), 2))
+said = tpm("encrypt, as the first answer is no sized buffer, in the second entry: ATTRIBUTES/s2")
+said.refused(wrong_in(event(b"\0", first, Use(second, ENCRYPTS)), 1, 2))
+said = tpm("The first hmac of two that are wrong: BAD_AUTH/s1")
+said.refused(wrong_in(event(b"\0", first, Use(second, DECRYPTS)), 1, 2))
+tpm.refused("A wrong password: BAD_AUTH/s1", wrong_in(event(b"\0", b"x", Use(second, DECRYPTS)), 2))
 tpm.refused(
     "The second hmac: BAD_AUTH/s2",
-    wrong(event(b"\0", first, Use(second, DECRYPTS)), 2),
-    wrong(event(b"\0", b"", Use(second, DECRYPTS)), 2),
+    wrong_in(event(b"\0", first, Use(second, DECRYPTS)), 2),
+    wrong_in(event(b"\0", b"", Use(second, DECRYPTS)), 2),
 )
-tpm.refused(
-    "The third hmac: BAD_AUTH/s3", wrong(event(b"\0", b"", first, Use(second, DECRYPTS)), 3)
-)
+said = tpm("The third hmac: BAD_AUTH/s3")
+said.refused(wrong_in(event(b"\0", b"", first, Use(second, DECRYPTS)), 3))
 tpm.refused(
     "The parameter that is cut: INSUFFICIENT/p1",
     event(b"\0", first, Use(second, DECRYPTS)),
     event(b"\xff\xff", first, Use(second, DECRYPTS)),
 )
-tpm.refused(
-    "One that is too long, and a byte behind it: SIZE/p1",
-    event(sized(bytes(1025)) + b"\0", first, Use(second, DECRYPTS)),
-)
-tpm.refused(
-    "A byte behind it: SIZE", event(sized(bytes(1024)) + b"\0", first, Use(second, DECRYPTS))
-)
+said = tpm("One that is too long, and a byte behind it: SIZE/p1")
+said.refused(event(sized(bytes(1025)) + b"\0", first, Use(second, DECRYPTS)))
+said = tpm("A byte behind it: SIZE")
+said.refused(event(sized(bytes(1024)) + b"\0", first, Use(second, DECRYPTS)))
 tpm.refused("The locality: LOCALITY", event(sized(bytes(1024)), first, Use(second, DECRYPTS)))
 tpm.locality_is(3)
-tpm.accepted(
-    "From locality 3 no fault is left", event(sized(bytes(1024)), first, Use(second, DECRYPTS))
-)
+said = tpm("From locality 3 no fault is left")
+said.accepted(event(sized(bytes(1024)), first, Use(second, DECRYPTS)))
 tpm.locality_is(0)
 
 tpm.chapter("TPM2_HierarchyChangeAuth of TPM_RH_OWNER.")
@@ -133,10 +100,8 @@ def change(text, *uses):
     return tpm.prepare(CC.HierarchyChangeAuth, [RH_OWNER], text, *uses)
 
 
-tpm.refused(
-    "A wrong hmac, and a value that is too long: BAD_AUTH/s1",
-    wrong(change(sized(bytes(33)), first), 1),
-)
+said = tpm("A wrong hmac, and a value that is too long: BAD_AUTH/s1")
+said.refused(wrong_in(change(sized(bytes(33)), first), 1))
 tpm.refused("That value, and a byte behind it: SIZE/p1", change(sized(bytes(33)) + b"\0", first))
 tpm.refused("The byte behind it: SIZE", change(sized(b"abc") + b"\0", first))
 tpm.accepted("No fault is left", change(sized(b"abc"), first))
@@ -148,10 +113,8 @@ def flush(text, tag=frames.NO_SESSIONS):
     return frames.command(CC.FlushContext, text, tag)
 
 
-tpm.raw(
-    "With sessions (tag 8002) and nothing behind the header: AUTH_CONTEXT",
-    flush(b"", frames.SESSIONS),
-)
+said = tpm("With sessions (tag 8002) and nothing behind the header: AUTH_CONTEXT")
+said.raw(flush(b"", frames.SESSIONS))
 tpm.raw("No handle: INSUFFICIENT/p1", flush(b""))
 tpm.raw("A byte behind a handle that is no session's: SIZE", flush(number(RH_OWNER, 4) + b"\0"))
 tpm.raw("That handle: VALUE/p1", flush(number(RH_OWNER, 4)))
@@ -171,15 +134,13 @@ def masked(tail, nonce=15, salt=b"\1", kind=b"\0"):
 WRONG_HASH = number(frames.XOR, 2) + number(0x000C, 2)
 OTHER_HASH = number(frames.XOR, 2) + number(frames.SHA1, 2) + number(frames.SHA256, 2)
 uses = (Use(masking, DECRYPTS | ENCRYPT),)
-tpm.refused("Its hmac: BAD_AUTH/s1", wrong(start(NULLS, cut, *uses), 1))
+tpm.refused("Its hmac: BAD_AUTH/s1", wrong_in(start(NULLS, cut, *uses), 1))
 tpm.refused("The nonce, which is cut: INSUFFICIENT/p1", start(NULLS, cut, *uses))
-tpm.refused(
-    "It has 33 bytes once it is whole: SIZE/p1", start(NULLS, masked(WRONG_HASH, 33), *uses)
-)
+said = tpm("It has 33 bytes once it is whole: SIZE/p1")
+said.refused(start(NULLS, masked(WRONG_HASH, 33), *uses))
 tpm.refused("sessionType 02: VALUE/p3", start(NULLS, masked(WRONG_HASH, kind=b"\2"), *uses))
-tpm.refused(
-    "A hash that is none, and no authHash: HASH/p4", start(NULLS, masked(WRONG_HASH), *uses)
-)
+said = tpm("A hash that is none, and no authHash: HASH/p4")
+said.refused(start(NULLS, masked(WRONG_HASH), *uses))
 tpm.refused("A byte behind the parameters: SIZE", start(NULLS, masked(OTHER_HASH + b"\0"), *uses))
 tpm.refused("A nonce of 15 bytes: SIZE/p1", start(NULLS, masked(OTHER_HASH), *uses))
 tpm.refused("A salt: VALUE/p2", start(NULLS, masked(OTHER_HASH, 16), *uses))

@@ -1,30 +1,24 @@
-"""Writes replays.tpm: commands that were accepted, and are sent again byte for byte."""
+"""Writes replays.tpm. Commands that were accepted, and are sent again byte for byte. The hmac of a
+session is of its nonceTPM, which each accepted command makes a new one, so that it is refused where
+the hmac is compared. Where nothing is compared, or random bytes come again, it is accepted. Each
+command of a session has random bytes of its own, where nothing else is said.
+"""
 
 from dataclasses import replace
 
-from tpmsim.caller import BY_POLICY, BY_VALUE, CLEAR, STATE, Use
-from tpmsim.standard import CC, CONTINUE_SESSION, DECRYPT, ENCRYPT, RH_ENDORSEMENT, RH_LOCKOUT
-from tpmsim.standard import RH_NULL, RH_OWNER, SE_HMAC, SE_POLICY, SHA256, frames
-from tpmsim.standard.nv import Attribute
-from tpmsim.standard.policy import AUTH_VALUE, PASSWORD
-from tpmsim.caller.script_caller import FIRST
+from tests.common.vocabulary import AUTH_VALUE, BY_POLICY, BY_VALUE, CC, CLEAR, DECRYPTS, ENCRYPTS
+from tests.common.vocabulary import ENDS, FIRST, frames, NvAttribute, PASSWORD, RH_ENDORSEMENT
+from tests.common.vocabulary import RH_LOCKOUT, RH_NULL, RH_OWNER, SE_HMAC, SE_POLICY, SHA256, STATE
+from tests.common.vocabulary import Use
 from tests.sessions.grounds_caller import AFTER_AUTH_VALUE, DATA, OWNER, ZEROS, GroundsCaller
 
 VALUE, LOCKOUT_AUTH, OTHER_DATA = b"a", b"lockout", b"to write"
-ENDS = 0x00
-DECRYPTS, ENCRYPTS = CONTINUE_SESSION | DECRYPT, CONTINUE_SESSION | ENCRYPT
 RECOVERY = 1_000_000  # milliseconds of recoveryTime and lockoutRecovery, as they are at first
 
 # Random bytes that are given more than once.
 SEED, OTHER_SEED = b"\xa1", b"\xb2"
 
-tpm = GroundsCaller(
-    "tests/sessions/replays.tpm",
-    "Commands that were accepted, and are sent again byte for byte. The hmac of a session is of "
-    "its nonceTPM, which each accepted command makes a new one, so that it is refused where the "
-    "hmac is compared. Where nothing is compared, or random bytes come again, it is accepted. Each "
-    "command of a session has random bytes of its own, where nothing else is said.",
-)
+tpm = GroundsCaller(__name__, __doc__)
 
 
 def with_random(what, seed, prepared):
@@ -79,10 +73,6 @@ def accepted(what, prepared):
     return prepared
 
 
-def unlocked():
-    tpm.does("TPM2_DictionaryAttackLockReset", tpm.lock_reset())
-
-
 def write(by, data=DATA, index=FIRST):
     return tpm.writing(index, data, by)
 
@@ -111,16 +101,16 @@ def protected():
     tpm.tries_are("recoveryTime later one try is forgiven", 2)
     again("The first again: AUTH_FAIL/s1", first)
     tpm.tries_are("It is locked again", 3)
-    unlocked()
+    tpm.unlocks()
     tpm.does("What LOCKOUT has refused was no use, and is accepted now", right)
     again("But not again: AUTH_FAIL/s1", right)
-    unlocked()
+    tpm.unlocks()
     return start, first
 
 
 def not_counted(session, to_endorsement):
     tpm.chapter("WHAT IS NOT PROTECTED. A wrong entry is no try.")
-    openly = tpm.index("An index with NO_DA", BY_VALUE | Attribute.NO_DA, value=VALUE)
+    openly = tpm.index("An index with NO_DA", BY_VALUE | NvAttribute.NO_DA, value=VALUE)
     tpm.does("", write(VALUE, index=openly))
     for what, prepare in (
         ("TPM2_NV_Write of it", lambda: write(session, index=openly)),
@@ -136,14 +126,14 @@ def not_counted(session, to_endorsement):
 
 def counted_otherwise(session):
     tpm.chapter("LOCKOUTAUTH. A wrong entry closes it for lockoutRecovery.")
-    tpm.does('It is "lockout"', tpm.change_auth(RH_LOCKOUT, LOCKOUT_AUTH, b""))
+    tpm('It is "lockout"').change_auth(RH_LOCKOUT, LOCKOUT_AUTH, b"")
     first = accepted("TPM2_DictionaryAttackLockReset by the session", tpm.lock_reset(session))
     again("The same again: AUTH_FAIL/s1", first)
     tpm.tries_are("It is no failed try", 0)
     again("But lockoutAuth is closed: the same again: LOCKOUT", first)
     again("And the password: LOCKOUT", tpm.lock_reset())
     tpm.wait(RECOVERY)
-    tpm.does("lockoutRecovery later, the password", tpm.lock_reset())
+    tpm("lockoutRecovery later, the password").lock_reset()
 
     tpm.chapter(
         "A SESSION THAT WAS BOUND TO THE PROTECTED INDEX. Its wrong entry is a try wherever no "
@@ -156,7 +146,7 @@ def counted_otherwise(session):
     first = accepted("TPM2_GetRandom, where it authorizes nothing", tpm.random(2, bound))
     again("The same again: AUTH_FAIL/s1", first, "G10")
     tpm.tries_are("A failed try", 2)
-    unlocked()
+    tpm.unlocks()
     tpm.flushed(bound)
 
 
@@ -188,23 +178,19 @@ def other_places(session, to_endorsement):
         ),
     ):
         again(f"The same again: {outcome}", accepted(what, prepare()), "G10")
-    decrypting = accepted(
-        "TPM2_NV_Write, and the session decrypts",
-        tpm.writing(FIRST, OTHER_DATA, VALUE, Use(aes, DECRYPTS)),
-    )
+    case = "TPM2_NV_Write, and the session decrypts"
+    decrypting = accepted(case, tpm.writing(FIRST, OTHER_DATA, VALUE, Use(aes, DECRYPTS)))
     tpm.does("Other data are written", write(VALUE))
     again("What decrypts again: BAD_AUTH/s2", decrypting, "G10")
     tpm.read("The data are as they were", FIRST, DATA, VALUE)
     first = accepted("TPM2_GetRandom: the first entry authorizes nothing", tpm.random(2, aes))
     again("The same again: BAD_AUTH/s1", first, "G10")
     tpm.tries_are("None of these was a failed try", 0)
-    both = accepted(
-        "TPM2_NV_Write by a session, and another one decrypts",
-        tpm.writing(FIRST, DATA, session, Use(aes, DECRYPTS)),
-    )
+    case = "TPM2_NV_Write by a session, and another one decrypts"
+    both = accepted(case, tpm.writing(FIRST, DATA, session, Use(aes, DECRYPTS)))
     again("The same again: AUTH_FAIL/s1, which the first entry refuses", both)
     tpm.tries_are("And that is a failed try", 1)
-    unlocked()
+    tpm.unlocks()
     tpm.flushed(aes, unbound)
 
 
@@ -220,13 +206,11 @@ def compared_with_nothing(session):
 
     tpm.chapter("Parameter encryption has the nonce in its key all the same.")
     aes = tpm.start("A session with AES, bound to nothing", aes=True)
-    decrypting = accepted(
-        "TPM2_NV_Write by the password, and this session decrypts, whose hmac is empty",
-        tpm.writing(FIRST, OTHER_DATA, VALUE, Use(aes, DECRYPTS)),
-    )
+    case = "TPM2_NV_Write by the password, and this session decrypts, whose hmac is empty"
+    decrypting = accepted(case, tpm.writing(FIRST, OTHER_DATA, VALUE, Use(aes, DECRYPTS)))
     tpm.read("What was written", FIRST, OTHER_DATA, VALUE)
     accepted_again("The same again", decrypting)
-    answer = tpm.does("Other bytes were written", tpm.reading(FIRST, 8, VALUE))
+    answer = tpm("Other bytes were written").reading(FIRST, 8, VALUE)
     assert len(answer) == 10 and answer[2:] not in (OTHER_DATA, DATA)
     tpm.flushed(aes)
 
@@ -252,9 +236,8 @@ def policy_sessions():
     tpm.does("It takes none away either: what was not sent yet", unsent)
 
     tpm.chapter("The same with what TPM2_PolicyAuthValue and TPM2_PolicyPassword demand.")
-    value = tpm.written_index(
-        "An index of their policy", BY_POLICY | Attribute.OWNERWRITE, AFTER_AUTH_VALUE
-    )
+    said = tpm("An index of their policy")
+    value = said.written_index(BY_POLICY | NvAttribute.OWNERWRITE, AFTER_AUTH_VALUE)
     tpm.asserts_value(bound)
     first = accepted("TPM2_NV_Write", write(Use(bound, demand=AUTH_VALUE), index=value))
     again("The same again: POLICY_FAIL/s1, as nothing was told", first)
@@ -266,7 +249,7 @@ def policy_sessions():
     again("And behind TPM2_PolicyRestart: AUTH_FAIL/s1", first)
     tpm.tries_are("Another one", 2)
     tpm.restarts(bound)
-    unlocked()
+    tpm.unlocks()
     tpm.asserts_password(bound)
     first = accepted("TPM2_NV_Write", write(Use(bound, demand=PASSWORD), index=value))
     again("The same again: POLICY_FAIL/s1, as nothing was told", first)
@@ -283,59 +266,6 @@ def policy_sessions():
 # Sessions that begin again.
 
 
-def new_starts(start, first):
-    tpm.chapter(
-        "A NEW SESSION WITH THE SAME BYTES. The nonceTPM is of the random bytes: where they come "
-        "again so does it, and that is not refused."
-    )
-    session = start.session
-    tpm.flushed(session)
-    again("The first TPM2_NV_Write again: REFERENCE_S0, as there is no session", first, "G8")
-    start.again()
-    accepted_again("The first TPM2_NV_Write again", first)
-    again("And once more: AUTH_FAIL/s1", first)
-    tpm.tries_are("That is a failed try", 1)
-
-    tpm.flushed(session)
-
-    tpm.chapter("Other bytes.")
-    start.otherwise("With other random bytes", OTHER_SEED)
-    again("The first again: AUTH_FAIL/s1", first)
-    tpm.flushed(session)
-    start.otherwise(
-        "With another nonceCaller, which is in no key of an unbound session", nonce=tpm.nonce()
-    )
-    accepted_again("The first again", first)
-    unlocked()
-    tpm.flushed(session)
-    other = tpm.policy("A policy session is started in its place")
-    again("The first again: REFERENCE_S0, as this is no HMAC session", first, "G8")
-    elsewhere = start.sent("The same bytes, which start it in another place", SEED, start.nonce)
-    assert replace(elsewhere, handle=session.handle) == start.at_first
-    again("The first again: REFERENCE_S0, as its handle is of no session", first, "G8")
-    tpm.flushed(other, elsewhere)
-
-    tpm.chapter("A bound session, whose key is of its nonceCaller and of the value.")
-    bound = Start("TPM2_StartAuthSession, bound to TPM_RH_OWNER", RH_OWNER)
-    event = accepted("TPM2_PCR_Event", tpm.event(b"event", bound.session))
-    again("The same again: BAD_AUTH/s1", event)
-    tpm.flushed(bound.session)
-    bound.again()
-    accepted_again("The same again", event)
-    tpm.flushed(bound.session)
-    bound.otherwise("With another nonceCaller", nonce=tpm.nonce())
-    again("The same again: BAD_AUTH/s1", event)
-    tpm.flushed(bound.session)
-    tpm.does("ownerAuth is another", tpm.change_auth(RH_OWNER, b"other", OWNER))
-    bound.otherwise("With the same bytes")
-    again("The same again: BAD_AUTH/s1", event)
-    tpm.flushed(bound.session)
-    tpm.does("ownerAuth is as it was", tpm.change_auth(RH_OWNER, OWNER, b"other"))
-    bound.again()
-    accepted_again("The same again", event)
-    tpm.flushed(bound.session)
-
-
 def new_names(start):
     tpm.chapter("The hmac is of the Name, too, which the first write of an index changes.")
     index = tpm.index("An index", BY_VALUE, value=VALUE)
@@ -345,10 +275,10 @@ def new_names(start):
     tpm.flushed(start.session)
     start.again()
     again("The same again: AUTH_FAIL/s1", first)
-    tpm.does("It is undefined", tpm.undefining(index))
+    tpm("It is undefined").undefining(index)
     tpm.define("And defined as it was", public, auth=VALUE)
     accepted_again("The same again", first)
-    unlocked()
+    tpm.unlocks()
     tpm.flushed(start.session)
 
 
@@ -367,85 +297,128 @@ def repeated_nonces(start):
     with_random("TPM2_NV_Write, with the random bytes of before", OTHER_SEED, write(session))
     accepted_again("The same again, of a nonce that was past", first)
     again("And once more: AUTH_FAIL/s1", first)
-    unlocked()
+    tpm.unlocks()
     tpm.flushed(session)
 
 
-def power_cycles(start, first):
-    tpm.chapter("A POWER CYCLE ends all sessions.")
-    start.again()
-    told = tpm.policy("A policy session beside it")
-    for kind, words in ((CLEAR, "CLEAR"), (STATE, "STATE")):
-        accepted_again("The first TPM2_NV_Write of the protected index", first)
-        again("The same again: AUTH_FAIL/s1", first)
-        tpm.does(f"TPM2_Shutdown({words})", tpm.shutting_down(kind))
-        tpm.power()
-        again("The same again: INITIALIZE, as the device is not started", first, "G5")
-        tpm.start_up(f"TPM2_Startup({words})", kind)
-        again("The same again: REFERENCE_S0, as the session is gone", first, "G8")
-        tpm.refused_by(
-            "G6", "TPM2_PolicyGetDigest of the policy session: REFERENCE_H0", tpm.get_digest(told)
-        )
-        tpm.tries_are("The failed try is kept, and there is no other", 1)
-        unlocked()
-        start.again()
-    accepted_again("The first TPM2_NV_Write again", first)
-    again("And once more: AUTH_FAIL/s1", first)
-    unlocked()
-
-
-def ended_sessions(start, to_endorsement):
-    tpm.chapter("WITHOUT continueSession a session ends with the use of it.")
-    tpm.flushed(start.session)
-    start.again()
-    last = accepted("TPM2_NV_Write", write(Use(start.session, ENDS)))
-    again("The same again: REFERENCE_S0", last, "G8")
-    start.again()
-    accepted_again("The same again", last)
-    again("And once more: REFERENCE_S0", last, "G8")
-    for what, outcome, uses in (
-        ("In the second entry", "REFERENCE_S1", [VALUE]),
-        ("In the third entry", "REFERENCE_S2", [VALUE, to_endorsement]),
-    ):
-        start.again()
-        uses = [*uses, Use(start.session, ENDS)]
-        last = accepted(what, tpm.writing(FIRST, DATA, *uses))
-        again(f"The same again: {outcome}", last, "G8")
-    tpm.tries_are("None of these was a failed try", 0)
-
-
-def refused_before(to_endorsement):
-    tpm.chapter(
-        "WHAT WAS REFUSED can be sent again until it is accepted: a refusal makes no nonce new."
-    )
-    reset = tpm.reset(to_endorsement, pcr=20)
-    again("TPM2_PCR_Reset of PCR 20 from locality 0: LOCALITY", reset, "A1")
-    again("The same again: LOCALITY", reset, "A1")
-    tpm.locality_is(4)
-    accepted_again("The same from locality 4", reset)
-    again("And once more: BAD_AUTH/s1", reset)
-    tpm.locality_is(0)
-    again("From locality 0: BAD_AUTH/s1", reset)
-
-
-tpm.does('ownerAuth is "owner"', tpm.change_auth(RH_OWNER, OWNER, b""))
+tpm('ownerAuth is "owner"').change_auth(RH_OWNER, OWNER, b"")
 assert FIRST == tpm.index(
     'An index with AUTHWRITE and AUTHREAD, whose value is "a"', BY_VALUE, value=VALUE
 )
 tpm.does("It is written, so that its Name stays from here on", write(VALUE))
 start, first = protected()
-to_endorsement = tpm.start(
-    "A session bound to TPM_RH_ENDORSEMENT, which is not protected", RH_ENDORSEMENT
-)
+said = tpm("A session bound to TPM_RH_ENDORSEMENT, which is not protected")
+to_endorsement = said.start(RH_ENDORSEMENT)
 not_counted(start.session, to_endorsement)
 counted_otherwise(start.session)
 other_places(start.session, to_endorsement)
 compared_with_nothing(start.session)
 policy_sessions()
-new_starts(start, first)
+
+tpm.chapter(
+    "A NEW SESSION WITH THE SAME BYTES. The nonceTPM is of the random bytes: where they come "
+    "again so does it, and that is not refused."
+)
+session = start.session
+tpm.flushed(session)
+again("The first TPM2_NV_Write again: REFERENCE_S0, as there is no session", first, "G8")
+start.again()
+accepted_again("The first TPM2_NV_Write again", first)
+again("And once more: AUTH_FAIL/s1", first)
+tpm.tries_are("That is a failed try", 1)
+
+tpm.flushed(session)
+
+tpm.chapter("Other bytes.")
+start.otherwise("With other random bytes", OTHER_SEED)
+again("The first again: AUTH_FAIL/s1", first)
+tpm.flushed(session)
+start.otherwise(
+    "With another nonceCaller, which is in no key of an unbound session", nonce=tpm.nonce()
+)
+accepted_again("The first again", first)
+tpm.unlocks()
+tpm.flushed(session)
+other = tpm.policy("A policy session is started in its place")
+again("The first again: REFERENCE_S0, as this is no HMAC session", first, "G8")
+elsewhere = start.sent("The same bytes, which start it in another place", SEED, start.nonce)
+assert replace(elsewhere, handle=session.handle) == start.at_first
+again("The first again: REFERENCE_S0, as its handle is of no session", first, "G8")
+tpm.flushed(other, elsewhere)
+
+tpm.chapter("A bound session, whose key is of its nonceCaller and of the value.")
+bound = Start("TPM2_StartAuthSession, bound to TPM_RH_OWNER", RH_OWNER)
+event = accepted("TPM2_PCR_Event", tpm.event(b"event", bound.session))
+again("The same again: BAD_AUTH/s1", event)
+tpm.flushed(bound.session)
+bound.again()
+accepted_again("The same again", event)
+tpm.flushed(bound.session)
+bound.otherwise("With another nonceCaller", nonce=tpm.nonce())
+again("The same again: BAD_AUTH/s1", event)
+tpm.flushed(bound.session)
+tpm("ownerAuth is another").change_auth(RH_OWNER, b"other", OWNER)
+bound.otherwise("With the same bytes")
+again("The same again: BAD_AUTH/s1", event)
+tpm.flushed(bound.session)
+tpm("ownerAuth is as it was").change_auth(RH_OWNER, OWNER, b"other")
+bound.again()
+accepted_again("The same again", event)
+tpm.flushed(bound.session)
+
 new_names(start)
 repeated_nonces(start)
-power_cycles(start, first)
+
+tpm.chapter("A POWER CYCLE ends all sessions.")
+start.again()
+told = tpm.policy("A policy session beside it")
+for kind, words in ((CLEAR, "CLEAR"), (STATE, "STATE")):
+    accepted_again("The first TPM2_NV_Write of the protected index", first)
+    again("The same again: AUTH_FAIL/s1", first)
+    tpm(f"TPM2_Shutdown({words})").shutting_down(kind)
+    tpm.power()
+    again("The same again: INITIALIZE, as the device is not started", first, "G5")
+    tpm.start_up(f"TPM2_Startup({words})", kind)
+    again("The same again: REFERENCE_S0, as the session is gone", first, "G8")
+    tpm.refused_by(
+        "G6", "TPM2_PolicyGetDigest of the policy session: REFERENCE_H0", tpm.get_digest(told)
+    )
+    tpm.tries_are("The failed try is kept, and there is no other", 1)
+    tpm.unlocks()
+    start.again()
+accepted_again("The first TPM2_NV_Write again", first)
+again("And once more: AUTH_FAIL/s1", first)
+tpm.unlocks()
+
 to_endorsement = tpm.start("A session bound to TPM_RH_ENDORSEMENT", RH_ENDORSEMENT)
-ended_sessions(start, to_endorsement)
-refused_before(to_endorsement)
+
+tpm.chapter("WITHOUT continueSession a session ends with the use of it.")
+tpm.flushed(start.session)
+start.again()
+last = accepted("TPM2_NV_Write", write(Use(start.session, ENDS)))
+again("The same again: REFERENCE_S0", last, "G8")
+start.again()
+accepted_again("The same again", last)
+again("And once more: REFERENCE_S0", last, "G8")
+for what, outcome, uses in (
+    ("In the second entry", "REFERENCE_S1", [VALUE]),
+    ("In the third entry", "REFERENCE_S2", [VALUE, to_endorsement]),
+):
+    start.again()
+    uses = [*uses, Use(start.session, ENDS)]
+    last = accepted(what, tpm.writing(FIRST, DATA, *uses))
+    again(f"The same again: {outcome}", last, "G8")
+tpm.tries_are("None of these was a failed try", 0)
+
+
+tpm.chapter(
+    "WHAT WAS REFUSED can be sent again until it is accepted: a refusal makes no nonce new."
+)
+reset = tpm.reset(to_endorsement, pcr=20)
+again("TPM2_PCR_Reset of PCR 20 from locality 0: LOCALITY", reset, "A1")
+again("The same again: LOCALITY", reset, "A1")
+tpm.locality_is(4)
+accepted_again("The same from locality 4", reset)
+again("And once more: BAD_AUTH/s1", reset)
+tpm.locality_is(0)
+again("From locality 0: BAD_AUTH/s1", reset)

@@ -1,19 +1,15 @@
-"""Writes session_encryption.tpm: first parameters and first answers that sessions encrypt."""
+"""Writes session_encryption.tpm. Parameter encryption by AES-128 in mode CFB: a session with the
+attribute decrypt has encrypted the bytes of the first parameter, and one with encrypt those of the
+first answer.
+"""
 
-from tpmsim.caller import Use, flipped
-from tpmsim.standard import CC, CONTINUE_SESSION, DECRYPT, ENCRYPT, RH_ENDORSEMENT, RH_OWNER, SHA1
-from tpmsim.standard import SHA256, frames, sized
-from tests.common.teller import Teller
+from tests.common.vocabulary import CC, CONTINUE_SESSION, DECRYPT, DECRYPTS, ENCRYPT, flipped
+from tests.common.vocabulary import frames, NAMES, RH_ENDORSEMENT, RH_OWNER, SHA1, SHA256, sized
+from tests.common.vocabulary import Teller, Use
 
-DECRYPTS = CONTINUE_SESSION | DECRYPT
 ENCRYPTS = CONTINUE_SESSION | ENCRYPT
-NAMES = {SHA1: "SHA-1", SHA256: "SHA-256"}
 
-tpm = Teller(
-    "tests/sessions/session_encryption.tpm",
-    "Parameter encryption by AES-128 in mode CFB: a session with the attribute decrypt has "
-    "encrypted the bytes of the first parameter, and one with encrypt those of the first answer.",
-)
+tpm = Teller(__name__, __doc__)
 
 
 def others_are(*sessions):
@@ -23,70 +19,51 @@ def others_are(*sessions):
 
 
 tpm.accepted('ownerAuth is "owner"', tpm.change_auth(RH_OWNER, b"owner", b""))
-tpm.accepted(
-    'endorsementAuth is "endorsement"', tpm.change_auth(RH_ENDORSEMENT, b"endorsement", b"")
-)
+said = tpm('endorsementAuth is "endorsement"')
+said.accepted(tpm.change_auth(RH_ENDORSEMENT, b"endorsement", b""))
 
 for algorithm, size in ((SHA1, 16), (SHA1, 20), (SHA256, 16), (SHA256, 32)):
     tpm.chapter(f"Sessions of {NAMES[algorithm]}, with nonces of {size} bytes.")
     choices = dict(algorithm=algorithm, size=size, aes=True)
     bound = tpm.start("Bound to TPM_RH_OWNER", RH_OWNER, **choices)
     unbound = tpm.start("Bound to nothing", **choices)
-    tpm.accepted(
+    tpm(
         "The bound one authorizes TPM2_HierarchyChangeAuth of TPM_RH_OWNER and decrypts: the key "
-        "of encryption has ownerAuth, which the hmac's key has not",
-        tpm.change_auth(RH_OWNER, b"a new value", Use(bound, DECRYPTS)),
-    )
-    tpm.accepted(
-        "The unbound one does, to 32 bytes",
-        tpm.change_auth(RH_OWNER, b"0123456789abcdef" * 2, Use(unbound, DECRYPTS)),
-    )
-    tpm.accepted(
-        "What was set is a password now, and sets the first value",
-        tpm.change_auth(RH_OWNER, b"owner", b"0123456789abcdef" * 2),
-    )
-    tpm.accepted(
-        "A value of which only zeros are sent",
-        tpm.change_auth(RH_OWNER, bytes(20), Use(bound, DECRYPTS)),
-    )
-    tpm.accepted(
-        "It is empty now: the unbound one has no key and no hmac, and encrypts all the same",
-        tpm.change_auth(RH_OWNER, b"owner", Use(unbound, DECRYPTS)),
-    )
-    tpm.accepted(
-        "TPM2_PCR_Event into PCR 16, by the bound one|with the digests of the data in plain",
-        tpm.event(b"event data", Use(bound, DECRYPTS)),
-    )
-    tpm.accepted("TPM2_GetRandom of 20 bytes", tpm.random(20, Use(bound, ENCRYPTS)))
-    tpm.accepted("And by the unbound one", tpm.random(20, Use(unbound, ENCRYPTS)))
+        "of encryption has ownerAuth, which the hmac's key has not"
+    ).change_auth(RH_OWNER, b"a new value", Use(bound, DECRYPTS))
+    said = tpm("The unbound one does, to 32 bytes")
+    said.change_auth(RH_OWNER, b"0123456789abcdef" * 2, Use(unbound, DECRYPTS))
+    said = tpm("What was set is a password now, and sets the first value")
+    said.accepted(tpm.change_auth(RH_OWNER, b"owner", b"0123456789abcdef" * 2))
+    said = tpm("A value of which only zeros are sent")
+    said.change_auth(RH_OWNER, bytes(20), Use(bound, DECRYPTS))
+    said = tpm("It is empty now: the unbound one has no key and no hmac, and encrypts all the same")
+    said.change_auth(RH_OWNER, b"owner", Use(unbound, DECRYPTS))
+    said = tpm("TPM2_PCR_Event into PCR 16, by the bound one|with the digests of the data in plain")
+    said.event(b"event data", Use(bound, DECRYPTS))
+    tpm("TPM2_GetRandom of 20 bytes").random(20, Use(bound, ENCRYPTS))
+    tpm("And by the unbound one").random(20, Use(unbound, ENCRYPTS))
     for session in (bound, unbound):
         tpm.accepted("It is flushed", tpm.flush(session))
 
 tpm.chapter("Sizes. Blocks have 16 bytes, and the last may be cut.")
 session = tpm.start("A session, bound to TPM_RH_OWNER", RH_OWNER, aes=True)
 for count in (0, 1, 15, 16, 17, 31, 32):
-    tpm.accepted(f"TPM2_GetRandom of {count} bytes", tpm.random(count, Use(session, ENCRYPTS)))
+    tpm(f"TPM2_GetRandom of {count} bytes").random(count, Use(session, ENCRYPTS))
 for count in (0, 1, 15, 16, 17, 1024):
-    tpm.accepted(
-        f"TPM2_PCR_Event of {count} bytes", tpm.event(b"e" * count, Use(session, DECRYPTS))
-    )
+    tpm(f"TPM2_PCR_Event of {count} bytes").event(b"e" * count, Use(session, DECRYPTS))
 tpm.accepted("TPM2_PCR_Read of PCR 16", tpm.read_pcr(16))
 
 tpm.chapter("A session that decrypts beside the one that authorizes.")
 other = tpm.start("Another session, bound to TPM_RH_ENDORSEMENT", RH_ENDORSEMENT, aes=True)
 third = tpm.start("A third one, bound to nothing", aes=True, size=32)
-tpm.accepted(
-    "Beside a password: it authorizes nothing, and no authorization value is in any key of it",
-    tpm.change_auth(RH_OWNER, b"owner", b"owner", Use(session, DECRYPTS)),
-)
-tpm.accepted(
-    "Beside a password and another session",
-    tpm.change_auth(RH_OWNER, b"owner", b"owner", other, Use(session, DECRYPTS)),
-)
-tpm.accepted(
-    "Beside a session: its nonce is in the first entry's hmac",
-    tpm.change_auth(RH_OWNER, b"owner", session, Use(other, DECRYPTS)),
-)
+tpm(
+    "Beside a password: it authorizes nothing, and no authorization value is in any key of it"
+).change_auth(RH_OWNER, b"owner", b"owner", Use(session, DECRYPTS))
+said = tpm("Beside a password and another session")
+said.change_auth(RH_OWNER, b"owner", b"owner", other, Use(session, DECRYPTS))
+said = tpm("Beside a session: its nonce is in the first entry's hmac")
+said.change_auth(RH_OWNER, b"owner", session, Use(other, DECRYPTS))
 with others_are():
     left_out = tpm.change_auth(RH_OWNER, b"owner", session, Use(other, DECRYPTS))
 tpm.refused("Where it is left out: BAD_AUTH/s1", left_out)
@@ -96,18 +73,12 @@ tpm.refused("Where it stands twice: BAD_AUTH/s1", twice)
 with others_are(session):
     own = tpm.change_auth(RH_OWNER, b"owner", session, Use(other, DECRYPTS))
 tpm.refused("Where the first entry's own stands in its place: BAD_AUTH/s1", own)
-tpm.accepted(
-    "As the third entry of three",
-    tpm.change_auth(RH_OWNER, b"owner", session, third, Use(other, DECRYPTS)),
-)
-tpm.accepted(
-    "As the second entry of three, with a nonce of 32 bytes and an empty key",
-    tpm.change_auth(RH_OWNER, b"owner", session, Use(third, DECRYPTS), other),
-)
-tpm.accepted(
-    "Where the first entry decrypts itself no other nonce stands in any hmac",
-    tpm.change_auth(RH_OWNER, b"owner", Use(session, DECRYPTS), other, third),
-)
+said = tpm("As the third entry of three")
+said.change_auth(RH_OWNER, b"owner", session, third, Use(other, DECRYPTS))
+said = tpm("As the second entry of three, with a nonce of 32 bytes and an empty key")
+said.change_auth(RH_OWNER, b"owner", session, Use(third, DECRYPTS), other)
+said = tpm("Where the first entry decrypts itself no other nonce stands in any hmac")
+said.change_auth(RH_OWNER, b"owner", Use(session, DECRYPTS), other, third)
 with others_are(session):
     own = tpm.change_auth(RH_OWNER, b"owner", Use(session, DECRYPTS), other)
 tpm.refused("With its own nonce once more: BAD_AUTH/s1", own)
@@ -122,26 +93,19 @@ tpm.refused(
     ),
 )
 tpm.accepted("Nothing was changed by the refusals", right)
-tpm.accepted(
-    "It ends as it decrypts", tpm.change_auth(RH_OWNER, b"owner", session, Use(other, DECRYPT))
-)
-tpm.refused(
-    "And is no more: REFERENCE_S1",
-    tpm.change_auth(RH_OWNER, b"owner", session, Use(other, DECRYPTS)),
-)
+tpm("It ends as it decrypts").change_auth(RH_OWNER, b"owner", session, Use(other, DECRYPT))
+tpm("And is no more: REFERENCE_S1").change_auth(RH_OWNER, b"owner", session, Use(other, DECRYPTS))
 
 tpm.chapter("Sessions that encrypt where nothing is authorized.")
 other = tpm.start("Another session, bound to TPM_RH_ENDORSEMENT", RH_ENDORSEMENT, aes=True)
-tpm.accepted("TPM2_GetRandom: the second of two", tpm.random(32, session, Use(other, ENCRYPTS)))
-tpm.accepted("The first of three", tpm.random(32, Use(other, ENCRYPTS), session, third))
-tpm.accepted("The third of three, which ends", tpm.random(32, session, third, Use(other, ENCRYPT)))
+tpm("TPM2_GetRandom: the second of two").random(32, session, Use(other, ENCRYPTS))
+tpm("The first of three").random(32, Use(other, ENCRYPTS), session, third)
+tpm("The third of three, which ends").random(32, session, third, Use(other, ENCRYPT))
 with others_are(third):
     foreign = tpm.random(32, session, Use(third, ENCRYPTS))
-tpm.refused(
-    "No other nonce stands in the first entry's hmac, as it authorizes nothing: BAD_AUTH/s1",
-    foreign,
-)
-tpm.accepted("Without", tpm.random(32, session, Use(third, ENCRYPTS)))
+said = tpm("No other nonce stands in the first entry's hmac, as it authorizes nothing: BAD_AUTH/s1")
+said.refused(foreign)
+tpm("Without").random(32, session, Use(third, ENCRYPTS))
 
 tpm.chapter(
     "TPM2_StartAuthSession has a sized buffer in both directions. The new session's key is of the "
@@ -156,9 +120,7 @@ for words, uses in (
     ("One of three does both", [session, third, Use(other, DECRYPTS | ENCRYPT)]),
 ):
     new = tpm.start(words, RH_OWNER, size=20, aes=True, uses=uses)
-    tpm.accepted(
-        "By the new session, which ends", tpm.change_auth(RH_OWNER, b"owner", Use(new, DECRYPT))
-    )
+    tpm("By the new session, which ends").change_auth(RH_OWNER, b"owner", Use(new, DECRYPT))
 
 tpm.chapter("What is refused, with right hmacs.")
 
@@ -175,33 +137,23 @@ tpm.refused(
         for it in (b"", b"\0", b"\0\x01", b"\0\x20" + bytes(31), b"\0\x21" + bytes(32), b"\xff\xff")
     ),
 )
-tpm.refused(
-    "Without decrypt a size that says too many is a fault of its own: SIZE/p1",
-    changing(b"\0\x21" + bytes(32), session),
-    changing(b"\xff\xff", session),
-)
+said = tpm("Without decrypt a size that says too many is a fault of its own: SIZE/p1")
+said.refused(changing(b"\0\x21" + bytes(32), session), changing(b"\xff\xff", session))
 tpm.refused(
     "decrypt, and the first parameter is whole and too long: SIZE/p1",
     changing(sized(bytes(33)), Use(session, DECRYPTS)),
     changing(sized(b"owner" + bytes(28)), b"owner", Use(session, DECRYPTS)),
     tpm.event(bytes(1025), Use(session, DECRYPTS)),
 )
-tpm.refused(
-    "TPM2_StartAuthSession with 33 bytes: SIZE/p1",
-    tpm.prepare(CC.StartAuthSession, *frames.start_auth_session(bytes(33)), Use(session, DECRYPTS)),
-)
-tpm.refused(
-    "A byte behind the first parameter, which is not encrypted: SIZE",
-    changing(sized(b"owner") + b"\0", Use(session, DECRYPTS)),
-)
+said = tpm("TPM2_StartAuthSession with 33 bytes: SIZE/p1")
+said.prepare(CC.StartAuthSession, *frames.start_auth_session(bytes(33)), Use(session, DECRYPTS))
+said = tpm("A byte behind the first parameter, which is not encrypted: SIZE")
+said.refused(changing(sized(b"owner") + b"\0", Use(session, DECRYPTS)))
 wrong = tpm.change_auth(RH_OWNER, b"owner", Use(session, DECRYPTS))
-tpm.refused(
-    "One bit of the encrypted bytes, which the hmac is of: BAD_AUTH/s1",
-    wrong.but(parameters=flipped(wrong.parameters)),
-)
+said = tpm("One bit of the encrypted bytes, which the hmac is of: BAD_AUTH/s1")
+said.refused(wrong.but(parameters=flipped(wrong.parameters)))
 tpm.refused("The same bytes in plain: BAD_AUTH/s1", wrong.but(parameters=sized(b"owner")))
-tpm.refused(
-    "The attribute decrypt taken away: BAD_AUTH/s1", wrong.but_entry(1, attributes=CONTINUE_SESSION)
-)
+said = tpm("The attribute decrypt taken away: BAD_AUTH/s1")
+said.refused(wrong.but_entry(1, attributes=CONTINUE_SESSION))
 tpm.accepted("The right one, with the nonce that no refusal changed", wrong)
 tpm.accepted('ownerAuth is still "owner"', tpm.change_auth(RH_OWNER, b"owner", b"owner"))

@@ -1,21 +1,17 @@
-"""Writes start_auth_session.tpm: TPM2_StartAuthSession, its faults and its sessions."""
+"""Writes start_auth_session.tpm. TPM2_StartAuthSession starts an HMAC session, a policy session or
+a trial session. Its handles are tpmKey and bind; its parameters are nonceCaller, encryptedSalt,
+sessionType, symmetric and authHash.
+"""
 
-from tpmsim.caller import Use
-from tpmsim.standard import ALG_NULL, CC, RH_ENDORSEMENT, RH_LOCKOUT, RH_NULL, RH_OWNER
-from tpmsim.standard import RH_PLATFORM, RS_PW, SHA1, SHA256, area, command, entry, frames, number
-from tpmsim.standard import sized
-from tests.common.teller import Teller
+from tpmsim.standard import area
+from tests.common.vocabulary import ALG_NULL, CC, command, ENDS, entry, frames, number
+from tests.common.vocabulary import RH_ENDORSEMENT, RH_LOCKOUT, RH_NULL, RH_OWNER, RH_PLATFORM
+from tests.common.vocabulary import RS_PW, SHA1, SHA256, sized, Teller, Use
 
 NONCE = bytes(range(16))
-ENDS = 0x00
 
-tpm = Teller(
-    "tests/sessions/start_auth_session.tpm",
-    "TPM2_StartAuthSession starts an HMAC session, a policy session or a trial session. Its "
-    "handles are tpmKey and bind; its parameters are nonceCaller, encryptedSalt, sessionType, "
-    "symmetric and authHash.",
-    starts=False,
-)
+tpm = Teller(__name__, __doc__, starts=False)
+refused = tpm.raw
 
 
 def start(**changes):
@@ -35,19 +31,12 @@ def words(*values):
     return b"".join(number(it, 2) for it in values)
 
 
-def refused(words, *buffers):
-    tpm.raw(words, *buffers)
-
-
 refused("Before TPM2_Startup: INITIALIZE", start())
 tpm.startup()
 
 tpm.chapter("The handles, one after the other.")
-refused(
-    "No handle, and two bytes of one: INSUFFICIENT/h1",
-    command(CC.StartAuthSession, b""),
-    command(CC.StartAuthSession, b"\x40\0"),
-)
+case = "No handle, and two bytes of one: INSUFFICIENT/h1"
+refused(case, command(CC.StartAuthSession, b""), command(CC.StartAuthSession, b"\x40\0"))
 refused(
     "Salted sessions are not served: a tpmKey that is not TPM_RH_NULL, here TPM_RH_OWNER, PCR "
     "0, a transient object, a persistent one, an NV index and a session: VALUE/h1",
@@ -56,10 +45,8 @@ refused(
         for it in (RH_OWNER, 0, 0x8000_0000, 0x8100_0000, 0x0100_0000, 0x0200_0000)
     ),
 )
-refused(
-    "It is looked at before bind is read: VALUE/h1",
-    command(CC.StartAuthSession, number(RH_OWNER, 4)),
-)
+case = "It is looked at before bind is read: VALUE/h1"
+refused(case, command(CC.StartAuthSession, number(RH_OWNER, 4)))
 refused(
     "No bind, and three bytes of it: INSUFFICIENT/h2",
     command(CC.StartAuthSession, number(RH_NULL, 4)),
@@ -73,49 +60,25 @@ refused(
         for it in (24, RS_PW, 0x4000_0000, 0x4000_0008, 0x0200_0000, 0x0300_0000, 0xFF00_0000)
     ),
 )
-refused(
-    "A transient object, while there is none: REFERENCE_H1",
-    start(bind=0x8000_0000),
-    start(bind=0x80FF_FFFF),
-)
-refused(
-    "A persistent object, and an NV index, while there are none: HANDLE/h2",
-    start(bind=0x8100_0000),
-    start(bind=0x0100_0000),
-)
-refused(
-    "With sessions (tag 8002) and no authorization area, behind the handles: AUTHSIZE",
-    command(CC.StartAuthSession, number(RH_NULL, 4) * 2, frames.SESSIONS),
-)
-refused(
-    "A password, which authorizes nothing here: HANDLE/s1",
-    command(CC.StartAuthSession, number(RH_NULL, 4) * 2 + area(entry()), frames.SESSIONS),
-)
+case = "A transient object, while there is none: REFERENCE_H1"
+refused(case, start(bind=0x8000_0000), start(bind=0x80FF_FFFF))
+case = "A persistent object, and an NV index, while there are none: HANDLE/h2"
+refused(case, start(bind=0x8100_0000), start(bind=0x0100_0000))
+case = "With sessions (tag 8002) and no authorization area, behind the handles: AUTHSIZE"
+refused(case, command(CC.StartAuthSession, number(RH_NULL, 4) * 2, frames.SESSIONS))
+case = "A password, which authorizes nothing here: HANDLE/s1"
+refused(case, command(CC.StartAuthSession, number(RH_NULL, 4) * 2 + area(entry()), frames.SESSIONS))
 
 tpm.chapter("The parameters, read in order.")
 NULLS = [RH_NULL, RH_NULL]
-refused(
-    "nonceCaller that is cut: INSUFFICIENT/p1",
-    on(NULLS, b""),
-    on(NULLS, b"\0"),
-    on(NULLS, number(16, 2) + bytes(15)),
-)
-refused(
-    "One of more than 32 bytes, whole or cut: SIZE/p1",
-    start(nonce=bytes(33)),
-    on(NULLS, number(33, 2)),
-    on(NULLS, b"\xff\xff"),
-)
-refused(
-    "encryptedSalt that is cut: INSUFFICIENT/p2",
-    on(NULLS, sized(NONCE)),
-    on(NULLS, sized(NONCE) + b"\0\x01"),
-)
-refused(
-    "One of more than 32 bytes, whole or cut: SIZE/p2",
-    start(salt=bytes(33)),
-    on(NULLS, sized(NONCE) + number(33, 2)),
-)
+case = "nonceCaller that is cut: INSUFFICIENT/p1"
+refused(case, on(NULLS, b""), on(NULLS, b"\0"), on(NULLS, number(16, 2) + bytes(15)))
+case = "One of more than 32 bytes, whole or cut: SIZE/p1"
+refused(case, start(nonce=bytes(33)), on(NULLS, number(33, 2)), on(NULLS, b"\xff\xff"))
+case = "encryptedSalt that is cut: INSUFFICIENT/p2"
+refused(case, on(NULLS, sized(NONCE)), on(NULLS, sized(NONCE) + b"\0\x01"))
+case = "One of more than 32 bytes, whole or cut: SIZE/p2"
+refused(case, start(salt=bytes(33)), on(NULLS, sized(NONCE) + number(33, 2)))
 refused("No sessionType: INSUFFICIENT/p3", on(NULLS, sized(NONCE) + sized(b"")))
 refused(
     "A sessionType that is none of the three, TPM_SE_HMAC (00), TPM_SE_POLICY (01) and "
@@ -149,11 +112,8 @@ refused(
     with_symmetric(words(frames.AES, 128, 0x0040)),
     with_symmetric(words(frames.AES, 128, ALG_NULL), b""),
 )
-refused(
-    "No authHash, and half of it: INSUFFICIENT/p5",
-    with_symmetric(words(ALG_NULL), b""),
-    with_symmetric(words(ALG_NULL), b"\0"),
-)
+case = "No authHash, and half of it: INSUFFICIENT/p5"
+refused(case, with_symmetric(words(ALG_NULL), b""), with_symmetric(words(ALG_NULL), b"\0"))
 refused(
     "One that is neither SHA-1 nor SHA-256, here TPM_ALG_NULL, TPM_ALG_SHA384 and TPM_ALG_HMAC: "
     "HASH/p5",
@@ -162,34 +122,21 @@ refused(
 refused("A byte behind them: SIZE", on(NULLS, frames.start_auth_session(NONCE)[1] + b"\0"))
 
 tpm.chapter("Of two faults the one that is read first.")
-refused(
-    "nonceCaller that says too much, and a sessionType of 02: SIZE/p1",
-    start(nonce=bytes(33), kind=0x02),
-)
-refused(
-    "A sessionType of 02 with TPM_ALG_XOR: VALUE/p3",
-    on(NULLS, sized(NONCE) + sized(b"") + b"\x02" + words(frames.XOR, SHA256)),
-)
-refused(
-    "TPM_ALG_XOR with a wrong hash, and no authHash: HASH/p4",
-    with_symmetric(words(frames.XOR, 0x000C), b""),
-)
+case = "nonceCaller that says too much, and a sessionType of 02: SIZE/p1"
+refused(case, start(nonce=bytes(33), kind=0x02))
+case = "A sessionType of 02 with TPM_ALG_XOR: VALUE/p3"
+refused(case, on(NULLS, sized(NONCE) + sized(b"") + b"\x02" + words(frames.XOR, SHA256)))
+case = "TPM_ALG_XOR with a wrong hash, and no authHash: HASH/p4"
+refused(case, with_symmetric(words(frames.XOR, 0x000C), b""))
 
 tpm.chapter("The command's own checks come behind all of these.")
-refused(
-    "A nonce of 15 bytes and a salt, and a byte left over: SIZE",
-    on(NULLS, frames.start_auth_session(bytes(15), salt=b"\x01")[1] + b"\0"),
-)
-refused(
-    "A nonce of 15 bytes and a salt, and a wrong hash: HASH/p5",
-    start(nonce=bytes(15), salt=b"\x01", algorithm=0x000C),
-)
+case = "A nonce of 15 bytes and a salt, and a byte left over: SIZE"
+refused(case, on(NULLS, frames.start_auth_session(bytes(15), salt=b"\x01")[1] + b"\0"))
+case = "A nonce of 15 bytes and a salt, and a wrong hash: HASH/p5"
+refused(case, start(nonce=bytes(15), salt=b"\x01", algorithm=0x000C))
 refused("A nonce of no bytes and one of 15: SIZE/p1", start(nonce=b""), start(nonce=bytes(15)))
-refused(
-    "One of more bytes than the digest has, 21 and 32 for SHA-1: SIZE/p1",
-    start(nonce=bytes(21), algorithm=SHA1),
-    start(nonce=bytes(32), algorithm=SHA1),
-)
+case = "One of more bytes than the digest has, 21 and 32 for SHA-1: SIZE/p1"
+refused(case, start(nonce=bytes(21), algorithm=SHA1), start(nonce=bytes(32), algorithm=SHA1))
 refused("A nonce of 15 bytes, and a salt: SIZE/p1", start(nonce=bytes(15), salt=b"\x01"))
 refused("A salt of 1 byte and of 32: VALUE/p2", start(salt=b"\x01"), start(salt=bytes(32)))
 
@@ -199,7 +146,7 @@ tpm.chapter("None of these refusals started a session. What starts one, and it i
 def starts(what, **choices):
     session = tpm.start(what, **choices)
     assert session.handle == 0x0200_0000
-    tpm.accepted("", tpm.reset(session))
+    tpm("").reset(session)
     tpm.accepted("", tpm.flush(session))
 
 
@@ -236,7 +183,7 @@ for kind, name in ((frames.SE_POLICY, "policy"), (frames.SE_TRIAL, "trial")):
         what = f"{what}, TPM2_GetRandom and TPM2_FlushContext"
         session = tpm.start(what, kind=kind, **choices)
         assert session.handle == 0x0300_0000
-        tpm.accepted("", tpm.random(4, session))
+        tpm("").random(4, session)
         tpm.accepted("", tpm.flush(session))
     refused(
         "A nonce of 15 bytes, and of 21 for SHA-1: SIZE/p1",
@@ -258,12 +205,11 @@ third = tpm.start(
     uses=[second, first],
     size=32,
 )
-tpm.accepted("By that one", tpm.reset(third))
+tpm("By that one").reset(third)
 handles, parameters = frames.start_auth_session(NONCE, RH_OWNER)
 beside = tpm.prepare(CC.StartAuthSession, handles, parameters, first)
-tpm.refused(
-    "With another bind than the hmac is of: BAD_AUTH/s1", beside.but(handles=[RH_NULL, RH_LOCKOUT])
-)
+said = tpm("With another bind than the hmac is of: BAD_AUTH/s1")
+said.refused(beside.but(handles=[RH_NULL, RH_LOCKOUT]))
 for session in (third, second, first):
     tpm.accepted("It ends", tpm.flush(session))
 
@@ -277,18 +223,17 @@ refused("The seventeenth: SESSION_MEMORY", start(), start(aes=True))
 refused("A salt, which is looked at before: VALUE/p2", start(salt=b"\0"))
 refused("A nonce of 15 bytes, which is too: SIZE/p1", start(nonce=bytes(15)))
 ending = tpm.prepare(CC.StartAuthSession, *frames.start_auth_session(NONCE), Use(sessions[4], ENDS))
-tpm.refused(
-    "A session beside it that would end gives its place up too late: SESSION_MEMORY", ending
-)
-tpm.accepted("It has not ended, and its nonce is the same", tpm.reset(sessions[4]))
+said = tpm("A session beside it that would end gives its place up too late: SESSION_MEMORY")
+said.refused(ending)
+tpm("It has not ended, and its nonce is the same").reset(sessions[4])
 tpm.accepted("Two are flushed, the tenth", tpm.flush(sessions[9]))
 tpm.accepted("And the fourth", tpm.flush(sessions[3]))
 assert tpm.start("The next takes the lowest free number").handle == 0x0200_0003
 assert tpm.start("And the next the other").handle == 0x0200_0009
 refused("Then there is none again: SESSION_MEMORY", start())
-tpm.accepted("One ends as it is used", tpm.reset(Use(sessions[0], ENDS)))
+tpm("One ends as it is used").reset(Use(sessions[0], ENDS))
 assert tpm.start("And its number is free").handle == 0x0200_0000
-tpm.accepted("The others are as they were", tpm.reset(sessions[15]))
+tpm("The others are as they were").reset(sessions[15])
 
 tpm.chapter("TPM_ALG_XOR, behind which stands the hash that makes its masks.")
 refused(
@@ -301,10 +246,8 @@ refused(
     "key: HASH/p4",
     *(with_symmetric(words(frames.XOR, it)) for it in (ALG_NULL, 0x000C, 128)),
 )
-refused(
-    "It comes before authHash: HASH/p4",
-    with_symmetric(words(frames.XOR, ALG_NULL), words(ALG_NULL)),
-)
+case = "It comes before authHash: HASH/p4"
+refused(case, with_symmetric(words(frames.XOR, ALG_NULL), words(ALG_NULL)))
 refused("No authHash: INSUFFICIENT/p5", with_symmetric(words(frames.XOR, SHA256), b""))
 refused("A wrong one: HASH/p5", with_symmetric(words(frames.XOR, SHA256), words(ALG_NULL)))
 OTHERS = dict(xor=SHA1), dict(xor=SHA256, algorithm=SHA1)
@@ -315,14 +258,10 @@ refused(
 )
 refused("And a salt: VALUE/p2", *(start(salt=b"\1", **it) for it in OTHERS))
 refused("And a nonce of 15 bytes: SIZE/p1", *(start(nonce=bytes(15), **it) for it in OTHERS))
-refused(
-    "And a byte behind it: SIZE",
-    *(on(NULLS, frames.start_auth_session(NONCE, **it)[1] + b"\0") for it in OTHERS),
-)
-refused(
-    "The same hash, and there is no place: SESSION_MEMORY",
-    *(start(xor=it, algorithm=it) for it in (SHA1, SHA256)),
-)
+case = "And a byte behind it: SIZE"
+refused(case, *(on(NULLS, frames.start_auth_session(NONCE, **it)[1] + b"\0") for it in OTHERS))
+case = "The same hash, and there is no place: SESSION_MEMORY"
+refused(case, *(start(xor=it, algorithm=it) for it in (SHA1, SHA256)))
 tpm.accepted("The first is flushed", tpm.flush(sessions[0].handle))
 refused("Another hash, while there is a place: HASH/p4", *(start(**it) for it in OTHERS))
 starts("The same one, SHA-256", xor=True)
@@ -331,5 +270,5 @@ starts("Bound to TPM_RH_OWNER", xor=True, bind=RH_OWNER, size=32)
 for kind, name in ((frames.SE_POLICY, "policy"), (frames.SE_TRIAL, "trial")):
     session = tpm.start(f"A {name} session", kind=kind, xor=True)
     assert session.handle == 0x0300_0000
-    tpm.accepted("TPM2_GetRandom by it", tpm.random(4, session))
+    tpm("TPM2_GetRandom by it").random(4, session)
     tpm.accepted("It is flushed", tpm.flush(session))

@@ -1,4 +1,6 @@
-"""Writes xor_sessions.tpm: sessions that mask, instead of encrypting, by TPM_ALG_XOR.
+"""Writes xor_sessions.tpm. TPM_ALG_XOR: the bytes of the first parameter, or of the first answer,
+have on them a mask of as many bytes, KDFa(authHash, sessionKey || authValue, "XOR", nonceNewer,
+nonceOlder, bits).
 
 Each mask is computed here by hashlib and hmac alone, with nothing of sessions.py: what goes in is
 masked by hand, and what comes back is compared as the bytes that are answered.
@@ -7,28 +9,20 @@ masked by hand, and what comes back is compared as the bytes that are answered.
 import hashlib
 import hmac
 
-from tpmsim.caller import HERE, OPEN, Use, area, flipped, hmac_key, sealed, storage_key
-from tpmsim.standard import CC, COMMAND_BYTES, CONTINUE_SESSION, DECRYPT, ENCRYPT, RH_ENDORSEMENT
-from tpmsim.standard import RH_OWNER, SE_TRIAL, SHA1, SHA256, frames, number, policy, sized
-from tpmsim.standard.policy import AUTH_VALUE, PASSWORD
-from tpmsim.caller.script_caller import FIRST
-from tests.common.teller import Teller
+from tpmsim.standard import COMMAND_BYTES
+from tests.common.vocabulary import area, AUTH_VALUE, CC, CONTINUE_SESSION, DECRYPT, DECRYPTS
+from tests.common.vocabulary import ENCRYPT, ENCRYPTS, FIRST, flipped, frames, HERE, hmac_key, NAMES
+from tests.common.vocabulary import number, OPEN, PASSWORD, policy, RH_ENDORSEMENT, RH_OWNER
+from tests.common.vocabulary import SE_TRIAL, sealed, SHA1, SHA256, sized, storage_key, Teller, Use
 
-DECRYPTS, ENCRYPTS = CONTINUE_SESSION | DECRYPT, CONTINUE_SESSION | ENCRYPT
 BOTH = DECRYPTS | ENCRYPT
 HASHES = {SHA1: hashlib.sha1, SHA256: hashlib.sha256}
-NAMES = {SHA1: "SHA-1", SHA256: "SHA-256"}
 OWNER_AUTH = b"owner"
 
 # Sizes of a first buffer: none, a byte, those of digests and a byte more, and the largest data.
 SIZES = 0, 1, 20, 21, 32, 33, 1024
 
-tpm = Teller(
-    "tests/sessions/xor_sessions.tpm",
-    "TPM_ALG_XOR: the bytes of the first parameter, or of the first answer, have on them a mask of "
-    'as many bytes, KDFa(authHash, sessionKey || authValue, "XOR", nonceNewer, nonceOlder, bits).',
-    tries=True,
-)
+tpm = Teller(__name__, __doc__, tries=True)
 
 
 # The masks, by the book.
@@ -99,33 +93,21 @@ for algorithm, nonce_size in ((SHA1, 16), (SHA1, 20), (SHA256, 16), (SHA256, 32)
     unbound = tpm.start("Bound to nothing, and so with an empty key", **choices)
     for size in SIZES:
         data = bytes(it * 7 % 256 for it in range(size))
-        answer = masking(
-            f"TPM2_PCR_Event of {size:,} bytes, beside the digests of them in plain",
-            tpm.event(data, Use(bound, DECRYPTS)),
-            data,
-        )
+        case = f"TPM2_PCR_Event of {size:,} bytes, beside the digests of them in plain"
+        answer = masking(case, tpm.event(data, Use(bound, DECRYPTS)), data)
         digests = number(2, 4) + number(SHA1, 2) + hashlib.sha1(data).digest()
         assert answer == digests + number(SHA256, 2) + hashlib.sha256(data).digest()
         masking("By the unbound one", tpm.event(data, Use(unbound, DECRYPTS)), data)
     for size in (0, 1, 20, 21, 32):
-        masked(
-            f"TPM2_GetRandom of {size} bytes", tpm.random(size, Use(bound, ENCRYPTS)), drawn(size)
-        )
+        case = f"TPM2_GetRandom of {size} bytes"
+        masked(case, tpm.random(size, Use(bound, ENCRYPTS)), drawn(size))
         masked("By the unbound one", tpm.random(size, Use(unbound, ENCRYPTS)), drawn(size))
     for size in SIZES:
         data = bytes(size) if size == 33 else bytes(it * 11 % 256 for it in range(size))
-        masking(
-            f"TPM2_NV_Write of {size:,} bytes by the index itself, whose value is in the key",
-            tpm.writing(FIRST, data, Use(bound, DECRYPTS)),
-            data,
-            auth_value=b"index",
-        )
-        masked(
-            "TPM2_NV_Read of them, by the unbound session",
-            tpm.reading(FIRST, size, Use(unbound, ENCRYPTS)),
-            data,
-            auth_value=b"index",
-        )
+        case = f"TPM2_NV_Write of {size:,} bytes by the index itself, whose value is in the key"
+        masking(case, tpm.writing(FIRST, data, Use(bound, DECRYPTS)), data, auth_value=b"index")
+        case = "TPM2_NV_Read of them, by the unbound session"
+        masked(case, tpm.reading(FIRST, size, Use(unbound, ENCRYPTS)), data, auth_value=b"index")
     tpm.read("In plain", FIRST, bytes(it * 11 % 256 for it in range(1024)))
     masking(
         "TPM2_HierarchyChangeAuth by the bound one: ownerAuth is in the key of the mask, which is "
@@ -147,9 +129,8 @@ tpm.chapter("Both directions of one command, with one session and with two.")
 session = tpm.start("A session, bound to TPM_RH_OWNER", RH_OWNER, xor=True)
 other = tpm.start("Another one, bound to TPM_RH_ENDORSEMENT", RH_ENDORSEMENT, xor=True)
 parent = tpm.create_primary("A storage key", RH_OWNER, storage_key(), OWNER_AUTH)
-key = tpm.create(
-    'An HMAC key, whose value is "key"', parent, hmac_key(), user_auth=b"key", data=b"Jefe"
-)
+said = tpm('An HMAC key, whose value is "key"')
+key = said.create(parent, hmac_key(), user_auth=b"key", data=b"Jefe")
 key = tpm.load("TPM2_Load", parent, key)
 TEXT = b"what do ya want for nothing?"
 KNOWN = bytes.fromhex("5bdcc146bf60754e6a042426089575c75a003f089d2739839dec58b964ec3843")
@@ -170,24 +151,12 @@ def both_ways(what, attributes, *more, to, back, auth_values):
     masked(what, prepared, KNOWN, back, auth_values[1])
 
 
-both_ways(
-    "TPM2_HMAC of 28 bytes: the nonces are exchanged between both, and the device's is new",
-    BOTH,
-    to=1,
-    back=1,
-    auth_values=(b"key", b"key"),
-)
-both_ways(
-    "The second entry unmasks, in which nothing is authorized",
-    ENCRYPTS,
-    Use(other, DECRYPTS),
-    to=2,
-    back=1,
-    auth_values=(b"", b"key"),
-)
-both_ways(
-    "The other way round", DECRYPTS, Use(other, ENCRYPTS), to=1, back=2, auth_values=(b"key", b"")
-)
+case = "TPM2_HMAC of 28 bytes: the nonces are exchanged between both, and the device's is new"
+both_ways(case, BOTH, to=1, back=1, auth_values=(b"key", b"key"))
+case = "The second entry unmasks, in which nothing is authorized"
+both_ways(case, ENCRYPTS, Use(other, DECRYPTS), to=2, back=1, auth_values=(b"", b"key"))
+case = "The other way round"
+both_ways(case, DECRYPTS, Use(other, ENCRYPTS), to=1, back=2, auth_values=(b"key", b""))
 aes = tpm.start("A session with AES", RH_ENDORSEMENT, aes=True)
 sha1 = tpm.start("One with SHA-1", RH_ENDORSEMENT, algorithm=SHA1, size=20, xor=True)
 prepared = tpm.hmac(key, TEXT, SHA256, Use(session, ENCRYPTS), Use(aes, DECRYPTS))
@@ -195,34 +164,19 @@ masked("AES in, TPM_ALG_XOR back", prepared, KNOWN, 1, b"key")
 prepared = tpm.hmac(key, TEXT, SHA256, Use(session, DECRYPTS), Use(aes, ENCRYPTS))
 answer = masking("TPM_ALG_XOR in, AES back", prepared, TEXT, auth_value=b"key")
 assert answer == sized(KNOWN)
-both_ways(
-    "A mask of SHA-1 in a command whose first hmac is of SHA-256",
-    CONTINUE_SESSION,
-    Use(sha1, BOTH),
-    to=2,
-    back=2,
-    auth_values=(b"", b""),
-)
+case = "A mask of SHA-1 in a command whose first hmac is of SHA-256"
+both_ways(case, CONTINUE_SESSION, Use(sha1, BOTH), to=2, back=2, auth_values=(b"", b""))
 tpm.accepted("The key is flushed", tpm.flush(key))
 tpm.forget(key)
 
 tpm.chapter("What an object answers.")
-made = tpm.create(
-    'Sealed data, whose value is "value"', parent, sealed(), user_auth=b"value", data=b"s" * 128
-)
+said = tpm('Sealed data, whose value is "value"')
+made = said.create(parent, sealed(), user_auth=b"value", data=b"s" * 128)
 handle = tpm.load("TPM2_Load", parent, made)
-masked(
-    "TPM2_Unseal through the session: the data, with the mask on them",
-    tpm.unsealing(handle, Use(session, ENCRYPTS)),
-    b"s" * 128,
-    auth_value=b"value",
-)
-masked(
-    "Beside the password",
-    tpm.unsealing(handle, b"value", Use(other, ENCRYPTS)),
-    b"s" * 128,
-    place=2,
-)
+case = "TPM2_Unseal through the session: the data, with the mask on them"
+masked(case, tpm.unsealing(handle, Use(session, ENCRYPTS)), b"s" * 128, auth_value=b"value")
+case = "Beside the password"
+masked(case, tpm.unsealing(handle, b"value", Use(other, ENCRYPTS)), b"s" * 128, place=2)
 for name, made_by, demand, in_key in (
     ("TPM2_PolicyAuthValue", tpm.auth_value_told, AUTH_VALUE, b"pin"),
     ("TPM2_PolicyPassword", tpm.password_told, PASSWORD, b"pin"),
@@ -258,7 +212,7 @@ tpm.chapter(
     "that of the new session's key in plain."
 )
 new = tpm.start("One session does both", RH_OWNER, size=20, xor=True, uses=[Use(session, BOTH)])
-tpm.accepted("By the new session", tpm.change_auth(RH_OWNER, OWNER_AUTH, Use(new, DECRYPT)))
+tpm("By the new session").change_auth(RH_OWNER, OWNER_AUTH, Use(new, DECRYPT))
 
 tpm.chapter(
     "The longest first buffer that a command can hold. It is unmasked whole, and is too long then; "
@@ -279,10 +233,8 @@ for size in (1025, LONGEST):
     tpm.raw(f"TPM2_PCR_Event of {size:,} bytes: SIZE/p1", of_size(size), fresh=True)
 tpm.raw("And of one byte more: COMMAND_SIZE", of_size(LONGEST + 1), fresh=True)
 room = COMMAND_BYTES - len(tpm.event(b"", Use(session, DECRYPTS)).buffer())
-tpm.refused(
-    f"With a nonce and an hmac, of {room:,} bytes: SIZE/p1",
-    tpm.event(bytes(room), Use(session, DECRYPTS)),
-)
+said = tpm(f"With a nonce and an hmac, of {room:,} bytes: SIZE/p1")
+said.event(bytes(room), Use(session, DECRYPTS))
 tpm.refused(
     "What is cut cannot be unmasked: no size, half of it, and a byte too few: INSUFFICIENT/p1",
     *(
@@ -293,24 +245,17 @@ tpm.refused(
 masking("Of 1,024 bytes", tpm.event(bytes(1024), Use(session, DECRYPTS)), bytes(1024))
 
 tpm.chapter("What is refused, with right hmacs.")
-tpm.refused(
-    "TPM_ALG_XOR of SHA-1 for a session of SHA-256: HASH/p4",
-    tpm.prepare(CC.StartAuthSession, *frames.start_auth_session(bytes(16), xor=SHA1)),
-)
+said = tpm("TPM_ALG_XOR of SHA-1 for a session of SHA-256: HASH/p4")
+said.refused(tpm.prepare(CC.StartAuthSession, *frames.start_auth_session(bytes(16), xor=SHA1)))
 assert tpm.last.response == bytes.fromhex("80010000000a000004c3")
 right = tpm.event(b"event data", Use(session, DECRYPTS))
-tpm.refused(
-    "One bit of the masked bytes, which the hmac is of: BAD_AUTH/s1",
-    right.but(parameters=flipped(right.parameters)),
-)
+said = tpm("One bit of the masked bytes, which the hmac is of: BAD_AUTH/s1")
+said.refused(right.but(parameters=flipped(right.parameters)))
 tpm.refused("The same bytes in plain: BAD_AUTH/s1", right.but(parameters=sized(b"event data")))
-tpm.refused(
-    "The attribute decrypt taken away: BAD_AUTH/s1", right.but_entry(1, attributes=CONTINUE_SESSION)
-)
-tpm.refused(
-    "A second session that unmasks: ATTRIBUTES/s2",
-    tpm.event(b"event data", Use(session, DECRYPTS), Use(other, DECRYPTS)),
-)
+said = tpm("The attribute decrypt taken away: BAD_AUTH/s1")
+said.refused(right.but_entry(1, attributes=CONTINUE_SESSION))
+said = tpm("A second session that unmasks: ATTRIBUTES/s2")
+said.event(b"event data", Use(session, DECRYPTS), Use(other, DECRYPTS))
 tpm.refused(
     "decrypt and encrypt where there is no such buffer: ATTRIBUTES/s1",
     tpm.reset(Use(session, DECRYPTS)),
@@ -319,7 +264,7 @@ tpm.refused(
 )
 masking("No refusal has changed its nonce", right, b"event data")
 plain = tpm.start("A session without a cipher", RH_OWNER)
-tpm.refused("It masks nothing: SYMMETRIC/s1", tpm.event(b"event data", Use(plain, DECRYPTS)))
+tpm("It masks nothing: SYMMETRIC/s1").event(b"event data", Use(plain, DECRYPTS))
 
 tpm.chapter("The cipher of an object is AES, and no TPM_ALG_XOR.")
 template = storage_key().text
@@ -332,7 +277,5 @@ for words, cipher in (
 ):
     text = template.replace(frames.symmetric(aes=True), cipher)
     parameters = frames.creation(frames.sensitive_create(), sized(text))
-    tpm.refused(
-        f"A storage key with TPM_ALG_XOR and {words}: SYMMETRIC/p2",
-        tpm.prepare(CC.CreatePrimary, [RH_OWNER], parameters, OWNER_AUTH),
-    )
+    said = tpm(f"A storage key with TPM_ALG_XOR and {words}: SYMMETRIC/p2")
+    said.refused(tpm.prepare(CC.CreatePrimary, [RH_OWNER], parameters, OWNER_AUTH))

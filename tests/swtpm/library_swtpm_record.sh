@@ -57,7 +57,7 @@ mkdir links && cd links || exit 1
 TPMSIM_RECORD=.
 ln -s "$room/elsewhere" boot-1.tpm
 mkfifo boot-2.tpm
-printf 'on\noff\n' | caller
+printf 'on\noff\n' | play
 find . -name 'boot-*' -printf '%y %P\n' | sort
 [ -e "$room/elsewhere" ] || echo 'nothing is made behind the link'
 cd .. || exit 1

@@ -1,0 +1,36 @@
+"""The names that most programs of scripts use, in one place."""
+
+from tests.common.teller import Teller, others_in, wrong_in
+from tpmsim.caller import area, bits, BY_OWNER, BY_PLATFORM, BY_POLICY, BY_VALUE, CLEAR, counter
+from tpmsim.caller import extended, flipped, HERE, hmac_key, OPEN, sealed, STATE, storage_key
+from tpmsim.caller import STORES, Use, wrong
+from tpmsim.caller.script_caller import FIRST, FOURTH, HASHES, is_trial, SECOND, THIRD, zeros
+from tpmsim.standard import ALG_NULL, CC, command, command_hash, CONTINUE_SESSION, DECRYPT, digest
+from tpmsim.standard import digest_bytes, ENCRYPT, Entry, entry, frames, mac, name_of, number, nv
+from tpmsim.standard import on_handle, policy, RH_ENDORSEMENT, RH_LOCKOUT, RH_NULL, RH_OWNER
+from tpmsim.standard import RH_PLATFORM, RS_PW, SE_HMAC, SE_POLICY, SE_TRIAL, selection, SHA1
+from tpmsim.standard import SHA256, sized, SYMCIPHER
+from tpmsim.standard.nv import Attribute as NvAttribute
+from tpmsim.standard.objects import Attribute as ObjectAttribute, Public
+from tpmsim.standard.policy import AUTH_VALUE, PASSWORD
+
+# Attributes of the entries of a session that goes on, and of one that ends.
+DECRYPTS, ENCRYPTS, ENDS = CONTINUE_SESSION | DECRYPT, CONTINUE_SESSION | ENCRYPT, 0
+
+LOCKS = NvAttribute.WRITE_STCLEAR | NvAttribute.READ_STCLEAR
+FIFTH = 0x0100_0005
+NAMES = {SHA1: "SHA-1", SHA256: "SHA-256"}
+
+# fmt: off
+__all__ = [
+    "ALG_NULL", "area", "AUTH_VALUE", "bits", "BY_OWNER", "BY_PLATFORM", "BY_POLICY", "BY_VALUE",
+    "CC", "CLEAR", "command", "command_hash", "CONTINUE_SESSION", "counter", "DECRYPT", "digest",
+    "digest_bytes", "ENCRYPT", "Entry", "entry", "extended", "FIRST", "flipped", "FOURTH", "frames",
+    "HASHES", "HERE", "hmac_key", "is_trial", "mac", "name_of", "number", "nv", "NvAttribute",
+    "ObjectAttribute", "on_handle", "OPEN", "PASSWORD", "policy", "Public", "RH_ENDORSEMENT",
+    "RH_LOCKOUT", "RH_NULL", "RH_OWNER", "RH_PLATFORM", "RS_PW", "SE_HMAC", "SE_POLICY", "SE_TRIAL",
+    "sealed", "SECOND", "selection", "SHA1", "SHA256", "sized", "STATE", "storage_key", "STORES",
+    "SYMCIPHER", "others_in", "Teller", "wrong_in", "THIRD", "Use", "wrong", "zeros", "DECRYPTS", "ENCRYPTS", "ENDS", "LOCKS",
+    "FIFTH", "NAMES"
+]
+# fmt: on
