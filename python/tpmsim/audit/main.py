@@ -8,11 +8,12 @@ Each --policy gives a policy in words, as docs/USING.md has it.
 
 It prints what the log tells: the PCRs, the policies, each use of an entity with the ground on which
 it was let in, why commands were refused for none of their entries, the counters, and the failed
-guesses; and of each policy in words which entities have it, and how each use of them met it. The status is 0 where all agrees. It is 1, with a line on
-standard error, where the log is cut, or no device with this start answers so, or the script has a
-bad line; and where no entity has a policy that is given, or a use does not meet it. It is 2 where
-these words, a file, a policy or the image is not what it should be. It needs python3, and no
-program.
+guesses; and of each policy in words which entities have it, and how each use of them met it.
+
+The status is 0 where all agrees. It is 1, with a line on standard error, where the log is cut, or no
+device with this start answers so, or the script has a bad line; and where no entity has a policy that
+is given, or a use does not meet it. It is 2 where these words, a file, a policy or the image is not
+what it should be. It needs python3, and no program.
 """
 
 import os
