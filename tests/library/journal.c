@@ -14,7 +14,7 @@ static tpmsim_answered answered;
 static size_t text_size, record_size, size_taken, command_size;
 static const uint8_t *command;
 static uint64_t now = CLOCK;
-static uint8_t told;
+static uint8_t completes, told;
 
 static void *nothing(void *unused) { return unused; }
 
@@ -25,8 +25,8 @@ static void *begin(void *unused) {
 
 static void *execute(void *unused) {
     now += WAITED;
-    told = tpmsim_journal_execute(&device, command, command_size, 0, now, 0, random_bytes, response,
-                                  &answered, record, &record_size);
+    told = tpmsim_journal_execute(&device, command, command_size, 0, now, completes, random_bytes,
+                                  response, &answered, record, &record_size);
     return unused;
 }
 
@@ -82,22 +82,21 @@ int main(void) {
     run("begin", begin, 64 * 1024);
     run_command("startup", STARTUP, sizeof STARTUP);
     add_record();
-    run("open", open_journal, 128 * 1024);
+    run("open", open_journal, 64 * 1024);
     printf("%s\n", size_taken == text_size ? "all is taken" : "NOT ALL IS TAKEN");
     run_command("random bytes", GET_RANDOM, sizeof GET_RANDOM);
     printf("%zu bytes drawn\n", answered.drawn);
-    run("open before them", open_journal, 128 * 1024);
+    run("open before them", open_journal, 64 * 1024);
     run("follow", follow, 64 * 1024);
     printf("%s\n", size_taken == record_size ? "the record is taken" : "THE RECORD IS NOT TAKEN");
     text[text_size - 2] ^= 1;
-    run("open, a byte turned", open_journal, 128 * 1024);
+    run("open, a byte turned", open_journal, 64 * 1024);
     record[record_size - 2] ^= 1;
     run("follow, a byte turned", follow, 64 * 1024);
     text[0] ^= 1;
-    run("open, no head", open_journal, 128 * 1024);
-    told = tpmsim_journal_execute(&device, STARTUP, sizeof STARTUP, 0, now, 1, random_bytes, response,
-                                  &answered, record, &record_size);
-    printf("with a completing layer: told %u\n", told);
+    run("open, no head", open_journal, 64 * 1024);
+    completes = 1;
+    run_command("with the completing layer", GET_RANDOM, sizeof GET_RANDOM);
     tpmsim_free(&device);
     run("follow, no device", follow, 64 * 1024);
     return 0;

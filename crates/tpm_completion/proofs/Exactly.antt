@@ -7,7 +7,7 @@ use Rattle.tpm_step.specs.Events.{PlainEvent, Given, Cycled}
 use Rattle.tpm_step.specs.Step.{Stepped, step}
 use Rattle.tpm_completion.specs.Completed.{again_behind, behind, completed, completed_by, completed_with, done_behind, gave_up_behind, noted_behind, passed}
 use Rattle.tpm_completion.specs.Completion.{forgotten}
-use Rattle.tpm_completion.specs.Execution.{Behind, Completes, CompletesBy, GivesUp, Notes, Passes, Seen, given_up_behind, no_random}
+use Rattle.tpm_completion.specs.Execution.{Behind, Completes, CompletesBy, CompletesIf, GivesUp, Notes, Passes, Seen, given_up_behind, no_random}
 use Rattle.tpm_completion.specs.Room.{flush_asked, flush_text}
 use Rattle.tpm_completion.specs.declared.completion.Completion.{Completion}
 
@@ -41,8 +41,13 @@ pub completes_exactly : (c : Completion) (old : Record) (event : PlainEvent) (se
 completes_exactly c old (Given buffer locality elapsed random) seen x = completes_by_exactly c old buffer locality elapsed random (flush_asked c buffer) seen x
 completes_exactly c old Cycled seen x = passes_exactly c old Cycled seen x
 
--- the same for any value of `can` that is false
-pub exactly : (can completes : Bool) (c : Completion) (old : Record) (event : PlainEvent) (seen : Seen) → (completes ≡ false → Passes can c old event seen) → (completes ≡ true → Completes can c old event seen) → can ≡ false → seen ≡ completed completes c old event
-exactly false false c old event seen off on is = passes_exactly c old event seen (off refl)
-exactly false true c old event seen off on is = completes_exactly c old event seen (on refl)
-exactly true completes c old event seen off on is = absurd (false≢true (sym is))
+-- the same for any value of `can` that is false, with the layer or without it
+pub exactly : (can completes : Bool) (c : Completion) (old : Record) (event : PlainEvent) (seen : Seen) → CompletesIf can completes c old event seen → can ≡ false → seen ≡ completed completes c old event
+exactly false false c old event seen is never = passes_exactly c old event seen is
+exactly false true c old event seen is never = completes_exactly c old event seen is
+exactly true completes c old event seen is never = absurd (false≢true (sym never))
+
+-- what is said by cases
+pub completes_by_cases : (can completes : Bool) (c : Completion) (old : Record) (event : PlainEvent) (seen : Seen) → (completes ≡ false → Passes can c old event seen) → (completes ≡ true → Completes can c old event seen) → CompletesIf can completes c old event seen
+completes_by_cases can false c old event seen off on = off refl
+completes_by_cases can true c old event seen off on = on refl

@@ -3,3 +3,4 @@ pub mod Telling
 pub mod Waiting
 pub mod Exactly
 pub mod DeviceFirst
+pub mod Runs

@@ -1,6 +1,6 @@
 -- What the completing layer does of one event: which events the device executes, what is answered,
 -- and what the layer remembers then.
-use Rattle.std.specs.Prelude.{◌≡◌, ℕ, ◌==◌, Bool, List, [], Option, Some, None, replicate}
+use Rattle.std.specs.Prelude.{◌≡◌, ℕ, ◌==◌, Bool, true, false, List, [], Option, Some, None, replicate}
 use Rattle.tpm_history.specs.Follows.{After, Follows}
 use Rattle.tpm_machine.specs.Drawn.{drawn_by}
 use Rattle.tpm_machine.specs.State.{latest_drawn, state_of}
@@ -110,3 +110,8 @@ abbrev pub Completes : Bool → Completion → Record → PlainEvent → Seen �
 Completes can c old (Given buffer locality elapsed random) seen =
     CompletesBy can c old buffer locality elapsed random (flush_asked c buffer) seen
 Completes can c old Cycled seen = Passes can c old Cycled seen
+
+-- An event with the layer (true), or without it (false).
+abbrev pub CompletesIf : (can completes : Bool) → Completion → Record → PlainEvent → Seen → Type 0
+CompletesIf can false c old event seen = Passes can c old event seen
+CompletesIf can true c old event seen = Completes can c old event seen

@@ -9,10 +9,12 @@ pub mod Execution
 pub mod Listing
 pub mod Reply
 pub mod Room
+pub mod Run
 pub mod Saving
 pub mod Told
 pub use Rattle.tpm_machine.specs.Drawn
 pub use Rattle.tpm_machine.specs.State
+pub use Rattle.tpm_history.specs.Executions
 pub use Rattle.tpm_history.specs.Follows
 pub use Rattle.tpm_step.specs.Events
 pub use Rattle.tpm_step.specs.Step

@@ -6,7 +6,7 @@ ghost use Rattle.tpm_types.specs.Locality.{locality_number};
 ghost use Rattle.tpm_step.specs.Events.{Given, plain_event};
 ghost use Rattle.tpm_machine.specs.State.{state_of};
 ghost use Rattle.tpm_completion.specs.Completed.{completed};
-ghost use Rattle.tpm_completion.specs.Execution.{AsksFirst, Behind, Completes, GivesUp, Notes, Passes, given_up_behind, no_random, seen_of};
+ghost use Rattle.tpm_completion.specs.Execution.{AsksFirst, Behind, Completes, CompletesIf, GivesUp, Notes, Passes, given_up_behind, no_random, seen_of};
 
 use crate::completion::Completion;
 use crate::room::flush_text;
@@ -26,10 +26,7 @@ pub fn execute<K: Keep>(
     event: &Event,
     outcome: &mut Outcome,
 )
-    ensures off { completes ≡ false → Passes K.can_refuse layer.old
-        (state_of K.record_of machine.old) (plain_event event.now)
-        (seen_of K.record_of machine.new layer.new outcome.new) }
-    ensures on { completes ≡ true → Completes K.can_refuse layer.old
+    ensures executes { CompletesIf K.can_refuse completes layer.old
         (state_of K.record_of machine.old) (plain_event event.now)
         (seen_of K.record_of machine.new layer.new outcome.new) }
 

@@ -5,9 +5,11 @@ use Rattle.std.proofs.lemmas.List.{length-take-le, take-append-drop}
 use Rattle.tpm_record.specs.Cycle.{cycled}
 use Rattle.tpm_record.specs.IsRecord.{IsRecord}
 use Rattle.tpm_record.specs.Record.{Record}
-use Rattle.tpm_step.specs.Execution.{Executes}
-use Rattle.tpm_step.specs.Step.{Stepped, step}
-use Rattle.tpm_history.specs.Executions.{Execution, Leads}
+use Rattle.tpm_completion.specs.Completed.{completed}
+use Rattle.tpm_completion.specs.Completion.{new_completion}
+use Rattle.tpm_completion.specs.Execution.{Seen}
+use Rattle.tpm_completion.specs.declared.completion.Completion.{Completion}
+use Rattle.tpm_completion.proofs.Exactly.{exactly}
 use Rattle.tpm_image.specs.Image.{image_of, image_text}
 use Rattle.tpm_image.specs.NonVolatile.{NonVolatile, kept_of, powered_on}
 use Rattle.tpm_image.specs.declared.fault.ImageFault.{ImageFault}
@@ -20,11 +22,11 @@ use Rattle.tpm_journal_text.specs.Journal.{IsCutOff, entries_text, sum_after_all
 use Rattle.tpm_journal_text.specs.Sum.{sum_of}
 use Rattle.tpm_journal_text.proofs.HeadStanding.{same_head}
 use Rattle.tpm_journal_text.proofs.Parsing.{behind_front, cut_off_is_no_entry, others_are_more}
-use Rattle.tpm_journal.specs.Command.{entry_of, event_of}
+use Rattle.tpm_journal.specs.Command.{IsPerformed, entry_of, event_of}
 use Rattle.tpm_journal.specs.Living.{Answers, IgnoresUndrawn, Lives}
 use Rattle.tpm_journal.specs.Opening.{BeginsWith, IsOpenedAgain, OpensJournal, Reads}
-use Rattle.tpm_journal.specs.Replay.{AnswersAre, EndsIn, IsFollowedWhole, Replays, answer_said, event_in, response_sum}
-use Rattle.tpm_journal.specs.State.{journal_after_all, journal_begun}
+use Rattle.tpm_journal.specs.Replay.{AnswersAre, EndsIn, IsFollowedWhole, LeadsBy, Performance, Replays, answer_said, entry_in, response_sum}
+use Rattle.tpm_journal.specs.State.{journal_after, journal_after_all, journal_begun}
 use Rattle.tpm_journal.specs.declared.following.FollowFault.{FollowFault}
 use Rattle.tpm_journal.specs.declared.following.FollowFault.TheVariants.{Damaged, Otherwise}
 use Rattle.tpm_journal.specs.declared.following.Followed.{Followed}
@@ -36,34 +38,32 @@ use Rattle.tpm_journal.proofs.Repeating.{journal_sum}
 
 -- ---- the entries of a live device
 
-pub lives_again : IgnoresUndrawn → (old : Record) (entries : List PlainEntry) (new : Record) → Lives old entries new → Answers old entries new
-lives_again ignores old [] new lives = lives
-lives_again ignores old (e ∷ entries) new lives =
+pub lives_again : IgnoresUndrawn → (layer : Completion) (old : Record) (entries : List PlainEntry) (after : Completion) (new : Record)
+    → Lives layer old entries after new → Answers layer old entries after new
+lives_again ignores layer old [] after new lives = lives
+lives_again ignores layer old (e ∷ entries) after new lives =
     let c = lives.0 in
-    let x = lives.1 in
-    let same : e ≡ entry_of old c x = lives.4 in (
-      x,
-      subst (λ (f : PlainEntry). Executes false old (event_of f) x) (sym same) (ignores old c x lives.2),
+    let seen = lives.1 in
+    let same : e ≡ entry_of c seen = lives.4 in (
+      seen,
+      subst (λ (f : PlainEntry). IsPerformed false layer old f seen) (sym same) (ignores layer old c seen lives.2),
       sym (ap (λ (f : PlainEntry). f.answered) same),
-      lives_again ignores x.after entries new lives.5,
+      lives_again ignores seen.layer seen.step.after entries after new lives.5,
     )
 
-answers_parts : (old : Record) (front back : List PlainEntry) (new : Record) → Answers old (front ++ back) new
-    → (mid : Record) × Answers old front mid × Answers mid back new
-answers_parts old [] back new answers = (old, refl, answers)
-answers_parts old (e ∷ front) back new answers =
-    let parts = answers_parts answers.0.after front back new answers.3 in
-    (parts.0, (answers.0, answers.1, answers.2, parts.1), parts.2)
+answers_parts : (layer : Completion) (old : Record) (front back : List PlainEntry) (after : Completion) (new : Record)
+    → Answers layer old (front ++ back) after new
+    → (mid : Completion) × (here : Record) × Answers layer old front mid here × Answers mid here back after new
+answers_parts layer old [] back after new answers = (layer, old, (refl, refl), answers)
+answers_parts layer old (e ∷ front) back after new answers =
+    let parts = answers_parts answers.0.layer answers.0.step.after front back after new answers.3 in
+    (parts.0, parts.1, (answers.0, answers.1, answers.2, parts.2), parts.3)
 
 -- ---- lists
 
 first_or : {A : Type 0} → A → List A → A
 first_or other [] = other
 first_or other (x ∷ xs) = x
-
-rest_of : {A : Type 0} → List A → List A
-rest_of [] = []
-rest_of (x ∷ xs) = xs
 
 last_same : (front : List ℕ) (a b : ℕ) → front ++ a ∷ [] ≡ front ++ b ∷ [] → a ≡ b
 unfolding first_or
@@ -75,21 +75,25 @@ sum_parts sum (e ∷ front) back = sum_parts (sum_after sum e) front back
 
 -- ---- executed again
 
--- executions of the events of entries lead where these lead, and have their answers
-same_run : (old new mid : Record) (executions : List Execution) (entries : List PlainEntry) → Leads false old executions new
-    → map event_in executions ≡ map event_of entries → Answers old entries mid → (new ≡ mid) × (map response_sum executions ≡ map answer_said entries)
-unfolding first_or rest_of
-same_run old new mid [] [] leads events answers = (leads ∙ sym answers, refl)
-same_run old new mid [] (e ∷ entries) leads events answers = absurd cc
-same_run old new mid (one ∷ executions) [] leads events answers = absurd cc
-same_run old new mid (one ∷ executions) (e ∷ entries) leads events answers =
-    let event = ap (first_or (event_of e)) events in
-    let seen : one.seen ≡ answers.0 = leads.1.exactly refl ∙ ap (step old) event ∙ sym (answers.1.exactly refl) in
-    let next = same_run answers.0.after new mid executions entries (subst (λ (x : Stepped). Leads false x.after executions new) seen leads.2)
-    (ap rest_of events) answers.3 in (
+-- where no memory is refused, an entry is performed in one way
+seen_once : (layer : Completion) (old : Record) (e : PlainEntry) (a b : Seen) → IsPerformed false layer old e a → IsPerformed false layer old e b → a ≡ b
+seen_once layer old e a b is also =
+    exactly false e.completes layer old (event_of e) a is refl ∙ sym (exactly false e.completes layer old (event_of e) b also refl)
+
+-- entries that are performed lead where these answers lead, and have them
+same_run : (before : Journal) (old : Record) (performances : List Performance) (after : Journal) (new : Record) (layer : Completion) (mid : Record)
+    → LeadsBy false before old performances after new → Answers before.layer old (map entry_in performances) layer mid
+    → (after ≡ journal_after_all before (map entry_in performances) layer) × (new ≡ mid) × (map response_sum performances ≡ map answer_said performances)
+same_run before old [] after new layer mid leads answers =
+    (leads.0 ∙ ap (λ (l : Completion). record before { layer = l }) (sym answers.0), leads.1 ∙ sym answers.1, refl)
+same_run before old (one ∷ performances) after new layer mid leads answers =
+    let seen : one.seen ≡ answers.0 = seen_once before.layer old one.entry one.seen answers.0 leads.0 answers.1 in
+    let next = same_run (journal_after before one.entry one.seen.layer) one.seen.step.after performances after new layer mid leads.1
+    (subst (λ (s : Seen). Answers s.layer s.step.after (map entry_in performances) layer mid) (sym seen) answers.3) in (
       next.0,
-      ap (λ (n : ℕ). n ∷ map response_sum executions) (ap (λ (x : Stepped). sum_of x.response) seen ∙ answers.2)
-          ∙ ap (λ (l : List ℕ). e.answered ∷ l) next.1,
+      next.1,
+      ap (λ (n : ℕ). n ∷ map response_sum performances) (ap (λ (s : Seen). sum_of s.step.response) seen ∙ answers.2)
+          ∙ ap (λ (l : List ℕ). one.entry.answered ∷ l) next.2,
     )
 
 -- a text that ends in less than an entry is followed to its end, where the device answers as it says
@@ -108,37 +112,40 @@ ended (Some Damaged) sum sums said (e ∷ more) rest left answers same ends l ar
 ended (Some Otherwise) sum sums said more rest left answers same ends l are cut =
     absurd (answers.5 (last_same answers.0 answers.1 answers.2 (sym answers.3 ∙ same ∙ answers.4)))
 
-pub followed_again : (before : Journal) (old final new : Record) (entries : List PlainEntry) (rest text : List ℕ) (followed : Followed) (after : Journal)
-    → Replays false before old text followed after new → AllByRecursion IsEntry entries → text ≡ entries_text before.sum entries ++ rest
-    → IsCutOff (sum_after_all before.sum entries) rest → Answers old entries final → IsFollowedWhole before entries final followed after new
-followed_again before old final new entries rest text followed after replays are t cut answers =
+pub followed_again : (before : Journal) (old : Record) (layer : Completion) (final new : Record) (entries : List PlainEntry) (rest text : List ℕ)
+    (followed : Followed) (after : Journal) → Replays false before old text followed after new → AllByRecursion IsEntry entries
+    → text ≡ entries_text before.sum entries ++ rest → IsCutOff (sum_after_all before.sum entries) rest → Answers before.layer old entries layer final
+    → IsFollowedWhole before entries layer final followed after new
+followed_again before old layer final new entries rest text followed after replays are t cut answers =
     let r = replays.repeats in
+    let mine : List PlainEntry = map entry_in r.performances in
     let left = drop followed.taken text in
-    let whole : entries_text before.sum entries ++ rest ≡ entries_text before.sum r.entries ++ left =
+    let whole : entries_text before.sum entries ++ rest ≡ entries_text before.sum mine ++ left =
     sym t ∙ sym (take-append-drop followed.taken text) ∙ ap (λ (l : List ℕ). l ++ left) r.front in
-    let found = others_are_more before.sum entries r.entries rest left are r.are whole cut in
+    let found = others_are_more before.sum entries mine rest left are r.are whole cut in
     let more = found.0 in
-    let parts = answers_parts old r.entries more final (subst (λ (l : List PlainEntry). Answers old l final) found.2 answers) in
-    let run = same_run old new parts.0 r.executions r.entries r.leads r.events parts.1 in
-    let sum_is : after.sum ≡ sum_after_all before.sum r.entries = ap (λ (j : Journal). j.sum) r.journal ∙ journal_sum before r.entries in
-    let end = ended followed.fault (sum_after_all before.sum r.entries) (map response_sum r.executions) (map answer_said r.entries) more rest left
-    r.answers run.1 (subst (λ (s : ℕ). EndsIn followed.fault s left) sum_is replays.ends) found.3 found.1
-    (subst (λ (s : ℕ). IsCutOff s rest) (ap (sum_after_all before.sum) found.2 ∙ sum_parts before.sum r.entries more) cut) in
-    let all : entries ≡ r.entries = found.2 ∙ ap (λ (l : List PlainEntry). r.entries ++ l) end.1 ∙ append-nil r.entries in
-    let last : final ≡ parts.0 = subst (λ (l : List PlainEntry). Answers parts.0 l final) end.1 parts.2 in
+    let parts = answers_parts before.layer old mine more layer final (subst (λ (l : List PlainEntry). Answers before.layer old l layer final) found.2 answers) in
+    let run = same_run before old r.performances after new parts.0 parts.1 r.leads parts.2 in
+    let sum_is : after.sum ≡ sum_after_all before.sum mine = journal_sum false before old r.performances after new r.leads in
+    let end = ended followed.fault (sum_after_all before.sum mine) (map response_sum r.performances) (map answer_said r.performances) more rest left
+    r.answers run.2 (subst (λ (s : ℕ). EndsIn followed.fault s left) sum_is replays.ends) found.3 found.1
+    (subst (λ (s : ℕ). IsCutOff s rest) (ap (sum_after_all before.sum) found.2 ∙ sum_parts before.sum mine more) cut) in
+    let all : entries ≡ mine = found.2 ∙ ap (λ (l : List PlainEntry). mine ++ l) end.1 ∙ append-nil mine in
+    let last : (layer ≡ parts.0) × (final ≡ parts.1) = subst (λ (l : List PlainEntry). Answers parts.0 parts.1 l layer final) end.1 parts.3 in
     record {
       whole = end.0;
       taken = sym (length-take-le followed.taken text r.within) ∙ ap length r.front ∙ ap (λ (l : List PlainEntry). length (entries_text before.sum l)) (sym all);
-      leads = run.0 ∙ sym last;
-      journal = r.journal ∙ ap (journal_after_all before) (sym all);
+      leads = run.1 ∙ sym last.1;
+      journal = run.0 ∙ ap (λ (l : List PlainEntry). journal_after_all before l parts.0) (sym all)
+          ∙ ap (λ (c : Completion). journal_after_all before entries c) (sym last.0);
     }
 
 -- ---- opened again
 
-module _ (clock : ℕ) (r : Record) (entries : List PlainEntry) (rest : List ℕ) (final : Record) (text : List ℕ) (is : IsRecord r)
+module _ (clock : ℕ) (r : Record) (entries : List PlainEntry) (rest : List ℕ) (layer : Completion) (final : Record) (text : List ℕ) (is : IsRecord r)
     (begins : BeginsWith text clock (image_text Two (kept_of r)) (entries_text (head_sum clock (image_text Two (kept_of r))) entries ++ rest))
     (are : AllByRecursion IsEntry entries) (cut : IsCutOff (sum_after_all (head_sum clock (image_text Two (kept_of r))) entries) rest)
-    (answers : Answers (cycled r) entries final) where
+    (answers : Answers (new_completion (head_sum clock (image_text Two (kept_of r)))) (cycled r) entries layer final) where
   heads_same : (other : ℕ) (bytes behind : List ℕ) → BeginsWith text other bytes behind → (clock ≡ other) × (image_text Two (kept_of r) ≡ bytes)
   heads_same other bytes behind others =
       same_head clock other (image_text Two (kept_of r)) bytes _ behind begins.has others.has (sym begins.is ∙ others.is)
@@ -147,7 +154,7 @@ module _ (clock : ℕ) (r : Record) (entries : List PlainEntry) (rest : List ℕ
   told = record_again Two r is (record_image r is).0
 
   read_again : (followed : Followed) (journal : Journal) (new : Record) (reads : Reads text followed journal new)
-      → IsFollowedWhole (journal_begun clock (image_text Two (kept_of r))) entries final followed journal new
+      → IsFollowedWhole (journal_begun clock (image_text Two (kept_of r))) entries layer final followed journal new
   read_again followed journal new reads =
       let same = heads_same reads.clock reads.image reads.rest reads.begins in
       let kept : reads.kept ≡ kept_of r = ok_is {E = ImageFault} reads.kept (kept_of r) (sym reads.is_image ∙ ap image_of (sym same.1) ∙ told) in
@@ -159,9 +166,9 @@ module _ (clock : ℕ) (r : Record) (entries : List PlainEntry) (rest : List ℕ
       subst (λ (k : NonVolatile). Replays false (journal_begun clock (image_text Two (kept_of r))) (powered_on k) reads.rest followed journal new) kept
       (subst (λ (l : List ℕ). Replays false (journal_begun clock l) (powered_on reads.kept) reads.rest followed journal new) (sym same.1)
       (subst (λ (n : ℕ). Replays false (journal_begun n reads.image) (powered_on reads.kept) reads.rest followed journal new) (sym same.0) reads.replays)) in
-      followed_again (journal_begun clock (image_text Two (kept_of r))) (cycled r) final new entries rest reads.rest followed journal replays are behind cut answers
+      followed_again (journal_begun clock (image_text Two (kept_of r))) (cycled r) layer final new entries rest reads.rest followed journal replays are behind cut answers
 
-  pub opened_again : (result : Result Opened OpenFault) (new : Record) → OpensJournal text result new → IsOpenedAgain clock (image_text Two (kept_of r)) entries final result new
+  pub opened_again : (result : Result Opened OpenFault) (new : Record) → OpensJournal text result new → IsOpenedAgain clock (image_text Two (kept_of r)) entries layer final result new
   opened_again (Ok opened) new opens =
       let again = read_again opens.followed opened.journal new opens.reads in
       let same = heads_same opens.reads.clock opens.reads.image opens.reads.rest opens.reads.begins in (

@@ -1,34 +1,111 @@
--- Random bytes that a command did not draw have no influence on it.
-use Rattle.std.proofs.Common.{◌≡◌, ◌≤◌, ◌-◌, ℕ, zero, suc, List, ◌++◌, false, length, replicate, take, Result, Ok, Err, subst, sym}
+-- Random bytes that a command did not draw have no influence on it, nor on what its layer does.
+use Rattle.std.proofs.Common.{◌≡◌, ◌≤◌, ◌-◌, ◌+◌, ℕ, zero, suc, Bool, true, false, List, [], ◌++◌, length, replicate, take, Option, Some, None, Result, Ok, Err, refl, subst, sym, ap, ◌∙◌}
 use native.Mathlib.Omega.{arith}
-use Rattle.std.proofs.lemmas.List.{length-take-le}
+use Rattle.std.proofs.lemmas.List.{length-append, length-replicate, length-take-le}
 use Rattle.tpm_record.specs.Record.{Record}
-use Rattle.tpm_record.specs.Tick.{ticked}
-use Rattle.tpm_step.specs.Events.{Given}
+use Rattle.tpm_step.specs.Events.{Given, PlainEvent}
 use Rattle.tpm_step.specs.Execution.{Executes}
-use Rattle.tpm_step.specs.Step.{Accepted, Stepped, accepted}
-use Rattle.tpm_machine.specs.Drawn.{drawn_by, drawn_by_command}
-use Rattle.tpm_draw_laws.proofs.Executions.{replays}
+use Rattle.tpm_machine.specs.Drawn.{drawn_by}
+use Rattle.tpm_history.proofs.Following.{execution_follows}
+use Rattle.tpm_draw_laws.specs.Bytes.{AgreeOnDrawn, zeros_behind}
+use Rattle.tpm_draw_laws.proofs.Executions.{draws_alike, executes_alike, replays, replay_draws}
+use Rattle.tpm_completion.specs.Execution.{AsksFirst, Behind, Completes, CompletesBy, CompletesIf, GivesUp, Notes, Passes, Seen, given_up_behind}
+use Rattle.tpm_completion.specs.Room.{flush_asked}
+use Rattle.tpm_completion.specs.declared.completion.Completion.{Completion}
 use Rattle.tpm_journal_text.specs.Entry.{PlainEntry}
-use Rattle.tpm_journal.specs.Command.{Command, drawn_bytes, given}
+use Rattle.tpm_journal.specs.Command.{Command, Executed, given}
 use Rattle.tpm_journal.specs.Living.{Answers, IgnoresUndrawn, Lives}
 use Rattle.tpm_journal.proofs.Again.{lives_again}
+use Rattle.tpm_journal.proofs.Drawing.{draws_within, gives_up_draws_none, no_more_drawn}
 
--- a command draws no more random bytes than it has
-draws_within : {E : Type 0} (random : List ℕ) (a : Result Accepted E) (check : ℕ) → drawn_by_command random a check ≤ length random
-draws_within random (Ok a) zero = omega arith
-draws_within random (Ok a) (suc check) = omega arith
-draws_within random (Err e) check = omega arith
+-- an event that passed to the device passes with other random bytes, where it is executed with them
+-- and draws as many
+passes_with : (layer : Completion) (old : Record) (event other : PlainEvent) (seen : Seen) → Passes false layer old event seen
+    → Executes false old other seen.step → drawn_by old other seen.step.row.check ≡ drawn_by old event seen.step.row.check
+    → Passes false layer old other seen
+passes_with layer old event other seen passes executes draws = record {
+  executes = executes;
+  history = λ history follows. execution_follows false old other seen.step history executes follows;
+  layer = passes.layer;
+  drawn = passes.drawn ∙ sym draws;
+}
 
-drawn_is : (r : Record) (c : Command) (x : Stepped) → length (drawn_bytes r c x) ≡ drawn_by r (given c) x.row.check
-drawn_is r c x = length-take-le (drawn_by r (given c) x.row.check) c.random
-    (draws_within c.random (accepted (ticked r c.elapsed) c.buffer c.locality c.random) x.row.check)
+-- with the bytes that it drew, and zeros behind them
+passes_again : (layer : Completion) (old : Record) (buffer : List ℕ) (locality elapsed : ℕ) (random : List ℕ) (seen : Seen)
+    → Passes false layer old (Given buffer locality elapsed random) seen
+    → Passes false layer old (Given buffer locality elapsed (zeros_behind seen.drawn random)) seen
+passes_again layer old buffer locality elapsed random seen passes =
+    let event = Given buffer locality elapsed random in
+    subst (λ (n : ℕ). Passes false layer old (Given buffer locality elapsed (zeros_behind n random)) seen) (sym passes.drawn)
+    (passes_with layer old event _ seen passes (replays old event seen.step passes.executes) (replay_draws old event seen.step passes.executes))
+
+-- with any others, where it draws none
+passes_anyhow : (layer : Completion) (old : Record) (buffer : List ℕ) (locality elapsed : ℕ) (random other : List ℕ) (seen : Seen)
+    → Passes false layer old (Given buffer locality elapsed random) seen → drawn_by old (Given buffer locality elapsed random) 0 ≡ 0
+    → length other ≡ length random → Passes false layer old (Given buffer locality elapsed other) seen
+passes_anyhow layer old buffer locality elapsed random other seen passes none as_long =
+    let agree : AgreeOnDrawn old buffer locality elapsed random other =
+    (as_long, ap (λ (n : ℕ). take n other) none ∙ ap (λ (n : ℕ). take n random) (sym none)) in
+    passes_with layer old (Given buffer locality elapsed random) _ seen passes
+    (executes_alike old buffer locality elapsed random other agree false seen.step passes.executes)
+    (draws_alike old buffer locality elapsed random other agree seen.step.row.check)
+
+zeros_many : (n : ℕ) (random : List ℕ) → n ≤ length random → length random ≡ 256 → length (zeros_behind n random) ≡ length random
+zeros_many n random few all =
+    length-append (take n random) (replicate (256 - n) 0)
+    ∙ omega (arith, few, all, length-take-le n random few, length-replicate {A = ℕ} (256 - n) 0)
+
+-- the random bytes of a command that stands for one that drew so many
+abbrev kept : Seen → List ℕ → List ℕ
+kept seen random = zeros_behind seen.drawn random
+
+behind_again : (layer : Completion) (old : Record) (first : Seen) (buffer : List ℕ) (locality elapsed : ℕ) (random : List ℕ) (place : Option ℕ) (seen : Seen)
+    → place ≡ given_up_behind first → Passes false layer old (Given buffer locality elapsed random) first
+    → Behind false first buffer locality random place seen
+    → Passes false layer old (Given buffer locality elapsed (kept seen random)) first × Behind false first buffer locality (kept seen random) place seen
+behind_again layer old first buffer locality elapsed random (Some place) seen given passes (flush, flushes, again) =
+    let all : length random ≡ 256 = passes.executes.happens.2 in
+    let few : seen.drawn ≤ length random = no_more_drawn false flush.layer flush.step.after buffer locality 0 random seen again in (
+      passes_anyhow layer old buffer locality elapsed random (kept seen random) first passes
+          (gives_up_draws_none layer old buffer locality elapsed random first place passes (sym given)) (zeros_many seen.drawn random few all),
+      (flush, flushes, passes_again flush.layer flush.step.after buffer locality 0 random seen again),
+    )
+behind_again layer old first buffer locality elapsed random None seen given passes is =
+    let same : seen.drawn ≡ first.drawn = ap (λ (s : Seen). s.drawn) is in (
+      subst (λ (n : ℕ). Passes false layer old (Given buffer locality elapsed (zeros_behind n random)) first) (sym same)
+          (passes_again layer old buffer locality elapsed random first passes),
+      is,
+    )
+
+by_again : (layer : Completion) (old : Record) (buffer : List ℕ) (locality elapsed : ℕ) (random : List ℕ) (place : Option ℕ) (seen : Seen)
+    → CompletesBy false layer old buffer locality elapsed random place seen
+    → CompletesBy false layer old buffer locality elapsed (kept seen random) place seen
+by_again layer old buffer locality elapsed random (Some place) seen (tick, passes, is) =
+    let same : seen.drawn ≡ tick.drawn = ap (λ (s : Seen). s.drawn) is in (
+      tick,
+      subst (λ (n : ℕ). Passes false layer old (Given [] locality elapsed (zeros_behind n random)) tick) (sym same)
+          (passes_again layer old [] locality elapsed random tick passes),
+      is,
+    )
+by_again layer old buffer locality elapsed random None seen (first, passes, behind) =
+    let again = behind_again layer old first buffer locality elapsed random (given_up_behind first) seen refl passes behind in
+    (first, again.0, again.1)
+
+executed_again : (completes : Bool) (layer : Completion) (old : Record) (buffer : List ℕ) (locality elapsed : ℕ) (random : List ℕ) (seen : Seen)
+    → CompletesIf false completes layer old (Given buffer locality elapsed random) seen
+    → CompletesIf false completes layer old (Given buffer locality elapsed (kept seen random)) seen
+executed_again false layer old buffer locality elapsed random seen passes = passes_again layer old buffer locality elapsed random seen passes
+executed_again true layer old buffer locality elapsed random seen completes =
+    by_again layer old buffer locality elapsed random (flush_asked layer buffer) seen completes
 
 pub ignores : IgnoresUndrawn
-ignores r c x executes = subst
-    (λ n. Executes false r (Given c.buffer c.locality c.elapsed (drawn_bytes r c x ++ replicate (256 - n) 0)) x)
-    (sym (drawn_is r c x)) (replays r (given c) x executes)
+ignores layer old c seen executed =
+    let few : seen.drawn ≤ length c.random = draws_within false layer old c seen executed in
+    subst (λ (n : ℕ). CompletesIf false c.completes layer old (Given c.buffer c.locality c.elapsed (take seen.drawn c.random ++ replicate (256 - n) 0)) seen)
+    (sym (length-take-le seen.drawn c.random few))
+    (executed_again c.completes layer old c.buffer c.locality c.elapsed c.random seen executed)
 
--- the entries of a live device lead again where they led
-pub lives_alike : (old : Record) (entries : List PlainEntry) (new : Record) → Lives old entries new → Answers old entries new
+-- the entries of a live device and its layer lead again where they led
+pub lives_alike : (layer : Completion) (old : Record) (entries : List PlainEntry) (after : Completion) (new : Record)
+    → Lives layer old entries after new → Answers layer old entries after new
 lives_alike = lives_again ignores

@@ -12,7 +12,7 @@ use Rattle.tpm_journal_text.specs.Head.{IsHeadOf, head_text}
 use Rattle.tpm_journal_text.specs.declared.head.Head.{Head}
 use Rattle.tpm_journal.specs.Opening.{BeginsWith, Reads}
 use Rattle.tpm_journal.specs.Replay.{Replays}
-use Rattle.tpm_journal.specs.State.{journal_begun}
+use Rattle.tpm_journal.specs.State.{journal_begun, journal_of}
 use Rattle.tpm_journal.specs.declared.following.Followed.{Followed}
 use Rattle.tpm_journal.specs.declared.journal.Journal.{Journal}
 
@@ -34,10 +34,10 @@ not_opened record_of image fault.Length e = e
 not_opened record_of image fault.Digest e = e
 not_opened record_of image fault.Body e = e
 
-abbrev pub read_so : (can : Bool) (text : List ℕ) (head : Head) (kept : NonVolatile) (at : Record) (rest : List ℕ) (followed : Followed) (journal : Journal) (new : Record)
+abbrev pub read_so : (can : Bool) (text : List ℕ) (head : Head) (kept : NonVolatile) (at : Record) (rest : List ℕ) (followed : Followed) (start journal : Journal) (new : Record)
     → can ≡ false → IsHeadOf text head → image_of head.image.now ≡ Ok kept → at ≡ powered_on kept → rest ≡ drop head.size text
-    → Replays can (record { sum = head.sum; time = head.clock }) at rest followed journal new → Reads text followed journal new
-read_so can text head kept at rest followed journal new cannot is image on behind replays = record {
+    → start ≡ journal_of head.sum head.clock → Replays can start at rest followed journal new → Reads text followed journal new
+read_so can text head kept at rest followed start journal new cannot is image on behind started replays = record {
   clock = head.clock;
   image = head.image.now;
   rest = drop head.size text;
@@ -46,7 +46,8 @@ read_so can text head kept at rest followed journal new cannot is image on behin
   is_image = image;
   replays =
       subst (λ (b : Bool). Replays b (journal_begun head.clock head.image.now) (powered_on kept) (drop head.size text) followed journal new) cannot
-      (subst (λ (s : ℕ). Replays can (record { sum = s; time = head.clock }) (powered_on kept) (drop head.size text) followed journal new) is.after
-      (subst (λ (r : Record). Replays can (record { sum = head.sum; time = head.clock }) r (drop head.size text) followed journal new) on
-      (subst (λ (l : List ℕ). Replays can (record { sum = head.sum; time = head.clock }) at l followed journal new) behind replays)));
+      (subst (λ (s : ℕ). Replays can (journal_of s head.clock) (powered_on kept) (drop head.size text) followed journal new) is.after
+      (subst (λ (r : Record). Replays can (journal_of head.sum head.clock) r (drop head.size text) followed journal new) on
+      (subst (λ (l : List ℕ). Replays can (journal_of head.sum head.clock) at l followed journal new) behind
+      (subst (λ (j : Journal). Replays can j at rest followed journal new) started replays))));
 }

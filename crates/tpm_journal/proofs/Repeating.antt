@@ -1,16 +1,14 @@
 -- Entries that are executed one after another.
-use Rattle.std.proofs.Common.{◌≡◌, ◌≢◌, ℕ, ◌+◌, ◌≤◌, ◌<◌, Bool, List, [], ◌∷◌, ◌++◌, length, map, take, drop, Option, Some, None, refl, ap, sym, ◌∙◌, append_assoc, arith, length-drop}
+use Rattle.std.proofs.Common.{◌≡◌, ◌≢◌, ℕ, ◌+◌, ◌≤◌, ◌<◌, Bool, List, [], ◌∷◌, ◌++◌, length, map, take, drop, Option, Some, None, refl, ap, sym, subst, ◌∙◌, append_assoc, arith, length-drop}
 use Rattle.std.specs.List.{AllByRecursion}
 use Rattle.std.proofs.lemmas.List.{drop-take, length-take-le, map-append, take-append-drop, take-append-le}
 use Rattle.tpm_record.specs.Record.{Record}
-use Rattle.tpm_history.specs.Executions.{Execution}
-use Rattle.tpm_history.proofs.PowerCycles.{leads_on}
 use Rattle.tpm_journal_text.specs.Entry.{IsEntry, PlainEntry, entry_text, sum_after}
 use Rattle.tpm_journal_text.specs.Journal.{IsCutOff, IsDamaged, entries_text, sum_after_all}
 use Rattle.tpm_journal_text.proofs.Standing.{entry_text_some}
-use Rattle.tpm_journal.specs.Command.{event_of}
-use Rattle.tpm_journal.specs.Replay.{AnswersAre, Performs, Repeats, Replays, answer_said, event_in, response_sum}
-use Rattle.tpm_journal.specs.State.{journal_after, journal_after_all}
+use Rattle.tpm_journal.specs.Command.{IsPerformed}
+use Rattle.tpm_journal.specs.Replay.{AnswersAre, LeadsBy, Performance, Performs, Repeats, Replays, answer_said, entry_in, response_sum}
+use Rattle.tpm_journal.specs.State.{journal_after}
 use Rattle.tpm_journal.specs.declared.following.FollowFault.{FollowFault}
 use Rattle.tpm_journal.specs.declared.following.FollowFault.TheVariants.{Damaged, Otherwise}
 use Rattle.tpm_journal.specs.declared.journal.Journal.{Journal}
@@ -27,15 +25,6 @@ entries_more sum [] e = append_none (entry_text sum e)
 entries_more sum (x ∷ entries) e =
     ap (λ (l : List ℕ). entry_text sum x ++ l) (entries_more (sum_after sum x) entries e)
     ∙ sym (append_assoc (entry_text sum x) (entries_text (sum_after sum x) entries) (entry_text (sum_after_all (sum_after sum x) entries) e))
-
-journal_more : (j : Journal) (entries : List PlainEntry) (e : PlainEntry)
-    → journal_after_all j (entries ++ e ∷ []) ≡ journal_after (journal_after_all j entries) e
-journal_more j [] e = refl
-journal_more j (x ∷ entries) e = journal_more (journal_after j x) entries e
-
-pub journal_sum : (j : Journal) (entries : List PlainEntry) → (journal_after_all j entries).sum ≡ sum_after_all j.sum entries
-journal_sum j [] = refl
-journal_sum j (x ∷ entries) = journal_sum (journal_after j x) entries
 
 are_more : (entries : List PlainEntry) (e : PlainEntry) → AllByRecursion IsEntry entries → IsEntry e → AllByRecursion IsEntry (entries ++ e ∷ [])
 are_more [] e are is = (is, tt)
@@ -55,39 +44,67 @@ pub performs_at : (can : Bool) (before : Journal) (old : Record) (left text : Li
     (Holds : ℕ → ℕ → Type 0) → left ≡ text → Performs can before old left size after new Holds → Performs can before old text size after new Holds
 performs_at can before old left text size after new Holds is p = rw (← is) p
 
+-- the sum of a journal to which entries lead
+pub journal_sum : (can : Bool) (before : Journal) (old : Record) (performances : List Performance) (after : Journal) (new : Record)
+    → LeadsBy can before old performances after new → after.sum ≡ sum_after_all before.sum (map entry_in performances)
+journal_sum can before old [] after new leads = ap (λ (j : Journal). j.sum) leads.0
+journal_sum can before old (one ∷ performances) after new leads =
+    journal_sum can (journal_after before one.entry one.seen.layer) one.seen.step.after performances after new leads.1
+
+-- one performance behind others
+leads_more : (can : Bool) (before : Journal) (old : Record) (performances : List Performance) (mid : Journal) (here : Record)
+    (one : Performance) (after : Journal) (new : Record) → LeadsBy can before old performances mid here
+    → IsPerformed can mid.layer here one.entry one.seen → after ≡ journal_after mid one.entry one.seen.layer → new ≡ one.seen.step.after
+    → LeadsBy can before old (performances ++ one ∷ []) after new
+leads_more can before old [] mid here one after new leads performed journal leaves = (
+  subst (λ (j : Journal). IsPerformed can j.layer old one.entry one.seen) leads.0
+      (subst (λ (r : Record). IsPerformed can mid.layer r one.entry one.seen) leads.1 performed),
+  (journal ∙ ap (λ (j : Journal). journal_after j one.entry one.seen.layer) leads.0, leaves),
+)
+leads_more can before old (first ∷ performances) mid here one after new leads performed journal leaves = (
+  leads.0,
+  leads_more can (journal_after before first.entry first.seen.layer) first.seen.step.after performances mid here one after new leads.1 performed
+      journal leaves,
+)
+
 -- ---- what was executed so far, and one entry more
 
 module _ (can : Bool) (before : Journal) (old : Record) (text : List ℕ) (taken : ℕ) (mid : Journal) (here : Record)
     (size : ℕ) (after : Journal) (new : Record) (Holds : ℕ → ℕ → Type 0)
     (r : Repeats can before old text taken None mid here) (p : Performs can mid here (drop taken text) size after new Holds) where
-  one : Execution
-  one = record { before = here; event = event_of p.entry; seen = p.seen }
+  one : Performance
+  one = record { entry = p.entry; seen = p.seen }
 
-  sum_is : mid.sum ≡ sum_after_all before.sum r.entries
-  sum_is = ap (λ (j : Journal). j.sum) r.journal ∙ journal_sum before r.entries
+  abbrev entries : List PlainEntry
+  entries = map entry_in r.performances
 
-  sums_are : map response_sum (r.executions ++ one ∷ []) ≡ map answer_said r.entries ++ response_sum one ∷ []
-  sums_are = map-append response_sum r.executions (one ∷ []) ∙ ap (λ (l : List ℕ). l ++ response_sum one ∷ []) r.answers
+  sums_are : map response_sum (r.performances ++ one ∷ []) ≡ map answer_said r.performances ++ response_sum one ∷ []
+  sums_are = map-append response_sum r.performances (one ∷ []) ∙ ap (λ (l : List ℕ). l ++ response_sum one ∷ []) r.answers
 
-  said_are : map answer_said (r.entries ++ p.entry ∷ []) ≡ map answer_said r.entries ++ answer_said p.entry ∷ []
-  said_are = map-append answer_said r.entries (p.entry ∷ [])
+  said_are : map answer_said (r.performances ++ one ∷ []) ≡ map answer_said r.performances ++ answer_said one ∷ []
+  said_are = map-append answer_said r.performances (one ∷ [])
 
-  joined : (fault : Option FollowFault) → AnswersAre fault (map response_sum (r.executions ++ one ∷ [])) (map answer_said (r.entries ++ p.entry ∷ []))
+  entries_are : map entry_in (r.performances ++ one ∷ []) ≡ entries ++ p.entry ∷ []
+  unfolding one
+  entries_are = map-append entry_in r.performances (one ∷ [])
+
+  front_is : take (taken + size) text ≡ entries_text before.sum (entries ++ p.entry ∷ [])
+  front_is =
+      take_further taken size text (omega (arith, r.within, p.within, length-drop taken text)) ∙ ap (λ (l : List ℕ). l ++ take size (drop taken text)) r.front
+      ∙ ap (λ (l : List ℕ). entries_text before.sum entries ++ l)
+      (p.front ∙ ap (λ (s : ℕ). entry_text s p.entry) (journal_sum can before old r.performances mid here r.leads))
+      ∙ sym (entries_more before.sum entries p.entry)
+
+  joined : (fault : Option FollowFault) → AnswersAre fault (map response_sum (r.performances ++ one ∷ [])) (map answer_said (r.performances ++ one ∷ []))
       → Repeats can before old text (taken + size) fault after new
   unfolding one
   joined fault answers = record {
-    entries = r.entries ++ p.entry ∷ [];
-    are = are_more r.entries p.entry r.are p.is;
+    performances = r.performances ++ one ∷ [];
+    are = subst (AllByRecursion IsEntry) (sym entries_are) (are_more entries p.entry r.are p.is);
     within = omega (arith, r.within, p.within, length-drop taken text);
-    front = take_further taken size text (omega (arith, r.within, p.within, length-drop taken text)) ∙ ap (λ (l : List ℕ). l ++ take size (drop taken text)) r.front
-        ∙ ap (λ (l : List ℕ). entries_text before.sum r.entries ++ l) (p.front ∙ ap (λ (s : ℕ). entry_text s p.entry) sum_is)
-        ∙ sym (entries_more before.sum r.entries p.entry);
-    executions = r.executions ++ one ∷ [];
-    leads = leads_on can old r.executions here (one ∷ []) new r.leads (refl, p.executes, p.leaves);
-    events = map-append event_in r.executions (one ∷ []) ∙ ap (λ l. l ++ event_of p.entry ∷ []) r.events
-        ∙ sym (map-append event_of r.entries (p.entry ∷ []));
+    front = front_is ∙ ap (entries_text before.sum) (sym entries_are);
+    leads = leads_more can before old r.performances mid here one after new r.leads p.performed p.journal p.leaves;
     answers = answers;
-    journal = p.journal ∙ ap (λ (j : Journal). journal_after j p.entry) r.journal ∙ sym (journal_more before r.entries p.entry);
   }
 
 pub repeats_more : (can : Bool) (before : Journal) (old : Record) (text : List ℕ) (taken : ℕ) (mid : Journal) (here : Record)
@@ -97,7 +114,7 @@ unfolding one
 repeats_more can before old text taken mid here size after new r p =
     joined can before old text taken mid here size after new _ r p None
     (sums_are can before old text taken mid here size after new _ r p
-    ∙ ap (λ (n : ℕ). map answer_said r.entries ++ n ∷ []) p.answer
+    ∙ ap (λ (n : ℕ). map answer_said r.performances ++ n ∷ []) p.answer
     ∙ sym (said_are can before old text taken mid here size after new _ r p))
 
 pub repeats_otherwise : (can : Bool) (before : Journal) (old : Record) (text : List ℕ) (taken : ℕ) (mid : Journal) (here : Record)
@@ -107,9 +124,9 @@ pub repeats_otherwise : (can : Bool) (before : Journal) (old : Record) (text : L
 unfolding one
 repeats_otherwise can before old text taken mid here size after new r p = record {
   repeats = joined can before old text taken mid here size after new _ r p (Some Otherwise) (
-    map answer_said r.entries,
+    map answer_said r.performances,
     response_sum (one can before old text taken mid here size after new _ r p),
-    answer_said p.entry,
+    p.entry.answered,
     sums_are can before old text taken mid here size after new _ r p,
     said_are can before old text taken mid here size after new _ r p,
     p.answer,
@@ -121,15 +138,12 @@ repeats_otherwise can before old text taken mid here size after new r p = record
 
 pub repeats_none : (can : Bool) (before : Journal) (old : Record) (text : List ℕ) → Repeats can before old text 0 None before old
 repeats_none can before old text = record {
-  entries = [];
+  performances = [];
   are = tt;
   within = omega arith;
   front = refl;
-  executions = [];
-  leads = refl;
-  events = refl;
+  leads = (refl, refl);
   answers = refl;
-  journal = refl;
 }
 
 pub performs_some : (can : Bool) (before : Journal) (old : Record) (text : List ℕ) (size : ℕ) (after : Journal) (new : Record)
@@ -147,15 +161,12 @@ ends_cut can before old text taken mid here after new r end =
 repeats_so : (can : Bool) (before : Journal) (old : Record) (text : List ℕ) (taken : ℕ) (mid : Journal) (here : Record)
     → Repeats can before old text taken None mid here → Repeats can before old text taken (Some Damaged) mid here
 repeats_so can before old text taken mid here r = record {
-  entries = r.entries;
+  performances = r.performances;
   are = r.are;
   within = r.within;
   front = r.front;
-  executions = r.executions;
   leads = r.leads;
-  events = r.events;
   answers = r.answers;
-  journal = r.journal;
 }
 
 pub ends_damaged : (can : Bool) (before : Journal) (old : Record) (text : List ℕ) (taken : ℕ) (mid : Journal) (here : Record)

@@ -1,17 +1,19 @@
 -- A command as it is given, the entry that is written of it, and the event that is executed again.
-use Rattle.std.specs.Prelude.{ℕ, ◌-◌, ◌^◌, false, List, ◌++◌, length, min, replicate, take}
+use Rattle.std.specs.Prelude.{ℕ, ◌-◌, ◌^◌, Bool, List, ◌++◌, length, min, replicate, take}
+use Rattle.tpm_completion.specs.Execution.{CompletesIf, Seen}
+use Rattle.tpm_completion.specs.declared.completion.Completion.{Completion}
 use Rattle.tpm_record.specs.Record.{Record}
 use Rattle.tpm_step.specs.Events.{PlainEvent, Given}
-use Rattle.tpm_step.specs.Step.{Stepped}
-use Rattle.tpm_machine.specs.Drawn.{drawn_by}
 use Rattle.tpm_journal_text.specs.Entry.{PlainEntry, entry_limit}
 use Rattle.tpm_journal_text.specs.Sum.{sum_of}
 
--- a command: its bytes, its locality, its elapsed time, and its random bytes
+-- a command: its bytes, its locality, its elapsed time, whether the completing layer is on, and its
+-- random bytes
 pub record Command : Type 0 where
   pub buffer : List ℕ
   pub locality : ℕ
   pub elapsed : ℕ
+  pub completes : Bool
   pub random : List ℕ
 
 abbrev pub given : Command → PlainEvent
@@ -23,27 +25,29 @@ abbrev pub elapsed_of : (now time : ℕ) → ℕ
 elapsed_of now time = min (now - time) (2 ^ 32 - 1)
 
 -- the command of a buffer, which is cut to the most bytes of an entry's
-abbrev pub command_at : (buffer : List ℕ) (locality elapsed : ℕ) (random : List ℕ) → Command
-command_at buffer locality elapsed random = record {
+abbrev pub command_at : (buffer : List ℕ) (locality elapsed : ℕ) (completes : Bool)
+    (random : List ℕ) → Command
+command_at buffer locality elapsed completes random = record {
   buffer = take entry_limit buffer;
   locality = locality;
   elapsed = elapsed;
+  completes = completes;
   random = random;
 }
 
--- the random bytes that a command drew which this record answered so
-abbrev pub drawn_bytes : Record → Command → Stepped → List ℕ
-drawn_bytes r c x = take (drawn_by r (given c) x.row.check) c.random
+-- A command was executed on this record, with the layer or without it, and this was seen.
+abbrev pub Executed : (can : Bool) → Completion → Record → Command → Seen → Type 0
+Executed can layer old c seen = CompletesIf can c.completes layer old (given c) seen
 
--- the entry of a command that this record answered so, with no layer above the device
-abbrev pub entry_of : Record → Command → Stepped → PlainEntry
-entry_of r c x = record {
+-- the entry of a command of which this was seen: its random bytes are those that were drawn
+abbrev pub entry_of : Command → Seen → PlainEntry
+entry_of c seen = record {
   elapsed = c.elapsed;
   locality = c.locality;
-  completes = false;
-  drawn = drawn_bytes r c x;
+  completes = c.completes;
+  drawn = take seen.drawn c.random;
   buffer = c.buffer;
-  answered = sum_of x.response;
+  answered = sum_of seen.step.response;
 }
 
 -- 256 random bytes: these, and zeros behind them
@@ -53,3 +57,8 @@ padded drawn = drawn ++ replicate (256 - length drawn) 0
 -- the event of an entry
 abbrev pub event_of : PlainEntry → PlainEvent
 event_of e = Given e.buffer e.locality e.elapsed (padded e.drawn)
+
+-- An entry was performed on this record: its command was executed again, with the layer where the
+-- entry says so, and this was seen.
+abbrev pub IsPerformed : (can : Bool) → Completion → Record → PlainEntry → Seen → Type 0
+IsPerformed can layer old e seen = CompletesIf can e.completes layer old (event_of e) seen

@@ -7,3 +7,6 @@ pub use Rattle.tpm_journal_text.specs.Sum
 pub use Rattle.tpm_journal_text.specs.Entry
 pub use Rattle.tpm_journal_text.specs.Head
 pub use Rattle.tpm_journal_text.specs.Journal
+pub use Rattle.tpm_completion.specs.Completion
+pub use Rattle.tpm_completion.specs.Execution
+pub use Rattle.tpm_completion.specs.Run

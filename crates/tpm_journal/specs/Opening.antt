@@ -1,5 +1,6 @@
 -- A text that is opened as a journal.
 use Rattle.std.specs.Prelude.{◌≡◌, ◌+◌, ℕ, false, List, ◌++◌, length, Result, Ok, Err, Some, None}
+use Rattle.tpm_completion.specs.declared.completion.Completion.{Completion}
 use Rattle.tpm_image.specs.Image.{image_of}
 use Rattle.tpm_image.specs.NonVolatile.{NonVolatile, powered_on}
 use Rattle.tpm_journal_text.specs.Entry.{PlainEntry}
@@ -30,8 +31,8 @@ pub record Reads (text : List ℕ) (followed : Followed) (journal : Journal) (ne
   pub is_image : image_of image ≡ Ok kept
   pub replays : Replays false (journal_begun clock image) (powered_on kept) rest followed journal new
 
--- A text is a journal: the device that it was opened as executed exactly the entries behind its head,
--- and less than an entry is left behind them.
+-- A text is a journal: the device that it was opened as, and the layer above it, executed exactly the
+-- entries behind its head, and less than an entry is left behind them.
 pub record IsJournal (text : List ℕ) (opened : Opened) (new : Record) : Type 0 where
   pub followed : Followed
   pub reads : Reads text followed opened.journal new
@@ -51,12 +52,12 @@ OpensJournal text (Err (fault.Follow why)) new =
     (followed : Followed) × (journal : Journal) × Reads text followed journal new
     × (followed.fault ≡ Some why)
 
--- The journal of a head and these entries was opened, and gave the device to whose record the entries
--- lead; all of them were taken.
-abbrev pub IsOpenedAgain : (clock : ℕ) → (image : List ℕ) → List PlainEntry → Record
-    → Result Opened OpenFault → Record → Type 0
-IsOpenedAgain clock image entries final (Ok opened) new =
+-- The journal of a head and these entries was opened, and gave the layer and the device to whose record
+-- the entries lead; all of them were taken.
+abbrev pub IsOpenedAgain : (clock : ℕ) → (image : List ℕ) → List PlainEntry → (layer : Completion)
+    → (final : Record) → Result Opened OpenFault → Record → Type 0
+IsOpenedAgain clock image entries layer final (Ok opened) new =
     (new ≡ final)
     × (opened.taken ≡ length (head_text clock image) + length (entries_text (head_sum clock image) entries))
-    × (opened.journal ≡ journal_after_all (journal_begun clock image) entries)
-IsOpenedAgain clock image entries final (Err why) new = ⊥
+    × (opened.journal ≡ journal_after_all (journal_begun clock image) entries layer)
+IsOpenedAgain clock image entries layer final (Err why) new = ⊥

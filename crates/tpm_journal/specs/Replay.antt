@@ -1,15 +1,15 @@
 -- The entries of a text, executed again.
 use Rattle.std.specs.Prelude.{◌≡◌, ◌≢◌, ℕ, ◌≤◌, Bool, List, [], ◌∷◌, ◌++◌, drop, length, map, take, Option, Some, None}
 use Rattle.std.specs.List.{AllByRecursion}
+use Rattle.tpm_completion.specs.Execution.{Seen}
+use Rattle.tpm_completion.specs.Run.{run_of}
+use Rattle.tpm_completion.specs.declared.completion.Completion.{Completion}
 use Rattle.tpm_record.specs.Record.{Record}
-use Rattle.tpm_step.specs.Events.{PlainEvent}
-use Rattle.tpm_step.specs.Execution.{Executes}
-use Rattle.tpm_step.specs.Step.{Stepped}
-use Rattle.tpm_history.specs.Executions.{Execution, Leads}
+use Rattle.tpm_history.specs.Executions.{Execution}
 use Rattle.tpm_journal_text.specs.Entry.{IsEntry, PlainEntry, entry_text}
 use Rattle.tpm_journal_text.specs.Journal.{IsCutOff, IsDamaged, entries_text}
 use Rattle.tpm_journal_text.specs.Sum.{sum_of}
-use Rattle.tpm_journal.specs.Command.{event_of}
+use Rattle.tpm_journal.specs.Command.{IsPerformed, event_of}
 use Rattle.tpm_journal.specs.State.{journal_after, journal_after_all}
 use Rattle.tpm_journal.specs.declared.journal.Journal.{Journal}
 use Rattle.tpm_journal.specs.declared.following.Deed.{Deed}
@@ -18,15 +18,39 @@ use Rattle.tpm_journal.specs.declared.following.Followed.{Followed}
 use Rattle.tpm_journal.specs.declared.following.FollowFault.{FollowFault}
 use Rattle.tpm_journal.specs.declared.following.FollowFault.TheVariants.{Damaged, Otherwise}
 
--- the sum of the response to an execution
-abbrev pub response_sum : Execution → ℕ
-response_sum one = sum_of one.seen.response
+-- an entry that was performed, and what was seen of it
+pub record Performance : Type 0 where
+  pub entry : PlainEntry
+  pub seen : Seen
 
-abbrev pub event_in : Execution → PlainEvent
-event_in one = one.event
+abbrev pub entry_in : Performance → PlainEntry
+entry_in one = one.entry
 
-abbrev pub answer_said : PlainEntry → ℕ
-answer_said e = e.answered
+-- the sum of the response, and the one that the entry says
+abbrev pub response_sum : Performance → ℕ
+response_sum one = sum_of one.seen.step.response
+
+abbrev pub answer_said : Performance → ℕ
+answer_said one = one.entry.answered
+
+-- These entries were performed one after another, with the layer where they say so, and led from one
+-- journal and record to others. `can` says whether memory can be refused.
+abbrev pub LeadsBy : (can : Bool) → Journal → Record → List Performance → Journal → Record → Type 0
+LeadsBy can before old [] after new = (after ≡ before) × (new ≡ old)
+LeadsBy can before old (one ∷ performances) after new =
+    IsPerformed can before.layer old one.entry one.seen
+    × LeadsBy can (journal_after before one.entry one.seen.layer) one.seen.step.after performances
+    after new
+
+-- the executions on the device behind all of them
+abbrev pub run_of_all : (can : Bool) (before : Journal) (old : Record)
+    (performances : List Performance) (after : Journal) (new : Record)
+    → LeadsBy can before old performances after new → List Execution
+run_of_all can before old [] after new leads = []
+run_of_all can before old (one ∷ performances) after new leads =
+    run_of can one.entry.completes before.layer old (event_of one.entry) one.seen leads.0
+    ++ run_of_all can (journal_after before one.entry one.seen.layer) one.seen.step.after
+    performances after new leads.1
 
 -- The sums of the responses are those that the entries say; where the device answered otherwise, those
 -- of all but the last, and that of the last is not.
@@ -44,20 +68,17 @@ EndsIn None sum left = IsCutOff sum left
 EndsIn (Some Damaged) sum left = IsDamaged sum left
 EndsIn (Some Otherwise) sum left = Unit {0}
 
--- A device executed exactly the entries at the front of a text, one after another, from one record to
--- another.
+-- A device, with its layer, executed exactly the entries at the front of a text, one after another,
+-- from one journal and record to others.
 pub record Repeats (can : Bool) (before : Journal) (old : Record) (text : List ℕ) (taken : ℕ)
     (fault : Option FollowFault) (after : Journal) (new : Record) : Type 0
   where
-    pub entries : List PlainEntry
-    pub are : AllByRecursion IsEntry entries
+    pub performances : List Performance
+    pub are : AllByRecursion IsEntry (map entry_in performances)
     pub within : taken ≤ length text
-    pub front : take taken text ≡ entries_text before.sum entries
-    pub executions : List Execution
-    pub leads : Leads can old executions new
-    pub events : map event_in executions ≡ map event_of entries
-    pub answers : AnswersAre fault (map response_sum executions) (map answer_said entries)
-    pub journal : after ≡ journal_after_all before entries
+    pub front : take taken text ≡ entries_text before.sum (map entry_in performances)
+    pub leads : LeadsBy can before old performances after new
+    pub answers : AnswersAre fault (map response_sum performances) (map answer_said performances)
 
 -- A device executed the entries of a text, until it ended so.
 pub record Replays (can : Bool) (before : Journal) (old : Record) (text : List ℕ)
@@ -68,8 +89,8 @@ pub record Replays (can : Bool) (before : Journal) (old : Record) (text : List �
 
 -- ---- one entry
 
--- The entry at the front of a text was executed, of which this holds: the sum of its response, and the
--- sum that the entry says.
+-- The entry at the front of a text was performed, of which this holds: the sum of its response, and
+-- the sum that the entry says.
 pub record Performs (can : Bool) (before : Journal) (old : Record) (text : List ℕ) (size : ℕ)
     (after : Journal) (new : Record) (Holds : ℕ → ℕ → Type 0) : Type 0
   where
@@ -77,11 +98,11 @@ pub record Performs (can : Bool) (before : Journal) (old : Record) (text : List 
     pub is : IsEntry entry
     pub within : size ≤ length text
     pub front : take size text ≡ entry_text before.sum entry
-    pub seen : Stepped
-    pub executes : Executes can old (event_of entry) seen
-    pub leaves : new ≡ seen.after
-    pub answer : Holds (sum_of seen.response) entry.answered
-    pub journal : after ≡ journal_after before entry
+    pub seen : Seen
+    pub performed : IsPerformed can before.layer old entry seen
+    pub leaves : new ≡ seen.step.after
+    pub answer : Holds (sum_of seen.step.response) entry.answered
+    pub journal : after ≡ journal_after before entry seen.layer
 
 -- What was done about the front of a text.
 abbrev pub Does : Bool → Journal → Record → List ℕ → Deed → Journal → Record → Type 0
@@ -96,11 +117,12 @@ Does can before old text deed.Damaged after new =
 
 -- ---- followed whole
 
--- A text of these entries was followed to its end: all of them were executed, and led to this record.
-pub record IsFollowedWhole (before : Journal) (entries : List PlainEntry) (final : Record)
-    (followed : Followed) (after : Journal) (new : Record) : Type 0
+-- A text of these entries was followed to its end: all of them were executed, and led to this layer
+-- and this record.
+pub record IsFollowedWhole (before : Journal) (entries : List PlainEntry) (layer : Completion)
+    (final : Record) (followed : Followed) (after : Journal) (new : Record) : Type 0
   where
     pub whole : followed.fault ≡ None
     pub taken : followed.taken ≡ length (entries_text before.sum entries)
     pub leads : new ≡ final
-    pub journal : after ≡ journal_after_all before entries
+    pub journal : after ≡ journal_after_all before entries layer

@@ -1,21 +1,37 @@
 -- What a journal has beside the device.
 use Rattle.std.specs.Prelude.{ℕ, ◌+◌, ◌-◌, ◌^◌, List, [], ◌∷◌, min}
+use Rattle.tpm_completion.specs.Completion.{new_completion}
+use Rattle.tpm_completion.specs.declared.completion.Completion.{Completion}
 use Rattle.tpm_journal_text.specs.Entry.{PlainEntry, sum_after}
+use Rattle.tpm_journal_text.specs.Journal.{sum_after_all}
 use Rattle.tpm_journal_text.specs.Head.{head_sum}
 use Rattle.tpm_journal.specs.declared.journal.Journal.{Journal}
 
+-- a journal whose head ends in this sum, and has this clock: the completing layer begins anew, and
+-- the sum is the number of its start
+abbrev pub journal_of : (sum clock : ℕ) → Journal
+journal_of sum clock = record { sum = sum; time = clock; layer = new_completion sum }
+
 -- a journal that begins with this clock and this image
 abbrev pub journal_begun : (clock : ℕ) → (image : List ℕ) → Journal
-journal_begun clock image = record { sum = head_sum clock image; time = clock }
+journal_begun clock image = journal_of (head_sum clock image) clock
 
 -- the time after some milliseconds, which 64 bits have to hold
 abbrev pub time_after : (time elapsed : ℕ) → ℕ
 time_after time elapsed = min (time + elapsed) (2 ^ 64 - 1)
 
--- the journal after an entry, and after entries
-abbrev pub journal_after : Journal → PlainEntry → Journal
-journal_after j e = record { sum = sum_after j.sum e; time = time_after j.time e.elapsed }
+abbrev pub time_after_all : (time : ℕ) → List PlainEntry → ℕ
+time_after_all time [] = time
+time_after_all time (e ∷ entries) = time_after_all (time_after time e.elapsed) entries
 
-abbrev pub journal_after_all : Journal → List PlainEntry → Journal
-journal_after_all j [] = j
-journal_after_all j (e ∷ entries) = journal_after_all (journal_after j e) entries
+-- the journal after an entry, and after entries, which leave the layer so
+abbrev pub journal_after : Journal → PlainEntry → (layer : Completion) → Journal
+journal_after j e layer =
+    record { sum = sum_after j.sum e; time = time_after j.time e.elapsed; layer = layer }
+
+abbrev pub journal_after_all : Journal → List PlainEntry → (layer : Completion) → Journal
+journal_after_all j entries layer = record {
+  sum = sum_after_all j.sum entries;
+  time = time_after_all j.time entries;
+  layer = layer;
+}

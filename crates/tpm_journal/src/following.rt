@@ -1,14 +1,14 @@
-//! A device executes again what a text says that it answered.
+//! A device, with its completing layer, executes again what a text says that they answered.
 
 ghost use Rattle.std.specs.Prelude.{◌≡◌, ◌≤◌, length};
-ghost use Rattle.tpm_journal.specs.Command.{event_of, padded};
+ghost use Rattle.tpm_completion.specs.Execution.{seen_of};
+ghost use Rattle.tpm_journal.specs.Command.{IsPerformed, padded};
 ghost use Rattle.tpm_journal.specs.Replay.{Does, Replays};
 ghost use Rattle.tpm_journal_text.specs.Entry.{IsEntry, plain_entry};
-ghost use Rattle.tpm_step.specs.Execution.{Executes};
-ghost use Rattle.tpm_step.specs.Step.{outcome_step};
 ghost use Rattle.tpm_machine.specs.State.{state_of};
 
 use crate::journal::Journal;
+use tpm_completion::{Completion, execute};
 use tpm_journal_text::{BYTES_ROOM, ENTRY_ROOM, Entry, Next, read_entry, sum_of};
 use tpm_machine::Machine;
 use tpm_record::Keep;
@@ -44,19 +44,24 @@ enum Deed {
     Damaged,
 }
 
-/// Executes the command of an entry. This is the one place where an entry is executed.
-fn perform<K: Keep>(machine: &mut Machine<K>, entry: &Entry, outcome: &mut Outcome)
+/// Performs an entry: executes its command again, with the completing layer where the entry says so.
+/// This is the one place where an entry is executed.
+pub fn perform<K: Keep>(
+    machine: &mut Machine<K>,
+    layer: &mut Completion,
+    entry: &Entry,
+    outcome: &mut Outcome,
+)
     requires { IsEntry (plain_entry entry.now) }
-    ensures { Executes K.can_refuse (state_of K.record_of machine.old)
-        (event_of (plain_entry entry.now))
-        (outcome_step (state_of K.record_of machine.new) outcome.new) }
+    ensures { IsPerformed K.can_refuse layer.old (state_of K.record_of machine.old)
+        (plain_entry entry.now) (seen_of K.record_of machine.new layer.new outcome.new) }
 {
     let Some(locality) = Locality::new(entry.locality) else {
         return;
     };
     let random = padded(entry.drawn);
     let event = Event::of_command(entry.buffer, locality, entry.elapsed_ms, random);
-    machine.execute_into(&event, outcome);
+    execute(machine, layer, entry.completes, &event, outcome);
 }
 
 /// These random bytes, and zeros behind them.
@@ -89,7 +94,7 @@ impl Journal {
             Next::Damaged => return Deed::Damaged,
             Next::Whole { entry, size, sum } => (entry, size, sum),
         };
-        perform(machine, &entry, outcome);
+        perform(machine, &mut self.layer, &entry, outcome);
         self.sum = sum;
         self.time = self.time.saturating_add(u64::from(entry.elapsed_ms));
         if sum_of(outcome.response.as_slice()) == entry.answered {

@@ -1,23 +1,24 @@
 //! A journal begins, and goes on with each command.
 
 ghost use Rattle.std.specs.Prelude.{◌≡◌, ◌≤◌, ◌<◌, false, length, take};
+ghost use Rattle.tpm_completion.specs.Execution.{seen_of};
 ghost use Rattle.tpm_history.specs.Follows.{After, Follows};
 ghost use Rattle.tpm_image.specs.Image.{image_text};
 ghost use Rattle.tpm_image.specs.NonVolatile.{kept_of};
 ghost use Rattle.tpm_image.specs.Saving.{PutsFront};
 ghost use Rattle.tpm_image.specs.declared.version.Version.TheVariants.{Two};
-ghost use Rattle.tpm_journal.specs.Command.{command_at, elapsed_of, entry_of, given};
-ghost use Rattle.tpm_journal.specs.State.{journal_after, journal_begun};
+ghost use Rattle.tpm_journal.specs.Command.{Executed, command_at, elapsed_of, entry_of};
+ghost use Rattle.tpm_journal.specs.State.{journal_after, journal_begun, journal_of};
 ghost use Rattle.tpm_journal_text.specs.Entry.{IsEntry, entry_text};
 ghost use Rattle.tpm_journal_text.specs.Head.{head_text, image_limit};
-ghost use Rattle.tpm_machine.specs.Drawn.{drawn_by};
-ghost use Rattle.tpm_machine.specs.State.{latest_drawn, state_of};
+ghost use Rattle.tpm_machine.specs.State.{state_of};
 ghost use Rattle.tpm_record.specs.Cycle.{cycled};
 ghost use Rattle.tpm_step.specs.Events.{Cycled};
 ghost use Rattle.tpm_step.specs.Execution.{Executes};
 ghost use Rattle.tpm_step.specs.Step.{outcome_step};
 ghost use Rattle.tpm_types.specs.Locality.{locality_number};
 
+use tpm_completion::{Completion, execute as complete};
 use tpm_image::laws::image_laws;
 use tpm_image::save_into;
 use tpm_journal_text::{ENTRY_LIMIT, ENTRY_ROOM, Entry, IMAGE_ROOM, head_size, sum_of, write_head};
@@ -33,9 +34,23 @@ pub struct Journal {
     pub sum: u64,
     /// The time to which it has come, in milliseconds of the host's clock.
     pub time: u64,
+    /// The completing layer's state.
+    pub layer: Completion,
 }
 
 impl Journal {
+    /// The journal whose head ends in this sum, and has this clock. The completing layer begins anew,
+    /// with the sum as the number of its start.
+    pub fn begun(sum: u64, clock_ms: u64) -> Journal
+        ensures { result ≡ journal_of sum clock_ms }
+    {
+        Journal {
+            sum,
+            time: clock_ms,
+            layer: Completion::of_start(sum),
+        }
+    }
+
     /// Cycles the power of the device, and writes the head of its new journal to the front of a room
     /// that has as many bytes. Gives how many bytes the head has, also where there is no room and
     /// nothing is done.
@@ -71,7 +86,7 @@ impl Journal {
         let (image, _) = image.split_at(count);
         let (front, _) = room.split_at_mut(size);
         let sum = write_head(now_ms, image, front);
-        *self = Journal { sum, time: now_ms };
+        *self = Journal::begun(sum, now_ms);
         size
     }
 
@@ -82,57 +97,49 @@ impl Journal {
         now_ms.saturating_sub(self.time).min(u64::from(u32::MAX)) as u32
     }
 
-    /// Executes a command by the host's clock, and writes its entry to the front of a room. Gives how
-    /// many bytes the entry has. A buffer of more than 4,097 bytes is cut to as many, which are
-    /// refused alike.
+    /// Executes a command by the host's clock, with the completing layer or without it, and writes
+    /// its entry to the front of a room. Gives how many bytes the entry has. A buffer of more than
+    /// 4,097 bytes is cut to as many, which are refused alike.
     pub fn execute<K: Keep>(
         &mut self,
         machine: &mut Machine<K>,
         buffer: &[u8],
         locality: Locality,
         now_ms: u64,
+        completes: bool,
         random: &[u8; 256],
         outcome: &mut Outcome,
         room: &mut [u8; ENTRY_ROOM],
     ) -> usize
         ensures executes { let c = command_at buffer.now (locality_number locality)
-            (elapsed_of now_ms self.old.time) random.now in
-            Executes K.can_refuse (state_of K.record_of machine.old) (given c)
-            (outcome_step (state_of K.record_of machine.new) outcome.new) }
-        ensures history { let c = command_at buffer.now (locality_number locality)
-            (elapsed_of now_ms self.old.time) random.now in
-            After Follows (state_of K.record_of machine.old) (given c)
-            (outcome_step (state_of K.record_of machine.new) outcome.new) }
+            (elapsed_of now_ms self.old.time) completes random.now in
+            Executed K.can_refuse self.old.layer (state_of K.record_of machine.old) c
+            (seen_of K.record_of machine.new self.new.layer outcome.new) }
         ensures written { let c = command_at buffer.now (locality_number locality)
-            (elapsed_of now_ms self.old.time) random.now in
-            let x = outcome_step (state_of K.record_of machine.new) outcome.new in
-            take result room.new
-            ≡ entry_text self.old.sum (entry_of (state_of K.record_of machine.old) c x) }
+            (elapsed_of now_ms self.old.time) completes random.now in
+            let seen = seen_of K.record_of machine.new self.new.layer outcome.new in
+            take result room.new ≡ entry_text self.old.sum (entry_of c seen) }
         ensures fits { result ≤ length room.new }
-        ensures drawn { let c = command_at buffer.now (locality_number locality)
-            (elapsed_of now_ms self.old.time) random.now in
-            latest_drawn machine.new
-            ≡ drawn_by (state_of K.record_of machine.old) (given c) outcome.new.row.check }
 
         // What is written is an entry, and so can be read again.
         ensures entry { let c = command_at buffer.now (locality_number locality)
-            (elapsed_of now_ms self.old.time) random.now in
-            let x = outcome_step (state_of K.record_of machine.new) outcome.new in
-            IsEntry (entry_of (state_of K.record_of machine.old) c x) }
+            (elapsed_of now_ms self.old.time) completes random.now in
+            let seen = seen_of K.record_of machine.new self.new.layer outcome.new in
+            IsEntry (entry_of c seen) }
         ensures journal { let c = command_at buffer.now (locality_number locality)
-            (elapsed_of now_ms self.old.time) random.now in
-            let x = outcome_step (state_of K.record_of machine.new) outcome.new in
-            self.new ≡ journal_after self.old (entry_of (state_of K.record_of machine.old) c x) }
+            (elapsed_of now_ms self.old.time) completes random.now in
+            let seen = seen_of K.record_of machine.new self.new.layer outcome.new in
+            self.new ≡ journal_after self.old (entry_of c seen) self.new.layer }
     {
         let buffer = cut(buffer);
         let elapsed_ms = self.elapsed(now_ms);
         let event = Event::of_command(buffer, locality, elapsed_ms, *random);
-        machine.execute_into(&event, outcome);
+        complete(machine, &mut self.layer, completes, &event, outcome);
         let (drawn, _) = random.split_at(machine.drawn());
         let entry = Entry {
             elapsed_ms,
             locality: locality.number(),
-            completes: false,
+            completes,
             drawn,
             buffer,
             answered: sum_of(outcome.response.as_slice()),

@@ -2,7 +2,8 @@
 
 ghost use Rattle.std.specs.Prelude.{◌≡◌, ◌++◌, ℕ, Bool, List, Option, Result, false};
 ghost use Rattle.std.specs.List.{AllByRecursion};
-ghost use Rattle.tpm_history.specs.Executions.{Leads};
+ghost use Rattle.tpm_completion.specs.Completion.{new_completion};
+ghost use Rattle.tpm_completion.specs.declared.completion.Completion.{Completion};
 ghost use Rattle.tpm_history.specs.Follows.{Follows, StretchFollows};
 ghost use Rattle.tpm_history.specs.History.{History};
 ghost use Rattle.tpm_image.specs.Image.{image_text};
@@ -10,7 +11,7 @@ ghost use Rattle.tpm_image.specs.NonVolatile.{kept_of};
 ghost use Rattle.tpm_image.specs.declared.version.Version.TheVariants.{Two};
 ghost use Rattle.tpm_journal.specs.Living.{Answers, Lives};
 ghost use Rattle.tpm_journal.specs.Opening.{BeginsWith, IsOpenedAgain, OpensJournal};
-ghost use Rattle.tpm_journal.specs.Replay.{IsFollowedWhole, Repeats, Replays};
+ghost use Rattle.tpm_journal.specs.Replay.{IsFollowedWhole, Repeats, Replays, run_of_all};
 ghost use Rattle.tpm_journal.specs.declared.following.FollowFault.{FollowFault};
 ghost use Rattle.tpm_journal.specs.declared.following.Followed.{Followed};
 ghost use Rattle.tpm_journal.specs.declared.journal.Journal.{Journal};
@@ -23,49 +24,53 @@ ghost use Rattle.tpm_record.specs.Cycle.{cycled};
 ghost use Rattle.tpm_record.specs.IsRecord.{IsRecord};
 ghost use Rattle.tpm_record.specs.Record.{Record};
 
-/// The entries of a live device are answered again as they say, and lead to its record: random bytes
-/// that a command did not draw have no influence. The function does nothing.
+/// The entries of a live device and its layer are answered again as they say, and lead to its layer
+/// and its record: random bytes that a command did not draw have no influence. The function does
+/// nothing.
 #[inline(always)]
 #[tactic(auto, using(crate::proofs::Ignoring::lives_alike))]
 pub fn living_laws()
-    ensures { (old : Record) (entries : List PlainEntry) (new : Record)
-        → Lives old entries new → Answers old entries new }
+    ensures { (layer : Completion) (old : Record) (entries : List PlainEntry) (after : Completion)
+        (new : Record) → Lives layer old entries after new → Answers layer old entries after new }
 {}
 
-/// A text of entries, and then of less than an entry, is followed to its end, where the device
-/// answers them as they say.
+/// A text of entries, and then of less than an entry, is followed to its end, where the device and
+/// its layer answer them as they say.
 #[inline(always)]
 pub fn following_laws()
-    ensures { (before : Journal) (old final new : Record) (entries : List PlainEntry)
-        (rest text : List ℕ) (followed : Followed) (after : Journal)
+    ensures { (before : Journal) (old : Record) (layer : Completion) (final new : Record)
+        (entries : List PlainEntry) (rest text : List ℕ) (followed : Followed) (after : Journal)
         → Replays false before old text followed after new
         → AllByRecursion IsEntry entries → text ≡ entries_text before.sum entries ++ rest
-        → IsCutOff (sum_after_all before.sum entries) rest → Answers old entries final
-        → IsFollowedWhole before entries final followed after new }
+        → IsCutOff (sum_after_all before.sum entries) rest
+        → Answers before.layer old entries layer final
+        → IsFollowedWhole before entries layer final followed after new }
 {}
 
 /// A text of the head of a device, of entries, and then of less than an entry, is opened as the
-/// device to which the entries lead, where it answers them as they say.
+/// device and the layer to which the entries lead, where they answer as the entries say.
 #[inline(always)]
 #[tactic(auto, using(crate::proofs::Again::opened_again))]
 pub fn opening_laws()
     ensures { (clock : ℕ) (r : Record) (entries : List PlainEntry) (rest : List ℕ)
-        (final : Record) (text : List ℕ) → IsRecord r
+        (layer : Completion) (final : Record) (text : List ℕ) → IsRecord r
         → BeginsWith text clock (image_text Two (kept_of r))
         (entries_text (head_sum clock (image_text Two (kept_of r))) entries ++ rest)
         → AllByRecursion IsEntry entries
         → IsCutOff (sum_after_all (head_sum clock (image_text Two (kept_of r))) entries) rest
-        → Answers (cycled r) entries final
+        → Answers (new_completion (head_sum clock (image_text Two (kept_of r)))) (cycled r) entries
+        layer final
         → (result : Result Opened OpenFault) (new : Record) → OpensJournal text result new
-        → IsOpenedAgain clock (image_text Two (kept_of r)) entries final result new }
+        → IsOpenedAgain clock (image_text Two (kept_of r)) entries layer final result new }
 {}
 
 /// Entries that are executed again lead a device that follows a history to one that follows the
-/// history with all of them that were accepted; and what else holds of such a stretch.
+/// history with all that was executed for them and accepted; and what else holds of such a stretch.
 #[inline(always)]
 pub fn repeating_laws()
     ensures { (can : Bool) (before : Journal) (old : Record) (text : List ℕ) (taken : ℕ)
         (fault : Option FollowFault) (after : Journal) (new : Record) (history : History)
         → (r : Repeats can before old text taken fault after new) → Follows old history
-        → StretchFollows can old r.executions new history }
+        → StretchFollows can old (run_of_all can before old r.performances after new r.leads) new
+        history }
 {}

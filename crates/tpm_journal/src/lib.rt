@@ -3,16 +3,17 @@
 //! The journal of a device: the image of the device as power came on, and an entry for each command
 //! that was answered since. A device is opened from it by executing the entries again.
 //!
-//! [`Journal`] is what a journal has beside the device: its sum and its time. It begins at a power
-//! cycle, executes commands and gives their entries, follows a text, and is opened from a text.
-//! What is opened is the device that executed exactly the answered commands. The crate does no input
-//! or output: texts are read from the caller's memory and written to it.
+//! [`Journal`] is what a journal has beside the device: its sum, its time, and the state of the
+//! completing layer, which begins anew with each head. It begins at a power cycle, executes commands
+//! and gives their entries, follows a text, and is opened from a text. An entry says whether the layer
+//! was on. What is opened is the device and the layer that executed exactly the answered commands.
+//! The crate does no input or output: texts are read from the caller's memory and written to it.
 
 pub mod following;
 pub mod journal;
 pub mod laws;
 pub mod opening;
 
-pub use following::{FollowFault, Followed};
+pub use following::{FollowFault, Followed, perform};
 pub use journal::Journal;
 pub use opening::{OpenFault, Opened};

@@ -8,7 +8,7 @@ ghost use Rattle.tpm_record.specs.Record.{manufactured};
 use crate::following::FollowFault;
 use crate::journal::Journal;
 use tpm_image::{ImageFault, open_into};
-use tpm_journal_text::{HEAD_ROOM, IMAGE_ROOM, read_head};
+use tpm_journal_text::{IMAGE_ROOM, read_head};
 use tpm_machine::Machine;
 use tpm_record::Keep;
 use tpm_step::Outcome;
@@ -32,7 +32,7 @@ pub struct Opened {
     pub taken: usize,
 }
 
-/// Opens a device from its journal, where a new machine of zeros lies. After a fault nothing is said
+/// Opens a device and its completing layer from their journal, where a new machine of zeros lies. After a fault nothing is said
 /// of the machine.
 pub fn open<K: Keep>(
     machine: &mut Machine<K>,
@@ -44,17 +44,13 @@ pub fn open<K: Keep>(
     ensures { OpensJournal text.now result (state_of K.record_of machine.new) }
 {
     let mut image = [0; IMAGE_ROOM];
-    let mut room = [0; HEAD_ROOM];
-    let Some(head) = read_head(text, &mut image, &mut room) else {
+    let Some(head) = read_head(text, &mut image) else {
         return Err(OpenFault::NoJournal);
     };
     if let Err(fault) = open_into(machine, head.image) {
         return Err(OpenFault::Image(fault));
     }
-    let mut journal = Journal {
-        sum: head.sum,
-        time: head.clock,
-    };
+    let mut journal = Journal::begun(head.sum, head.clock);
     let (_, rest) = text.split_at(head.size);
     let followed = journal.follow(machine, rest, outcome);
     match followed.fault {

@@ -5,3 +5,4 @@ pub mod Bytes
 pub mod Damage
 pub mod HeadStanding
 pub mod Parsing
+pub mod Digits

@@ -12,9 +12,6 @@ use tpm_bytes::Sink;
 /// Enough for an image.
 pub const IMAGE_ROOM: usize = 28_672;
 
-/// Enough for a head.
-pub const HEAD_ROOM: usize = 57_472;
-
 /// The word with which a journal of this form begins.
 pub(crate) const HEAD_WORD: &[u8] = b"# tpmsim journal 1 ";
 
@@ -48,7 +45,7 @@ pub fn head_size(count: usize) -> usize
 
 /// The mark of a head.
 #[tactic(auto, unfolding(crate::specs::Head::head_mark))]
-fn mark_of(clock: u64, image: &[u8]) -> Sink<MARK_SIZE>
+pub(crate) fn mark_of(clock: u64, image: &[u8]) -> Sink<MARK_SIZE>
     requires { length image.now ≤ image_limit }
     ensures value { result ≡ head_mark clock image.now }
     ensures many { length result ≡ 20 }

@@ -1,17 +1,18 @@
 //! The head at the front of a text.
 
-ghost use Rattle.std.specs.Prelude.{◌≡◌, ◌≤◌, ◌++◌, ℕ, List, IfSome, IsSomeAnd, drop, length, take};
+ghost use Rattle.std.specs.Prelude.{◌≡◌, ◌≤◌, ◌++◌, ◌∷◌, [], ℕ, List, IfNone, IfSome, IsSomeAnd, codes, drop, length, take};
+ghost use Rattle.hex.specs.Hex.{encode_lower};
 ghost use Rattle.std.specs.Int.{w32, w64, from_be_bytes};
 ghost use Rattle.tpm_journal_text.specs.Head.{HasHead, IsHeadOf, head_text, image_limit};
 ghost use Rattle.tpm_journal_text.specs.Places.{HeadStands};
 ghost use Rattle.tpm_bytes.specs.Reading.{AreBytes};
 
-use crate::head::{
-    HEAD_ROOM, HEAD_WORD, Head, IMAGE_ROOM, MARK_LINE_SIZE, MARK_SIZE, head_size, write_head,
-};
+use crate::head::{HEAD_WORD, Head, IMAGE_ROOM, MARK_LINE_SIZE, MARK_SIZE, head_size, mark_of};
 use crate::marked::read_marked_line;
-use crate::reading::{begins_with, read_hex};
+use crate::reading::read_hex;
+use crate::strip::{strip, strip_hex};
 use crate::sum::OFFSET_BASIS;
+use tpm_bytes::is_equal;
 
 /// Where the image stands in the text of a head.
 const IMAGE_PLACE: usize = MARK_LINE_SIZE + 2;
@@ -51,13 +52,21 @@ fn image_behind<'a>(
     read_hex(text, IMAGE_PLACE, image)
 }
 
-/// Reads the head at the front of a text. Its image goes to the first room, and its text is written
-/// to the second, to be compared.
-pub fn read_head<'a>(
-    text: &[u8],
-    image: &'a mut [u8; IMAGE_ROOM],
-    room: &mut [u8; HEAD_ROOM],
-) -> Option<Head<'a>>
+/// What stands behind the line of an image at the front of a text; none where it does not stand
+/// there.
+fn behind_image<'a>(text: &'a [u8], image: &[u8]) -> Option<&'a [u8]>
+    ensures some { IfSome result (λ rest. text.now
+        ≡ codes "# " ++ (encode_lower image.now ++ (10 ∷ [] ++ rest.now))) }
+    ensures none { IfNone result ((rest : List ℕ)
+        → text.now ≡ codes "# " ++ (encode_lower image.now ++ (10 ∷ [] ++ rest)) → ⊥) }
+{
+    let digits = strip(text, b"# ")?;
+    let end = strip_hex(digits, image)?;
+    strip(end, b"\n")
+}
+
+/// Reads the head at the front of a text. Its image goes to the room.
+pub fn read_head<'a>(text: &[u8], image: &'a mut [u8; IMAGE_ROOM]) -> Option<Head<'a>>
     ensures head { IfSome result (IsHeadOf text.now) }
     ensures only { (clock : ℕ) (bytes : List ℕ) (rest : List ℕ) → HasHead clock bytes
         → text.now ≡ head_text clock bytes ++ rest
@@ -67,23 +76,24 @@ pub fn read_head<'a>(
         return None;
     }
     let mut mark = [0; MARK_SIZE];
-    let Some(_) = read_marked_line(text, HEAD_WORD, OFFSET_BASIS, &mut mark) else {
+    let Some(sum) = read_marked_line(text, HEAD_WORD, OFFSET_BASIS, &mut mark) else {
         return None;
     };
     let Some(image) = image_behind(&mark, text, image) else {
         return None;
     };
     let clock = clock_of(&mark);
-    let size = head_size(image.len());
-    let (front, _) = room.split_at_mut(size);
-    let sum = write_head(clock, image, front);
-    if !begins_with(text, front) {
+    if !is_equal(mark_of(clock, image).as_slice(), &mark) {
         return None;
     }
+    let (_, back) = text.split_at(MARK_LINE_SIZE);
+    let Some(_) = behind_image(back, image) else {
+        return None;
+    };
     Some(Head {
         clock,
         image,
-        size,
+        size: head_size(image.len()),
         sum,
     })
 }

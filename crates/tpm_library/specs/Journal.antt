@@ -1,15 +1,15 @@
 -- What a device does by its journal.
-use Rattle.std.specs.Prelude.{◌≡◌, ◌≤◌, ◌<◌, ℕ, false, List, length, take, Option, Some, None, Result, Ok, Err}
+use Rattle.std.specs.Prelude.{◌≡◌, ◌≤◌, ◌<◌, ℕ, Bool, false, List, length, take, Option, Some, None, Result, Ok, Err}
+use Rattle.tpm_completion.specs.Execution.{Seen}
 use Rattle.tpm_history.specs.Follows.{After, Follows}
 use Rattle.tpm_image.specs.Image.{image_text}
 use Rattle.tpm_image.specs.NonVolatile.{kept_of}
 use Rattle.tpm_image.specs.declared.version.Version.TheVariants.{Two}
-use Rattle.tpm_journal.specs.Command.{Command, command_at, elapsed_of, entry_of, given}
+use Rattle.tpm_journal.specs.Command.{Command, Executed, command_at, elapsed_of, entry_of}
 use Rattle.tpm_journal.specs.Opening.{IsJournal, OpensJournal}
 use Rattle.tpm_journal.specs.State.{journal_after, journal_begun}
 use Rattle.tpm_journal.specs.declared.opening.OpenFault.{OpenFault}
 use Rattle.tpm_journal_text.specs.Entry.{entry_text}
-use Rattle.tpm_machine.specs.Drawn.{drawn_by}
 use Rattle.tpm_record.specs.Cycle.{cycled}
 use Rattle.tpm_record.specs.Record.{Record}
 use Rattle.tpm_step.specs.Events.{Cycled}
@@ -38,24 +38,34 @@ abbrev pub BeginsIfRoom : (before : Device) → (now room size : ℕ) → (after
 BeginsIfRoom before now room size after =
     (size ≤ room → BeginsJournal before now after) × (room < size → IsAsBefore before after)
 
--- the command of a buffer that a device is given by this clock
-abbrev pub command_by : Device → (buffer : List ℕ) → (locality now : ℕ) → List ℕ → Command
-command_by device buffer locality now random =
-    command_at buffer locality (elapsed_of now device.journal.time) random
+-- the command of a buffer that a device is given by this clock, with the completing layer or without
+-- it
+abbrev pub command_by : Device → (buffer : List ℕ) → (locality now : ℕ) → (completes : Bool)
+    → (random : List ℕ) → Command
+command_by device buffer locality now completes random =
+    command_at buffer locality (elapsed_of now device.journal.time) completes random
 
--- A device executed a command, whose response stands at the front of a room, and wrote its entry, of so
--- many bytes, to the front of another.
+-- what is seen of a command whose response stands at the front of a room
+abbrev pub seen_in : (room : List ℕ) → Answered → (after : Device) → Seen
+seen_in room answered after = record {
+  step = command_seen room answered after;
+  layer = after.journal.layer;
+  drawn = answered.drawn;
+}
+
+-- A device, with its completing layer or without it, executed a command, whose response stands at the
+-- front of a room, and wrote its entry, of so many bytes, to the front of another. The execution says
+-- what was executed on the device, and what history it follows then.
 pub record Records (before : Device) (c : Command) (response : List ℕ) (answered : Answered)
     (size : ℕ) (entry : List ℕ) (after : Device) : Type 0
   where
-    pub executes : Executes false (record_of before) (given c) (command_seen response answered after)
-    pub history : After Follows (record_of before) (given c) (command_seen response answered after)
-    pub drawn : answered.drawn ≡ drawn_by (record_of before) (given c) answered.check
+    pub executes : Executed false before.journal.layer (record_of before) c
+        (seen_in response answered after)
     pub written : take size entry ≡ entry_text before.journal.sum
-        (entry_of (record_of before) c (command_seen response answered after))
+        (entry_of c (seen_in response answered after))
     pub fits : size ≤ length entry
     pub journal : after.journal ≡ journal_after before.journal
-        (entry_of (record_of before) c (command_seen response answered after))
+        (entry_of c (seen_in response answered after)) after.journal.layer
 
 -- A device is that of a journal, whose head and entries have so many bytes.
 abbrev pub IsOfJournal : List ℕ → (taken : ℕ) → Device → Type 0

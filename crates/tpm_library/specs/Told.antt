@@ -30,9 +30,6 @@ fault_number fault.Digest = 8
 fault_number fault.Body = 9
 fault_number fault.NoMemory = no_memory
 
-abbrev pub no_completion : ℕ
-no_completion = 13
-
 -- how far a text was followed: to its end, or to this fault
 abbrev pub follow_number : Option FollowFault → ℕ
 follow_number None = done

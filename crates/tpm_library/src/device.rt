@@ -66,7 +66,7 @@ impl Device {
         let device = Device {
             machine,
             outcome: Outcome::empty(),
-            journal: Journal { sum: 0, time: 0 },
+            journal: Journal::begun(0, 0),
         };
         match Box::new(alloc, device) {
             Ok(device) => Some(device),
@@ -171,20 +171,22 @@ impl Device {
             .follow(&mut self.machine, text, &mut self.outcome)
     }
 
-    /// Executes a command by the host's clock, writes its response to the front of a room, whose rest
-    /// stays, and its entry to the front of another. Gives how many bytes the entry has.
+    /// Executes a command by the host's clock, with the completing layer or without it, writes its
+    /// response to the front of a room, whose rest stays, and its entry to the front of another. Gives
+    /// how many bytes the entry has.
     pub fn execute_recorded(
         &mut self,
         buffer: &[u8],
         locality: Locality,
         now_ms: u64,
+        completes: bool,
         random: &[u8; 256],
         response: &mut [u8; 4096],
         answered: &mut Answered,
         entry: &mut [u8; 9216],
     ) -> usize
         ensures records { Records self.old
-            (command_by self.old buffer.now (locality_number locality) now_ms random.now)
+            (command_by self.old buffer.now (locality_number locality) now_ms completes random.now)
             response.new answered.new result entry.new self.new }
         ensures rest { drop answered.new.size response.new ≡ drop answered.new.size response.old }
     {
@@ -193,6 +195,7 @@ impl Device {
             buffer,
             locality,
             now_ms,
+            completes,
             random,
             &mut self.outcome,
             entry,

@@ -1,6 +1,6 @@
 //! The calls on the journal of a device, as C has them.
 
-ghost use Rattle.std.specs.Prelude.{◌≡◌, ◌≢◌, ◌<◌, drop, false, length};
+ghost use Rattle.std.specs.Prelude.{◌≡◌, ◌≢◌, ◌<◌, ◌==◌, drop, false, length, not};
 ghost use Rattle.std.specs.Option.{MatchOption};
 ghost use Rattle.std.specs.declared.option.Option.{Option};
 ghost use Rattle.std.specs.declared.option.Option.TheVariants.{None, Some};
@@ -12,15 +12,13 @@ ghost use Rattle.tpm_journal_text.specs.Head.{head_text};
 ghost use Rattle.tpm_library.specs.Journal.{BeginsIfRoom, HasFault, IsOfJournal, Records};
 ghost use Rattle.tpm_library.specs.Journal.{command_by, image_at_power};
 ghost use Rattle.tpm_library.specs.State.{record_of};
-ghost use Rattle.tpm_library.specs.Told.{done, follow_number, no_completion, no_device};
-ghost use Rattle.tpm_library.specs.Told.{no_locality, no_memory, open_number};
+ghost use Rattle.tpm_library.specs.Told.{done, follow_number, no_device, no_locality};
+ghost use Rattle.tpm_library.specs.Told.{no_memory, open_number};
 ghost use Rattle.tpm_library.specs.declared.device.Device.{Device};
 
 use crate::device::{Answered, Device};
 use crate::holder::Holder;
-use crate::told::{
-    DONE, NO_COMPLETION, NO_DEVICE, NO_LOCALITY, NO_MEMORY, follow_number, open_number,
-};
+use crate::told::{DONE, NO_DEVICE, NO_LOCALITY, NO_MEMORY, follow_number, open_number};
 use std::alloc::Global;
 use tpm_types::Locality;
 
@@ -83,9 +81,9 @@ pub fn follow(alloc: Global, holder: &mut Holder, text: &[u8], taken: &mut usize
 }
 
 /// Executes a command by the host's clock, writes its response to the front of the room for it, and
-/// its entry to the front of another. NO_COMPLETION: the completing layer was asked for.
-/// NO_LOCALITY: a locality is 0 to 4. NO_DEVICE: there is none. In each of these cases nothing is
-/// written.
+/// its entry to the front of another. Where `completes` is not 0, the completing layer completes what
+/// the device does. NO_LOCALITY: a locality is 0 to 4. NO_DEVICE: there is none. In both cases nothing
+/// is written.
 pub fn execute(
     alloc: Global,
     holder: &mut Holder,
@@ -101,29 +99,28 @@ pub fn execute(
 ) -> u8
     ensures records { result ≡ done → (before : Device) × (after : Device)
         × (holder.old.device ≡ Some before) × (holder.new.device ≡ Some after)
-        × Records before (command_by before buffer.now locality now_ms random.now) response.new
-        answered.new size.new entry.new after }
+        × Records before
+        (command_by before buffer.now locality now_ms (not (completes == 0)) random.now)
+        response.new answered.new size.new entry.new after }
     ensures rest { result ≡ done
         → drop answered.new.size response.new ≡ drop answered.new.size response.old }
     ensures refused { result ≢ done → (holder.new.device ≡ holder.old.device)
         × (response.new ≡ response.old) × (answered.new ≡ answered.old)
         × (entry.new ≡ entry.old) × (size.new ≡ size.old) }
-    ensures completion { result ≡ no_completion → completes ≢ 0 }
-    ensures device_alone { result ≡ done → completes ≡ 0 }
     ensures locality { result ≡ no_locality → 4 < locality }
-    ensures told { result ≢ done → result ≢ no_completion → result ≢ no_locality
+    ensures told { result ≢ done → result ≢ no_locality
         → (result ≡ no_device) × (holder.old.device ≡ None) }
 {
-    if completes != 0 {
-        return NO_COMPLETION;
-    }
     let Some(locality) = Locality::new(locality) else {
         return NO_LOCALITY;
     };
     let Some(mut device) = holder.take(alloc) else {
         return NO_DEVICE;
     };
-    *size = device.execute_recorded(buffer, locality, now_ms, random, response, answered, entry);
+    let completes = completes != 0;
+    *size = device.execute_recorded(
+        buffer, locality, now_ms, completes, random, response, answered, entry,
+    );
     holder.put(device);
     DONE
 }

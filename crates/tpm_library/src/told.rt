@@ -33,9 +33,6 @@ pub fn fault_number(fault: ImageFault) -> u8
     }
 }
 
-/// The completing layer was asked for, which the library does not have.
-pub const NO_COMPLETION: u8 = 13;
-
 /// The number of how far a text was followed: to its end, or to this fault.
 pub fn follow_number(fault: Option<FollowFault>) -> u8
     ensures { result ≡ follow_number fault }

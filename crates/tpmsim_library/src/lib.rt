@@ -4,7 +4,7 @@
 //! of its name and states its clauses again. An allocator has no bytes, so C passes nothing for it.
 //! `library/tpmsim.h` declares them for C, and says what a caller owes.
 
-ghost use Rattle.std.specs.Prelude.{◌≡◌, ◌≢◌, ◌<◌, ◌∷◌, [], drop, false, length, true};
+ghost use Rattle.std.specs.Prelude.{◌≡◌, ◌≢◌, ◌<◌, ◌==◌, ◌∷◌, [], drop, false, length, not, true};
 ghost use Rattle.std.specs.Option.{MatchOption};
 ghost use Rattle.std.specs.declared.option.Option.{Option};
 ghost use Rattle.std.specs.declared.option.Option.TheVariants.{None, Some};
@@ -30,8 +30,8 @@ ghost use Rattle.tpm_step.specs.Execution.{Executes};
 ghost use Rattle.tpm_library.specs.State.{command_seen, cycle_seen, record_of};
 ghost use Rattle.tpm_library.specs.Journal.{BeginsIfRoom, HasFault, IsOfJournal, Records};
 ghost use Rattle.tpm_library.specs.Journal.{command_by, image_at_power};
-ghost use Rattle.tpm_library.specs.Told.{Tells, done, follow_number, no_completion, no_device};
-ghost use Rattle.tpm_library.specs.Told.{no_locality, no_memory, open_number};
+ghost use Rattle.tpm_library.specs.Told.{Tells, done, follow_number, no_device, no_locality};
+ghost use Rattle.tpm_library.specs.Told.{no_memory, open_number};
 ghost use Rattle.tpm_library.specs.Version.{version_number};
 ghost use Rattle.tpm_library.specs.declared.device.Device.{Device};
 
@@ -188,7 +188,8 @@ pub extern "C" fn tpmsim_journal_follow(
     tpm_library::journal::follow(alloc, holder, text, taken)
 }
 
-/// Executes a command by the host's clock, and writes its entry.
+/// Executes a command by the host's clock, with the completing layer or without it, and writes its
+/// entry.
 #[unsafe(no_mangle)]
 pub extern "C" fn tpmsim_journal_execute(
     alloc: Global,
@@ -205,17 +206,16 @@ pub extern "C" fn tpmsim_journal_execute(
 ) -> u8
     ensures records { result ≡ done → (before : Device) × (after : Device)
         × (holder.old.device ≡ Some before) × (holder.new.device ≡ Some after)
-        × Records before (command_by before buffer.now locality now_ms random.now) response.new
-        answered.new size.new entry.new after }
+        × Records before
+        (command_by before buffer.now locality now_ms (not (completes == 0)) random.now)
+        response.new answered.new size.new entry.new after }
     ensures rest { result ≡ done
         → drop answered.new.size response.new ≡ drop answered.new.size response.old }
     ensures refused { result ≢ done → (holder.new.device ≡ holder.old.device)
         × (response.new ≡ response.old) × (answered.new ≡ answered.old)
         × (entry.new ≡ entry.old) × (size.new ≡ size.old) }
-    ensures completion { result ≡ no_completion → completes ≢ 0 }
-    ensures device_alone { result ≡ done → completes ≡ 0 }
     ensures locality { result ≡ no_locality → 4 < locality }
-    ensures told { result ≢ done → result ≢ no_completion → result ≢ no_locality
+    ensures told { result ≢ done → result ≢ no_locality
         → (result ≡ no_device) × (holder.old.device ≡ None) }
 {
     tpm_library::journal::execute(

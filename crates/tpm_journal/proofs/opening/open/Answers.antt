@@ -10,8 +10,8 @@ returns-in-None g c =
     let opens = c.in_default-open_into.ensures.exact in
     record {
       followed = c.follow-followed.result;
-      reads = read_so g.K.Keep.can_refuse c.args.text.now c.in-Some.head opens.0 _ _ _ _ _ c.requires.never_refused c.in-Some.ensures.head opens.1 opens.2
-          c.split_at.ensures.back c.follow-followed.ensures;
+      reads = read_so g.K.Keep.can_refuse c.args.text.now c.in-Some.head opens.0 _ _ _ _ _ _ c.requires.never_refused c.in-Some.ensures.head opens.1 opens.2
+          c.split_at.ensures.back c.begun-journal.ensures c.follow-followed.ensures;
       whole = c.in-None.is;
       size = ap (λ (n : ℕ). n + c.follow-followed.result.taken) (head_many c.args.text.now c.in-Some.head c.in-Some.ensures.head);
     }

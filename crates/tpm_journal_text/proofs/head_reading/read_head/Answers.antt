@@ -1,7 +1,11 @@
-use Rattle.std.proofs.Common.{rules, ◌≡◌, ◌++◌, List, ℕ, length, true, false, ap, sym, ◌∙◌, arith, length-append}
+use Rattle.std.proofs.Common.{rules, ◌≡◌, ◌++◌, List, [], ◌∷◌, ℕ, length, true, false, ap, sym, ◌∙◌, arith, length-append}
+use Rattle.std.specs.Prelude.{codes}
+use Rattle.hex.specs.Hex.{encode_lower}
+use Rattle.std.proofs.lemmas.Slice.Eq.{bytes_eq-Decides}
 use Rattle.tpm_journal_text.specs.Head.{head_mark, head_text, head_word}
 use Rattle.tpm_journal_text.specs.Marked.{marked_line}
-use Rattle.tpm_journal_text.proofs.HeadStanding.{head_line_stands, head_mark_bytes, head_mark_many, head_stands, head_text_many}
+use Rattle.tpm_journal_text.proofs.HeadStanding.{head_found, head_line_stands, head_mark_bytes, head_mark_many, head_mark_stands, head_stands, head_text_many, image_line_stands}
+use Rattle.tpm_journal_text.proofs.Pieces.{same_is_equal}
 use Rattle.tpm_journal_text.proofs.head_reading.read_head.Goals as goal
 
 pub returns-then-text-lt-MARK_LINE_SIZE-clause-only : goal.returns-then-text-lt-MARK_LINE_SIZE-clause-only
@@ -20,18 +24,32 @@ returns-in_default-image_behind-clause-only c clock bytes rest has t =
     (head_stands clock bytes c.read_marked_line.new.bytes c.args.text.now rest has (search rules) c.read_marked_line.ensures.bytes
     (c.in-Some.ensures.found.1 ∙ ap (marked_line head_word c.read_marked_line.new.bytes) c.in-Some.ensures.found.0) t)
 
-pub returns-then-not-begins_with-clause-only : goal.returns-then-not-begins_with-clause-only
-returns-then-not-begins_with-clause-only c clock bytes rest has t =
-    let at = head_stands clock bytes c.read_marked_line.new.bytes c.args.text.now rest has (search rules) c.read_marked_line.ensures.bytes
-    (c.in-Some.ensures.found.1 ∙ ap (marked_line head_word c.read_marked_line.new.bytes) c.in-Some.ensures.found.0) t in
-    let image = c.in-Some-image_behind.ensures.again clock bytes at in
-    let front = c.write_head-sum.ensures.written
-    ∙ ap (λ (n : ℕ). head_text n c.in-Some-image_behind.image.now) (c.clock_of-clock.ensures ∙ at.clock_told)
-    ∙ ap (head_text clock) image in
-    let yes : c.begins_with.result ≡ true = c.begins_with.ensures.no rest (t ∙ ap (λ (l : List ℕ). l ++ rest) (sym front)) in
-    let no : c.begins_with.result ≡ false = c.if-not-begins_with.true in
-    let both : true ≡ false = sym yes ∙ no in
+pub returns-then-not-is_equal-clause-only : goal.returns-then-not-is_equal-clause-only
+returns-then-not-is_equal-clause-only c clock bytes rest has t =
+    let line = c.in-Some.ensures.found.1 ∙ ap (marked_line head_word c.read_marked_line.new.bytes) c.in-Some.ensures.found.0 in
+    let at = head_stands clock bytes c.read_marked_line.new.bytes c.args.text.now rest has (search rules) c.read_marked_line.ensures.bytes line t in
+    let mark = head_mark_stands clock bytes c.read_marked_line.new.bytes c.args.text.now rest (search rules) c.read_marked_line.ensures.bytes line t in
+    let same = c.as_slice.ensures.value ∙ c.mark_of.ensures.value
+    ∙ ap (λ (n : ℕ). head_mark n c.in-Some-image_behind.image.now) (c.clock_of-clock.ensures ∙ at.clock_told)
+    ∙ ap (head_mark clock) (c.in-Some-image_behind.ensures.again clock bytes at) ∙ sym mark in
+    let no : true ≡ false = sym (c.is_equal.ensures ∙ same_is_equal _ _ same) ∙ c.if-not-is_equal.true in
     absurd cc
+
+pub returns-in_default-behind_image-clause-only : goal.returns-in_default-behind_image-clause-only
+returns-in_default-behind_image-clause-only c clock bytes rest has t =
+    let line = c.in-Some.ensures.found.1 ∙ ap (marked_line head_word c.read_marked_line.new.bytes) c.in-Some.ensures.found.0 in
+    let at = head_stands clock bytes c.read_marked_line.new.bytes c.args.text.now rest has (search rules) c.read_marked_line.ensures.bytes line t in
+    let image = c.in-Some-image_behind.ensures.again clock bytes at in
+    c.in_default-behind_image.ensures.none rest
+    (c.split_at.ensures.back ∙ image_line_stands clock bytes c.args.text.now rest t
+    ∙ ap (λ (l : List ℕ). codes "# " ++ (encode_lower l ++ (10 ∷ [] ++ rest))) (sym image))
+
+pub returns-clause-head : goal.returns-clause-head
+returns-clause-head c =
+    head_found c.args.text.now c.read_marked_line.new.bytes c.in-Some-behind_image.field-0.now _
+    (record { in_time = omega arith; small = c.in-Some-image_behind.ensures.small; are_bytes = c.in-Some-image_behind.ensures.bytes })
+    (sym (c.as_slice.ensures.value ∙ c.mark_of.ensures.value) ∙ (bytes_eq-Decides _ _).0 (sym c.is_equal.ensures ∙ c.if-not-is_equal.false))
+    c.in-Some.ensures.found.0 c.in-Some.ensures.found.1 (sym c.split_at.ensures.back ∙ c.in-Some-behind_image.ensures.some) c.head_size.ensures.value
 
 pub returns-clause-only : goal.returns-clause-only
 returns-clause-only c clock bytes rest has t =

@@ -1,0 +1,113 @@
+/* Executes commands for a journal with the completing layer and without it, opens what was written in
+ * another handle, and goes on there: what is answered each time. */
+#include "common.h"
+#include "tpmsim.h"
+
+enum { CLOCK = 1000, WAITED = 250, OBJECTS = 8, CONTEXT_BYTES = 38 };
+
+static const uint8_t STIR[] = {0x80, 1, 0, 0, 0, 14, 0, 0, 1, 0x46, 0, 2, 1, 2};
+static const uint8_t START_SESSION[] = {
+    0x80, 1, 0, 0, 0, 43, 0, 0, 1, 0x76, 0x40, 0, 0, 7, 0x40, 0, 0, 7, 0, 16, 0, 0,
+    0,    0, 0, 0, 0, 0,  0, 0, 0, 0,    0,    0, 0, 0, 0,    0, 0, 0, 16, 0, 11};
+static const uint8_t SAVE_SESSION[] = {0x80, 1, 0, 0, 0, 14, 0, 0, 1, 0x62, 2, 0, 0, 0};
+static const uint8_t SAVE_OBJECT[] = {0x80, 1, 0, 0, 0, 14, 0, 0, 1, 0x62, 0x80, 0, 0, 0};
+static const uint8_t FLUSH_OBJECT[] = {0x80, 1, 0, 0, 0, 14, 0, 0, 1, 0x65, 0x80, 0, 0, 0};
+static const uint8_t CREATE_PRIMARY[] = {
+    0x80, 2, 0, 0, 0, 59, 0, 0, 1, 0x31, 0x40, 0, 0, 1, 0,    0, 0, 9, 0x40, 0,
+    0,    9, 0, 0, 1, 0,  0, 0, 4, 0,    0,    0, 0, 0, 0x12, 0, 0x25, 0, 11, 0,
+    3,    4, 0x72, 0, 0, 0, 6, 0, 0x80, 0, 0x43, 0, 0, 0, 0, 0, 0, 0, 0};
+
+static tpmsim device, other;
+static uint8_t text[256 * 1024], response[RESPONSE_BYTES], context[CONTEXT_BYTES];
+static size_t text_size;
+static uint64_t now = CLOCK;
+
+/* Cycles the power, and begins the journal anew. */
+static void begin(void) {
+    now += WAITED;
+    text_size = tpmsim_journal_begin(&device, now, text, sizeof text);
+    must(text_size > 0 && text_size <= sizeof text, "there is no room for the head");
+}
+
+/* Executes a command, adds its record to the text, and tells its code. */
+static void execute(const char *name, uint8_t completes, const uint8_t *buffer, size_t size) {
+    static uint8_t record[TPMSIM_RECORD_ROOM], random_bytes[RANDOM_BYTES];
+    tpmsim_answered answered;
+    size_t record_size;
+    now += WAITED;
+    count_up(random_bytes, (uint8_t)text_size);
+    must(tpmsim_journal_execute(&device, buffer, size, 0, now, completes, random_bytes, response,
+                                &answered, record, &record_size) == TPMSIM_DONE,
+         "a command is not executed");
+    memcpy(text + text_size, record, record_size);
+    text_size += record_size;
+    printf("%s: %03x, %zu drawn\n", name, (unsigned)code_of(response), answered.drawn);
+}
+
+static void save(const char *name, const uint8_t *buffer, size_t size) {
+    execute(name, 1, buffer, size);
+    memcpy(context, response + 10, sizeof context);
+}
+
+static void load(const char *name) {
+    uint8_t command[10 + CONTEXT_BYTES] = {0x80, 1, 0, 0, 0, sizeof command, 0, 0, 1, 0x61};
+    memcpy(command + 10, context, sizeof context);
+    execute(name, 1, command, sizeof command);
+}
+
+/* Opens the text in the other handle, and goes on with it. */
+static void open_other(void) {
+    size_t size_taken;
+    uint8_t told = tpmsim_journal_open(&other, text, text_size, &size_taken);
+    printf("opened again: told %u, %s\n", told,
+           size_taken == text_size ? "all is taken" : "NOT ALL IS TAKEN");
+    tpmsim before = device;
+    device = other;
+    other = before;
+}
+
+static void create_ninth(void) {
+    for (int place = 0; place < OBJECTS; place++)
+        execute("an object", 1, CREATE_PRIMARY, sizeof CREATE_PRIMARY);
+    execute("one more, where none waits", 1, CREATE_PRIMARY, sizeof CREATE_PRIMARY);
+    save("its context", SAVE_OBJECT, sizeof SAVE_OBJECT);
+    execute("its flush", 1, FLUSH_OBJECT, sizeof FLUSH_OBJECT);
+    execute("one more without the layer", 0, CREATE_PRIMARY, sizeof CREATE_PRIMARY);
+    execute("one more, where one waits", 1, CREATE_PRIMARY, sizeof CREATE_PRIMARY);
+    load("the context of what gave up its place");
+}
+
+/* Turns the byte of the last record's mark that says whether the layer was on. */
+static void turn_flag(void) {
+    size_t at = text_size, size_taken;
+    while (text[at - 1] != '#') at--;
+    text[at + 12] ^= 1;
+    printf("the layer left out: told %u\n", tpmsim_journal_open(&other, text, text_size, &size_taken));
+    text[at + 12] ^= 1;
+}
+
+int main(void) {
+    uint8_t random_bytes[RANDOM_BYTES];
+    count_up(random_bytes, 0);
+    must(tpmsim_manufacture(&device, random_bytes) == TPMSIM_DONE, "no device is made");
+    begin();
+    execute("startup", 1, STARTUP, sizeof STARTUP);
+    execute("stir without the layer", 0, STIR, sizeof STIR);
+    execute("stir", 1, STIR, sizeof STIR);
+    execute("a session", 1, START_SESSION, sizeof START_SESSION);
+    save("its context", SAVE_SESSION, sizeof SAVE_SESSION);
+    open_other();
+    load("the session loaded");
+    load("loaded twice");
+    create_ninth();
+    open_other();
+    turn_flag();
+    save("the context of another object", SAVE_OBJECT, sizeof SAVE_OBJECT);
+    begin();
+    execute("startup behind a power cycle", 1, STARTUP, sizeof STARTUP);
+    load("a context of before");
+    open_other();
+    tpmsim_free(&device);
+    tpmsim_free(&other);
+    return 0;
+}

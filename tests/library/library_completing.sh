@@ -1,0 +1,12 @@
+# The completing layer of a device that has a journal: completing.c, beside sanitizers and without them.
+tests=$(cd "$(dirname "$0")/.." && pwd -P)
+. "$tests/common/cases.sh"
+. "$tests/common/library.sh"
+needs cc
+
+compile plain completing "$archive"
+"$room/plain"
+# shellcheck disable=SC2086 # they are words
+compile checked completing "$archive" $sanitizers
+"$room/checked" >"$room/told"
+"$room/plain" | cmp - "$room/told"
