@@ -36,7 +36,7 @@ ask 'the device that is kept' random=01,state=kept,force=always "$get_random"
 ask 'a locality that may extend PCR 20, and one that may not' random=5a,locality=2 "$startup" \
     "$extend" locality 0 "$extend"
 ask 'a locality that there is not' random=5a "$startup" locality 5 "$startup"
-ask 'every word' locality=4,state=kept,image=none,random=00,force=power "$get_random"
+ask 'every word' complete,locality=4,state=kept,image=none,random=00,force=power "$get_random"
 echo 'wrong words'
 ask 'a word that is none' colour=blue
 short='s/ is none of the words .* or force=always$/ is none of them/'

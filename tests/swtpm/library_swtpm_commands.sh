@@ -138,6 +138,6 @@ label 'completing'
 for complete in 0 1 yes; do
     TPMSIM_COMPLETE=$complete
     export TPMSIM_COMPLETE
-    printf 'on\noff\n' | play
+    printf 'on\ndo Startup 0\ncmd 80010000000e0000014600020102\noff\n' | play
 done
 unset TPMSIM_COMPLETE

@@ -10,6 +10,7 @@ ln -s "$room/swtpm/swtpm" "$room/links/swtpm"
 cat >"$room/bin/swtpm" <<'END'
 #!/bin/sh
 echo "libraries: $LD_LIBRARY_PATH" | sed "s|$room|ROOM|g"
+echo "completing: $TPMSIM_COMPLETE"
 for word do echo "word: $word"; done
 exit 7
 END
@@ -28,10 +29,10 @@ started() {
 started 'tpmsim-swtpm' "$program" "$room/bin:$tools"
 started 'swtpm, behind a folder that is not there' "$room/swtpm/swtpm" "/nowhere:$room/swtpm:$room/bin:$tools"
 started 'swtpm by a link' "$room/links/swtpm" "$room/links:$room/swtpm:$room/bin:$tools"
-LD_LIBRARY_PATH=/other
-export LD_LIBRARY_PATH
-started 'with other libraries' "$program" "$room/bin:$tools"
-unset LD_LIBRARY_PATH
+LD_LIBRARY_PATH=/other TPMSIM_COMPLETE=0
+export LD_LIBRARY_PATH TPMSIM_COMPLETE
+started 'with other libraries, and not completing' "$program" "$room/bin:$tools"
+unset LD_LIBRARY_PATH TPMSIM_COMPLETE
 
 mkdir "$room/alone" "$room/tools"
 cp "$program" "$room/alone"

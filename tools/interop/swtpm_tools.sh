@@ -94,29 +94,10 @@ same() {
     cmp -s output "$1" || fail "other bytes than $1"
 }
 
-# Whether tools can hand objects and sessions on by contexts, for which the device needs TPM2_ContextSave.
-contexts=
-find_contexts() {
-    run_tool startauthsession -S found.context || return
-    contexts=yes
-    tool flushcontext found.context
-    tool getcap algorithms
-}
-
-# of_context WORDS..: runs a tool that takes a context or gives one.
-of_context() {
-    if [ -n "$contexts" ]; then
-        tool "$@"
-    else
-        skip "tpm2 $*" 'the device has no TPM2_ContextSave'
-    fi
-}
-
 simple() {
     tool startup -c
-    find_contexts
-    tool getrandom --force --hex 16
-    for what in commands properties-fixed properties-variable pcrs handles-persistent; do
+    tool getrandom --hex 16
+    for what in commands algorithms properties-fixed properties-variable pcrs handles-persistent; do
         tool getcap "$what"
     done
     tool pcrread sha256:0,10
@@ -135,42 +116,42 @@ simple() {
 
 # A key that is sealed to PCR 10, by contexts that one tool gives to the next.
 sealing() {
-    of_context createprimary -C o -G aes128cfb -g sha256 -c primary.context
-    of_context startauthsession -S trial.context
-    of_context policypcr -S trial.context -l sha256:10 -L policy
-    of_context flushcontext trial.context
-    of_context create -C primary.context -i key -u key.public -r key.private -L policy -g sha256 \
+    tool createprimary -C o -G aes128cfb -g sha256 -c primary.context
+    tool startauthsession -S trial.context
+    tool policypcr -S trial.context -l sha256:10 -L policy
+    tool flushcontext trial.context
+    tool create -C primary.context -i key -u key.public -r key.private -L policy -g sha256 \
         -a 'fixedtpm|fixedparent'
-    of_context load -C primary.context -u key.public -r key.private -c key.context
-    of_context startauthsession --policy-session -S session.context
-    of_context policypcr -S session.context -l sha256:10
-    of_context unseal -c key.context -p session:session.context
-    [ -z "$contexts" ] || same key
-    of_context flushcontext session.context
-    of_context flushcontext -t
-    of_context unseal -c key.context -p pcr:sha256:10
-    [ -z "$contexts" ] || same key
+    tool load -C primary.context -u key.public -r key.private -c key.context
+    tool startauthsession --policy-session -S session.context
+    tool policypcr -S session.context -l sha256:10
+    tool unseal -c key.context -p session:session.context
+    same key
+    tool flushcontext session.context
+    tool flushcontext -t
+    tool unseal -c key.context -p pcr:sha256:10
+    same key
 }
 
 policies() {
-    of_context startauthsession -S session.context
-    of_context policyauthvalue -S session.context -L first
-    of_context policyrestart -S session.context
-    of_context policycommandcode -S session.context -L second TPM2_CC_Unseal
-    of_context policyrestart -S session.context
-    of_context policysecret -S session.context -c o
-    of_context policyrestart -S session.context
-    of_context policypassword -S session.context
-    of_context policyrestart -S session.context
-    of_context policyor -S session.context sha256:first,second
-    of_context policyrestart -S session.context
-    of_context policylocality -S session.context three
-    of_context flushcontext session.context
-    of_context startauthsession --hmac-session -S session.context
-    of_context sessionconfig session.context --enable-encrypt
-    of_context nvdefine 0x1500017 -C o -s 8 -P session:session.context
-    of_context nvundefine 0x1500017 -C o
-    of_context flushcontext session.context
+    tool startauthsession -S session.context
+    tool policyauthvalue -S session.context -L first
+    tool policyrestart -S session.context
+    tool policycommandcode -S session.context -L second TPM2_CC_Unseal
+    tool policyrestart -S session.context
+    tool policysecret -S session.context -c o
+    tool policyrestart -S session.context
+    tool policypassword -S session.context
+    tool policyrestart -S session.context
+    tool policyor -S session.context sha256:first,second
+    tool policyrestart -S session.context
+    tool policylocality -S session.context three
+    tool flushcontext session.context
+    tool startauthsession --hmac-session -S session.context
+    tool sessionconfig session.context --enable-encrypt
+    tool nvdefine 0x1500017 -C o -s 8 -P session:session.context
+    tool nvundefine 0x1500017 -C o
+    tool flushcontext session.context
     tool clear -c p
     tool shutdown
 }
@@ -186,9 +167,9 @@ moves() {
     tool nvdefine 0x1500016 -C o -s 8 -a 'ownerread|ownerwrite'
     tool nvwrite 0x1500016 -C o -i data
     tool pcrextend "10:sha256=$extended"
-    of_context createprimary -C o -G aes128cfb -g sha256 -c primary.context
-    of_context startauthsession --policy-session -S session.context
-    of_context policypcr -S session.context -l sha256:10 -L policy
+    tool createprimary -C o -G aes128cfb -g sha256 -c primary.context
+    tool startauthsession --policy-session -S session.context
+    tool policypcr -S session.context -l sha256:10 -L policy
     run_tool pcrread sha256:10 && cp output pcrs
     succeeds 'the permanent state is saved' ioctl --save permanent permanent
     succeeds 'the volatile state is saved' ioctl --save volatile volatile
@@ -199,9 +180,9 @@ moves() {
     succeeds 'power' ioctl -i
     tool pcrread sha256:10
     same pcrs
-    of_context policypcr -S session.context -l sha256:10 -L policy
-    of_context flushcontext session.context
-    of_context readpublic -c primary.context
+    tool policypcr -S session.context -l sha256:10 -L policy
+    tool flushcontext session.context
+    tool readpublic -c primary.context
     tool nvread 0x1500016 -C o -s 8
     same data
     succeeds 'the volatile state is stored' ioctl -v

@@ -2,17 +2,18 @@
 # Uses a device with Debian's tpm2-tools, each tool a process of its own, and says of each whether
 # it did what was asked. Not part of the gate. It installs nothing, and leaves nothing behind.
 #
-#   tools/interop/tpm2_tools.sh            by each of the two ways
+#   tools/interop/tpm2_tools.sh            by each of the three ways
 #   tools/interop/tpm2_tools.sh WAY..      by these:
 #
 #   socket    a served device, which the tools reach by their `cmd` transport and socat. Needs
 #             tpm2-tools and socat, and rt where the program is not built yet
 #   module    a kept device, by the module that tools/interop/attached.sh makes. Needs tpm2-tools and what
 #             that script needs; TPMSIM_ARCHIVE names another archive here too
+#   complete  the same with the completing layer, and tools that hand contexts on
 set -u
 
 top=$(CDPATH='' cd "$(dirname "$0")/../.." && pwd -P)
-[ "$#" -gt 0 ] || set -- socket module
+[ "$#" -gt 0 ] || set -- socket module complete
 folder=$(mktemp -d) || exit 1
 server=
 # shellcheck disable=SC2329 # the trap calls it
@@ -185,6 +186,54 @@ ending() {
     tool shutdown
 }
 
+# Tools that hand on contexts, and ask for what the device alone has not.
+contexts() {
+    tool getrandom --hex 16
+    for what in algorithms properties-fixed properties-variable handles-loaded-session; do
+        tool getcap "$what"
+    done
+    tool flushcontext -t
+    tool createprimary -C o -G aes128cfb -g sha256 -c primary.context
+    tool flushcontext -t
+    tool startauthsession -S trial.context
+    tool policypcr -S trial.context -l sha256:16 -L pcr.policy
+    tool flushcontext trial.context
+    tool create -C primary.context -i key -u key.pub -r key.priv -L pcr.policy -g sha256 \
+        -a 'fixedtpm|fixedparent'
+    tool flushcontext -t
+    tool load -C primary.context -u key.pub -r key.priv -c key.context
+    tool flushcontext -t
+    tool startauthsession --policy-session -S session.context
+    tool policypcr -S session.context -l sha256:16
+    tool unseal -c key.context -p session:session.context
+    same key
+    tool flushcontext session.context
+    tool unseal -c key.context -p pcr:sha256:16
+    same key
+    tool flushcontext -t
+}
+
+policies() {
+    tool startauthsession -S session.context
+    tool policyauthvalue -S session.context -L first
+    tool policyrestart -S session.context
+    tool policycommandcode -S session.context -L second TPM2_CC_Unseal
+    tool policyrestart -S session.context
+    tool policysecret -S session.context -c o
+    tool policyrestart -S session.context
+    tool policypassword -S session.context
+    tool policyrestart -S session.context
+    tool policyor -S session.context sha256:first,second
+    tool policyrestart -S session.context
+    tool policylocality -S session.context three
+    tool flushcontext session.context
+    tool startauthsession --hmac-session -S session.context
+    tool sessionconfig session.context --enable-encrypt
+    tool nvdefine 0x150001b -C o -s 8 -P session:session.context
+    tool nvundefine 0x150001b -C o
+    tool flushcontext session.context
+}
+
 # Serves a device on a socket, and has the tools reach it.
 serve() {
     has socat
@@ -198,11 +247,11 @@ serve() {
     export TPM2TOOLS_TCTI="cmd:socat - UNIX-CONNECT:$folder/socket"
 }
 
-# Makes the module, and has the tools reach a new device by it.
+# keep WORDS: makes the module, and has the tools reach a new device by it, with more words.
 keep() {
     [ -e made ] || "$top/tools/interop/attached.sh" made || exit 2
     rm -rf state
-    export TPM2TOOLS_TCTI="tpmsim:state=$folder/state" LD_LIBRARY_PATH="$folder/made"
+    export TPM2TOOLS_TCTI="tpmsim:state=$folder/state$1" LD_LIBRARY_PATH="$folder/made"
 }
 
 zeros=$(printf '%064d' 0)
@@ -215,13 +264,16 @@ for way do
     echo "$way:"
     case $way in
     socket) serve ;;
-    module) keep ;;
-    *) fail "$way is no way: socket and module are" ;;
+    module) keep '' ;;
+    complete) keep ,complete ;;
+    *) fail "$way is no way: socket, module and complete are" ;;
     esac
     device
     indices
     sealing
     [ "$way" = socket ] || power_cycle
+    [ "$way" != complete ] || contexts
+    [ "$way" != complete ] || policies
     ending
 done
 echo "$tools tools were run, $failed failed"

@@ -11,19 +11,18 @@ from tpmsim.model.player import BadLine
 
 HEAD = """# Other TPMs
 
-What another TPM does otherwise than the device here. Who passes here knows by this what is left to
-try elsewhere. The other one is {version}.
+The table says what another TPM answers otherwise than the device here, and so what a program that
+passes here has left to try elsewhere. The other one is {version}.
 
-`tpmsim-compare` plays a script on both side by side. It computes each session anew for the other one,
-sends what a session's caller would, and compares response codes, answered fields, HMACs, and what can
-be read of the state at the end:
+`tpmsim-compare` plays a script on both, with sessions computed for each, and compares response codes,
+answered fields, HMACs, and what can be read of the state at the end:
 
 ```sh
-PYTHONPATH=python python3 -m tpmsim.compare.main tests/pcr_read.tpm --with swtpm
+PYTHONPATH=python python3 -m tpmsim.compare.main tests/pcrs/pcr_read.tpm --with swtpm
 ```
 
 The other one may be `swtpm:path=..`, `swtpm:host=..,port=..`, `mssim:host=..,port=..` or
-`device:/dev/tpmrm0` too. This page is made of the scripts of tests/ and examples/:
+`device:/dev/tpmrm0` too. This makes the page:
 
 ```sh
 PYTHONPATH=python python3 -m tpmsim.compare.page tests/*/*.tpm examples/*.tpm > docs/OTHER_TPMS.md

@@ -1,0 +1,130 @@
+#!/bin/sh
+# Has other clients of libtss2 use a kept device with its completing layer, by the module that
+# tools/interop/attached.sh makes, and says of each whether it did what was asked: Debian's tpm2-pytss,
+# clevis with a parent of AES, and tpm2-abrmd with tpm2-tools behind it. Not part of the gate. It
+# installs nothing, and leaves nothing behind.
+#
+#   tools/interop/clients.sh
+#
+# Needs Debian's python3-tpm2-pytss, clevis-tpm2, tpm2-abrmd, dbus, tpm2-tools and libtss2-dev. A client
+# that is not there is told as skipped. TPMSIM_ARCHIVE names another archive of the library.
+set -u
+
+top=$(CDPATH='' cd "$(dirname "$0")/../.." && pwd -P) || exit 1
+folder=$(mktemp -d) || exit 1
+trap 'rm -rf "$folder"' EXIT
+cd "$folder" || exit 1
+passed=0
+failed=0
+skipped=0
+
+# check LABEL COMMAND..: counts a command that has to succeed.
+check() {
+    label=$1
+    shift
+    if timeout 60 "$@" >output 2>error; then
+        echo "ok: $label"
+        passed=$((passed + 1))
+    else
+        echo "FAILED: $label: $(tail -n 2 error | tr '\n' ' ')"
+        failed=$((failed + 1))
+    fi
+}
+
+# has CLIENT TOOL: whether a client is there.
+has() {
+    command -v "$2" >found && return
+    echo "skipped: $1: there is no $2"
+    skipped=$((skipped + 1))
+    false
+}
+
+pytss() {
+    cat >pytss.py <<'END'
+import sys
+
+from tpm2_pytss import ESAPI, ESYS_TR, TPM2_ALG, TPM2_SE, TPM2_SU, TPMT_SYM_DEF
+
+parts = {
+    "random": lambda esapi: len(esapi.get_random(16)) == 16,
+    "session": lambda esapi: policy(esapi),
+    "object": lambda esapi: primary(esapi),
+}
+
+
+def policy(esapi):
+    nothing = TPMT_SYM_DEF(algorithm=TPM2_ALG.NULL)
+    none = ESYS_TR.NONE
+    session = esapi.start_auth_session(none, none, TPM2_SE.POLICY, nothing, TPM2_ALG.SHA256)
+    context = esapi.context_save(session)
+    session = esapi.context_load(context)
+    esapi.policy_command_code(session, 0x15E)
+    digest = esapi.policy_get_digest(session)
+    esapi.flush_context(session)
+    return len(digest) == 32
+
+
+def primary(esapi):
+    from tpm2_pytss import TPM2B_PUBLIC, TPM2B_SENSITIVE_CREATE, TPMT_PUBLIC
+
+    template = TPM2B_PUBLIC(publicArea=TPMT_PUBLIC.parse(alg="aes128cfb"))
+    handle, *_ = esapi.create_primary(TPM2B_SENSITIVE_CREATE(), template)
+    context = esapi.context_save(handle)
+    esapi.flush_context(handle)
+    esapi.flush_context(esapi.context_load(context))
+    return True
+
+
+with ESAPI(sys.argv[1]) as esapi:
+    esapi.startup(TPM2_SU.CLEAR)
+    sys.exit(not parts[sys.argv[2]](esapi))
+END
+    for part in random session object; do
+        check "tpm2-pytss: $part" /usr/bin/python3 pytss.py "$TPM2TOOLS_TCTI" "$part"
+    done
+}
+
+clevis_by_aes() {
+    echo 'a secret' >secret
+    # shellcheck disable=SC2016 # sh expands them
+    check 'clevis: encrypt' sh -c 'clevis encrypt tpm2 "$1" <secret >sealed' sh \
+        '{"hash":"sha256","key":"aes128cfb","pcr_bank":"sha256","pcr_ids":"16"}'
+    check 'clevis: decrypt' sh -c 'clevis decrypt <sealed | cmp - secret'
+    check 'a PCR is extended' tpm2 pcrextend "16:sha256=$(printf '%064d' 1)"
+    check 'clevis: decrypt is refused then' sh -c '! clevis decrypt <sealed'
+}
+
+abrmd() {
+    cat >abrmd.sh <<'END'
+set -eu
+allow=
+[ "$(id -u)" -ne 0 ] || allow=--allow-root
+tpm2-abrmd $allow --session --tcti="$TPM2TOOLS_TCTI" &
+trap 'kill $!' EXIT
+export TPM2TOOLS_TCTI=tabrmd:bus_type=session
+for _ in $(seq 100); do
+    tpm2 getrandom --hex 4 >/dev/null 2>&1 && break
+    sleep 0.1
+done
+tpm2 createprimary -C o -G aes128cfb -g sha256 -c primary.context
+tpm2 create -C primary.context -i secret -u public -r private -g sha256
+tpm2 load -C primary.context -u public -r private -c object.context
+tpm2 unseal -c object.context | cmp - secret
+tpm2 startauthsession -S session.context
+tpm2 policypcr -S session.context -l sha256:10
+tpm2 flushcontext session.context
+END
+    echo 'a secret' >secret
+    check 'tpm2-abrmd: objects and sessions of six tools' dbus-run-session -- sh abrmd.sh
+}
+
+"$top/tools/interop/attached.sh" made || exit 1
+export TPM2TOOLS_TCTI="tpmsim:state=$folder/state,complete" LD_LIBRARY_PATH="$folder/made"
+check 'tpm2-tools: startup' tpm2 startup -c
+if /usr/bin/python3 -c 'import tpm2_pytss' 2>/dev/null; then pytss; else has tpm2-pytss nothing; fi
+! has clevis clevis-encrypt-tpm2 || clevis_by_aes
+! has tpm2-abrmd tpm2-abrmd || abrmd
+counts="$passed passed, $failed failed"
+[ "$skipped" -eq 0 ] || counts="$counts, $skipped skipped"
+echo "$counts"
+[ "$failed" -eq 0 ]
