@@ -6,12 +6,13 @@ A command follows the words of it, which name its outcome behind a colon where i
 
 Words that are long have a line of their own:
 
-    said = tpm("By the empty password, and by one with a zero behind it: AUTH_FAIL/s1")
-    said.fails(*(tpm.reading(FIRST, 8, it) for it in (b"", b"other\0")))
+    said = tpm("By the empty password, and by another one: AUTH_FAIL/s1")
+    said.fails(*(tpm.reading(FIRST, 8, it) for it in (b"", b"other")))
 """
 
 import functools
 import inspect
+import sys
 from typing import Any, Callable
 
 from tpmsim.caller import Prepared, Session, flipped
@@ -37,12 +38,15 @@ def others_in(prepared: Prepared, *places: int) -> Prepared:
 
 
 class Teller(ScriptCaller):
-    """The script of a program, by the name of its module and by its first words, which tell the name
-    of the script and, behind a full stop, what the script says of itself. It begins with TPM2_Startup(CLEAR), if it
-    `starts` so; where `tries` are allowed no wrong one locks anything. tests/anew.py writes it.
+    """A caller with the script of a program. `name` is that of the program's module, and `told` its
+    first words: the name of the script, a full stop, and what the script says of itself. The script
+    begins with TPM2_Startup(CLEAR), if it `starts` so; where `tries` are allowed no wrong one locks
+    anything. tests/anew.py writes it.
     """
 
     def __init__(self, name: str, told: str, tries: bool = False, starts: bool = True) -> None:
+        if name == "__main__":
+            sys.exit("a program of a script is run by tests/anew.py")
         head = " ".join(told.split("\n\n")[0].partition(".tpm. ")[2].split())
         super().__init__(Script(name.replace(".", "/") + ".tpm", head))
         if starts:

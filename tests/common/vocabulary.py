@@ -24,13 +24,13 @@ NAMES = {SHA1: "SHA-1", SHA256: "SHA-256"}
 # fmt: off
 __all__ = [
     "ALG_NULL", "area", "AUTH_VALUE", "bits", "BY_OWNER", "BY_PLATFORM", "BY_POLICY", "BY_VALUE",
-    "CC", "CLEAR", "command", "command_hash", "CONTINUE_SESSION", "counter", "DECRYPT", "digest",
-    "digest_bytes", "ENCRYPT", "Entry", "entry", "extended", "FIRST", "flipped", "FOURTH", "frames",
-    "HASHES", "HERE", "hmac_key", "is_trial", "mac", "name_of", "number", "nv", "NvAttribute",
-    "ObjectAttribute", "on_handle", "OPEN", "PASSWORD", "policy", "Public", "RH_ENDORSEMENT",
-    "RH_LOCKOUT", "RH_NULL", "RH_OWNER", "RH_PLATFORM", "RS_PW", "SE_HMAC", "SE_POLICY", "SE_TRIAL",
-    "sealed", "SECOND", "selection", "SHA1", "SHA256", "sized", "STATE", "storage_key", "STORES",
-    "SYMCIPHER", "others_in", "Teller", "wrong_in", "THIRD", "Use", "wrong", "zeros", "DECRYPTS", "ENCRYPTS", "ENDS", "LOCKS",
-    "FIFTH", "NAMES"
+    "CC", "CLEAR", "command", "command_hash", "CONTINUE_SESSION", "counter", "DECRYPT", "DECRYPTS",
+    "digest", "digest_bytes", "ENCRYPT", "ENCRYPTS", "ENDS", "Entry", "entry", "extended", "FIFTH",
+    "FIRST", "flipped", "FOURTH", "frames", "HASHES", "HERE", "hmac_key", "is_trial", "LOCKS",
+    "mac", "name_of", "NAMES", "number", "nv", "NvAttribute", "ObjectAttribute", "on_handle",
+    "OPEN", "others_in", "PASSWORD", "policy", "Public", "RH_ENDORSEMENT", "RH_LOCKOUT", "RH_NULL",
+    "RH_OWNER", "RH_PLATFORM", "RS_PW", "SE_HMAC", "SE_POLICY", "SE_TRIAL", "sealed", "SECOND",
+    "selection", "SHA1", "SHA256", "sized", "STATE", "storage_key", "STORES", "SYMCIPHER", "Teller",
+    "THIRD", "Use", "wrong", "wrong_in", "zeros"
 ]
 # fmt: on
