@@ -12,9 +12,9 @@ draws the same nonce again, and one prepared buffer is accepted as often as it i
 import sys
 
 from tpmsim.caller import area, BY_VALUE, Use
-from tpmsim.caller.script import Script
-from tpmsim.caller.script_caller import FIRST, ScriptCaller
-from tpmsim.standard import RH_NULL, RH_OWNER, SHA256, lines
+from tpmsim.standard import lines, RH_NULL, RH_OWNER, SHA256
+from tests.common.script import Script
+from tests.common.script_caller import FIRST, ScriptCaller
 
 PCR = 0x10
 DATA = bytes(64)

@@ -10,9 +10,9 @@ TPM2_HMAC is over 1,024 bytes. Each is authorized by a password.
 import sys
 
 from tpmsim.caller import hmac_key, sealed, storage_key
-from tpmsim.caller.script import Script
-from tpmsim.caller.script_caller import ScriptCaller
 from tpmsim.standard import RH_OWNER, SHA256
+from tests.common.script import Script
+from tests.common.script_caller import ScriptCaller
 
 SECRET = bytes(range(32))
 

@@ -10,9 +10,9 @@ sent.
 import sys
 
 from tpmsim.caller import Use
-from tpmsim.caller.script import Script
-from tpmsim.caller.script_caller import ScriptCaller
 from tpmsim.standard import RH_OWNER
+from tests.common.script import Script
+from tests.common.script_caller import ScriptCaller
 
 script = Script("bench", "")
 caller = ScriptCaller(script)

@@ -3,11 +3,11 @@
 import hashlib
 
 from tpmsim.caller import counter, HERE, sealed, storage_key
-from tpmsim.caller.script import Script
-from tpmsim.caller.script_caller import ScriptCaller
 from tpmsim.standard import CC, digest, number, policy, RH_OWNER, RH_PLATFORM, selection, SHA256
 from tpmsim.standard.nv import Attribute
 from tpmsim.standard.objects import Attribute as ObjectAttribute
+from tests.common.script import Script
+from tests.common.script_caller import ScriptCaller
 
 MINIMUM = 0x0140_0001
 LESS_OR_EQUAL = 9

@@ -3,10 +3,10 @@
 import hashlib
 
 from tpmsim.caller import HERE, sealed, storage_key
-from tpmsim.caller.script import Script
-from tpmsim.caller.script_caller import ScriptCaller
 from tpmsim.standard import RH_LOCKOUT, RH_OWNER
 from tpmsim.standard.objects import Attribute
+from tests.common.script import Script
+from tests.common.script_caller import ScriptCaller
 
 DISK_KEY = hashlib.sha256(b"the volume key of a disk").digest()
 PIN, RECOVERY = b"7391", b"a long recovery passphrase"

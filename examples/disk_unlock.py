@@ -4,10 +4,10 @@ import hashlib
 from dataclasses import replace
 
 from tpmsim.caller import flipped, HERE, sealed, storage_key
-from tpmsim.caller.script import Script
-from tpmsim.caller.script_caller import ScriptCaller
 from tpmsim.standard import digest, policy, RH_OWNER, selection, SHA256
 from tpmsim.standard.objects import Attribute
+from tests.common.script import Script
+from tests.common.script_caller import ScriptCaller
 
 # Each piece of software is measured into its PCR before it runs, as the boot loader and the stub of
 # a unified kernel image do. PCR 7 and 11 are chosen, as by `--tpm2-pcrs=7+11`.

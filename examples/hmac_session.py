@@ -1,9 +1,9 @@
 """Writes hmac_session.tpm: a caller changes ownerAuth through an HMAC session."""
 
 from tpmsim.caller import Use
-from tpmsim.caller.script import Script
-from tpmsim.caller.script_caller import ScriptCaller
 from tpmsim.standard import CONTINUE_SESSION, DECRYPT, ENCRYPT, RH_OWNER
+from tests.common.script import Script
+from tests.common.script_caller import ScriptCaller
 
 script = Script(
     __file__,

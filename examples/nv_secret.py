@@ -3,10 +3,10 @@
 import hashlib
 
 from tpmsim.caller import area, Use
-from tpmsim.caller.script import Script
-from tpmsim.caller.script_caller import ScriptCaller
 from tpmsim.standard import CC, CONTINUE_SESSION, DECRYPT, ENCRYPT, frames, RH_OWNER
 from tpmsim.standard.nv import Attribute
+from tests.common.script import Script
+from tests.common.script_caller import ScriptCaller
 
 SECRET_INDEX = 0x0100_0020
 SECRET = hashlib.sha256(b"the volume key of a disk").digest()

@@ -1,10 +1,10 @@
 """Writes one_command.tpm: a policy that lets one command through, by its cpHash."""
 
 from tpmsim.caller import area
-from tpmsim.caller.script import Script
-from tpmsim.caller.script_caller import FIRST, ScriptCaller
 from tpmsim.standard import command_hash, name_of, policy, RH_OWNER, SHA256
 from tpmsim.standard.nv import Attribute
+from tests.common.script import Script
+from tests.common.script_caller import FIRST, ScriptCaller
 
 OWNER_AUTH = b"administrator"
 OLD, NEW, OTHER = b"boot=disk   ", b"boot=network", b"boot=usb    "

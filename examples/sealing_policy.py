@@ -1,8 +1,8 @@
 """Writes sealing_policy.tpm: the policy of a disk's key, made in a trial session."""
 
-from tpmsim.caller.script import Script
-from tpmsim.caller.script_caller import ScriptCaller, zeros
 from tpmsim.standard import CC, digest, policy, selection, SHA256
+from tests.common.script import Script
+from tests.common.script_caller import ScriptCaller, zeros
 
 # Each piece of software is measured into its PCR before it runs. These PCRs are chosen.
 MEASURED = (

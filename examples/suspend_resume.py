@@ -3,10 +3,10 @@
 import hashlib
 
 from tpmsim.caller import CLEAR, HERE, sealed, STATE, storage_key
-from tpmsim.caller.script import Script
-from tpmsim.caller.script_caller import ScriptCaller
 from tpmsim.standard import RH_OWNER, SHA256
 from tpmsim.standard.objects import Attribute
+from tests.common.script import Script
+from tests.common.script_caller import ScriptCaller
 
 KEY = hashlib.sha256(b"the key of a user's home directory").digest()
 BOOT = (

@@ -3,10 +3,10 @@
 import hashlib
 
 from tpmsim.caller import area
-from tpmsim.caller.script import Script
-from tpmsim.caller.script_caller import FIRST, ScriptCaller
 from tpmsim.standard import policy, RH_OWNER, RH_PLATFORM, SHA256
 from tpmsim.standard.nv import Attribute
+from tests.common.script import Script
+from tests.common.script_caller import FIRST, ScriptCaller
 
 # What the factory writes: the serial number of a board, and the digest of its certificate.
 RECORD = b"board 004711 " + hashlib.sha256(b"a certificate").digest()[:19]

@@ -87,7 +87,3 @@ class OtherPrograms(unittest.TestCase):
             plain = decryptor.update(text) + decryptor.finalize()
             self.assertEqual(cfb_encrypt(key, iv, text), masked)
             self.assertEqual(cfb_decrypt(key, iv, text), plain)
-
-
-if __name__ == "__main__":
-    unittest.main()

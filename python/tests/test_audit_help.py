@@ -1,10 +1,15 @@
-"""What the command line of the audit says of itself."""
+"""What the command line of the audit says of itself, and of refusals that are no entry's."""
 
 import contextlib
 import io
 import unittest
 
 from tpmsim.audit import main as command_line
+from tpmsim.audit import start
+from tpmsim.audit.auditor import Auditor
+from tpmsim.audit.log import Disagreement, Log
+from tpmsim.audit.report import report
+from tpmsim.model.player import played
 
 
 class Help(unittest.TestCase):
@@ -16,6 +21,25 @@ class Help(unittest.TestCase):
         self.assertTrue(output.getvalue().startswith("Judges a script by what was printed of it"))
         self.assertIn("SCRIPT OUTPUT [--image START] [--policy FILE]..", output.getvalue())
 
-
-if __name__ == "__main__":
-    unittest.main()
+    def test_refusals_that_are_no_entrys(self):
+        """The audit says by the words of tpmsim.explain why a PolicyNV is answered 126."""
+        script = """do Startup 0
+do NV_DefineSpace OWNER pw:- - 01000001000b0002000200000008
+do NV_Write OWNER 01000001 pw:- 0000000000000002 0
+do StartAuthSession NULL NULL 00112233445566778899aabbccddeeff - 1 null sha256
+do PolicyNV OWNER 01000001 03000000 pw:- 0000000000000001 0 9"""
+        printed = [line for _, line in played(script.encode())[0]]
+        for answered, told in ((printed[-2], 0), (printed[-2].replace("A5", "A4"), 1)):
+            log = "\n".join([*printed[:-2], answered, printed[-1], ""]).encode()
+            auditor, fault = Auditor(start.new(), Log(log)), ""
+            try:
+                auditor.read(script.encode())
+            except Disagreement as found:
+                fault = str(found)
+            words = "UNSIGNED_LE does not hold: 2 <= 1 is false"
+            self.assertEqual(fault.endswith(f": {words}"), bool(told))
+            if not told:
+                self.assertIn(
+                    "  line 5: PolicyNV is refused: POLICY (126), by check A5", report(auditor)
+                )
+                self.assertIn(f"    {words}.", report(auditor))

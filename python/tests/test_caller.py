@@ -18,7 +18,3 @@ class Words(unittest.TestCase):
             (lambda: self.tpm.call("GetRandom", bytesRequested=1, more=1), TypeError),
         ):
             self.assertRaises(fault, words)
-
-
-if __name__ == "__main__":
-    unittest.main()

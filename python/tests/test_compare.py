@@ -76,7 +76,3 @@ class Others(unittest.TestCase):
         for words in ("", "tpm", "swtpm:port=1", "mssim:path=x", "device:"):
             with self.assertRaises(ValueError):
                 other_tpm(words)
-
-
-if __name__ == "__main__":
-    unittest.main()

@@ -260,7 +260,3 @@ class Documented(unittest.TestCase):
             told = [vars(it).get(name) for it in LibraryDevice.__mro__]
             texts = [getattr(it, "__doc__", None) or "" for it in told]
             self.assertTrue(any(">>>" in it for it in texts), name)
-
-
-if __name__ == "__main__":
-    unittest.main()

@@ -174,7 +174,3 @@ class CommandLine(unittest.TestCase):
         script = self.file("script.tpm", "do Startup 0\ndo NV_Read OWNER 01000001 pw:- 1 0\n")
         self.assertIn("01000001 is not written", told(script, "--image", path)[0])
         self.assertIn("Handle 2, nvIndex, is 01000001", told(script)[0])
-
-
-if __name__ == "__main__":
-    unittest.main()

@@ -107,7 +107,3 @@ class Accepted(unittest.TestCase):
         events = events_of("do Startup 0", session, "do GetRandom s:02000000:-:01:- 1", session)
         slips = [[it.slips[0] for it in event.notes] for event in events]
         self.assertEqual(slips, [[], ["random bytes are zeros"], ["nonceTPM comes again"], []])
-
-
-if __name__ == "__main__":
-    unittest.main()

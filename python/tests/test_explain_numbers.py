@@ -281,7 +281,3 @@ class Policies(unittest.TestCase):
         self.tpm.send(self.tpm.comparing(session, index, operand, operation=UNSIGNED_GE))
         found = self.reason(self.tpm.unsealing(handle, session))
         self.assertEqual((found.rule, found.slips), ("condition/8", ["old Name in a policy"]))
-
-
-if __name__ == "__main__":
-    unittest.main()

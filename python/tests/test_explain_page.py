@@ -145,7 +145,3 @@ class Page(unittest.TestCase):
         self.assertEqual(names, {"page.html", "page.css", *page.SCRIPTS})
         for it in page.FILES.iterdir():
             self.assertFalse(re.search(r"[^\x00-\x7f]", it.read_text()), it.name)
-
-
-if __name__ == "__main__":
-    unittest.main()

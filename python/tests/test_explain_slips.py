@@ -363,7 +363,3 @@ def policy_digest(words, algorithm):
     trial = tpm.trial(algorithm)
     tpm.tell(trial, words)
     return tpm.send(tpm.get_digest(trial))["policyDigest"]
-
-
-if __name__ == "__main__":
-    unittest.main()

@@ -42,7 +42,3 @@ class Plugin(unittest.TestCase):
         self.assertIn("1 failed, 2 passed", done.stdout)
         self.assertIn("what the TPM was told", done.stdout)
         self.assertIn("# PCR_Reset L0 +0 A1 00000907", done.stdout)
-
-
-if __name__ == "__main__":
-    unittest.main()

@@ -153,7 +153,3 @@ class Words(unittest.TestCase):
             )
             self.assertEqual((done.returncode, done.stdout), (status, ""))
             self.assertTrue(done.stderr)
-
-
-if __name__ == "__main__":
-    unittest.main()

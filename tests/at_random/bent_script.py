@@ -5,7 +5,7 @@ or turned, and at times a byte of its text changed. And bent images.
 from tpmsim.model.image import BODY_AT, DIGEST_AT_END, HEAD_BYTES
 from tpmsim.standard import CC, digest, frames
 from tests.common.expected import buffer_of
-from tpmsim.caller.script import line
+from tests.common.script import line
 
 # Where the length of an image stands in it, and what is behind the seeds and proofs.
 LENGTH_AT, BEHIND_SEEDS = 6, BODY_AT + 4 * 66

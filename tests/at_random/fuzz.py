@@ -18,13 +18,14 @@ from collections import Counter
 from dataclasses import dataclass, field
 from itertools import zip_longest
 
+from tpmsim.model import player
 from tpmsim.model.general import Refusal
-from tpmsim.model import player, streams
 from tpmsim.standard.reading import Short
 from tests.at_random import served_runs as serving
 from tests.at_random.bent_script import bent_script
 from tests.at_random.random_script import Writer
 from tests.at_random.random_stream import random_stream
+from tests.common import streams
 
 COMMANDS, RUNS = 400, 8
 SHRINKING_SECONDS = 60

@@ -15,11 +15,11 @@ from dataclasses import replace
 from tpmsim.model import general, nv_commands, persistent, state
 from tpmsim.model.machine import Model
 from tpmsim.standard import AES, ALG_NULL, CC, CONTINUE_SESSION, DECRYPT, ENCRYPT, Entry, Fact
-from tpmsim.standard import HandleKind, KEYEDHASH, RH_NULL, RS_PW, SHA1, SHA256, SYMCIPHER, Short
-from tpmsim.standard import XOR, frames, handle_kinds, number, nv, policy, reading, sessions, sized
+from tpmsim.standard import frames, handle_kinds, HandleKind, KEYEDHASH, number, nv, policy, reading
+from tpmsim.standard import RH_NULL, RS_PW, sessions, SHA1, SHA256, Short, sized, SYMCIPHER, XOR
 from tpmsim.standard.objects import Attribute, Public
-from tpmsim.caller.outputs import POWER, Played, write_outputs
-from tpmsim.caller.script import line
+from tests.common.outputs import Played, POWER, write_outputs
+from tests.common.script import line
 
 SELDOM = 0.04
 AUTH_VALUES = b"", b"a", b"secret"

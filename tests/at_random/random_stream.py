@@ -1,10 +1,11 @@
 """Random connections to a served device, in runs one after another: the lines of streams.py."""
 
-from tpmsim.model import state, streams
-from tpmsim.model.image import Fault, VERSION_1, image, open_image
+from tpmsim.model import state
+from tpmsim.model.image import Fault, image, open_image, VERSION_1
 from tpmsim.standard import CC, frames
 from tests.at_random.bent_script import bent_image
 from tests.at_random.random_script import MOST_TRIES, Writer
+from tests.common import streams
 
 # No time passes that counts for dictionary attack protection: none of these is over before the
 # runs are, or never is.

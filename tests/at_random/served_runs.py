@@ -8,7 +8,7 @@ import tempfile
 import time
 from itertools import zip_longest
 
-from tpmsim.model import streams
+from tests.common import streams
 
 SECONDS = 60
 

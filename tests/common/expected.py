@@ -17,7 +17,7 @@ import sys
 from tpmsim.model.machine import Model
 from tpmsim.standard import frames, lines
 from tests.common import places
-from tpmsim.caller.outputs import POWER, Played, write_outputs
+from tests.common.outputs import Played, POWER, write_outputs
 
 WANTED = re.compile(r": (SUCCESS|[A-Z][A-Z0-9_]+(?:/[hps][1-9])?)(?: \(([0-9A-F]{3})\))?[.,;]")
 OUTCOMES = {"SUCCESS", *frames.CODES}

@@ -10,8 +10,9 @@ import pathlib
 import subprocess
 import sys
 
-from tpmsim.model import image, player, streams
+from tpmsim.model import image, player
 from tpmsim.model.machine import Model
+from tests.common import streams
 
 import places
 

@@ -14,8 +14,8 @@ import sys
 
 from tpmsim.model.image import open_image
 from tpmsim.model.machine import Model
-from tpmsim.model.streams import without_clock
 from tpmsim.standard import lines
+from tests.common.streams import without_clock
 from client import connected
 
 IMAGE = pathlib.Path("image")

@@ -17,7 +17,7 @@ from dataclasses import dataclass
 import refusals
 from client import received
 from shims import HERE, Ending, ended, fail
-from tpmsim.model.streams import image_told
+from tests.common.streams import image_told
 
 TOP = HERE.parent.parent
 SCRIPT = TOP / "examples/measured_boot.tpm"

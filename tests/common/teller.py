@@ -15,11 +15,11 @@ import inspect
 import sys
 from typing import Any, Callable
 
-from tpmsim.caller import Prepared, Session, flipped
-from tpmsim.caller.script import OUTCOME, SUCCESS, Script
-from tpmsim.caller.script_caller import ScriptCaller
+from tpmsim.caller import flipped, Prepared, Session
 from tpmsim.model.machine import Outcome
 from tpmsim.standard import frames
+from tests.common.script import OUTCOME, Script, SUCCESS
+from tests.common.script_caller import ScriptCaller
 
 
 def wrong_in(prepared: Prepared, *places: int) -> Prepared:

@@ -20,8 +20,8 @@ from dataclasses import dataclass
 
 from tpmsim.model import machine
 from tpmsim.model.image import image, open_image
-from tpmsim.model.streams import without_clock
 from tpmsim.standard import lines
+from tests.common.streams import without_clock
 from shims import AT_MOST, HERE, Ending, begun, built, check_calls, ended, fail
 
 TOP = HERE.parent.parent

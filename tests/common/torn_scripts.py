@@ -16,7 +16,7 @@ from dataclasses import dataclass
 
 from tpmsim.model import machine, player
 from tpmsim.model.image import image, open_image
-from tpmsim.model.streams import without_clock
+from tests.common.streams import without_clock
 from shims import Ending, begun, built, ended, fail
 
 ROOM, CALLS = pathlib.Path("torn"), pathlib.Path("calls")

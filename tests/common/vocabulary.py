@@ -1,18 +1,18 @@
 """The names that most programs of scripts use, in one place."""
 
-from tests.common.teller import Teller, others_in, wrong_in
 from tpmsim.caller import area, bits, BY_OWNER, BY_PLATFORM, BY_POLICY, BY_VALUE, CLEAR, counter
 from tpmsim.caller import extended, flipped, HERE, hmac_key, OPEN, sealed, STATE, storage_key
 from tpmsim.caller import STORES, Use, wrong
-from tpmsim.caller.script_caller import FIRST, FOURTH, HASHES, is_trial, SECOND, THIRD, zeros
 from tpmsim.standard import ALG_NULL, CC, command, command_hash, CONTINUE_SESSION, DECRYPT, digest
-from tpmsim.standard import digest_bytes, ENCRYPT, Entry, entry, frames, mac, name_of, number, nv
+from tpmsim.standard import digest_bytes, ENCRYPT, entry, Entry, frames, mac, name_of, number, nv
 from tpmsim.standard import on_handle, policy, RH_ENDORSEMENT, RH_LOCKOUT, RH_NULL, RH_OWNER
 from tpmsim.standard import RH_PLATFORM, RS_PW, SE_HMAC, SE_POLICY, SE_TRIAL, selection, SHA1
 from tpmsim.standard import SHA256, sized, SYMCIPHER
 from tpmsim.standard.nv import Attribute as NvAttribute
 from tpmsim.standard.objects import Attribute as ObjectAttribute, Public
 from tpmsim.standard.policy import AUTH_VALUE, PASSWORD
+from tests.common.script_caller import FIRST, FOURTH, HASHES, is_trial, SECOND, THIRD, zeros
+from tests.common.teller import others_in, Teller, wrong_in
 
 # Attributes of the entries of a session that goes on, and of one that ends.
 DECRYPTS, ENCRYPTS, ENDS = CONTINUE_SESSION | DECRYPT, CONTINUE_SESSION | ENCRYPT, 0

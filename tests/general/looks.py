@@ -5,10 +5,10 @@ at the state of the device, which is as before.
 import copy
 
 from tpmsim.model import capability
-from tpmsim.standard import CC, HMAC_SESSION, NV, PERSISTENT, RH_OWNER, SHA1, SHA256, TRANSIENT
-from tpmsim.standard import command, frames, handle_kinds, number, on_handles
+from tpmsim.standard import CC, command, frames, handle_kinds, HMAC_SESSION, number, NV, on_handles
+from tpmsim.standard import PERSISTENT, RH_OWNER, SHA1, SHA256, TRANSIENT
 from tpmsim.standard.nv import Attribute
-from tpmsim.caller.script import Script
+from tests.common.script import Script
 
 AS_BYTES = (
     "All commands stand as bytes, whole ones too, so that others can be held against them; but "

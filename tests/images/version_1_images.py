@@ -13,14 +13,15 @@ import os
 import sys
 import tempfile
 
-from tpmsim.caller import BY_OWNER, CLEAR, STATE, area, counter, sealed, storage_key
-from tpmsim.model import image, nv_commands, streams
+from tpmsim.caller import area, BY_OWNER, CLEAR, counter, sealed, STATE, storage_key
+from tpmsim.model import image, nv_commands
 from tpmsim.model.capability import HANDLES, PROPERTIES
-from tpmsim.standard import ALG_NULL, CC, NV, PERSISTENT, RH_ENDORSEMENT, RH_LOCKOUT, RH_NULL
-from tpmsim.standard import RH_OWNER, RH_PLATFORM, SHA256, SYMCIPHER, TRANSIENT, frames, lines, nv
+from tpmsim.standard import ALG_NULL, CC, frames, lines, nv, NV, PERSISTENT, RH_ENDORSEMENT
+from tpmsim.standard import RH_LOCKOUT, RH_NULL, RH_OWNER, RH_PLATFORM, SHA256, SYMCIPHER, TRANSIENT
 from tpmsim.standard.handle_kinds import first_byte
 from tpmsim.standard.objects import Attribute
 from tests.at_random import served_runs as serving
+from tests.common import streams
 from tests.images import version_1
 
 PRIMARY = RH_OWNER, RH_ENDORSEMENT, RH_PLATFORM, RH_NULL

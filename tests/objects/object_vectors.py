@@ -10,8 +10,8 @@ answers, which the model gives, are compared with them.
 import hashlib
 import hmac
 
-from tpmsim.standard import CC, RH_OWNER, aes, command, number, on_handle, selection, sized
-from tpmsim.caller.script import Script
+from tpmsim.standard import aes, CC, command, number, on_handle, RH_OWNER, selection, sized
+from tests.common.script import Script
 
 # The device of a script is manufactured with the bytes 00 to ff, eight pieces of 32: the seeds of
 # the owner's, the endorsement, the platform and the null hierarchy, and then their proofs.

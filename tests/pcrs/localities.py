@@ -5,8 +5,8 @@ Which PCR changes from where is the table of TPM2_PCR_Extend in docs/table/pcrs.
 
 import pathlib
 
-from tpmsim.standard import CC, SHA1, SHA256, command, digests, number, on_handle, selection
-from tpmsim.caller.script import line
+from tpmsim.standard import CC, command, digests, number, on_handle, selection, SHA1, SHA256
+from tests.common.script import line
 
 SCRIPT = pathlib.Path(__file__).with_suffix(".tpm")
 

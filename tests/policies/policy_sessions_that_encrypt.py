@@ -3,7 +3,7 @@ they authorize nothing there, and are held against their hmac as HMAC sessions a
 and encrypt, and keep what they were told.
 """
 
-from tpmsim.caller.script_caller import KINDS
+from tests.common.script_caller import KINDS
 from tests.common.vocabulary import CC, CONTINUE_SESSION, DECRYPTS, digest, ENCRYPT, ENCRYPTS
 from tests.common.vocabulary import flipped, frames, HASHES, name_of, policy, RH_ENDORSEMENT
 from tests.common.vocabulary import RH_LOCKOUT, RH_OWNER, SE_POLICY, SE_TRIAL, SHA1, Teller, Use

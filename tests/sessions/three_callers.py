@@ -13,13 +13,13 @@ compared with what its history tells of it, and so is the answer to TPM2_PCR_Rea
 
 import copy
 
-from tpmsim.caller import HERE, area, sealed, storage_key
+from tpmsim.caller import area, HERE, sealed, storage_key
 from tpmsim.model.history import History
-from tpmsim.standard import CC, RH_NULL, RH_OWNER, SHA256, digest, digests, policy, selection
+from tpmsim.standard import CC, digest, digests, policy, RH_NULL, RH_OWNER, selection, SHA256
 from tpmsim.standard.nv import Attribute
 from tpmsim.standard.objects import Attribute as ObjectAttribute
-from tpmsim.caller.script_caller import ScriptCaller
-from tpmsim.caller.script import Script
+from tests.common.script import Script
+from tests.common.script_caller import ScriptCaller
 
 CHOSEN = [(SHA256, [10])]
 SECRET = b"the secret"

@@ -12,7 +12,7 @@
 #
 # It runs PROGRAM, or the one that tools/lib/program.sh names. Where an answer differs it says the seed,
 # leaves the script or the stream, and says at which of its lines; the first one it leaves once
-# more, with no line that the difference does not need; python/tpmsim/model/streams.py says what
+# more, with no line that the difference does not need; tests/common/streams.py says what
 # the lines of a stream are. The last lines count what was tried, and the status is 1 where anything
 # differs.
 set -u

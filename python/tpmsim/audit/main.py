@@ -7,16 +7,16 @@ was no new one, but the one of an image, as `tpmsim serve --image` leaves it, be
 Each --policy gives a policy in words, as docs/USING.md has it.
 
 It prints what the log tells: the PCRs, the policies, each use of an entity with the ground on which
-it was let in, the counters, and the failed guesses; and of each policy in words which entities have
-it, and how each use of them met it. The status is 0 where all agrees. It is 1, with a line on
-standard error, where the log is cut, or no device with this start answers so, or the script has a
-bad line; and where no entity has a policy that is given, or a use does not meet it. It is 2 where
-these words, a file, a policy or the image is not what it should be. It needs python3, and no
-program.
+it was let in, why commands were refused for none of their entries, the counters, and the failed
+guesses; and of each policy in words which entities have it, and how each use of them met it.
+
+The status is 0 where all agrees. It is 1, with a line on standard error, where the log is cut, or no
+device with this start answers so, or the script has a bad line; and where no entity has a policy that
+is given, or a use does not meet it. It is 2 where these words, a file, a policy or the image is not
+what it should be. It needs python3, and no program.
 """
 
 import os
-import pathlib
 import sys
 from dataclasses import dataclass, field
 
@@ -24,6 +24,7 @@ from tpmsim.audit import start
 from tpmsim.audit.auditor import Auditor
 from tpmsim.audit.log import Disagreement, Log
 from tpmsim.audit.report import report
+from tpmsim.explain.main import Usage, read
 from tpmsim.model.image import Fault
 from tpmsim.policies.policy_file import Fault as PolicyFault, PolicyFile
 
@@ -33,10 +34,6 @@ AGREES = (
     "At each event the answer is that of a device with this start, and the device is what its "
     "history tells. A log that is consistent cannot be told from a true one."
 )
-
-
-class Usage(Exception):
-    """Why nothing can be judged."""
 
 
 @dataclass
@@ -64,13 +61,6 @@ def asked_of(words: list[str]) -> Asked:
     if "-" in (asked.names[0], *asked.policies):
         raise Usage(USAGE)
     return asked
-
-
-def read(name: str) -> bytes:
-    try:
-        return sys.stdin.buffer.read() if name == "-" else pathlib.Path(name).read_bytes()
-    except OSError:
-        raise Usage(f"{name} cannot be read") from None
 
 
 def policy_of(name: str) -> PolicyFile:

@@ -152,15 +152,10 @@ class Knowledge:
         if use.demand == policy.PASSWORD:
             hmac = self.auth_value(handle)
         elif key or use.shows_empty_key:
-            hmac = sessions.entry_hmac(
-                session.algorithm,
-                key,
-                self.cp_hash(prepared, session.algorithm),
-                nonce,
-                session.nonce_tpm,
-                self.nonces_of_others(prepared, place, handle),
-                use.attributes,
-            )
+            others = self.nonces_of_others(prepared, place, handle)
+            cp_hash = self.cp_hash(prepared, session.algorithm)
+            given = session.algorithm, key, cp_hash, nonce, session.nonce_tpm, others
+            hmac = sessions.entry_hmac(*given, use.attributes)
         return Entry(session.handle, nonce, use.attributes, hmac)
 
     def cp_hash(self, prepared: Prepared, algorithm: int = frames.SHA256) -> bytes:
@@ -291,15 +286,10 @@ class Knowledge:
         if not entry.hmac or use.demand == policy.PASSWORD:
             expect(not hmac, f"entry {place} is answered by an hmac")
             return
-        wanted_hmac = sessions.entry_hmac(
-            session.algorithm,
-            self.key(use, prepared.authorized(place)),
-            sessions.response_hash(session.algorithm, prepared.code, parameters),
-            nonce_tpm,
-            entry.nonce,
-            [],
-            attributes,
-        )
+        key, code = self.key(use, prepared.authorized(place)), prepared.code
+        answered = sessions.response_hash(session.algorithm, code, parameters)
+        nonces = nonce_tpm, entry.nonce
+        wanted_hmac = sessions.entry_hmac(session.algorithm, key, answered, *nonces, [], attributes)
         expect(hmac == wanted_hmac, f"entry {place} is answered by a wrong hmac")
 
     def plain_answer(self, prepared: Prepared, parameters: bytes) -> bytes:

@@ -10,8 +10,8 @@ from tpmsim.device.library import LibraryDevice
 from tpmsim.device.told import Device
 from tpmsim.model.general import Command
 from tpmsim.model.machine import MANUFACTURED, Model, Session
-from tpmsim.standard import ALG_NULL, DECRYPT, ENCRYPT, Entry, Fields, NUMBERED, SESSIONS, sessions
-from tpmsim.standard import Short
+from tpmsim.standard import ALG_NULL, DECRYPT, ENCRYPT, Entry, Fields, NUMBERED, SESSIONS, Short
+from tpmsim.standard import frames, sessions
 from tpmsim.standard.aes_tables import encrypt_block
 from tpmsim.standard.frames import NO_SESSIONS
 from tpmsim.standard.values import read_all
@@ -27,9 +27,7 @@ def parsed(buffer: bytes) -> Command | None:
         handles = [fields.number(4) for _ in code.handles]
         if tag == NO_SESSIONS:
             return Command(code, handles, None, fields.data)
-        area, entries = Fields(fields.take(fields.number(4))), []
-        while area.data:
-            entries.append(Entry(area.number(4), area.sized(), area.number(1), area.sized()))
+        entries = list(frames.entries_of(fields.take(fields.number(4))))
     except Short:
         return None
     return Command(code, handles, entries, fields.data) if entries else None

@@ -127,15 +127,10 @@ class Translation:
     def hmac(self, prepared: Prepared, place: int, use: Use, has_value: bool) -> bytes:
         session, handle = use.session, prepared.authorized(place)
         key = session.key + (self.known.auth_value(handle) if has_value else b"")
-        return sessions.entry_hmac(
-            session.algorithm,
-            key,
-            self.known.cp_hash(prepared, session.algorithm),
-            use.nonce or b"",
-            session.nonce_tpm,
-            self.known.nonces_of_others(prepared, place, handle),
-            use.attributes,
-        )
+        others = self.known.nonces_of_others(prepared, place, handle)
+        cp_hash, nonce = self.known.cp_hash(prepared, session.algorithm), use.nonce or b""
+        given = session.algorithm, key, cp_hash, nonce, session.nonce_tpm, others
+        return sessions.entry_hmac(*given, use.attributes)
 
     def password(self, given: bytes, handle: int | None, there: int | None) -> bytes:
         """A right password stays right where the values of both differ."""

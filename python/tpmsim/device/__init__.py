@@ -17,7 +17,7 @@ Device.preferred = kind
 # fmt: off
 __all__ = [
     "Answered", "BadImage", "ChildDevice", "Device", "DeviceEnded", "FileDevice", "KeptDevice",
-    "LibraryDevice", "ModelDevice", "ServedDevice", "SimulatorDevice", "StartedSwtpm", "SwtpmDevice", "Transport",
-    "Unsupported"
+    "LibraryDevice", "ModelDevice", "ServedDevice", "SimulatorDevice", "StartedSwtpm",
+    "SwtpmDevice", "Transport", "Unsupported"
 ]
 # fmt: on

@@ -70,17 +70,8 @@ def of_reason(reason: Reason) -> Value:
 
 
 def of_fact(fact: Fact) -> Value:
-    return {"label": fact.label, "value": fact.value, "sort": fact.sort}
+    return dict(vars(fact))
 
 
 def of_field(field: Field) -> Value:
-    return {
-        "name": field.name,
-        "at": field.at,
-        "size": field.size,
-        "front": field.front,
-        "meaning": field.meaning,
-        "sort": field.sort,
-        "depth": field.depth,
-        "group": field.is_group,
-    }
+    return {"group" if name == "is_group" else name: it for name, it in vars(field).items()}

@@ -15,8 +15,7 @@ from tpmsim.standard.handle_kinds import IS_OF_KIND
 
 if TYPE_CHECKING:
     from tpmsim.model.machine import Session
-    from tpmsim.model.nv_commands import Index
-    from tpmsim.model.object_rules import Object
+    from tpmsim.model.parameters import Held
 
 LEAST_AREA, MOST_NONCE_OR_HMAC = 9, 32
 
@@ -84,14 +83,8 @@ def read_header(fields: Fields, length: int) -> tuple[int, CC]:
     return tag, NUMBERED[code]
 
 
-def read_handles(
-    fields: Fields,
-    wanted: tuple[Handle, ...],
-    sessions: dict[int, Session],
-    objects: dict[int, Object],
-    indices: dict[int, Index],
-) -> list[int]:
-    handles = []
+def read_handles(fields: Fields, wanted: tuple[Handle, ...], device: Held) -> list[int]:
+    handles, objects = [], device.objects
     for place, it in enumerate(wanted, 1):
         try:
             handle = fields.number(4)
@@ -99,11 +92,11 @@ def read_handles(
             raise Refusal(f"INSUFFICIENT/h{place}", "G6") from None
         if not IS_OF_KIND[it.kind](handle):
             raise Refusal(f"VALUE/h{place}", "G6")
-        if is_policy(handle) and handle not in sessions:
+        if is_policy(handle) and handle not in device.sessions:
             raise Refusal(f"REFERENCE_H{place - 1}", "G6")
         if first_byte(handle) == TRANSIENT and handle not in objects:
             raise Refusal(f"REFERENCE_H{place - 1}", "G6")
-        if is_index(handle) and handle not in indices:
+        if is_index(handle) and handle not in device.indices:
             raise Refusal(f"HANDLE/h{place}", "G6")
         if first_byte(handle) == PERSISTENT and handle not in objects:
             raise Refusal(f"HANDLE/h{place}", "G6")
@@ -116,10 +109,7 @@ def read_area(fields: Fields) -> list[Entry]:
         size = fields.number(4)
         if size < LEAST_AREA:
             raise Refusal("AUTHSIZE", "G8")
-        area, entries = Fields(fields.take(size)), []
-        while area.data:
-            entry = Entry(area.number(4), area.sized(), area.number(1), area.sized())
-            entries.append(entry)
+        entries = list(frames.entries_of(fields.take(size)))
     except Short:
         raise Refusal("AUTHSIZE", "G8") from None
     if len(entries) > MOST_ENTRIES:
@@ -160,19 +150,13 @@ def check_entry(
         raise Refusal(f"SYMMETRIC/s{place}", "G8")
 
 
-def decode(
-    buffer: bytes,
-    started: bool,
-    sessions: dict[int, Session],
-    objects: dict[int, Object],
-    indices: dict[int, Index],
-) -> Command:
+def decode(buffer: bytes, device: Held) -> Command:
     """The command of a buffer, or its first refusal that no authorization value decides."""
     fields = Fields(buffer)
     tag, code = read_header(fields, len(buffer))
-    if started == (code == CC.Startup):
+    if device.started == (code == CC.Startup):
         raise Refusal("INITIALIZE", "G5")
-    handles = read_handles(fields, code.handles, sessions, objects, indices)
+    handles = read_handles(fields, code.handles, device)
     if tag == frames.SESSIONS and code.has(Fact.NO_SESSIONS):
         raise Refusal("AUTH_CONTEXT", "G7")
     if tag == frames.NO_SESSIONS and code.authorized:
@@ -180,5 +164,5 @@ def decode(
     entries = read_area(fields) if tag == frames.SESSIONS else None
     command = Command(code, handles, entries, fields.data)
     for place, entry, handle in command.places():
-        check_entry(command, place, entry, handle, sessions)
+        check_entry(command, place, entry, handle, device.sessions)
     return command

@@ -150,9 +150,7 @@ class Model(
         if is_starved:
             return Outcome(STARVED, Row.of(buffer, MEMORY_CHECK), "MEMORY")
         try:
-            command = general.decode(
-                buffer, self.started, self.sessions, self.objects, self.indices
-            )
+            command = general.decode(buffer, self)
             self.authorize(command, locality)
             plain, shown = self.plain_parameters(command), self.shown(command)
             parameters = Parameters(plain)
@@ -180,11 +178,10 @@ class Model(
         random: bytes,
     ) -> Accepted:
         """What is told of a command, once its row has acted: the Names are those before it."""
+        goes_on = frames.CONTINUE_SESSION
         uses = [
-            history.Use(
-                entry.handle, bool(entry.attributes & frames.CONTINUE_SESSION), handle is not None
-            )
-            for _, entry, handle in command.places()
+            history.Use(it.handle, bool(it.attributes & goes_on), handle is not None)
+            for _, it, handle in command.places()
         ]
         answered = int.from_bytes(answer.handle, "big") if answer.handle else None
         loaded = None
@@ -223,12 +220,13 @@ class Model(
         """What wrong authorization values count at, if at anything."""
         if handle == RH_LOCKOUT:
             return protection.LOCKOUT_AUTH
-        is_protected = False
         if handle in self.objects:
-            is_protected = not self.objects[handle].public.has(Attribute.NO_DA)
-        if handle in self.indices:
-            is_protected = not self.indices[handle].public.has(nv.Attribute.NO_DA)
-        return protection.TRIES if is_protected else None
+            is_free = self.objects[handle].public.has(Attribute.NO_DA)
+        elif handle in self.indices:
+            is_free = self.indices[handle].public.has(nv.Attribute.NO_DA)
+        else:
+            return None
+        return None if is_free else protection.TRIES
 
     def takes_auth_value(self, handle: int, code: CC) -> bool:
         """Whether it can be authorized without a policy, for a command."""
@@ -314,30 +312,23 @@ class Model(
         key = self.key(entry, handle)
         if not key and not entry.hmac:
             return True
-        wanted = sessions.entry_hmac(
-            session.algorithm,
-            key,
-            sessions.command_hash(
-                session.algorithm, command.code, self.names(command), command.parameters
-            ),
-            entry.nonce,
-            session.nonce_tpm,
-            self.nonces_of_others(command, place, handle),
-            entry.attributes,
-        )
+        given = session.algorithm, key, self.cp_hash(session, command), entry.nonce
+        others = self.nonces_of_others(command, place, handle)
+        wanted = sessions.entry_hmac(*given, session.nonce_tpm, others, entry.attributes)
         return entry.hmac == wanted
+
+    def cp_hash(self, session: Session, command: Command) -> bytes:
+        names = self.names(command)
+        return sessions.command_hash(session.algorithm, command.code, names, command.parameters)
 
     def check_policy(
         self, command: Command, place: int, entry: Entry, handle: int, locality: int
     ) -> None:
         """What refuses a policy session that is to authorize a handle."""
-        session = self.sessions[entry.handle]
-        cp_hash = sessions.command_hash(
-            session.algorithm, command.code, self.names(command), command.parameters
-        )
+        session, code = self.sessions[entry.handle], command.code
+        cp_hash, is_written = self.cp_hash(session, command), self.written(handle)
         use = policy_state.Use(
-            *(command.code, command.code.has(Fact.ADMIN), cp_hash, self.written(handle)),
-            *(self.update_counter, locality),
+            *(code, code.has(Fact.ADMIN), cp_hash, is_written, self.update_counter, locality)
         )
         policy_state.check_use(session, self.policy_entity(handle, command.code), use, place)
         entry.demand = session.policy.demand
@@ -433,15 +424,9 @@ class Model(
         hmac = b""
         # An empty hmac was accepted by an empty key, and is answered by another; so is a password.
         if entry.hmac and entry.demand != policy.PASSWORD:
-            hmac = sessions.entry_hmac(
-                session.algorithm,
-                self.key(entry, handle),
-                sessions.response_hash(session.algorithm, command.code, parameters),
-                session.nonce_tpm,
-                entry.nonce,
-                [],
-                entry.attributes,
-            )
+            answered = sessions.response_hash(session.algorithm, command.code, parameters)
+            given = session.algorithm, self.key(entry, handle), answered, session.nonce_tpm
+            hmac = sessions.entry_hmac(*given, entry.nonce, [], entry.attributes)
         return frames.entry_answer(session.nonce_tpm, entry.attributes, hmac)
 
     # The commands: their parameters, their own checks, and then what changes.

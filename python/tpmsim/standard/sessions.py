@@ -1,5 +1,6 @@
 """What both ends of a session compute, over whole texts (TPM 2.0 Library, Part 1)."""
 
+import functools
 import hashlib
 import hmac
 from typing import Callable, Iterable
@@ -105,25 +106,16 @@ def encrypted(
     older: bytes,
     data: bytes,
     block_cipher: aes.BlockCipher = encrypt_block,
+    by_aes: Callable[..., bytes] = aes.cfb_encrypt,
 ) -> bytes:
     """By a session's cipher, which is XOR or AES; `block_cipher` is the AES that is used."""
     if cipher == XOR:
         return masked(algorithm, key, newer, older, data)
-    return aes.cfb_encrypt(*key_and_block(algorithm, key, newer, older), data, block_cipher)
+    return by_aes(*key_and_block(algorithm, key, newer, older), data, block_cipher)
 
 
-def decrypted(
-    cipher: int,
-    algorithm: int,
-    key: bytes,
-    newer: bytes,
-    older: bytes,
-    data: bytes,
-    block_cipher: aes.BlockCipher = encrypt_block,
-) -> bytes:
-    if cipher == XOR:
-        return masked(algorithm, key, newer, older, data)
-    return aes.cfb_decrypt(*key_and_block(algorithm, key, newer, older), data, block_cipher)
+# The other way round, of the same arguments.
+decrypted = functools.partial(encrypted, by_aes=aes.cfb_decrypt)
 
 
 def on_first_buffer(change: Callable[[bytes], bytes], parameters: bytes) -> bytes:

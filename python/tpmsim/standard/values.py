@@ -9,9 +9,6 @@ from tpmsim.standard.frames import AES, ALG_NULL, number, sized, XOR
 from tpmsim.standard.reading import Fields
 from tpmsim.standard.sessions import digest_bytes
 
-# The bytes of a set of PCRs, the first eight in the first one.
-SELECT_BYTES = 3
-
 
 class Bank(NamedTuple):
     """PCRs of a bank: the hash algorithm, and their numbers."""

@@ -7,11 +7,11 @@ from typing import Any, Iterator, Sequence
 
 from tpmsim.caller import CLEAR, Made, Means, NONCE_BYTES, Prepared, Session, Use
 from tpmsim.caller.prepared_commands import PreparedCommands
-from tpmsim.caller.script import Script, SUCCESS
 from tpmsim.standard import AES, ALG_NULL, CC, digest, digest_bytes, Fields, frames, nv, RH_NULL
 from tpmsim.standard import RH_OWNER, SE_HMAC, SE_POLICY, SE_TRIAL, SHA1, SHA256, sized, trimmed
 from tpmsim.standard import XOR
 from tpmsim.standard.objects import Public
+from tests.common.script import Script, SUCCESS
 
 HASHES = ((SHA1, "SHA-1"), (SHA256, "SHA-256"))
 KINDS = ((SE_POLICY, "policy"), (SE_TRIAL, "trial"))

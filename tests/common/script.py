@@ -6,10 +6,10 @@ import pathlib
 import re
 import textwrap
 
-from tpmsim.caller.outputs import Played, POWER, Printed, write_outputs
 from tpmsim.device.base import line, line_in_bytes
 from tpmsim.model.machine import Model, Outcome
 from tpmsim.standard import CC, frames
+from tests.common.outputs import Played, POWER, Printed, write_outputs
 
 COLUMNS = 100
 RANDOM_BYTES = 256
