@@ -54,7 +54,7 @@ def auth_values(use: Use) -> Iterator[Slip]:
             lapsed = f"the binding to {said} has lapsed, {use.lapse_words()}"
             yield value_slip("binding lapsed", f"the authValue was left out; {lapsed}", b"")
         else:
-            words = f"the authValue of {said} was left out of the key: {use.value_words()}"
+            words = f"the authValue of {said} was left out of the key, where it belongs: {use.value_words()}"
             yield value_slip("authValue left out", words, b"")
         yield from bent_values(value)
     if not use.takes_value and value:
@@ -107,7 +107,10 @@ def zeros(use: Use) -> Iterator[Slip]:
     if not value:
         return
     for size in range(BLOCK - len(use.session.key) + 1, MOST_PADDED + 1):
-        words = f"the authValue was padded with zeros to {size} bytes, and counts without them"
+        words = (
+            f"the authValue was padded with zeros to {size} bytes: within the hash's block of {BLOCK} "
+            "they do no harm, and with the session key they are longer"
+        )
         yield value_slip("zeros", words, value.ljust(size, b"\0"))
     for size in range(len(value) + 1, BLOCK + 1):
         words = f"the authValue has zeros in front, to {size} bytes"
@@ -231,7 +234,7 @@ def names(use: Use) -> Iterator[Slip]:
     for handle in handles:
         until = past.last_change.get(handle, "?")
         for old in past.names.get(handle, [])[:-1]:
-            words = f"has the Name that {handle_words(handle)} had until {until}"
+            words = f"has the Name that {handle_words(handle)} had until {until}, {old.value.hex()}"
             yield slip("old Name", words, *renamed(handle, old.value))
         if past.names.get(handle):
             words = f"has the handle {handle:08x} in place of its Name"
@@ -261,7 +264,7 @@ def parameters(use: Use) -> Iterator[Slip]:
         return
     session, key = decrypting.session, decrypting.session.key + decrypting.auth_value
     plain = encryption.plain_by(decrypting, sent, key, decrypting.entry.nonce, session.nonce_tpm)
-    words = "cpHash has the parameters in plain; it is of the encrypted ones, as they are sent"
+    words = "cpHash has the parameters in plain; a right one has them encrypted, as they are sent"
     yield slip("parameters hashed plain", words, parameters=plain)
     for _, mistake, otherwise in encryption.mistakes(decrypting, sent):
         words = f"cpHash has the parameters in plain, and {mistake}"
