@@ -1,5 +1,5 @@
 -- Entries that are executed again one after another, and told.
-use Rattle.std.proofs.Common.{◌≡◌, ◌≢◌, ℕ, ◌+◌, ◌≤◌, ◌<◌, Bool, List, [], ◌∷◌, ◌++◌, length, map, take, drop, Option, Some, None, refl, ap, sym, subst, ◌∙◌, append_assoc, append-nil, arith, length-append, length-drop}
+use Rattle.std.proofs.Common.{◌≡◌, ◌≢◌, ℕ, ◌+◌, ◌≤◌, Bool, List, [], ◌∷◌, ◌++◌, length, map, take, drop, Option, Some, None, refl, ap, sym, subst, ◌∙◌, append_assoc, append-nil, arith, length-append, length-drop}
 use Rattle.std.specs.Prelude.{codes, flat_map}
 use Rattle.std.specs.List.{AllByRecursion}
 use Rattle.std.specs.Io.KnownBytes.{Appends}
@@ -11,14 +11,14 @@ use Rattle.tpm_journal_text.specs.Entry.{IsEntry, PlainEntry, entry_text, execut
 use Rattle.tpm_journal_text.specs.Journal.{IsCutOff, IsDamaged, entries_text}
 use Rattle.tpm_journal_text.proofs.Standing.{mark_line_many, mark_many}
 use Rattle.tpm_journal.specs.Command.{IsPerformed}
-use Rattle.tpm_journal.specs.Replay.{AnswersAre, LeadsBy, Performance, Performs, Repeats, answer_said, entry_in, response_sum}
+use Rattle.tpm_journal.specs.Replay.{AnswersAre, LeadsBy, Performance, Repeats, answer_said, entry_in, response_sum}
 use Rattle.tpm_journal.specs.State.{journal_after}
 use Rattle.tpm_journal.specs.declared.following.FollowFault.{FollowFault}
 use Rattle.tpm_journal.specs.declared.following.FollowFault.TheVariants.{Damaged, Otherwise}
 use Rattle.tpm_journal.specs.declared.following.Followed.{Followed}
 use Rattle.tpm_journal.specs.declared.journal.Journal.{Journal}
 use Rattle.tpm_journal.proofs.Repeating.{entries_more, journal_sum}
-use Rattle.tpmsim_journal_script.specs.Retelling.{PerformsSo, Retells, RetellsEntries, comment_of, lines_with, retold}
+use Rattle.tpmsim_journal_script.specs.Retelling.{PerformsSo, Retells, RetellsEntries, comment_of, retold}
 
 -- ---- the lines of an entry in its text
 

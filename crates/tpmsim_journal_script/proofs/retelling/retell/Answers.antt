@@ -5,8 +5,13 @@ use Rattle.tpmsim_journal_script.proofs.retelling.retell.Goals as goal
 
 pub returns-in-Err : goal.returns-in-Err
 returns-in-Err g c = (
-  (_, _, _, begins c.args.text.now c.in-Some.head c.in-Some.ensures.head,
-  not_opened {M = Unit {0}} (λ done. g.K.Keep.record_of c.open_into.new.machine.keep) c.in-Some.head.image.now c.in-Err.fault c.in-Err.ensures.exact),
+  (
+    _,
+    _,
+    _,
+    begins c.args.text.now c.in-Some.head c.in-Some.ensures.head,
+    not_opened {M = Unit {0}} (λ done. g.K.Keep.record_of c.open_into.new.machine.keep) c.in-Some.head.image.now c.in-Err.fault c.in-Err.ensures.exact,
+  ),
   Keeps-refl _,
 )
 
