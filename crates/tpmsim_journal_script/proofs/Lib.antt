@@ -1,2 +1,3 @@
 pub mod Words
 pub mod Telling
+pub mod Heads

@@ -1,5 +1,5 @@
 -- Entries that are executed again one after another, and told.
-use Rattle.std.proofs.Common.{◌≡◌, ◌≢◌, ℕ, ◌+◌, ◌≤◌, ◌<◌, Bool, List, [], ◌∷◌, ◌++◌, length, map, take, drop, Option, Some, None, refl, ap, sym, subst, ◌∙◌, append_assoc, append-nil, arith, length-append, length-drop}
+use Rattle.std.proofs.Common.{◌≡◌, ◌≢◌, ℕ, ◌+◌, ◌≤◌, Bool, List, [], ◌∷◌, ◌++◌, length, map, take, drop, Option, Some, None, refl, ap, sym, subst, ◌∙◌, append_assoc, append-nil, arith, length-append, length-drop}
 use Rattle.std.specs.Prelude.{codes, flat_map}
 use Rattle.std.specs.List.{AllByRecursion}
 use Rattle.std.specs.Io.KnownBytes.{Appends}
@@ -11,13 +11,14 @@ use Rattle.tpm_journal_text.specs.Entry.{IsEntry, PlainEntry, entry_text, execut
 use Rattle.tpm_journal_text.specs.Journal.{IsCutOff, IsDamaged, entries_text}
 use Rattle.tpm_journal_text.proofs.Standing.{mark_line_many, mark_many}
 use Rattle.tpm_journal.specs.Command.{IsPerformed}
-use Rattle.tpm_journal.specs.Replay.{AnswersAre, LeadsBy, Performance, Performs, Repeats, answer_said, entry_in, response_sum}
+use Rattle.tpm_journal.specs.Replay.{AnswersAre, LeadsBy, Performance, Repeats, answer_said, entry_in, response_sum}
 use Rattle.tpm_journal.specs.State.{journal_after}
 use Rattle.tpm_journal.specs.declared.following.FollowFault.{FollowFault}
 use Rattle.tpm_journal.specs.declared.following.FollowFault.TheVariants.{Damaged, Otherwise}
+use Rattle.tpm_journal.specs.declared.following.Followed.{Followed}
 use Rattle.tpm_journal.specs.declared.journal.Journal.{Journal}
 use Rattle.tpm_journal.proofs.Repeating.{entries_more, journal_sum}
-use Rattle.tpmsim_journal_script.specs.Retelling.{PerformsSo, Retells, RetellsEntries, comment_of, lines_with, retold}
+use Rattle.tpmsim_journal_script.specs.Retelling.{PerformsSo, Retells, RetellsEntries, comment_of, retold}
 
 -- ---- the lines of an entry in its text
 
@@ -230,24 +231,25 @@ told_more_at can before old text left taken mid here size words after new held a
     rw is (told_more can before old text taken mid here size words after new held at holds r)
 
 pub told_otherwise_at : (can : Bool) (before : Journal) (old : Record) (text left : List ℕ) (taken : ℕ) (mid : Journal) (here : Record)
-    (size : ℕ) (words : List ℕ) (after : Journal) (new : Record) (held at holds : Option (List ℕ))
-    → left ≡ drop taken text → Retells can before old text held at taken None mid here
+    (size : ℕ) (words : List ℕ) (after : Journal) (new : Record) (held at holds : Option (List ℕ)) (followed : Followed)
+    → left ≡ drop taken text → followed ≡ record { taken = taken + size; fault = Some Otherwise }
+    → Retells can before old text held at taken None mid here
     → PerformsSo can mid here left size words after new (λ sum said. sum ≢ said)
     → Appends at holds (codes "# " ++ words ++ 10 ∷ [] ++ drop 72 (take size left))
-    → RetellsEntries can before old text held holds (record { taken = taken + size; fault = Some Otherwise }) after new
-told_otherwise_at can before old text left taken mid here size words after new held at holds is r =
-    rw is (told_otherwise can before old text taken mid here size words after new held at holds r)
+    → RetellsEntries can before old text held holds followed after new
+told_otherwise_at can before old text left taken mid here size words after new held at holds followed is ends r =
+    rw (is, ends) (told_otherwise can before old text taken mid here size words after new held at holds r)
 
 pub told_cut_at : (can : Bool) (before : Journal) (old : Record) (text left : List ℕ) (taken : ℕ) (mid : Journal) (here : Record)
-    (after : Journal) (new : Record) (held holds : Option (List ℕ)) → left ≡ drop taken text
-    → Retells can before old text held holds taken None mid here → IsCutOff mid.sum left × (after ≡ mid) × (new ≡ here)
-    → RetellsEntries can before old text held holds (record { taken = taken; fault = None }) after new
-told_cut_at can before old text left taken mid here after new held holds is r =
-    rw is (told_cut can before old text taken mid here after new held holds r)
+    (after : Journal) (new : Record) (held holds : Option (List ℕ)) (followed : Followed) → left ≡ drop taken text
+    → followed ≡ record { taken = taken; fault = None } → Retells can before old text held holds taken None mid here
+    → IsCutOff mid.sum left × (after ≡ mid) × (new ≡ here) → RetellsEntries can before old text held holds followed after new
+told_cut_at can before old text left taken mid here after new held holds followed is ends r =
+    rw (is, ends) (told_cut can before old text taken mid here after new held holds r)
 
 pub told_damaged_at : (can : Bool) (before : Journal) (old : Record) (text left : List ℕ) (taken : ℕ) (mid : Journal) (here : Record)
-    (after : Journal) (new : Record) (held holds : Option (List ℕ)) → left ≡ drop taken text
-    → Retells can before old text held holds taken None mid here → IsDamaged mid.sum left × (after ≡ mid) × (new ≡ here)
-    → RetellsEntries can before old text held holds (record { taken = taken; fault = Some Damaged }) after new
-told_damaged_at can before old text left taken mid here after new held holds is r =
-    rw is (told_damaged can before old text taken mid here after new held holds r)
+    (after : Journal) (new : Record) (held holds : Option (List ℕ)) (followed : Followed) → left ≡ drop taken text
+    → followed ≡ record { taken = taken; fault = Some Damaged } → Retells can before old text held holds taken None mid here
+    → IsDamaged mid.sum left × (after ≡ mid) × (new ≡ here) → RetellsEntries can before old text held holds followed after new
+told_damaged_at can before old text left taken mid here after new held holds followed is ends r =
+    rw (is, ends) (told_damaged can before old text taken mid here after new held holds r)

@@ -11,7 +11,6 @@ use Rattle.tpm_journal.specs.State.{journal_begun}
 use Rattle.tpm_journal.specs.declared.following.Followed.{Followed}
 use Rattle.tpm_journal.specs.declared.following.FollowFault.{FollowFault}
 use Rattle.tpm_journal.specs.declared.journal.Journal.{Journal}
-use Rattle.tpm_journal.specs.declared.opening.OpenFault.{OpenFault}
 use Rattle.tpm_journal.specs.declared.opening.OpenFault.TheVariants as fault
 use Rattle.tpm_journal_text.specs.Entry.{PlainEntry, executing_lines, setting_lines}
 use Rattle.tpm_journal_text.specs.Head.{head_text}

@@ -28,12 +28,12 @@ put_front-requires-in-Otherwise-clause-entry g c = long_enough _ _ _ _ _ _ _ _ _
 
 pub returns-in-Otherwise-clause-told : goal.returns-in-Otherwise-clause-told
 returns-in-Otherwise-clause-told g c =
-    told_otherwise_at _ _ _ _ _ _ _ _ _ _ _ _ _ _ _ c.split_at.ensures.back c.loop-size.invariant c.in-Otherwise.ensures (search rules)
+    told_otherwise_at _ _ _ _ _ _ _ _ _ _ _ _ _ _ _ _ c.split_at.ensures.back c.ended.ensures c.loop-size.invariant c.in-Otherwise.ensures (search rules)
 
 pub returns-in-CutOff-clause-told : goal.returns-in-CutOff-clause-told
 returns-in-CutOff-clause-told g c =
-    told_cut_at _ _ _ _ _ _ _ _ _ _ _ _ c.split_at.ensures.back c.loop-size.invariant c.in-CutOff.ensures
+    told_cut_at _ _ _ _ _ _ _ _ _ _ _ _ _ c.split_at.ensures.back c.ended-in-CutOff.ensures c.loop-size.invariant c.in-CutOff.ensures
 
 pub returns-in-Damaged-clause-told : goal.returns-in-Damaged-clause-told
 returns-in-Damaged-clause-told g c =
-    told_damaged_at _ _ _ _ _ _ _ _ _ _ _ _ c.split_at.ensures.back c.loop-size.invariant c.in-Damaged.ensures
+    told_damaged_at _ _ _ _ _ _ _ _ _ _ _ _ _ c.split_at.ensures.back c.ended-in-Damaged.ensures c.loop-size.invariant c.in-Damaged.ensures
