@@ -1,5 +1,5 @@
 -- What a device in memory does by its journal.
-use Rattle.std.specs.Prelude.{◌≡◌, ℕ, ◌≤◌, false, ◌⊎◌, length, List, Option, Some, None, Result, Ok, Err}
+use Rattle.std.specs.Prelude.{◌≡◌, ℕ, ◌≤◌, false, ◌⊎◌, length, List, Some, None, Result, Ok, Err}
 use Rattle.tpm_completion.specs.Execution.{Seen}
 use Rattle.tpm_history.specs.Follows.{After, Follows}
 use Rattle.tpm_image.specs.Image.{image_text}
@@ -12,7 +12,6 @@ use Rattle.tpm_journal.specs.State.{journal_after, journal_begun}
 use Rattle.tpm_journal.specs.declared.following.FollowFault.{FollowFault}
 use Rattle.tpm_journal.specs.declared.opening.OpenFault.{OpenFault}
 use Rattle.tpm_journal_text.specs.Entry.{entry_text}
-use Rattle.tpm_journal_text.specs.Head.{head_text}
 use Rattle.tpm_record.specs.Cycle.{cycled}
 use Rattle.tpm_record.specs.Kept.{kept_record}
 use Rattle.tpm_record.specs.Record.{Record}

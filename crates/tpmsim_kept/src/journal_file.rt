@@ -1,6 +1,5 @@
 //! The file of a journal, and the device that executed it.
 
-ghost use Rattle.std.specs.Prelude.{OnOk};
 ghost use Rattle.tpmsim_kept.specs.Device.{IsAnswer};
 
 use crate::device::Device;
@@ -120,7 +119,6 @@ impl JournalFile {
     }
 
     /// Executes a command at this moment, and adds its entry.
-    #[tactic(auto, using(crate::proofs::Answering::is_answer))]
     pub fn execute(
         &mut self,
         buffer: &[u8],
@@ -130,7 +128,7 @@ impl JournalFile {
         force: Force,
         outcome: &mut Outcome,
     ) -> Result<(), KeptFault>
-        ensures { OnOk result (IsAnswer outcome.new) }
+        ensures { IsAnswer outcome.new }
     {
         let mut entry = [0; ENTRY_ROOM];
         let device = &mut self.device;
