@@ -102,7 +102,7 @@ boot() {
             -drive "if=pflash,format=raw,file=$run/variables"
     fi
     begun=$(date +%s%N)
-    timeout 400 qemu-system-x86_64 -machine q35,accel="${ACCELERATOR:-tcg}" -cpu max -m 512 \
+    timeout 1500 qemu-system-x86_64 -machine q35,accel="${ACCELERATOR:-tcg}" -cpu max -m 512 \
         -display none -nodefaults -serial "file:$run/serial" \
         -chardev "socket,id=chrtpm,path=$run/ctrl" -tpmdev emulator,id=tpm0,chardev=chrtpm \
         -device "$device,tpmdev=tpm0" -kernel "$KERNEL" -initrd "$folder/initramfs" \
@@ -184,7 +184,7 @@ machine() {
     rm -rf "$run"
     mkdir -p "$run"
     begin_tpm tpmsim "$(basename "$run")/state" || return
-    timeout 400 qemu-system-x86_64 -machine q35,accel="${ACCELERATOR:-tcg}" -cpu max -m 512 \
+    timeout 1500 qemu-system-x86_64 -machine q35,accel="${ACCELERATOR:-tcg}" -cpu max -m 512 \
         -display none -nodefaults -serial "file:$run/serial" \
         -chardev "socket,id=chrtpm,path=$run/ctrl" -tpmdev emulator,id=tpm0,chardev=chrtpm \
         -device tpm-tis,tpmdev=tpm0 -kernel "$KERNEL" -initrd "$folder/initramfs" \
@@ -201,7 +201,7 @@ monitor() {
 
 # told TEXT TIMES: waits until the guest has told a text so often.
 told() {
-    for _ in $(seq 600); do
+    for _ in $(seq 3000); do
         times=$(grep -c "RESULT $1" "$run/serial" 2>/dev/null)
         [ "${times:-0}" -lt "$2" ] || return 0
         kill -0 "$qemu" 2>/dev/null || break

@@ -26,7 +26,7 @@ result() {
 tool() {
     label=$1
     shift
-    if timeout 60 tpm2 "$@" >output 2>error </dev/null; then
+    if timeout 300 tpm2 "$@" >output 2>error </dev/null; then
         result ok "$label"
     else
         result FAILED "$label: $(tail -n 1 error)"

@@ -1,6 +1,6 @@
 #!/usr/bin/env python3
 """Boots loaders with QEMU on a tpmsim under swtpm, and on swtpm with its own libtpms: each extends the
-same PCRs by the same digests on both, and every extend is answered by success.
+same PCRs by the same digests of SHA-1 and SHA-256 on both, and every extend is answered by success.
 
     tools/interop/loaders.py ATTACHED [LOADER..]
 
@@ -24,6 +24,8 @@ from dataclasses import dataclass, field
 
 SECONDS = 300
 PCR_EXTEND, SUCCESS, HEAD_BYTES = bytes.fromhex("00000182"), bytes(4), 10
+DIGEST_BYTES = {0x0004: 20, 0x000B: 32, 0x000C: 48, 0x000D: 64}
+SHARED_BANKS = (0x0004, 0x000B)
 
 ARM = "qemu-system-aarch64 -machine virt -cpu cortex-a57 -m 512 -display none -nodefaults -serial stdio"
 PC = "qemu-system-x86_64 -machine q35 -m 256 -display none -nodefaults -serial stdio"
@@ -140,8 +142,24 @@ def spoken_with(machine: subprocess.Popen[bytes], loader: Loader) -> Boot:
     return boot
 
 
+def shared_part(command: bytes) -> str:
+    """The PCR that a PCR_Extend names, and its digests by SHA-1 and SHA-256, in hex. swtpm's own libtpms
+    has banks of SHA-384 and SHA-512 too."""
+    pcr = command[HEAD_BYTES : HEAD_BYTES + 4]
+    at = HEAD_BYTES + 8 + int.from_bytes(command[HEAD_BYTES + 4 : HEAD_BYTES + 8]) + 4
+    words = [pcr.hex()]
+    while at < len(command):
+        bank = int.from_bytes(command[at : at + 2])
+        digest = command[at + 2 : at + 2 + DIGEST_BYTES[bank]]
+        if bank in SHARED_BANKS:
+            words.append(f"{bank:04x}:{digest.hex()}")
+        at += 2 + DIGEST_BYTES[bank]
+    return " ".join(words)
+
+
 def extends_of(log: str) -> list[tuple[str, str]]:
-    """Each PCR_Extend of a log of swtpm at level 20, with the code of its response, in hex."""
+    """The shared part of each PCR_Extend of a log of swtpm at level 20, with the code of its response, in
+    hex."""
     form = r"SWTPM_IO_(Read|Write): length \d+\s*\n((?:\s*(?:[0-9A-F]{2} ?)+\s*\n)+)"
     extends, last = [], b""
     for kind, text in re.findall(form, log):
@@ -149,7 +167,7 @@ def extends_of(log: str) -> list[tuple[str, str]]:
         if kind == "Read":
             last = buffer
         elif last[6:HEAD_BYTES] == PCR_EXTEND:
-            extends.append((last[HEAD_BYTES:].hex(), buffer[6:HEAD_BYTES].hex()))
+            extends.append((shared_part(last), buffer[6:HEAD_BYTES].hex()))
     return extends
 
 

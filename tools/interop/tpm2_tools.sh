@@ -83,6 +83,11 @@ said() {
     grep -q -- "$1" output || wrong "it does not say $1"
 }
 
+# loaded: prints the handle of the transient object that is loaded, where there is one.
+loaded() {
+    tpm2 getcap handles-transient 2>error | sed -n 's/^- //p'
+}
+
 # PCR 10 after an extend by a digest of zeros that ends with 1, as hashlib has it.
 extended=$(python3 -c 'import hashlib; print(hashlib.sha256(bytes(63) + b"\1").hexdigest())')
 
@@ -143,6 +148,7 @@ indices() {
 
 # A key that is sealed to PCR 10, under persistent handles. Without the completing layer the tool
 # that loads it loads it, and then fails to save its context; the object is there under its handle.
+# The layer keeps the place of an object that was flushed and has a context, so handles are asked for.
 sealing() {
     tool createprimary -C o -G aes128cfb -g sha256
     tool evictcontrol -C o -c 0x80000000 0x81000001
@@ -152,13 +158,13 @@ sealing() {
     tool create -C 0x81000001 -i key -u key.pub -r key.priv -L policy -g sha256 \
         -a 'fixedtpm|fixedparent'
     run load -C 0x81000001 -u key.pub -r key.priv -c context
-    tool evictcontrol -C o -c 0x80000000 0x81000002
+    tool evictcontrol -C o -c "$(loaded)" 0x81000002
     tool flushcontext -t
     tool unseal -c 0x81000002 -p pcr:sha256:10
     same key
     tool create -C 0x81000001 -G hmac -u hmac.pub -r hmac.priv
     run load -C 0x81000001 -u hmac.pub -r hmac.priv -c context
-    tool evictcontrol -C o -c 0x80000000 0x81000003
+    tool evictcontrol -C o -c "$(loaded)" 0x81000003
     tool flushcontext -t
     tool hmac -c 0x81000003 --hex event
     tool pcrextend "10:sha256=$one"
