@@ -24,7 +24,7 @@
    - No pointer is NULL, not even with a size of 0. What a pointer leads to has the bytes that are
      said here, lies there during the call alone, and does not overlap what another one leads to,
      nor the handle.
-   - There are 64 KB of stack for each call, and 128 KB for tpmsim_journal_open.
+   - There are 64 KB of stack for each call.
    - malloc, realloc and free are the C library's, or others that keep its promises, of one
      allocator. A device takes some 45 KB, once. No call is made from a signal handler, nor
      in a forked child of a process with threads.
@@ -74,9 +74,7 @@ enum tpmsim_told {
        was taken otherwise than it says. */
     TPMSIM_NO_JOURNAL = 10,
     TPMSIM_DAMAGED = 11,
-    TPMSIM_OTHERWISE = 12,
-    /* A completing layer was asked for, which this library does not have. */
-    TPMSIM_NO_COMPLETION = 13
+    TPMSIM_OTHERWISE = 12
 };
 
 /* Enough for each record of a journal. */
@@ -162,10 +160,16 @@ uint8_t tpmsim_journal_follow(tpmsim *device, const uint8_t *text, size_t size, 
 
 /* Executes a command as tpmsim_execute does, by the host's clock in milliseconds, and writes its
    record, which the caller adds to the journal before it gives the response out. A buffer of more
-   than 4,097 bytes is cut to as many, which are refused alike. `completes` is 0: anything else asks
-   for a completing layer.
+   than 4,097 bytes is cut to as many, which are refused alike.
 
-   TPMSIM_DONE, TPMSIM_NO_COMPLETION, TPMSIM_NO_LOCALITY, TPMSIM_NO_DEVICE. */
+   Where `completes` is not 0, the completing layer stands above the device for this command, and the
+   record says so. The device is asked first. The layer answers what the device by design does not:
+   TPM2_ContextSave, TPM2_ContextLoad, TPM2_StirRandom, more of TPM2_GetCapability, and the command by
+   which firmware looks for a TPM 1.2; and it makes room for a ninth object where one of the eight can
+   be loaded again. `code` and `check` are the device's own. What the layer remembers is the
+   journal's: it begins anew with each head.
+
+   TPMSIM_DONE, TPMSIM_NO_LOCALITY, TPMSIM_NO_DEVICE. */
 uint8_t tpmsim_journal_execute(tpmsim *device, const uint8_t *buffer, size_t size,
                                uint8_t locality, uint64_t now_ms, uint8_t completes,
                                const uint8_t random[256], uint8_t response[4096],
