@@ -112,7 +112,19 @@ int fsync(int file) {
     return NEXT(int (*)(int), "fsync")(file);
 }
 
-/* The two below stand in the program, which does not call them. */
+/* The four below are called for a device in a folder, which no run of these tests has. */
+ssize_t pread(int file, void *bytes, size_t size, off_t place) {
+    ssize_t left = left_of("pread", file, size);
+    return left < 0
+        ? -1 : NEXT(ssize_t (*)(int, void *, size_t, off_t), "pread")(file, bytes, left, place);
+}
+
+ssize_t pwrite(int file, const void *bytes, size_t size, off_t place) {
+    ssize_t left = left_of("pwrite", file, size);
+    return left < 0
+        ? -1 : NEXT(ssize_t (*)(int, const void *, size_t, off_t), "pwrite")(file, bytes, left, place);
+}
+
 int fdatasync(int file) {
     char room[256];
     if (fails("fdatasync", name_of(file, room, sizeof room))) return -1;

@@ -37,7 +37,7 @@ A_WHILE = 0.3
 # The calls that reach files, sockets and the clock in other ways than the shim knows.
 OTHERS = (
     "accept clock_nanosleep creat dup dup2 fopen fstat lseek lstat mmap open64"
-    " openat openat64 poll pread pread64 pwrite pwrite64 readv recvfrom recvmsg renameat renameat2"
+    " openat openat64 poll pread64 pwrite64 readv recvfrom recvmsg renameat renameat2"
     " sendfile sendmsg sendto shutdown splice stat sync unlinkat writev"
 ).split()
 
