@@ -1,4 +1,4 @@
-/* The image that is kept, beside that of the device as it is. docs/table/image.md has the layout. */
+/* What the device keeps without power, as it was when it was stored last. */
 #include "permanent.h"
 
 #include "callbacks.h"
@@ -7,54 +7,29 @@
 #include <libtpms/tpm_nvfilename.h>
 #include <string.h>
 
-/* An image has at most 28,361 bytes. */
-enum { IMAGE_MOST = 32 * 1024, HEAD_BYTES = 16, CLOCK_BYTES = 8, DIGEST_BYTES = 32 };
-/* Each hierarchy's seed and proof; whether TPM2_Clear is disabled, four numbers of the lockout, and whether
-   lockoutAuth is closed. */
-enum { HIERARCHIES = 4, SECRET_BYTES = 64, LOCKOUT_BYTES = 1 + 4 * 4 + 1 };
+/* An image has at most 28,361 bytes, and what is kept without Clock has fewer. */
+enum { IMAGE_MOST = 32 * 1024 };
 
-struct image {
+struct text {
     size_t size;
     uint8_t bytes[IMAGE_MOST];
 };
 
-static struct image kept, present;
+static struct text kept, present;
 
-static void save(tpmsim *device, struct image *image) {
-    image->size = tpmsim_save(device, image->bytes, IMAGE_MOST);
-}
+static void take(tpmsim *device, struct text *text) { text->size = tpmsim_kept(device, text->bytes, IMAGE_MOST); }
 
-/* Where the number behind a sized buffer begins. */
-static size_t behind_buffer(const struct image *image, size_t place) {
-    return place + 2 + (size_t)(image->bytes[place] << 8 | image->bytes[place + 1]);
-}
-
-/* Where Clock stands: behind the hierarchies, lockoutAuth, and what is told of Clear and the lockout. */
-static size_t clock_place(const struct image *image) {
-    size_t place = HEAD_BYTES;
-    for (int i = 0; i < HIERARCHIES; i++) place = behind_buffer(image, place) + SECRET_BYTES;
-    return behind_buffer(image, place) + LOCKOUT_BYTES;
-}
-
-/* Whether two images that a save wrote are the same, but for Clock and the digest. */
-static bool are_alike(const struct image *one, const struct image *other) {
-    if (one->size != other->size) return false;
-    size_t clock = clock_place(one), rest = clock + CLOCK_BYTES;
-    return memcmp(one->bytes, other->bytes, clock) == 0 &&
-           memcmp(one->bytes + rest, other->bytes + rest, one->size - DIGEST_BYTES - rest) == 0;
-}
-
-void take_as_permanent(tpmsim *device) { save(device, &kept); }
+void take_as_permanent(tpmsim *device) { take(device, &kept); }
 
 bool is_permanent(tpmsim *device) {
-    save(device, &present);
-    return are_alike(&present, &kept);
+    take(device, &present);
+    return present.size == kept.size && memcmp(present.bytes, kept.bytes, kept.size) == 0;
 }
 
 bool store_permanent(tpmsim *device) {
-    save(device, &present);
+    present.size = tpmsim_save(device, present.bytes, IMAGE_MOST);
     if (!store_state(TPM_PERMANENT_ALL_NAME, present.bytes, present.size)) return false;
-    memcpy(&kept, &present, sizeof kept);
+    take(device, &kept);
     return true;
 }
 

@@ -5,6 +5,7 @@
 
 enum { CLOCK = 1000, WAITED = 250, OBJECTS = 8, CONTEXT_BYTES = 38 };
 
+static const uint8_t OF_FAMILY_1[] = {0, 0xc1, 0, 0, 0, 12, 0, 0, 0, 0x99, 0, 1};
 static const uint8_t STIR[] = {0x80, 1, 0, 0, 0, 14, 0, 0, 1, 0x46, 0, 2, 1, 2};
 static const uint8_t START_SESSION[] = {
     0x80, 1, 0, 0, 0, 43, 0, 0, 1, 0x76, 0x40, 0, 0, 7, 0x40, 0, 0, 7, 0, 16, 0, 0,
@@ -12,6 +13,7 @@ static const uint8_t START_SESSION[] = {
 static const uint8_t SAVE_SESSION[] = {0x80, 1, 0, 0, 0, 14, 0, 0, 1, 0x62, 2, 0, 0, 0};
 static const uint8_t SAVE_OBJECT[] = {0x80, 1, 0, 0, 0, 14, 0, 0, 1, 0x62, 0x80, 0, 0, 0};
 static const uint8_t FLUSH_OBJECT[] = {0x80, 1, 0, 0, 0, 14, 0, 0, 1, 0x65, 0x80, 0, 0, 0};
+static const uint8_t FLUSH_SESSION[] = {0x80, 1, 0, 0, 0, 14, 0, 0, 1, 0x65, 2, 0, 0, 0};
 static const uint8_t CREATE_PRIMARY[] = {
     0x80, 2, 0, 0, 0, 59, 0, 0, 1, 0x31, 0x40, 0, 0, 1, 0,    0, 0, 9, 0x40, 0,
     0,    9, 0, 0, 1, 0,  0, 0, 4, 0,    0,    0, 0, 0, 0x12, 0, 0x25, 0, 11, 0,
@@ -44,9 +46,39 @@ static void execute(const char *name, uint8_t completes, const uint8_t *buffer, 
     printf("%s: %03x, %zu drawn\n", name, (unsigned)code_of(response), answered.drawn);
 }
 
+/* Asks for at most five of a capability, from this property on: what is told behind the response's
+ * header and moreData, in hex. */
+static void list(const char *name, uint8_t completes, uint32_t capability, uint32_t property) {
+    uint8_t command[] = {0x80, 1, 0, 0, 0, 22, 0, 0, 1, 0x7a, 0, 0, 0, 0, 0, 0, 0, 0, 0, 0, 0, 5};
+    for (int i = 0; i < 4; i++) {
+        command[10 + i] = (uint8_t)(capability >> (24 - 8 * i));
+        command[14 + i] = (uint8_t)(property >> (24 - 8 * i));
+    }
+    execute(name, completes, command, sizeof command);
+    if (code_of(response) != 0) return;
+    printf("  more %u: ", response[10]);
+    put_hex(response + 11, (size_t)(response[4] << 8 | response[5]) - 11);
+    putchar('\n');
+}
+
+/* What is listed of capabilities: those of the device, and those that are the layer's own. */
+static void list_capabilities(void) {
+    list("commands from ContextLoad on", 1, 2, 0x161);
+    list("commands from StirRandom on, without the layer", 0, 2, 0x146);
+    list("commands from StirRandom on", 1, 2, 0x146);
+    list("properties from TPM_PT_PCR_COUNT on", 1, 6, 0x112);
+    list("properties from TPM_PT_TOTAL_COMMANDS on", 1, 6, 0x129);
+    list("properties from TPM_PT_TOTAL_COMMANDS on, without the layer", 0, 6, 0x129);
+    list("algorithms from CFB on", 1, 0, 0x43);
+    list("algorithms, without the layer", 0, 0, 0);
+}
+
 static void save(const char *name, const uint8_t *buffer, size_t size) {
     execute(name, 1, buffer, size);
     memcpy(context, response + 10, sizeof context);
+    printf("  ");
+    put_hex(context, sizeof context);
+    putchar('\n');
 }
 
 static void load(const char *name) {
@@ -66,11 +98,33 @@ static void open_other(void) {
     other = before;
 }
 
+/* A session that is saved is listed as that, and cannot be saved again. */
+static void save_session(void) {
+    execute("a session", 1, START_SESSION, sizeof START_SESSION);
+    save("its context", SAVE_SESSION, sizeof SAVE_SESSION);
+    execute("saved twice", 1, SAVE_SESSION, sizeof SAVE_SESSION);
+    list("sessions that are loaded", 1, 1, 0x02000000);
+    list("sessions that are saved", 1, 1, 0x03000000);
+    open_other();
+    load("the session loaded");
+    load("loaded twice");
+    list("sessions that are loaded", 1, 1, 0x02000000);
+    execute("its flush", 1, FLUSH_SESSION, sizeof FLUSH_SESSION);
+    execute("its context once more", 1, SAVE_SESSION, sizeof SAVE_SESSION);
+}
+
 static void create_ninth(void) {
+    execute("the context of no object", 1, SAVE_OBJECT, sizeof SAVE_OBJECT);
     for (int place = 0; place < OBJECTS; place++)
         execute("an object", 1, CREATE_PRIMARY, sizeof CREATE_PRIMARY);
     execute("one more, where none waits", 1, CREATE_PRIMARY, sizeof CREATE_PRIMARY);
     save("its context", SAVE_OBJECT, sizeof SAVE_OBJECT);
+    execute("its flush", 1, FLUSH_OBJECT, sizeof FLUSH_OBJECT);
+    list("objects", 1, 1, 0x80000000);
+    execute("its context once more", 1, SAVE_OBJECT, sizeof SAVE_OBJECT);
+    execute("flushed twice", 1, FLUSH_OBJECT, sizeof FLUSH_OBJECT);
+    load("loaded");
+    list("objects", 1, 1, 0x80000000);
     execute("its flush", 1, FLUSH_OBJECT, sizeof FLUSH_OBJECT);
     execute("one more without the layer", 0, CREATE_PRIMARY, sizeof CREATE_PRIMARY);
     execute("one more, where one waits", 1, CREATE_PRIMARY, sizeof CREATE_PRIMARY);
@@ -94,11 +148,10 @@ int main(void) {
     execute("startup", 1, STARTUP, sizeof STARTUP);
     execute("stir without the layer", 0, STIR, sizeof STIR);
     execute("stir", 1, STIR, sizeof STIR);
-    execute("a session", 1, START_SESSION, sizeof START_SESSION);
-    save("its context", SAVE_SESSION, sizeof SAVE_SESSION);
-    open_other();
-    load("the session loaded");
-    load("loaded twice");
+    execute("a command of TPM 1.2 without the layer", 0, OF_FAMILY_1, sizeof OF_FAMILY_1);
+    execute("a command of TPM 1.2", 1, OF_FAMILY_1, sizeof OF_FAMILY_1);
+    list_capabilities();
+    save_session();
     create_ninth();
     open_other();
     turn_flag();

@@ -24,8 +24,12 @@ void *__wrap_realloc(void *memory, size_t size) {
 
 static uint8_t random_bytes[RANDOM_BYTES], response[RESPONSE_BYTES];
 
+/* TPM2_HierarchyChangeAuth of the owner by an empty password, to a byte. */
+static const uint8_t CHANGE_AUTH[] = {0x80, 0x02, 0, 0, 0, 30,   0, 0, 0x01, 0x29, 0x40, 0, 0, 1, 0,
+                                      0,    0,    9, 0x40, 0, 0, 9, 0, 0,    0,    0,    0, 0, 1, 'a'};
+
 /* The room for images, and two images: that of the device before a call and behind it. */
-enum { ROOM = 4096 };
+enum { ROOM = 4096, HEAD_BYTES = 10, DIGEST_BYTES = 32 };
 static uint8_t image[ROOM], before[ROOM], behind[ROOM];
 
 /* The image of the tests' device, from its head on, and how many bytes it has. */
@@ -67,7 +71,8 @@ static void without_a_device(void) {
     printf("no device: execute %u, ", refused_command(&none, 0));
     printf("power_cycle %u, ", tpmsim_power_cycle(&none));
     printf("save %zu, ", tpmsim_save(&none, image, ROOM));
-    must(is_filled(image, ROOM), "an image is written");
+    printf("kept %zu, ", tpmsim_kept(&none, image, ROOM));
+    must(is_filled(image, ROOM), "something is written");
     tpmsim_free(&none);
     must(none.private_ == NULL, "the holder has a device");
     puts("free; nothing is written, and there is none");
@@ -96,22 +101,58 @@ static void of_buffers(struct tpmsim *device) {
     free(buffer);
 }
 
-static void of_rooms(struct tpmsim *device) {
+/* What a call writes that tells how large its text is, in rooms of some sizes. */
+static void in_rooms(struct tpmsim *device, const char *label,
+                     size_t (*written)(struct tpmsim *, uint8_t *, size_t)) {
+    size_t wanted = written(device, image, 0);
     for (int more = -1; more <= 1; more++) {
-        size_t room = more < 0 ? image_size - 1 : image_size + (size_t)more;
+        size_t room = more < 0 ? wanted - 1 : wanted + (size_t)more;
         memset(image, FILLED, ROOM);
-        size_t size = tpmsim_save(device, image, room);
-        must(size == image_size, "the image has another size");
+        size_t size = written(device, image, room);
+        must(size == wanted, "the text has another size");
         must(is_filled(image + (room < size ? 0 : size), ROOM - (room < size ? 0 : size)),
-             "something is written that is no part of the image");
-        printf("save where the room is %s: the image's size, and %s\n",
+             "something is written that is no part of the text");
+        printf("%s where the room is %s: its size, and %s\n", label,
                more < 0 ? "one byte too small"
                : more   ? "one byte larger"
                         : "exact",
-               is_filled(image, size) ? "nothing is written" : "the image is written");
+               is_filled(image, size) ? "nothing is written" : "it is written");
     }
+}
+
+static void of_rooms(struct tpmsim *device) {
     printf("save in no room: %s\n",
            tpmsim_save(device, image, 0) == image_size ? "the image's size" : "WRONG");
+    in_rooms(device, "save", tpmsim_save);
+    in_rooms(device, "kept", tpmsim_kept);
+}
+
+/* How many bytes of the text are others than those of the image between its head and its digest. */
+static size_t others_than_in_image(const uint8_t *text, size_t size) {
+    size_t others = 0;
+    for (size_t i = 0; i < size; i++) others += text[i] != image[HEAD_BYTES + i];
+    return others;
+}
+
+/* What is kept is the image without its head, its digest and Clock: time does not change it. */
+static void of_what_is_kept(struct tpmsim *device) {
+    size_t size = tpmsim_kept(device, before, ROOM);
+    must(tpmsim_save(device, image, ROOM) == HEAD_BYTES + size + DIGEST_BYTES, "another size");
+    printf("kept: %zu bytes of the image are others\n", others_than_in_image(before, size));
+    must(tpmsim_execute(device, GET_RANDOM, sizeof GET_RANDOM, 0, 0x01010101, random_bytes, response,
+                        &(struct tpmsim_answered){0}) == TPMSIM_DONE,
+         "a command is not executed");
+    tpmsim_save(device, image, ROOM);
+    size_t others = others_than_in_image(before, size);
+    tpmsim_kept(device, behind, ROOM);
+    printf("kept, time later: %zu bytes of the image are others, and it is %s\n", others,
+           memcmp(before, behind, size) == 0 ? "the same" : "another");
+    must(tpmsim_execute(device, CHANGE_AUTH, sizeof CHANGE_AUTH, 0, 0, random_bytes, response,
+                        &(struct tpmsim_answered){0}) == TPMSIM_DONE &&
+             code_of(response) == 0,
+         "TPM2_HierarchyChangeAuth is refused");
+    size_t longer = tpmsim_kept(device, behind, ROOM);
+    printf("kept, behind TPM2_HierarchyChangeAuth to a byte: %zu bytes more\n", longer - size);
 }
 
 /* Opens the image from a copy of this size, in which a byte is changed. */
@@ -163,8 +204,9 @@ static void of_memory(struct tpmsim *device) {
     asked = 0;
     answered_by(device, GET_RANDOM, sizeof GET_RANDOM, response);
     tpmsim_save(device, image, ROOM);
+    tpmsim_kept(device, image, ROOM);
     tpmsim_power_cycle(device);
-    printf("execute, save and power_cycle: they take memory %u times\n", asked);
+    printf("execute, save, kept and power_cycle: they take memory %u times\n", asked);
     starve(device, "manufacture", 0);
     starve(device, "open", 1);
 }
@@ -184,6 +226,8 @@ int main(int count, char **words) {
     of_rooms(&device);
     of_images(&device, words[1]);
     of_memory(&device);
+    start_new(&device, 0);
+    of_what_is_kept(&device);
     tpmsim_free(&device);
     tpmsim_free(&device);
     printf("freed twice: execute %u\n", refused_command(&device, 0));

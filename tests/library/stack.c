@@ -10,9 +10,9 @@
 #include <sys/mman.h>
 
 enum { STACK_BYTES = 512 * 1024, BLOCK_BYTES = 1024 };
-enum call { NOTHING, MANUFACTURE, EXECUTE, POWER_CYCLE, SAVE, OPEN, FREE, CALLS };
+enum call { NOTHING, MANUFACTURE, EXECUTE, POWER_CYCLE, SAVE, KEPT, OPEN, FREE, CALLS };
 static const char *const NAMES[CALLS] = {"nothing", "manufacture", "execute", "power_cycle",
-                                         "save",    "open",        "free"};
+                                         "save",    "kept",        "open",    "free"};
 
 /* What the thread calls, and the most that each call took so far. */
 static struct tpmsim device;
@@ -32,6 +32,7 @@ static void *called(void *place) {
         break;
     case POWER_CYCLE: tpmsim_power_cycle(&device); break;
     case SAVE: image_size = tpmsim_save(&device, image, image_size); break;
+    case KEPT: tpmsim_kept(&device, image, image_size); break;
     case OPEN: tpmsim_open(&device, image, image_size); break;
     case FREE: tpmsim_free(&device); break;
     default: break;
@@ -89,6 +90,7 @@ static void save_and_open(void) {
     image_size = tpmsim_save(&device, response, 0);
     image = taken(image_size);
     run(SAVE);
+    run(KEPT);
     run(OPEN);
     run(FREE);
     free(image);

@@ -75,9 +75,9 @@ pub fn save_into<K: Keep>(machine: &Machine<K>, room: &mut [u8]) -> usize
     put_front(head.as_slice(), text.as_slice(), room)
 }
 
-/// Writes the head of an image, and the text after it, to the front of a room that has as many
-/// bytes. Gives how many bytes they have.
-fn put_front(head: &[u8], text: &[u8], room: &mut [u8]) -> usize
+/// Writes a head, and the text after it, to the front of a room that has as many bytes. Gives how
+/// many bytes they have.
+pub(crate) fn put_front(head: &[u8], text: &[u8], room: &mut [u8]) -> usize
     requires { length head.now + length text.now < 2 ^ 32 }
     ensures { PutsFront (head.now ++ text.now) room.old result room.new }
 {

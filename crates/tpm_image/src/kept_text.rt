@@ -4,10 +4,12 @@
 ghost use Rattle.std.specs.Prelude.{◌≡◌, List, [], not, ℕ};
 ghost use Rattle.std.specs.Str.{bytes_eq};
 ghost use Rattle.tpm_image.specs.KeptText.{kept_text};
+ghost use Rattle.tpm_image.specs.Saving.{PutsFront};
 ghost use Rattle.tpm_machine.specs.State.{state_of};
 
 use crate::body::write_body_at;
 use crate::fields::Text;
+use crate::image::put_front;
 use std::marker::Model;
 use tpm_machine::Machine;
 use tpm_record::Keep;
@@ -44,4 +46,15 @@ impl KeptText {
         self.text = text;
         is_another
     }
+}
+
+/// Writes the text of what a device keeps, without its clock, to the front of a room that has as
+/// many bytes. Gives how many bytes the text has, also where there is no room for it and nothing is
+/// written.
+pub fn kept_into<K: Keep>(machine: &Machine<K>, room: &mut [u8]) -> usize
+    ensures { PutsFront (kept_text (state_of K.record_of machine.now)) room.old result room.new }
+{
+    let mut text = Text::new();
+    write_body_at(machine.keep(), 0, &mut text);
+    put_front(&[], text.as_slice(), room)
 }

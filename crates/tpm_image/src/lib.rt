@@ -31,5 +31,5 @@ pub mod version;
 
 pub use fault::{ImageFault, SaveFault};
 pub use image::{fault_of, open, open_into, save, save_into};
-pub use kept_text::KeptText;
+pub use kept_text::{KeptText, kept_into};
 pub use version::Version;

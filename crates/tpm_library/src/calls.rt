@@ -8,6 +8,7 @@ ghost use Rattle.std.specs.declared.result.Result.{Result};
 ghost use Rattle.tpm_history.specs.Follows.{After, Follows};
 ghost use Rattle.tpm_history.specs.History.{History, PowerCycled};
 ghost use Rattle.tpm_image.specs.Image.{IsImage, image_text};
+ghost use Rattle.tpm_image.specs.KeptText.{kept_text};
 ghost use Rattle.tpm_image.specs.NonVolatile.{kept_of};
 ghost use Rattle.tpm_image.specs.Opening.{Opens};
 ghost use Rattle.tpm_image.specs.Saving.{PutsFront};
@@ -122,6 +123,22 @@ pub fn save(alloc: Global, holder: &mut Holder, room: &mut [u8]) -> usize
         return 0;
     };
     let size = device.save_into(room);
+    holder.put(device);
+    size
+}
+
+/// Writes what the device keeps without power, but for its clock, to the front of a room that has as
+/// many bytes. Gives how many bytes that has, also where there is no room for it and nothing is
+/// written; 0 where there is no device.
+pub fn kept(alloc: Global, holder: &mut Holder, room: &mut [u8]) -> usize
+    ensures told { MatchOption holder.old.device ((result ≡ 0) × (room.new ≡ room.old))
+        (λ device. PutsFront (kept_text (record_of device)) room.old result room.new) }
+    ensures kept { holder.new.device ≡ holder.old.device }
+{
+    let Some(device) = holder.take(alloc) else {
+        return 0;
+    };
+    let size = device.kept_into(room);
     holder.put(device);
     size
 }

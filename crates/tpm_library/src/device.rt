@@ -5,6 +5,7 @@ ghost use Rattle.std.specs.Prelude.{replicate, take, true};
 ghost use Rattle.tpm_history.specs.Follows.{After, Follows};
 ghost use Rattle.tpm_history.specs.History.{History, PowerCycled};
 ghost use Rattle.tpm_image.specs.Image.{IsImage, image_text};
+ghost use Rattle.tpm_image.specs.KeptText.{kept_text};
 ghost use Rattle.tpm_image.specs.NonVolatile.{kept_of};
 ghost use Rattle.tpm_image.specs.Opening.{Opens};
 ghost use Rattle.tpm_image.specs.Saving.{PutsFront};
@@ -23,7 +24,7 @@ ghost use Rattle.tpm_library.specs.Journal.{Records, command_by, image_at_power}
 ghost use Rattle.tpm_library.specs.State.{command_seen, cycle_seen, record_of};
 
 use std::alloc::Global;
-use tpm_image::{ImageFault, fault_of, open_into, save_into};
+use tpm_image::{ImageFault, fault_of, kept_into, open_into, save_into};
 use tpm_journal::opening::open;
 use tpm_journal::{Followed, Journal, OpenFault};
 use tpm_machine::Machine;
@@ -117,6 +118,14 @@ impl Device {
             room.new }
     {
         save_into(&self.machine, room)
+    }
+
+    /// Writes what the device keeps without power, but for its clock, to the front of a room that has
+    /// as many bytes. Gives how many bytes that has.
+    pub fn kept_into(&self, room: &mut [u8]) -> usize
+        ensures { PutsFront (kept_text (record_of self.now)) room.old result room.new }
+    {
+        kept_into(&self.machine, room)
     }
 
     /// Cycles the device's power, and writes the head of its new journal to the front of a room that

@@ -18,6 +18,6 @@ pub mod holder;
 pub mod journal;
 pub mod told;
 
-pub use calls::{execute, free, manufacture, open, power_cycle, save, version};
+pub use calls::{execute, free, kept, manufacture, open, power_cycle, save, version};
 pub use device::Answered;
 pub use holder::Holder;

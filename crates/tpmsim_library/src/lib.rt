@@ -12,6 +12,7 @@ ghost use Rattle.std.specs.declared.result.Result.{Result};
 ghost use Rattle.tpm_history.specs.Follows.{After, Follows};
 ghost use Rattle.tpm_history.specs.History.{History, PowerCycled};
 ghost use Rattle.tpm_image.specs.Image.{IsImage, image_text};
+ghost use Rattle.tpm_image.specs.KeptText.{kept_text};
 ghost use Rattle.tpm_image.specs.NonVolatile.{kept_of};
 ghost use Rattle.tpm_image.specs.Opening.{Opens};
 ghost use Rattle.tpm_image.specs.Saving.{PutsFront};
@@ -111,6 +112,17 @@ pub extern "C" fn tpmsim_save(alloc: Global, holder: &mut Holder, room: &mut [u8
     ensures kept { holder.new.device ≡ holder.old.device }
 {
     tpm_library::save(alloc, holder, room)
+}
+
+/// Writes what the device keeps without power, but for its clock, to a room, if that has as many
+/// bytes.
+#[unsafe(no_mangle)]
+pub extern "C" fn tpmsim_kept(alloc: Global, holder: &mut Holder, room: &mut [u8]) -> usize
+    ensures told { MatchOption holder.old.device ((result ≡ 0) × (room.new ≡ room.old))
+        (λ device. PutsFront (kept_text (record_of device)) room.old result room.new) }
+    ensures kept { holder.new.device ≡ holder.old.device }
+{
+    tpm_library::kept(alloc, holder, room)
 }
 
 /// Opens a device from its image, in place of the holder's own.
