@@ -1,17 +1,21 @@
 #![tactic(auto)]
 
-//! Tests of the device for what no clause says and no script under `tests/` shows: what `run`
-//! tells, counters near their largest values, and each call of objects once.
+//! Tests of the device and of its connections, for what no clause says and no script under `tests/`
+//! shows: what `run` tells, counters near their largest values, and connections that take turns.
 //!
-//! The crate uses `tpm_machine`, and no crate uses it.
+//! The crate uses `tpm_wire`, and no crate uses it.
 
 #[cfg(test)]
 mod comparison;
 #[cfg(test)]
+mod connections;
+#[cfg(test)]
 mod counters;
 #[cfg(test)]
-mod keeps;
+mod device;
 #[cfg(test)]
-mod objects;
+mod histories;
+#[cfg(test)]
+mod keeps;
 #[cfg(test)]
 mod runs;

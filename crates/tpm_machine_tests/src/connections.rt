@@ -1,13 +1,14 @@
 //! Connections that take turns.
 
 use super::comparison::check;
-use super::device::{STARTUP, answer, feed, mux, turn};
+use super::device::{STARTUP, answer, feed, host, mux, turn};
 use super::keeps::{Trial, run_over_both};
 use std::alloc::Global;
 use std::process::Abort;
 use std::test::Fail;
+use tpm_bytes::Tap;
 use tpm_record::Keep;
-use tpm_wire::{ConnectionNumber, Full, Mux, NoConnection, Turn};
+use tpm_wire::{ConnectionNumber, Full, Mux, NoConnection, ServeFault, Turn, serve};
 
 /// The buffers of TPM2_Startup, and of TPM2_GetRandom of one and of two bytes.
 const FIRST: &[u8] = &[
@@ -109,6 +110,13 @@ fn a_size_that_no_command_has_ends_a_connection(rt: HostRuntime) -> Result<(), F
     run_over_both::<WrongSizes, HostRuntime>(&rt, rt.alloc())
 }
 
+/// Serves a connection on which nothing comes.
+fn serve_nothing<K: Keep>(alloc: Global, mux: &mut Mux<K>) -> Result<u64, ServeFault> {
+    let mut reader = Tap::new(b"".as_slice());
+    let mut writer = Tap::new(Vec::new(alloc));
+    serve(mux, &mut reader, &mut writer, &mut || Ok(host()))
+}
+
 struct NinthConnection;
 
 impl Trial for NinthConnection {
@@ -119,6 +127,7 @@ impl Trial for NinthConnection {
             mux.open()?;
         }
         check(rt, mux.open(), Err(Full));
+        check(rt, serve_nothing(alloc, &mut mux), Err(ServeFault::Full));
         check(rt, mux.close(first), Ok(()));
         check(rt, turn(&mut mux, first).err(), Some(NoConnection));
         check(rt, mux.open(), Ok(first));
