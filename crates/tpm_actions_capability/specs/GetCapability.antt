@@ -53,7 +53,7 @@ handle_elements r kind =
     else (if kind == 0x81 then Ok (persistent_elements r)
     else Err (parameter_refusal action.Second 2 code.Handle)))))))
 
--- the number from which on handles are listed: of sessions it is a place
+-- the number from which on handles are listed; for sessions it is a place
 abbrev pub first_handle_of : ℕ → ℕ
 first_handle_of property = if property / 2 ^ 24 == 0x02 then property % 2 ^ 24 else property
 

@@ -33,7 +33,7 @@ checked_ok check (Err rc) y is = absurd cc
 -- ---- the walk over the entries
 
 module _ (r : Record) (c : Whole) (locality : ℕ) where
-  -- These grants are those of these entries, of which the first is in this place.
+  -- The grants are those of these entries, of which the first is in this place.
   record AreOf (first : ℕ) (es : List Entry) (given : List (Option Grant)) : Type 0 where
     as_many : length given ≡ length es
     each : (place i : ℕ) (e : Entry) (granted : Option Grant) → place ≡ first + i → slice_get es i ≡ Some e → slice_get given i ≡ Some granted → IsGranted r c locality place e granted

@@ -89,7 +89,7 @@ answer_alike : (c : Whole) (grants : List (Option Grant)) (a : Written) (effect 
 unfolding answer_to
 answer_alike c grants a effect random other same = rw same refl
 
--- What a success draws is the same: the bytes of its row, and those of the nonces behind them.
+-- What a success draws is the same: the bytes of its row, and those of the nonces after them.
 module _ (a : Accepted) (random other : List ℕ) (as_long : length other ≡ length random) where
   abbrev drawn : ℕ
   drawn = bytes_drawn random a.success.after a.command.entries (row_drawn a)
@@ -108,7 +108,7 @@ module _ (a : Accepted) (random other : List ℕ) (as_long : length other ≡ le
       rw (answer_alike a.command a.grants (written_of a.success.answer) a.success.after random other (nonces_alike same).after) refl
 
 module _ (r : Record) (random other : List ℕ) (as_long : length other ≡ length random) where
-  -- whether memory is refused, or not
+  -- a step is the same with other random bytes, whether memory is refused or not
   pub where_alike : (refused : Bool) (a b : Result Accepted RefusedCommand) → AcceptedAlike random other a b
       → take (drawn_by_command random a 0) other ≡ take (drawn_by_command random a 0) random
       → answer_where refused r other b ≡ answer_where refused r random a
@@ -120,7 +120,7 @@ module _ (r : Record) (random other : List ℕ) (as_long : length other ≡ leng
   where_alike false (Err e) b alike same = ap (answer_where false r other) alike
   where_alike true (Err e) b alike same = ap (answer_where true r other) alike
 
-  -- as many bytes are drawn
+  -- with other random bytes as many are drawn
   pub drawn_alike : (check : ℕ) (a b : Result Accepted RefusedCommand) → AcceptedAlike random other a b
       → take (drawn_by_command random a 0) other ≡ take (drawn_by_command random a 0) random
       → drawn_by_command other b check ≡ drawn_by_command random a check

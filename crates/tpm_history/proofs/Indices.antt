@@ -21,7 +21,7 @@ some_same x y is = cc
 pub some_none : {X : Type 0} (x : X) → (let none : Option X = None in none ≡ Some x) → ⊥
 some_none x is = cc
 
--- This holds of each index and its handle.
+-- A property holds of each index and its handle.
 abbrev pub EachIndex : (Handle → NvIndex → Type 0) → NvContents → Type 0
 EachIndex Is contents = (handle : Handle) (index : NvIndex) → index_at contents handle ≡ Some index → Is handle index
 

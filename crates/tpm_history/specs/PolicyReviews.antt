@@ -36,7 +36,7 @@ use Rattle.tpm_history.specs.View.{OfIndex, OfObject}
 
 -- ---- what is reviewed
 
--- This holds of each command that a device accepted since it was manufactured, by the history
+-- A property holds of each command that a device accepted since it was manufactured, by the history
 -- before the command.
 abbrev pub OfEachAccepted : (History → AcceptedCommand → Type 0) → Type 0
 OfEachAccepted Holds =

@@ -17,8 +17,8 @@ is_locked f = counts_tries f && nat_le f.max_tries f.failed_tries
 abbrev pub with_tries : ℕ → LockoutState → LockoutState
 with_tries tries s = record s { fields = record s.fields { failed_tries = tries } }
 
--- lockout after a failed try, which counts; the time after which one is forgiven begins anew, but
--- not while all is locked out
+-- lockout after a failed try that counts: the time after which one is forgiven begins anew, unless
+-- all is locked out
 unfoldable pub after_failure : LockoutState → LockoutState
 after_failure s =
     if counts_tries s.fields && not (is_locked s.fields)

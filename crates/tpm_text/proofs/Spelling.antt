@@ -58,7 +58,7 @@ octet_below piece octet e =
 
 -- ---- entries
 
--- This holds of an entry that was read, but for its sizes.
+-- An entry that was read has numbers that fit their fields, but for its sizes.
 abbrev Spells : Entry → Type 0
 Spells entry = (entry.session.number < 2 ^ 32) × (entry.attributes.octet < 2 ^ 8)
 

@@ -107,7 +107,7 @@ holds_back_behind held mid holds first more written (answered, last, are, also) 
   written_more held mid holds first answered written also,
 )
 
--- Where serving a part of what was read ended so, serving the whole did.
+-- Where serving a part of what was read ended in some way, serving the whole did too.
 pub ends_so : {F : Type 0} (g : Asking F) (held mid holds : Option (List ℕ)) (before after reader : Marks) (cut : Cutting) (asked at : F) (first more : List Execution) (asking : F) (left : Stream) (e : ServeFault) → cut ≡ cut_with (buffers_of (first ++ more)) left → AsksForEach g asked first at → Appends held mid (responses_of first) → Finishes g mid holds before after at more asking left (Err e) → Ends g held holds reader after cut asked (first ++ more) asking (Err e)
 ends_so g held mid holds before after reader cut asked at first more asking left fault.Write is asks written f =
     (are_first cut (buffers_of (first ++ more)) left is, f.1, asks_more g asked at asking first more asks f.0, loses_behind held mid holds first more written f.2)
@@ -139,7 +139,7 @@ unanswered g notes failed held mid holds before at after asked asking witness to
 unanswered g notes failed held mid holds before at after asked asking witness told new executions r left buffer host outcome stream fault.Read asks written noted delivers = absurd delivers
 unanswered g notes failed held mid holds before at after asked asking witness told new executions r left buffer host outcome stream fault.Host asks written noted delivers = absurd delivers
 
--- Where the notes of a part ended so, those of the whole did.
+-- Where the notes of a part ended in some way, those of the whole did too.
 pub notes_so : {S : Type 0} (notes : S → Execution → S → Type 0) (failed : S → Bool) (old mid new : S) (first more : List Execution) (e : ServeFault) → NotesEach notes old first mid → Notes notes failed mid more new (Err e) → Notes notes failed old (first ++ more) new (Err e)
 notes_so notes failed old mid new first more fault.Save told (others, last, are, at, also, fails) =
     (first ++ others, last, ap (λ (l : List Execution). first ++ l) are ∙ sym (append_assoc first others (last ∷ [])), at, notes_more notes old mid at first others told also, fails)

@@ -188,7 +188,8 @@ impl From<ArgumentFault> for Fault {
     }
 }
 
-/// The exit status of a fault of a kept device: 4 where its journal is none that the program takes.
+/// The exit status of a fault of a kept device: 4 where its journal is not one that the program
+/// takes.
 fn kept_status(fault: KeptFault) -> u8
     ensures { result ≡ (if is_of_contents fault.said then 4 else 3) }
 {

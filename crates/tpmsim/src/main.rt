@@ -6,10 +6,10 @@
 //! socket, `serve`. A device is kept in an image, or in a folder with its state, whose power `power`
 //! cycles, and of which `script` tells what happened.
 //!
-//! On standard output stands what was asked for: of `run` each response in hex on a line of its own,
-//! with `--trace` behind a line that traces the command; of `check` a line for each bad line. A run
-//! that fails says why in one line on standard error, and its exit status says of what kind that is
-//! ([`fault`]).
+//! Standard output has what was asked for: for `run` each response in hex on a line of its own,
+//! with `--trace` after a line that traces the command; for `check` a line for each bad line. A run
+//! that fails says why in one line on standard error, and its exit status says which kind of fault
+//! it is ([`fault`]).
 //!
 //! The program uses tpmsim_arguments for its words, tpmsim_script for scripts and tpmsim_check for
 //! their check, `tpm_text` and `tpm_line` for lines, `tpm_help` for what it tells of these,

@@ -94,7 +94,7 @@ saving_line name socket image entropy locality connections = name ∷ codes "ser
     ∷ (codes "--entropy=" ++ entropy) ∷ (codes "--locality=" ++ locality)
     ∷ (codes "--connections=" ++ connections) ∷ []
 
--- the command line of serve with --log=LOG behind the image
+-- the command line of serve with --log=LOG after the image
 abbrev pub logging_line : (name socket image log entropy locality connections : Text) → List Text
 logging_line name socket image log entropy locality connections = name ∷ codes "serve"
     ∷ (codes "--socket=" ++ socket) ∷ (codes "--image=" ++ image) ∷ (codes "--log=" ++ log)

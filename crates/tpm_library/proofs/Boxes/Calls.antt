@@ -1,4 +1,5 @@
--- The calls between the box of a device and the pointer to it: what each asks for, and what it gives.
+-- The calls between the box of a device and the pointer to it: what each requires, and what it
+-- gives.
 use mathlib.Core.List.{List, [], ◌∷◌}
 use mathlib.Core.Path.{◌≡◌, refl, ap, ◌∙◌}
 use mir.Syntax.{Args, Dict, Dicts, a_type, impl, tnil, tcons, dnil, dcons}
@@ -49,7 +50,7 @@ use Rattle.tpm_library.specs.Held.{held}
 use Rattle.tpm_library.specs.contracts.device.Device as device
 use Rattle.tpm_library.specs.declared.device.Device.{Device}
 
--- what drops a type that has nothing to free
+-- the drop of a type that has nothing to free
 abbrev pub plain_drop : RattleType → Dict
 plain_drop R = impl ("tpm_library::Destruct++none::drop" ∷ []) (tcons (layout R) tnil) dnil
 
@@ -64,7 +65,7 @@ BoxRow = box.the_row device.the_row global.the_row ghosts
 module _ {M : Type 1} {𝓤 : Ura M} (𝓛 : Logic 𝓤) where
   open 𝓛 use {H, A}
 
-  -- the two types of a call outlive 'static, which is alive for nothing
+  -- the two types of a call outlive 'static
   abbrev Alive : SProp 𝓤
   Alive = sep 𝓤 (A.lft [] full_share) (sep 𝓤 (A.lft [] full_share) (emp 𝓤))
 
