@@ -11,7 +11,7 @@ use Rattle.tpm_actions_capability.specs.declared.element.Telling.TheVariants as 
 abbrev pub by_itself : ℕ → Element
 by_itself number = record { number = number; told = number }
 
--- the list of an element, if that is there, and else the empty list
+-- the list of an element, if that is there, and otherwise the empty list
 abbrev pub if_there : Bool → Element → List Element
 if_there is_there e = if is_there then e ∷ [] else []
 

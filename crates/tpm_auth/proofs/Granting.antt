@@ -20,7 +20,8 @@ use Rattle.tpm_auth.specs.Grant.{authorize, authorized, grant, grants_pass}
 use Rattle.tpm_auth.specs.Granting.{IsGranted, IsGranting}
 use Rattle.tpm_auth.specs.declared.session_grant.Grant.{Grant}
 
--- what holds of each success after a step, whatever the step gave, holds of each success
+-- a property of each success after a step, whatever the step gave, is one of each success of the
+-- whole
 ok_bind_is : {A B E : Type 0} (Q : B → Type 0) (x : Result A E) (f : A → Result B E) → ((a : A) → x ≡ Ok a → IfOk (f a) Q) → IfOk (x >>= f) Q
 ok_bind_is Q (Ok a) f h = h a refl
 ok_bind_is Q (Err e) f h = tt

@@ -54,7 +54,7 @@ pub fn lockout_refusal(grant: Option<Grant>) -> Refused
     Refused::by(check_of(grant), ResponseCode::Lockout.anywhere())
 }
 
-/// The check by which the comparison of an entry fails: G9 with a grant, and else G10.
+/// The check by which the comparison of an entry fails: G9 with a grant, and otherwise G10.
 pub fn check_of(grant: Option<Grant>) -> Check
     ensures { result ≡ check_of grant }
 {

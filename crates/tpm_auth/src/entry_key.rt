@@ -100,7 +100,7 @@ fn nonce_of<'a, K: Keep>(keep: &'a K, entry: &AuthEntry) -> &'a [u8]
     }
 }
 
-/// The nonceTPM of the first entry that decrypts, or no byte.
+/// The nonceTPM of the first entry that decrypts; empty where none does.
 #[tactic(auto, unfolding(crate::specs::SessionGrant::nonce_where))]
 fn decrypting_nonce<'a, K: Keep>(keep: &'a K, entries: &[AuthEntry]) -> &'a [u8]
     ensures { result.now ≡ nonce_where (K.record_of keep.now) decrypts (map entry_of entries.now) }
@@ -112,7 +112,7 @@ fn decrypting_nonce<'a, K: Keep>(keep: &'a K, entries: &[AuthEntry]) -> &'a [u8]
     }
 }
 
-/// The nonceTPM of the first entry that encrypts and does not decrypt, or no byte.
+/// The nonceTPM of the first entry that encrypts and does not decrypt; empty where none does.
 #[tactic(auto, unfolding(crate::specs::SessionGrant::nonce_where))]
 fn encrypting_nonce<'a, K: Keep>(keep: &'a K, entries: &[AuthEntry]) -> &'a [u8]
     ensures { result.now

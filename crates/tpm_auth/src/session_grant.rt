@@ -194,7 +194,7 @@ fn demand_of<K: Keep>(
     }
 }
 
-/// The authorization value of the entity that an entry authorizes, or no byte.
+/// The authorization value of the entity that an entry authorizes; empty where there is none.
 pub fn granted_value<'a, K: Keep>(keep: &'a K, grant: Option<Grant>) -> &'a [u8]
     ensures value { result.now ≡ granted_value (K.record_of keep.now) grant }
     ensures fits { length result.now ≤ 32 }

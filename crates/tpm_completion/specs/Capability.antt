@@ -60,12 +60,14 @@ object_shown r c place = if (object_held c place).waits == 0 then object_element
 abbrev pub objects_shown : Record → Completion → List Element
 objects_shown r c = flat_map (object_shown r c) (numbers_below object_limit)
 
--- whether a session with this context (0 for none) is saved, where `saved` is true, or else loaded
+-- whether a session with this context number is in the state that `saved` says: saved (true), or
+-- loaded (false), where the number is 0
 abbrev pub is_in_state : (saved : Bool) → (context : ℕ) → Bool
 is_in_state true context = not (context == 0)
 is_in_state false context = context == 0
 
--- the handle of the session in a place, if it is saved, where `saved` is true, or else loaded
+-- the handle of the session in a place, if it is in the state that `saved` says: saved (true) or
+-- loaded (false)
 unfoldable pub session_shown : Record → Completion → (saved : Bool) → ℕ → List Element
 session_shown r c saved place =
     if is_in_state saved (session_context c place) then session_element r place else []

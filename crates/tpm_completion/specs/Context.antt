@@ -29,8 +29,8 @@ context_text start token =
     to_be_bytes w64 token.context ++ to_be_bytes w32 (saved_handle token.handle)
     ++ to_be_bytes w32 null_handle.number ++ sized_text (token_text start token.handle)
 
--- the token of a context's bytes: its number is in front, its handle 26 bytes further on, and the
--- bytes are those of the token's context
+-- the token of a context's bytes: its number is in front, its handle after another 26 bytes, and
+-- the bytes are those of the token's context
 unfoldable pub token_at : (start : ℕ) → List ℕ → Result Token Short
 token_at start text = do
   context ← number_at w64 text

@@ -180,15 +180,16 @@ fn objects<K: Keep>(layer: &Completion, keep: &K, elements: &mut Elements)
     }
 }
 
-/// Whether a session is saved, where `saved` is true, or else loaded; a session with context 0 is
-/// loaded.
+/// Whether a session with this context number is in the state that `saved` says: saved (true), or
+/// loaded (false), where the number is 0.
 fn is_in_state(saved: bool, context: u64) -> bool
     ensures { result ≡ is_in_state saved context }
 {
     if saved { context != 0 } else { context == 0 }
 }
 
-/// Lists the session in a place, if it is saved, where `saved` is true, or else loaded.
+/// Lists the session in a place, if it is in the state that `saved` says: saved (true) or loaded
+/// (false).
 #[tactic(auto, unfolding(crate::specs::Capability::session_shown))]
 fn session<K: Keep>(layer: &Completion, keep: &K, saved: bool, place: u32, elements: &mut Elements)
     requires place { place < session_limit }
@@ -206,7 +207,7 @@ fn session<K: Keep>(layer: &Completion, keep: &K, saved: bool, place: u32, eleme
     }
 }
 
-/// Lists the saved sessions, where `saved` is true, or else the loaded ones.
+/// Lists the sessions that are saved, where `saved` is true, or those that are loaded.
 #[tactic(auto, using(tpm_actions_capability::proofs::Listing::one_more))]
 fn sessions<K: Keep>(layer: &Completion, keep: &K, saved: bool, elements: &mut Elements)
     requires { elements.old.items ≡ [] }

@@ -12,13 +12,13 @@ Alike drawn moved random other (Ok a) y = take (drawn a) other ≡ take (drawn a
 Alike drawn moved random other (Err e) y = y ≡ Err e
 
 module _ {A B E : Type 0} (random other : List ℕ) where
-  -- a step that reads no random bytes keeps what acts alike
+  -- what acts alike still does after a step that reads no random bytes
   pub alike_after : (drawn : B → ℕ) (moved : B → B) (x : Result A E) (f g : A → Result B E)
       → ((a : A) → Alike drawn moved random other (f a) (g a)) → Alike drawn moved random other (x >>= f) (x >>= g)
   alike_after drawn moved (Ok a) f g alike = alike a
   alike_after drawn moved (Err e) f g alike = refl
 
-  -- a last step that keeps how many bytes are drawn keeps what acts alike
+  -- what acts alike still does before a last step that keeps how many bytes are drawn
   pub alike_before : (drawn : A → ℕ) (moved : A → A) (drawn' : B → ℕ) (moved' : B → B) (x y : Result A E) (f g : A → B)
       → ((a : A) → drawn' (f a) ≡ drawn a) → ((a : A) → g (moved a) ≡ moved' (f a))
       → Alike drawn moved random other x y → Alike drawn' moved' random other (x >>= λ a. Ok (f a)) (y >>= λ a. Ok (g a))

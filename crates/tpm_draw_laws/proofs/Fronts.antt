@@ -1,4 +1,4 @@
--- Two lists whose fronts are the same: what else is then the same of both.
+-- Two lists with the same fronts: what else is then the same in both.
 use Rattle.std.proofs.Common.{◌≡◌, ◌≤◌, ◌+◌, ◌-◌, ◌∙◌, ℕ, zero, suc, List, [], ◌∷◌, ◌++◌, length, take, drop, refl, sym, ap, arith, inl, inr}
 use Rattle.std.proofs.lemmas.Bool.{cases_lt}
 use Rattle.std.proofs.lemmas.List.{drop-take, length-drop, length-take-le, take-append-le}
@@ -36,9 +36,9 @@ pub front_kept : {X : Type 0} (n : ℕ) (xs others : List X) → n ≤ length xs
 front_kept n xs others le =
     take-append-le n (take n xs) others (omega (arith, length-take-le n xs le)) ∙ take_twice n n xs (omega arith)
 
--- Of two lists that are as long, the first `d` things are taken, and after them others, until `k`
--- are left. Where all that are taken are among the first `n`, and these are the same, so are the
--- first `d`, and those after them.
+-- Two lists of one length, of which the first `d` things are taken, and then others, until `k` are
+-- left. Where all of these are among the first `n`, on which the lists agree, the lists agree on
+-- the first `d` and on the others.
 pub record Behind (n d k : ℕ) (xs ys : List ℕ) : Type 0 where
   pub first : take d ys ≡ take d xs
   pub later : take (n - d) (drop d ys) ≡ take (n - d) (drop d xs)

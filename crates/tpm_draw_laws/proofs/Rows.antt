@@ -1,4 +1,5 @@
--- Five rows read the random bytes, each no more of their front than it says that it draws. The others read none.
+-- Five rows read the random bytes, each no more of their front than it says that it draws. The
+-- others read none.
 use Rattle.std.proofs.Common.{◌≡◌, ◌+◌, ℕ, List, None, Some, take, slice_set, Result, Ok, Err, refl, ap, arith}
 use Rattle.std.specs.Prelude.{min}
 use Rattle.std.specs.Int.{w16}
@@ -79,7 +80,7 @@ acts_same : (random other : List ℕ) (acts : Result Success Refused) → ActsAl
 acts_same random other (Ok s) = λ same. refl
 acts_same random other (Err e) = refl
 
--- a step that reads no random bytes keeps what acts alike
+-- what acts alike still does after a step that reads no random bytes
 after : {A : Type 0} (random other : List ℕ) (x : Result A Refused) (f g : A → Result Success Refused)
     → ((a : A) → ActsAlike random other (f a) (g a)) → ActsAlike random other (x >>= f) (x >>= g)
 after random other x f g alike = alike_after random other (λ s. s.answer.drawn) (λ s. s) x f g alike

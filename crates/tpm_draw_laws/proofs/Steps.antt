@@ -1,4 +1,5 @@
--- What acts alike with other random bytes is accepted alike, takes a like step, and draws as many bytes.
+-- What acts alike with other random bytes is accepted alike, takes a like step, and draws as many
+-- bytes.
 use Rattle.std.proofs.Common.{◌≡◌, ◌≤◌, ◌+◌, ◌-◌, ◌∙◌, ℕ, zero, suc, Bool, true, false, List, [], ◌∷◌, length, take, drop, Option, Result, Ok, Err, refl, ap, arith}
 use Rattle.std.proofs.lemmas.List.{length-drop}
 use Rattle.std.specs.Prelude.{if◌then◌else◌}
@@ -60,7 +61,8 @@ fewer_left r (e ∷ es) left =
     let later = fewer_left (entry_rolled r e left).after es (drop (draw_of r e) left) in
     omega (arith, later, length-drop (draw_of r e) left)
 
--- New nonces are the same where all bytes that are drawn for them are, and as many bytes are left then.
+-- New nonces are the same where all bytes that are drawn for them are, and as many bytes are left
+-- then.
 pub record RolledAlike (r : Record) (es : List Entry) (left other : List ℕ) : Type 0 where
   pub after : (entries_rolled r es other).after ≡ (entries_rolled r es left).after
   pub as_long : length (entries_rolled r es other).left ≡ length (entries_rolled r es left).left

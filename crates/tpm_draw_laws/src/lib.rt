@@ -1,7 +1,7 @@
 #![tactic(auto)]
 
 //! What a command does depends on its random bytes only through those that it draws, from their
-//! front: any others may stand after them. Who writes down the bytes that a command drew can
+//! front: any others may stand after them. Whoever writes down the bytes that a command drew can
 //! execute it again.
 //!
 //! Each law is the contract of a function that does nothing. The laws are about the definitions of

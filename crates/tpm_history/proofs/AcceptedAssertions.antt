@@ -138,7 +138,7 @@ module _ (r : Record) (c : AcceptedCommand) (history : History) (are : AreIndice
   abbrev q : Request
   q = c.request
 
-  -- Of an assertion that the device made of what it found, a history tells one that found the same.
+  -- A history tells an assertion that found the same as the one that the device made.
   abbrev Agrees : Code → (Session → Assertion) → Type 0
   Agrees code made =
       (s : Session) (told : Assertion) → assertion_by code c history s.hash s.nonce_tpm ≡ Ok told

@@ -96,7 +96,8 @@ same_run before old (one ∷ performances) after new layer mid leads answers =
           ∙ ap (λ (l : List ℕ). one.entry.answered ∷ l) next.2,
     )
 
--- a text that ends in less than an entry is followed to its end, where the device answers as it says
+-- a text that ends in less than an entry is followed to its end, where the device answers as it
+-- says
 ended : (fault : Option FollowFault) (sum : ℕ) (sums said : List ℕ) (more : List PlainEntry) (rest left : List ℕ)
     → AnswersAre fault sums said → sums ≡ said → EndsIn fault sum left → left ≡ entries_text sum more ++ rest
     → AllByRecursion IsEntry more → IsCutOff (sum_after_all sum more) rest → (fault ≡ None) × (more ≡ [])

@@ -11,7 +11,8 @@ use Rattle.tpm_journal_text.specs.Sum.{offset_basis, sum_from, sum_of}
 abbrev pub head_word : List ℕ
 head_word = codes "# tpmsim journal 1 "
 
--- the mark of a head, 20 bytes: the clock in milliseconds, how many bytes the image has, and its sum
+-- the mark of a head, 20 bytes: the clock in milliseconds, how many bytes the image has, and its
+-- sum
 unfoldable pub head_mark : (clock : ℕ) → (image : List ℕ) → List ℕ
 head_mark clock image =
     to_be_bytes w64 clock ++ (to_be_bytes w32 (length image) ++ to_be_bytes w64 (sum_of image))

@@ -1,4 +1,4 @@
--- What holds of the value in each place, after places change.
+-- What holds of the value in each place still does after places change.
 use Rattle.std.proofs.Common.{ℕ, zero, suc, Bool, true, false, cond, eqb, List, [], ◌∷◌, Option, Some, None, slice_set, is_some}
 use Rattle.std.specs.Prelude.{IfSome, option_and_then}
 use Rattle.std.specs.Option.{option_map_or}

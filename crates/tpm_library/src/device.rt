@@ -173,8 +173,8 @@ impl Device {
     }
 
     /// Executes a command by the host's clock, with the completing layer or without it, writes its
-    /// response to the front of a room, whose rest stays, and its entry to the front of another. Gives
-    /// how many bytes the entry has.
+    /// response to the front of a room, whose rest stays, and its entry to the front of another.
+    /// Gives how many bytes the entry has.
     pub fn execute_recorded(
         &mut self,
         buffer: &[u8],

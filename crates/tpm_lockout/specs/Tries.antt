@@ -1,6 +1,6 @@
 -- Failed tries at protected entities: how they are counted, what they lock, and how they are
 -- forgiven. TPM 2.0 Library, Part 1, section 19.8 (failedTries, maxTries, recoveryTime). That a
--- recoveryTime of 0 counts and locks nothing, and that a maxTries of 0 else locks all, is this
+-- recoveryTime of 0 counts and locks nothing, and that a maxTries of 0 otherwise locks all, is this
 -- device's own.
 use Rattle.std.specs.Prelude.{ℕ, ◌+◌, ◌-◌, ◌/◌, ◌%◌, ◌==◌, ◌&&◌, ◌||◌, not, nat_le, Bool, if◌then◌else◌}
 use Rattle.tpm_lockout.specs.Lockout.{LockoutState, milliseconds}

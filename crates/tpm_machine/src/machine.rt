@@ -359,8 +359,8 @@ ghost use Rattle.tpm_step.specs.Step.{counted_in, settled};
 ghost use Rattle.tpm_step.specs.Answer.{refusal_text};
 ghost use Rattle.tpm_types.specs.Locality.{locality_number};
 
-/// Tells what the types of an event's parts say, and so what holds of every command's event. The
-/// function does nothing.
+/// Promises what the types of an event's parts say of them, and so what holds of every command's
+/// event. The function does nothing.
 #[inline(always)]
 fn read_command(locality: Locality, elapsed_ms: u32, random: &[u8; 256])
     ensures locality { locality_number locality ≤ 4 }

@@ -39,7 +39,7 @@ pub enum ReadFault {
 pub enum LockFault {
     /// The handle has no index.
     Undefined,
-    /// The index has no attribute that lets it be locked so.
+    /// The index has no attribute that allows this lock.
     Attributes,
 }
 

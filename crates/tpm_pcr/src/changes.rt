@@ -20,7 +20,7 @@ use tpm_types::{DigestValue, DigestValues, Locality, PcrIndex};
 /// Why no PCR was changed.
 #[derive(Clone, Copy, Debug, PartialEq, Eq)]
 pub enum ChangeFault {
-    /// The PCR may not be changed so from this locality.
+    /// The PCR does not allow this change from this locality.
     Locality,
     /// The count of updates would pass 2^64 - 1.
     Failure,

@@ -58,7 +58,7 @@ octet_below piece octet e =
 
 -- ---- entries
 
--- An entry that was read has numbers that fit their fields, but for its sizes.
+-- The numbers of an entry that was read fit their fields, its sizes apart.
 abbrev Spells : Entry → Type 0
 Spells entry = (entry.session.number < 2 ^ 32) × (entry.attributes.octet < 2 ^ 8)
 

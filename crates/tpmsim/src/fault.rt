@@ -42,7 +42,7 @@ impl Fault {
     ghost use Rattle.std.specs.IoError.{error_kind};
     ghost use Rattle.tpmsim.specs.Fault.{fault_or, status_of};
 
-    /// `Memory` where memory ran out, and else `otherwise`.
+    /// `Memory` where memory ran out, and otherwise `otherwise`.
     pub fn of_io(error: io::Error, otherwise: Fault) -> Fault
         ensures { result ≡ fault_or otherwise (error_kind error) }
     {

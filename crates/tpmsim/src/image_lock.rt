@@ -5,8 +5,8 @@ use std::io;
 use std::io::ErrorKind;
 use std::os::unix::fs::OpenOptionsExt;
 
-/// The permissions of the file: who may open the file may lock it, and so keep the image from its
-/// owner.
+/// The permissions of the file: whoever may open the file may lock it, and so keep the image from
+/// its owner.
 const OWNER_ALONE: u32 = 0o600;
 
 /// A lock that nobody else holds while this value is there. It is a lock on an open file, so that

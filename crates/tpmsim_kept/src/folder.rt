@@ -165,8 +165,8 @@ fn user_of(rt: &HostRuntime) -> Result<u32, KeptFault> {
     }
 }
 
-/// Makes the folder where it is missing, and says whether it did. Then sets the permissions that
-/// the user needs, whatever the umask is.
+/// Makes the folder where it is missing, gives it its permissions, whatever the umask is, and says
+/// whether it did.
 fn make(rt: &HostRuntime, path: &str) -> Result<bool, KeptFault> {
     match DirBuilder::new().mode(FOLDER_MODE).create(rt, path) {
         Ok(()) => match fs::set_permissions(rt, path, Permissions::from_mode(FOLDER_MODE)) {

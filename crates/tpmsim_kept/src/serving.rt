@@ -27,7 +27,7 @@ pub enum ServeFault {
 
 /// The source of each command's random bytes.
 pub trait RandomBytes {
-    /// The next 256 random bytes; None where they ran out.
+    /// The next 256 random bytes; None where there are no more.
     fn next(&mut self) -> Option<[u8; 256]>;
 }
 
