@@ -16,14 +16,14 @@ use Rattle.tpm_completion.specs.Room.{flush_asked, flush_text, given_up, noted}
 use Rattle.tpm_completion.specs.Saving.{Reply}
 use Rattle.tpm_completion.specs.declared.completion.Completion.{Completion}
 
--- the outcome of an event: the response, the device's own row, and its record; what the layer
+-- the effect of an event: the response, the device's own row, and its record; what the layer
 -- remembers then; and how many random bytes the device's latest event drew
 pub record Seen : Type 0 where
   pub step : Stepped
   pub layer : Completion
   pub drawn : ℕ
 
--- the outcome that a machine, a layer and an outcome of the code show
+-- the effect that a machine, a layer and an outcome of the code show
 abbrev pub seen_of : {K S O P N : Type 0} → (K → Record) → Machine K S O P N → Completion → Outcome
     → Seen
 seen_of record_of machine layer outcome = record {
@@ -32,7 +32,7 @@ seen_of record_of machine layer outcome = record {
   drawn = latest_drawn machine;
 }
 
--- the outcome where the layer answers in place of the device
+-- the effect where the layer answers in place of the device
 abbrev pub answered : Seen → Reply → Seen
 answered seen reply = record {
   step = record seen.step { response = reply.response };
@@ -71,7 +71,7 @@ GivesUp can first buffer locality random place seen =
     × Passes can first.layer first.step.after (Given (flush_text place) locality 0 no_random) flush
     × Passes can flush.layer flush.step.after (Given buffer locality 0 random) seen
 
--- the layer's answer after this outcome of the device
+-- the layer's answer after this effect on the device
 abbrev pub reply_behind : Seen → (buffer : List ℕ) → Reply
 reply_behind first buffer =
     reply first.step.after first.layer buffer first.step.response (first.step.row.check == 0)
@@ -85,7 +85,7 @@ Behind can first buffer locality random (Some place) seen =
 Behind can first buffer locality random None seen =
     seen ≡ answered first (reply_behind first buffer)
 
--- the place of the object that is given up after this outcome of the device, if one is
+-- the place of the object that is given up after this effect on the device, if one is
 abbrev pub given_up_behind : Seen → Option ℕ
 given_up_behind first = given_up first.layer first.step.row first.step.response
 
@@ -105,13 +105,13 @@ CompletesBy can c old buffer locality elapsed random (Some place) seen =
 CompletesBy can c old buffer locality elapsed random None seen =
     AsksFirst can c old buffer locality elapsed random seen
 
--- An event with the layer: a command is completed, and a power cycle passes.
+-- An event had this effect with the layer: a command is completed, and a power cycle passes.
 abbrev pub Completes : Bool → Completion → Record → PlainEvent → Seen → Type 0
 Completes can c old (Given buffer locality elapsed random) seen =
     CompletesBy can c old buffer locality elapsed random (flush_asked c buffer) seen
 Completes can c old Cycled seen = Passes can c old Cycled seen
 
--- An event with the layer (true), or without it (false).
+-- An event had this effect with the layer (true), or without it (false).
 abbrev pub CompletesIf : (can completes : Bool) → Completion → Record → PlainEvent → Seen → Type 0
 CompletesIf can false c old event seen = Passes can c old event seen
 CompletesIf can true c old event seen = Completes can c old event seen

@@ -10,7 +10,7 @@ use Rattle.tpm_completion.specs.Execution.{AsksFirst, Behind, Completes, Complet
 use Rattle.tpm_completion.specs.Room.{flush_asked, flush_text}
 use Rattle.tpm_completion.specs.declared.completion.Completion.{Completion}
 
--- the execution of an event that passed to the device, with this outcome
+-- the execution of an event that passed to the device, with this effect
 abbrev pub executed : Record → PlainEvent → Seen → Execution
 executed old event seen = record { before = old; event = event; seen = seen.step }
 

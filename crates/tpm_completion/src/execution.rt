@@ -30,7 +30,7 @@ pub fn execute<K: Keep>(
         (state_of K.record_of machine.old) (plain_event event.now)
         (seen_of K.record_of machine.new layer.new outcome.new) }
 
-    // Where no memory can be refused, the whole outcome is a function of the layer, the record and
+    // Where no memory can be refused, the whole effect is a function of the layer, the record and
     // the event.
     ensures exactly { K.can_refuse ≡ false
         → seen_of K.record_of machine.new layer.new outcome.new

@@ -53,8 +53,8 @@ pub fn step_laws()
         ≡ drawn_by r (Given buffer locality elapsed random) check }
 {}
 
-/// What an execution of a command is with some random bytes it is with others, as many, that agree
-/// on those that it draws.
+/// An execution of a command with some random bytes is one with others too, as many, that agree on
+/// those that it draws.
 #[inline(always)]
 pub fn execution_laws()
     ensures { (can : Bool) (r : Record) (buffer : List ℕ) (locality elapsed : ℕ)

@@ -150,7 +150,7 @@ module _ (r : Record) (c : AcceptedCommand) (history : History) (are : AreIndice
       let one : tell s x ≡ told = ok_is {E = Refused} (tell s x) told (sym (tells s ∙ ap (λ (y : Result X Refused). y >>= λ x. let it : Result Assertion Refused = Ok (tell s x) in it) found) ∙ is) in
       subst (λ (b : Assertion). Finds b p × HasWidths s.hash b) one (same s x p holds))
 
-  -- A history tells of an assertion whatever the device found.
+  -- A history tells an assertion that does not depend on what the device found.
   abbrev TellsPlainly : Code → Type 0
   TellsPlainly code = (s : Session) → IfOk (assertion_by code c history s.hash s.nonce_tpm) (λ told. (p : Policy) → Finds told p × HasWidths s.hash told)
 

@@ -36,11 +36,11 @@ command_at buffer locality elapsed completes random = record {
   random = random;
 }
 
--- A command was executed on this record, with the layer or without it, with this outcome.
+-- A command was executed on this record, with the layer or without it, with this effect.
 abbrev pub Executed : (can : Bool) → Completion → Record → Command → Seen → Type 0
 Executed can layer old c seen = CompletesIf can c.completes layer old (given c) seen
 
--- the entry of a command with this outcome: its random bytes are those that were drawn
+-- the entry of a command with this effect: its random bytes are those that were drawn
 abbrev pub entry_of : Command → Seen → PlainEntry
 entry_of c seen = record {
   elapsed = c.elapsed;
@@ -59,7 +59,7 @@ padded drawn = drawn ++ replicate (256 - length drawn) 0
 abbrev pub event_of : PlainEntry → PlainEvent
 event_of e = Given e.buffer e.locality e.elapsed (padded e.drawn)
 
--- An entry was performed on this record, with this outcome: its command was executed again, with
--- the layer where the entry says so.
+-- An entry was performed on this record, with this effect: its command was executed again, with the
+-- layer where the entry says so.
 abbrev pub IsPerformed : (can : Bool) → Completion → Record → PlainEntry → Seen → Type 0
 IsPerformed can layer old e seen = CompletesIf can e.completes layer old (event_of e) seen

@@ -18,7 +18,7 @@ use Rattle.tpm_journal.specs.declared.following.Followed.{Followed}
 use Rattle.tpm_journal.specs.declared.following.FollowFault.{FollowFault}
 use Rattle.tpm_journal.specs.declared.following.FollowFault.TheVariants.{Damaged, Otherwise}
 
--- an entry that was performed, and its outcome
+-- an entry that was performed, and its effect
 pub record Performance : Type 0 where
   pub entry : PlainEntry
   pub seen : Seen

@@ -8,7 +8,7 @@ use Rattle.tpm_journal_text.specs.Sum.{sum_from}
 use Rattle.tpm_journal_text.proofs.Pieces.{line_same}
 use Rattle.tpm_journal_text.proofs.Standing.{line_stands, mark_bytes, mark_many, stands}
 
--- no entry stands where the line of a mark does not
+-- a text that is long enough and begins with no line of a mark is damaged
 pub no_line : (sum : ℕ) (text : List ℕ) → 72 ≤ length text
     → ((mark : List ℕ) → length mark ≡ 26 → AreBytes mark → take 72 text ≡ mark_line sum mark → ⊥) → IsDamaged sum text
 no_line sum text long none = record {
@@ -25,7 +25,8 @@ pub same_mark : (sum : ℕ) (text mark other : List ℕ) → length mark ≡ 26 
 same_mark sum text mark other many are line other_many other_are other_line =
     line_same entry_word mark other (sum_from sum mark) (sum_from sum other) are other_are (many ∙ sym other_many) (sym line ∙ other_line)
 
--- no entry stands where the line of this mark does, if the entry of this mark does not
+-- a text that begins with the line of a mark, and holds no entry of this mark though it is long
+-- enough, is damaged
 pub no_entry_with : (sum : ℕ) (text mark : List ℕ) → length mark ≡ 26 → AreBytes mark → take 72 text ≡ mark_line sum mark
     → entry_size mark ≤ length text
     → ((e : PlainEntry) (rest : List ℕ) → Stands e mark text → text ≡ entry_text sum e ++ rest → ⊥) → IsDamaged sum text

@@ -82,8 +82,7 @@ cut_off_is_no_entry sum e rest text is t cut =
 
 -- ---- entries
 
--- where one reading of a text ends in less than an entry, the entries of any other reading are its
--- first ones
+-- entries that end in less than an entry begin with the entries of any other reading of the text
 pub others_are_more : (sum : ℕ) (entries others : List PlainEntry) (rest left : List ℕ) → AllByRecursion IsEntry entries → AllByRecursion IsEntry others
     → entries_text sum entries ++ rest ≡ entries_text sum others ++ left → IsCutOff (sum_after_all sum entries) rest
     → (more : List PlainEntry) × AllByRecursion IsEntry more × (entries ≡ others ++ more) × (left ≡ entries_text (sum_after_all sum others) more ++ rest)

@@ -45,7 +45,7 @@ abbrev pub command_by : Device → (buffer : List ℕ) → (locality now : ℕ) 
 command_by device buffer locality now completes random =
     command_at buffer locality (elapsed_of now device.journal.time) completes random
 
--- the outcome of a command whose response stands at the front of a room
+-- the effect of a command whose response stands at the front of a room
 abbrev pub seen_in : (room : List ℕ) → Answered → (after : Device) → Seen
 seen_in room answered after = record {
   step = command_seen room answered after;

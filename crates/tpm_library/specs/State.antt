@@ -1,4 +1,4 @@
--- The record of a device, and the outcome of an event on it.
+-- The record of a device, and the effect of an event on it.
 use Rattle.std.specs.Prelude.{List, [], take, ℕ}
 use Rattle.tpm_record.specs.Kept.{kept_record}
 use Rattle.tpm_record.specs.Record.{Record}
@@ -10,7 +10,7 @@ use Rattle.tpm_library.specs.declared.device.Device.{Device}
 abbrev pub record_of : Device → Record
 record_of device = kept_record (λ s. s) (λ o. o) (λ p. p) (λ n. n) device.machine.keep
 
--- the outcome of a command: the response at the front of the room for it, the row, and the record
+-- the effect of a command: the response at the front of the room for it, the row, and the record
 -- after it
 abbrev pub command_seen : List ℕ → Answered → Device → Stepped
 command_seen room answered after = record {
@@ -19,7 +19,7 @@ command_seen room answered after = record {
   after = record_of after;
 }
 
--- the outcome of a power cycle, which has no response and the row of no command
+-- the effect of a power cycle, which has no response and the row of no command
 abbrev pub cycle_seen : Device → Stepped
 cycle_seen after =
     record { response = []; row = record { code = 0; check = 0 }; after = record_of after }

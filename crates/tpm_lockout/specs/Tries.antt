@@ -30,8 +30,8 @@ after_failure s =
 abbrev pub tries_left : LockoutFields → (time : ℕ) → ℕ
 tries_left f time = f.failed_tries - time / milliseconds f.recovery_time
 
--- lockout at a time since a try was counted or forgiven: the rest of that time, after the tries
--- that it forgave, goes on while there are tries
+-- lockout this long after a try was counted or forgiven: each whole recoveryTime forgave a try, and
+-- the rest counts towards the next, while one is left
 abbrev pub forgiven_at : (time : ℕ) → LockoutState → LockoutState
 forgiven_at time s =
     let left = tries_left s.fields time in

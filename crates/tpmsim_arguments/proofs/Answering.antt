@@ -140,7 +140,7 @@ is_wish Io never = absurd (never (λ e. cc, λ e. cc))
 is_wish Format never = absurd (never (λ e. cc, λ e. cc))
 is_wish OutOfMemory never = absurd (never (λ e. cc, λ e. cc))
 
--- the answer where clap refuses the words for help or the version, which it tells
+-- the answer where clap refuses the words since help or the version is wanted, which is then told
 pub told : (words : List Text) (kind : ErrorKind) → (kind ≡ OutOfMemory) ⊎ IsAmong kind (fault_of program words)
     → ((kind ≢ DisplayHelp) × (kind ≢ DisplayVersion) → ⊥) → IsAmong kind (fault_of program words) × IsTold kind
 told words kind (inr among) never = (among, is_wish kind never)

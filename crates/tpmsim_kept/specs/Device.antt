@@ -29,7 +29,7 @@ use Rattle.tpmsim_kept.specs.declared.fault.Said.TheVariants.{WantsMemory}
 abbrev pub record_of : Device → Record
 record_of device = kept_record (λ s. s) (λ o. o) (λ p. p) (λ n. n) device.machine.keep
 
--- the outcome of a device's latest event, in the form of tpm_completion
+-- the effect of a device's latest event, which has this outcome
 abbrev pub seen_by : Device → Outcome → Seen
 seen_by device outcome = record {
   step = outcome_step (record_of device) outcome;
@@ -60,7 +60,7 @@ IsOfJournal text taken device =
 abbrev pub HasFault : List ℕ → OpenFault → Type 0
 HasFault text fault = (new : Record) × OpensJournal text (Err fault) new
 
--- The fault of a text that is no journal, or of refused memory.
+-- A fault says this of a text that is no journal, or where memory was refused.
 abbrev pub IsSaidOf : List ℕ → Said → Type 0
 IsSaidOf text said =
     ((fault : OpenFault) × (said ≡ said_of_opening fault) × HasFault text fault) ⊎ (said ≡ WantsMemory)

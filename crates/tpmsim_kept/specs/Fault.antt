@@ -47,7 +47,7 @@ said_text said.WasAnsweredOtherwise =
 abbrev pub kept_fault_text : KeptFault → List ℕ
 kept_fault_text fault = place_text fault.place ++ codes " " ++ said_text fault.said
 
--- the fault of a journal that was not followed, or not opened
+-- what a fault says of a journal that was not followed, or not opened
 abbrev pub said_of_following : FollowFault → Said
 said_of_following following.Damaged = said.IsDamaged
 said_of_following following.Otherwise = said.WasAnsweredOtherwise

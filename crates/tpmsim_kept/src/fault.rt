@@ -78,7 +78,7 @@ impl Place {
 }
 
 impl Said {
-    /// The fault of a journal that was not opened.
+    /// What a fault says of a journal that was not opened.
     pub fn of(fault: OpenFault) -> Said
         ensures { result ≡ said_of_opening fault }
     {
@@ -89,7 +89,7 @@ impl Said {
         }
     }
 
-    /// The fault of a journal that was not followed.
+    /// What a fault says of a journal that was not followed.
     pub fn of_following(fault: FollowFault) -> Said
         ensures { result ≡ said_of_following fault }
     {
