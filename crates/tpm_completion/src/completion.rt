@@ -11,9 +11,10 @@ use tpm_types::{Handle, OBJECT_LIMIT, SESSION_LIMIT};
 /// What the layer remembers of the object in a place.
 #[derive(Clone, Copy, Debug, PartialEq, Eq)]
 pub struct Held {
-    /// The number of its context, 0 where it has none.
+    /// The number of the object's context, 0 where it has none.
     pub context: u64,
-    /// The number of its flush, 0 where it was not flushed. A flushed object waits in its place.
+    /// The number of the object's flush, 0 where it was not flushed. A flushed object waits in its
+    /// place.
     pub waits: u64,
 }
 

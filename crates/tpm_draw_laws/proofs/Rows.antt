@@ -116,7 +116,7 @@ module _ (r : Record) (q : Request) (other : List ℕ) where
       after q.random other (only (startup_type_at q.parameters)) _ _ (λ type.
       after q.random other (start_of type (kind_of r.fixed.saved)) _ _ started_alike)
 
-  -- TPM2_Clear reads three seeds and proofs of 32 bytes
+  -- TPM2_Clear reads a seed and two proofs of 32 bytes
   cleared_alike : (h : Hierarchies) → take 96 other ≡ take 96 q.random → cleared_hierarchies h other ≡ cleared_hierarchies h q.random
   unfolding cleared_hierarchies
   cleared_alike h same =

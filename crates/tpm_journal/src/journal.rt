@@ -32,7 +32,8 @@ use tpm_types::Locality;
 pub struct Journal {
     /// The sum of the marks so far.
     pub sum: u64,
-    /// The host's clock in milliseconds at the latest command.
+    /// The time of the journal in milliseconds: its head's clock, and the elapsed times of its
+    /// commands.
     pub time: u64,
     /// The state of the completing layer.
     pub layer: Completion,

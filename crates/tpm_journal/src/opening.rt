@@ -18,7 +18,7 @@ use tpm_step::Outcome;
 pub enum OpenFault {
     /// The text does not begin with a head.
     NoJournal,
-    /// The head's image is not valid, or is that of another device.
+    /// The head does not hold an image from which this device can be opened.
     Image(ImageFault),
     /// The entries after the head were followed to a fault.
     Follow(FollowFault),

@@ -109,8 +109,8 @@ pub fn power_cycle(alloc: Global, holder: &mut Holder) -> u8
     DONE
 }
 
-/// Writes the image of the device to the front of a room. Gives how many bytes the image has, where
-/// nothing is written if the room is smaller; 0 where there is no device.
+/// Writes the image of the device to the front of a room. Gives how many bytes the image has, or 0
+/// where there is no device. Nothing is written to a smaller room.
 pub fn save(alloc: Global, holder: &mut Holder, room: &mut [u8]) -> usize
     ensures saved { MatchOption holder.old.device ((result ≡ 0) × (room.new ≡ room.old))
         (λ device. PutsFront (image_text Two (kept_of (record_of device))) room.old result

@@ -50,7 +50,7 @@ pub struct Answered {
     pub drawn: usize,
     /// The command's code, 0 where none was found.
     pub code: u32,
-    /// The number of the check that refused it, 0 where none did.
+    /// The number of the check that refused the command, 0 where none did.
     pub check: u8,
 }
 

@@ -23,8 +23,8 @@ use std::alloc::Global;
 use tpm_types::Locality;
 
 /// Cycles the power of the device, and writes the head of its new journal to the front of a room.
-/// Gives how many bytes the head has, where nothing is done if the room is smaller; 0 where there
-/// is no device.
+/// Gives how many bytes the head has, or 0 where there is no device. Nothing is done where the room
+/// is smaller.
 pub fn begin(alloc: Global, holder: &mut Holder, now_ms: u64, room: &mut [u8]) -> usize
     ensures head { MatchOption holder.old.device ((result ≡ 0) × (room.new ≡ room.old))
         (λ before. PutsFront (head_text now_ms (image_at_power before)) room.old result room.new) }

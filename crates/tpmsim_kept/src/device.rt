@@ -39,7 +39,8 @@ impl Device {
         })
     }
 
-    /// The host's clock in milliseconds at the journal's latest command.
+    /// The time of the journal in milliseconds: its head's clock, and the elapsed times of its
+    /// commands.
     pub fn time(&self) -> u64
         ensures { result ≡ self.now.journal.time }
     {

@@ -138,7 +138,8 @@ impl JournalFile {
         self.add(entry, force)
     }
 
-    /// The host's clock in milliseconds at the journal's latest command.
+    /// The time of the journal in milliseconds: its head's clock, and the elapsed times of its
+    /// commands.
     pub fn time(&self) -> u64 {
         self.device.time()
     }

@@ -8,13 +8,12 @@ use std::time::{Clock, SystemTime};
 pub enum Moment {
     /// Now, by the host's clock.
     Now,
-    /// This many milliseconds after the journal's latest command.
+    /// This many milliseconds after the time of the journal.
     Behind(u32),
 }
 
 impl Moment {
-    /// The moment in milliseconds of the host's clock, where the journal's latest command came at
-    /// this time.
+    /// The moment in milliseconds of the host's clock, where the journal has this time.
     pub fn clock_ms(self, clock: &impl Clock, time: u64) -> Result<u64, KeptFault> {
         match self {
             Moment::Now => clock_of(clock),

@@ -1,4 +1,4 @@
--- A script is checked as it is run.
+-- The check of a script finds the bad line that a run of it finds.
 use Rattle.std.proofs.Common.{◌≡◌, ℕ, ◌+◌, Bool, true, false, List, [], ◌∷◌, ◌++◌, Option, Some, None, Result, Ok, Err, refl, sym, ap, ◌∙◌, not, cond, ok_or, option_map, option_and_then}
 use Rattle.std.specs.Prelude.{◌^◌, ◌&&◌, nat_le, nat_lt, length}
 use Rattle.std.specs.Result.{result_ok}
