@@ -84,8 +84,8 @@ get_capability_row r q = do
   text ← told_of r p capability
   Ok (unchanged r (answer_of (Plain text)))
 
--- What the code wrote, a text or elements, is what the definition gives; or the code's refusal is
--- the definition's.
+-- The code wrote the text or the elements that the definition gives, or refused as the definition
+-- does.
 abbrev pub Tells : {X : Type 0} → Result X Refused → Result (Unit {0}) Refused → X → Type 0
 Tells (Ok wanted) (Ok done) new = new ≡ wanted
 Tells (Ok wanted) (Err e) new = ⊥

@@ -108,8 +108,9 @@ state_line name socket state entropy locality connections = name ∷ codes "serv
     ∷ (codes "--entropy=" ++ entropy) ∷ (codes "--locality=" ++ locality)
     ∷ (codes "--connections=" ++ connections) ∷ []
 
--- These words ask for a device that is kept in this place, with these paths, and with these numbers
--- where the words are numbers, which is saved before each response or not.
+-- These words ask for the service of a device that is kept in this place, with these paths, and
+-- with these numbers where the words are numbers; `saves` says whether the device is saved before
+-- each response.
 abbrev pub AskForService : (words : List Text) (socket : Text) (place : Kept) (log : Option Text)
     (entropy locality connections : Text) (saves_each : Bool) → Type 0
 AskForService words socket place log entropy locality connections saves_each = (number count : ℕ)
