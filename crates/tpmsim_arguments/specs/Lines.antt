@@ -109,8 +109,8 @@ state_line name socket state entropy locality connections = name ∷ codes "serv
     ∷ (codes "--connections=" ++ connections) ∷ []
 
 -- These words ask for the service of a device that is kept in this place, with these paths, and
--- with these numbers where the words are numbers; `saves` says whether the device is saved before
--- each response.
+-- with these numbers where the words are numbers; `saves_each` says whether the device is saved
+-- before each response.
 abbrev pub AskForService : (words : List Text) (socket : Text) (place : Kept) (log : Option Text)
     (entropy locality connections : Text) (saves_each : Bool) → Type 0
 AskForService words socket place log entropy locality connections saves_each = (number count : ℕ)
