@@ -39,7 +39,7 @@ target_of r q = do
   Ok (record { auth_handle = auth_handle; handle = handle; attributes = attributes })
 
 -- whether authHandle may do something with the index: the owner and the platform may where the
--- index has the attribute that lets them, and else the index itself alone may
+-- index has the attribute that lets them, and otherwise the index itself alone may
 abbrev pub may : (owner platform : NvAttribute) → Target → Bool
 may owner platform target =
     if target.auth_handle.number == owner_handle.number then has target.attributes owner
@@ -54,9 +54,9 @@ may_read target = may attribute.OwnerRead attribute.PpRead target
 
 -- ---- what is read of an index, and by whom
 
--- the first checks of its own that each command has which reads an NV index (Part 3, sections 23.9
--- and 31.13). A1: authHandle may not read the index; A2: the index is locked against reading; A3:
--- it is not written
+-- the checks of its own that come first in each command that reads an NV index (Part 3, sections
+-- 23.9 and 31.13). A1: authHandle may not read the index; A2: the index is locked against reading;
+-- A3: it is not written
 abbrev pub reading_passes : Target → Result (Unit {0}) ActionFault
 reading_passes target = do
   a1 ← refused_if (not (may_read target)) (plain_fault action.First code.NvAuthorization)

@@ -7,11 +7,11 @@ use Rattle.tpm_actions_capability.specs.declared.element.Element.{Element}
 use Rattle.tpm_actions_capability.specs.declared.element.Telling.{Telling}
 use Rattle.tpm_actions_capability.specs.declared.element.Telling.TheVariants as tell
 
--- an element of which its own number is listed
+-- an element whose own number is listed
 abbrev pub by_itself : ℕ → Element
 by_itself number = record { number = number; told = number }
 
--- the list of an element, if that is there, and else the empty list
+-- the list of an element, if that is there, and otherwise the empty list
 abbrev pub if_there : Bool → Element → List Element
 if_there is_there e = if is_there then e ∷ [] else []
 
@@ -31,13 +31,13 @@ found_count from elements = count_by (is_from from) elements
 abbrev pub told_count : (from count : ℕ) → List Element → ℕ
 told_count from count elements = min (found_count from elements) (min count 64)
 
--- the text of the first elements from a number on, at most this many
+-- the text of the first elements from a number on, at most `count`
 abbrev pub text_of : Telling → (from count : ℕ) → List Element → List ℕ
 text_of telling from count elements =
     flat_map (told_text telling) (take count (filter (is_from from) elements))
 
 -- the text of a list: whether there are more elements than are listed (moreData), the capability,
--- how many are listed, and these, the first from a number on
+-- how many are listed, and the elements
 abbrev pub listing : Telling → (capability from count : ℕ) → List Element → List ℕ
 listing telling capability from count elements =
     (if nat_lt (told_count from count elements) (found_count from elements) then 1 else 0)

@@ -53,7 +53,7 @@ handle_elements r kind =
     else (if kind == 0x81 then Ok (persistent_elements r)
     else Err (parameter_refusal action.Second 2 code.Handle)))))))
 
--- the number from which on handles are listed: of sessions it is a place
+-- the number from which on handles are listed; for sessions it is a place
 abbrev pub first_handle_of : ℕ → ℕ
 first_handle_of property = if property / 2 ^ 24 == 0x02 then property % 2 ^ 24 else property
 
@@ -84,8 +84,8 @@ get_capability_row r q = do
   text ← told_of r p capability
   Ok (unchanged r (answer_of (Plain text)))
 
--- What the code wrote, a text or elements, is what the definition gives; or the code's refusal is
--- the definition's.
+-- The code wrote the text or the elements that the definition gives, or refused as the definition
+-- does.
 abbrev pub Tells : {X : Type 0} → Result X Refused → Result (Unit {0}) Refused → X → Type 0
 Tells (Ok wanted) (Ok done) new = new ≡ wanted
 Tells (Ok wanted) (Err e) new = ⊥

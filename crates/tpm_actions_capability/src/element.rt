@@ -23,7 +23,7 @@ pub struct Element {
     pub told: u32,
 }
 
-/// What is listed of an element.
+/// The form in which an element is listed.
 #[derive(Clone, Copy, Debug, PartialEq, Eq)]
 pub enum Telling {
     Value,
@@ -31,7 +31,7 @@ pub enum Telling {
 }
 
 impl Element {
-    /// An element of which its own number is listed.
+    /// An element whose own number is listed.
     pub(crate) fn by_itself(number: u32) -> Element
         ensures { result ≡ by_itself number }
     {
@@ -66,8 +66,8 @@ fn found_count(elements: &[Element], from: u32) -> usize
     elements.iter().filter(|e| e.is_from(from)).count()
 }
 
-/// Writes an element, if it is from this number on and any is left to be written; gives how many
-/// are left then.
+/// Writes an element, if its number is not below this one and any is left to be written; gives how
+/// many are left then.
 #[tactic(auto, using(crate::proofs::Telling::telling_one))]
 fn tell_if(e: &Element, telling: Telling, from: u32, left: usize, text: &mut Parameters) -> usize
     requires { length text.old + 8 * left ≤ answer_limit }

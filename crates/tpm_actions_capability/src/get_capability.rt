@@ -91,7 +91,7 @@ fn handles<K: Keep>(keep: &K, kind: u32, elements: &mut Elements) -> Result<(), 
     Ok(())
 }
 
-/// The number from which on handles are listed: of sessions it is a place.
+/// The number from which on handles are listed; for sessions it is a place.
 fn first_handle_of(property: u32) -> u32
     ensures { result ≡ first_handle_of property }
 {

@@ -11,8 +11,8 @@ use Rattle.tpm_record.specs.Record.{Record}
 use Rattle.tpm_types.specs.declared.refused.Refused.{Refused}
 use Rattle.tpm_actions_base.specs.Refusals.{action_refusal}
 
--- the refusal of a change of a PCR. A1: the PCR may not be changed so from this locality; A2: the
--- updates could not be counted
+-- the refusal of a change of a PCR. A1: the PCR does not allow this change from this locality; A2:
+-- the updates could not be counted
 abbrev pub change_refusal : ChangeFault → Refused
 change_refusal Locality = action_refusal action.First (plain code.Locality)
 change_refusal Failure = action_refusal action.Second (plain code.Failure)

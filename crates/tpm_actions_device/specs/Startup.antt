@@ -26,8 +26,8 @@ use Rattle.tpm_actions_base.specs.Rows.{Success, only}
 use Rattle.tpm_actions_device.specs.declared.startup.Start.{Start}
 use Rattle.tpm_actions_device.specs.declared.startup.Start.TheVariants.{Reset, Restart, Resume}
 
--- what a startup is: with CLEAR it is a TPM Restart where a state was saved, and else a TPM Reset;
--- with STATE it is a TPM Resume where a state was saved. A1: no state was saved
+-- what a startup is: with CLEAR it is a TPM Restart where a state was saved, and otherwise a TPM
+-- Reset; with STATE it is a TPM Resume where a state was saved. A1: no state was saved
 abbrev pub start_of : StartupType → SavedKind → Result Start Refused
 start_of type.Clear saved.Nothing = Ok Reset
 start_of type.Clear saved.Clear = Ok Reset

@@ -77,8 +77,8 @@ object_parent o = record {
   hierarchy = o.hierarchy;
 }
 
--- under which circumstances an object was created: the digest of the selected PCRs is by the new
--- object's nameAlg, and bit n stands for locality n
+-- the circumstances in which an object was created: the digest of the selected PCRs is by the new
+-- object's nameAlg, and bit n of the locality stands for locality n
 abbrev pub creation_data : Record → (locality : ℕ) → Parent → Parameters → Public → CreationData
 creation_data r locality parent p public = record {
   pcr_select = record { banks = record { items = p.selection } };

@@ -38,7 +38,7 @@ is_fixed parent = has parent.public.attributes attribute.FixedTpm
 abbrev pub no_place : ActionCheck → Refused
 no_place action = action_refusal action (plain code.ObjectMemory)
 
--- the place that a new object takes. This check refuses where no place is free
+-- the place that a new object takes, or the refusal by this check where no place is free
 abbrev pub place_for : ActionCheck → Record → Result ℕ Refused
 place_for action r = ok_or (lowest_free r.objects) (no_place action)
 

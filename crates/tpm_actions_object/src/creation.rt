@@ -85,7 +85,7 @@ pub fn read_parameters(parameters: &[u8]) -> Result<CreationParameters, Refused>
     })
 }
 
-/// The creation data of an object with this nameAlg: under which circumstances it is created.
+/// The creation data of an object with this nameAlg: the circumstances in which it is created.
 fn creation_data<K: Keep>(
     keep: &K,
     locality: Locality,

@@ -45,7 +45,7 @@ compared r target p = do
   or_fault (read_at r.nv target.handle p.offset (length p.operand))
       (plain_fault action.Fourth code.NvRange)
 
--- what is asserted of an index, which it names by its Name
+-- what is asserted of an index, which is named by its Name
 abbrev pub nv_parts_of : Record → Target → Parameters → NvParts
 nv_parts_of r target p = record {
   name = name_of r target.handle;

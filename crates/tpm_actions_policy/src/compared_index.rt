@@ -27,7 +27,8 @@ pub struct ComparedIndex<'a> {
 impl ComparedIndex<'_> {
     ghost use Rattle.tpm_actions_policy.specs.AssertionParameters.{nv_asked};
 
-    /// As many bytes of the index as the operand has, or why they cannot be read.
+    /// The bytes of the index that are compared, as many as the operand has, or why they cannot be
+    /// read.
     fn compared<'k, K: Keep>(&self, keep: &'k K) -> Result<&'k [u8], ActionFault>
         ensures { compared_bytes result
             ≡ compared (K.record_of keep.now) self.now.target (nv_asked self.now) }

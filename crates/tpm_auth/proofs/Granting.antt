@@ -20,7 +20,8 @@ use Rattle.tpm_auth.specs.Grant.{authorize, authorized, grant, grants_pass}
 use Rattle.tpm_auth.specs.Granting.{IsGranted, IsGranting}
 use Rattle.tpm_auth.specs.declared.session_grant.Grant.{Grant}
 
--- what holds of each success after a step, whatever the step gave, holds of each success
+-- a property of each success after a step, whatever the step gave, is one of each success of the
+-- whole
 ok_bind_is : {A B E : Type 0} (Q : B → Type 0) (x : Result A E) (f : A → Result B E) → ((a : A) → x ≡ Ok a → IfOk (f a) Q) → IfOk (x >>= f) Q
 ok_bind_is Q (Ok a) f h = h a refl
 ok_bind_is Q (Err e) f h = tt
@@ -33,7 +34,7 @@ checked_ok check (Err rc) y is = absurd cc
 -- ---- the walk over the entries
 
 module _ (r : Record) (c : Whole) (locality : ℕ) where
-  -- These grants are those of these entries, of which the first is in this place.
+  -- The grants are those of these entries, of which the first is in this place.
   record AreOf (first : ℕ) (es : List Entry) (given : List (Option Grant)) : Type 0 where
     as_many : length given ≡ length es
     each : (place i : ℕ) (e : Entry) (granted : Option Grant) → place ≡ first + i → slice_get es i ≡ Some e → slice_get given i ≡ Some granted → IsGranted r c locality place e granted

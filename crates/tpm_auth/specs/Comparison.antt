@@ -22,7 +22,7 @@ abbrev pub is_password_of : List ℕ → List ℕ → Bool
 is_password_of value password = bytes_eq (trimmed password) (trimmed value)
 
 -- a comparison that failed in entry n: AUTH_FAIL where a protected entity is touched, which counts,
--- and else BAD_AUTH
+-- and otherwise BAD_AUTH
 abbrev pub failure : Check → ℕ → Protection → Refused
 failure check n protection.None = refusal check (entry_fault n code.BadAuth)
 failure check n protection.Tries =

@@ -34,7 +34,7 @@ decrypts e = of_session.decrypts e.attributes
 abbrev pub encrypts : Entry → Bool
 encrypts e = of_session.encrypts e.attributes
 
--- the code for a session that is not there, in entry n
+-- the response code where the session of entry n is not there
 abbrev pub reference_of : ℕ → Rc
 reference_of n =
     plain (if n == 1 then code.ReferenceS0

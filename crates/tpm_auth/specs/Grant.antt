@@ -32,7 +32,7 @@ use Rattle.tpm_auth.specs.declared.grant.Grants.{Grants}
 use Rattle.tpm_types.specs.declared.refused.Refused.{Refused}
 use Rattle.tpm_auth.specs.declared.session_grant.Grant.{Grant}
 
--- the grant of a handle that no policy authorizes, and of which nothing is demanded
+-- the grant of a handle that no policy authorizes, and for which nothing is demanded
 abbrev pub undemanding : Handle → Grant
 undemanding handle = record { handle = handle; demand = demand.None }
 

@@ -77,7 +77,7 @@ unfoldable pub nonce_where : Record → (Entry → Bool) → List Entry → List
 nonce_where r test entries = option_map_or (entry_nonce r) (find test entries) []
 
 -- the entries whose sessions' nonces may stand in the HMAC text of entry n: those after it where it
--- is the first and authorizes a handle, and else none
+-- is the first and authorizes a handle, and otherwise none
 abbrev pub other_entries : Whole → ℕ → List Entry
 other_entries c n = if n == 1 && nat_lt 0 (authorized_handles c.code) then drop 1 c.entries else []
 

@@ -20,7 +20,7 @@ pub record IsUsed (r : Record) (used : Used) : Type 0 where
   pub found : IsFound r used.resolved
   pub named : ForSome used.name (λ name. name.now ≡ name_of r (used_handle used))
 
--- What an entry is about to authorize was found in the record.
+-- What an entry is to authorize was found in the record.
 pub record IsToGrant (r : Record) (granted : Granted) : Type 0 where
   pub used : IsUsed r granted.used
 

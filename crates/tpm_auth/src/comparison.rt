@@ -47,14 +47,14 @@ pub fn is_locked_out(lockout: &Lockout, protection: Protection) -> bool
     }
 }
 
-/// The refusal of an entry with this grant, or none, since the entity is locked out.
+/// The refusal of an entry with or without a grant, where the entity is locked out.
 pub fn lockout_refusal(grant: Option<Grant>) -> Refused
     ensures { result ≡ refusal (check_of grant) (plain code.Lockout) }
 {
     Refused::by(check_of(grant), ResponseCode::Lockout.anywhere())
 }
 
-/// The check of the comparison of an entry with this grant, or none.
+/// The check by which the comparison of an entry fails: G9 with a grant, and otherwise G10.
 pub fn check_of(grant: Option<Grant>) -> Check
     ensures { result ≡ check_of grant }
 {

@@ -20,8 +20,8 @@ use tpm_session::{CommandText, ParameterHashes, Session};
 use tpm_types::SessionType;
 use tpm_types_command::{AuthEntry, Command};
 
-/// Whether a session is bound to an entity, as that is now. The entity's Name is not asked for
-/// where its authorization value is another.
+/// Whether a session is bound to an entity as the entity is now. The Name is not asked for where
+/// the authorization value has changed.
 #[tactic(auto, unfolding(crate::specs::SessionGrant::is_bound_to, tpm_record::specs::Entity::auth_value_of))]
 fn is_bound_to<K: Keep>(keep: &K, session: &Session, used: &Used) -> bool
     requires { IsUsed (K.record_of keep.now) used.now }
@@ -48,8 +48,8 @@ pub fn takes_value<K: Keep>(keep: &K, session: &Session, granted: &Granted) -> b
     }
 }
 
-/// The authorization value in the HMAC key of an entry that authorizes this. An empty value changes
-/// no key.
+/// The authorization value in the HMAC key of an entry that authorizes this handle. An empty value
+/// changes no key.
 #[tactic(auto, unfolding(crate::specs::SessionGrant::used_auth_value, tpm_record::specs::Entity::auth_value_of))]
 fn key_value<'a, K: Keep>(keep: &'a K, session: &Session, granted: &Granted<'a>) -> &'a [u8]
     requires { IsToGrant (K.record_of keep.now) granted.now }
@@ -65,7 +65,7 @@ fn key_value<'a, K: Keep>(keep: &'a K, session: &Session, granted: &Granted<'a>)
     }
 }
 
-/// The authorization value in the HMAC key of an entry with this grant, or none.
+/// The authorization value in the HMAC key of an entry with or without a grant.
 #[tactic(auto, unfolding(crate::specs::SessionGrant::used_auth_value))]
 pub fn used_auth_value<'a, K: Keep>(
     keep: &'a K,
@@ -100,7 +100,7 @@ fn nonce_of<'a, K: Keep>(keep: &'a K, entry: &AuthEntry) -> &'a [u8]
     }
 }
 
-/// The nonceTPM of the first entry that decrypts, or no byte.
+/// The nonceTPM of the first entry that decrypts; empty where none does.
 #[tactic(auto, unfolding(crate::specs::SessionGrant::nonce_where))]
 fn decrypting_nonce<'a, K: Keep>(keep: &'a K, entries: &[AuthEntry]) -> &'a [u8]
     ensures { result.now ≡ nonce_where (K.record_of keep.now) decrypts (map entry_of entries.now) }
@@ -112,7 +112,7 @@ fn decrypting_nonce<'a, K: Keep>(keep: &'a K, entries: &[AuthEntry]) -> &'a [u8]
     }
 }
 
-/// The nonceTPM of the first entry that encrypts and does not decrypt, or no byte.
+/// The nonceTPM of the first entry that encrypts and does not decrypt; empty where none does.
 #[tactic(auto, unfolding(crate::specs::SessionGrant::nonce_where))]
 fn encrypting_nonce<'a, K: Keep>(keep: &'a K, entries: &[AuthEntry]) -> &'a [u8]
     ensures { result.now
@@ -140,7 +140,7 @@ fn other_entries<'a, 'b>(command: &'a Command<'b>, number: u8) -> &'a [AuthEntry
     &entries[first..]
 }
 
-/// The authorization value in the HMAC key of an entry that is about to authorize this, or nothing.
+/// The authorization value in the HMAC key of an entry that is to authorize this handle or none.
 #[tactic(auto, unfolding(crate::specs::SessionGrant::used_auth_value))]
 fn value_in_key<'a, K: Keep>(
     keep: &'a K,
@@ -158,7 +158,7 @@ fn value_in_key<'a, K: Keep>(
     }
 }
 
-/// Whether the HMAC of an entry is right that is about to authorize this, or nothing.
+/// Whether the HMAC of an entry is right that is to authorize this handle or none.
 #[tactic(auto, unfolding(crate::specs::SessionGrant::is_authentic, crate::specs::SessionGrant::entry_parts))]
 pub fn is_authentic<K: Keep>(
     keep: &K,

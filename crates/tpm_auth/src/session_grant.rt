@@ -52,7 +52,7 @@ fn or_protection(protection: Protection, other: Protection) -> Protection
 }
 
 /// The protection of the entity whose authorization value the entry of a session uses, where the
-/// entry is about to authorize this.
+/// entry is to authorize this handle.
 #[tactic(auto, unfolding(crate::specs::SessionGrant::entry_protection, tpm_record::specs::Entity::protection_of))]
 fn granted_protection<K: Keep>(keep: &K, session: &Session, granted: &Granted) -> Protection
     requires { IsToGrant (K.record_of keep.now) granted.now }
@@ -194,7 +194,7 @@ fn demand_of<K: Keep>(
     }
 }
 
-/// The authorization value of the entity that an entry authorizes, or no byte.
+/// The authorization value of the entity that an entry authorizes; empty where there is none.
 pub fn granted_value<'a, K: Keep>(keep: &'a K, grant: Option<Grant>) -> &'a [u8]
     ensures value { result.now ≡ granted_value (K.record_of keep.now) grant }
     ensures fits { length result.now ≤ 32 }
@@ -244,8 +244,8 @@ fn grant_of(granted: Option<Granted>) -> Option<Grant>
     }
 }
 
-/// The grant of an entry of a session that is about to authorize this, or nothing, if its
-/// comparison holds.
+/// The grant of a session's entry that is to authorize this handle or none, if its comparison
+/// holds.
 #[inline(always)]
 fn compare<K: Keep>(
     keep: &K,

@@ -22,7 +22,7 @@ use tpm_types_name::Name;
 pub struct Sent<'a, 'b> {
     pub command: &'a Command<'b>,
     pub resolved: &'a [Resolved<'a>],
-    /// The Names of the command's handles; none where nothing asks for them.
+    /// The Names of the command's handles; no Names where nothing asks for them.
     pub names: &'a [Name],
     pub locality: Locality,
 }

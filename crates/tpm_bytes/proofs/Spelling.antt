@@ -6,7 +6,7 @@ use Rattle.tpm_bytes.specs.Many.{many_at}
 use Rattle.tpm_bytes.specs.Reading.{◌>>=◌}
 use Rattle.tpm_bytes.proofs.Fields.{AreBytes, Takes, Takes-then, bind_ok, ok_is}
 
--- This holds of each thing that is read, and its text stood in front.
+-- A property holds of each thing that is read, and its text stood in front.
 abbrev pub IsTaken : {A E : Type 0} → (A → List ℕ) → (A → Type 0) → (List ℕ → Result (A × List ℕ) E) → Type 0
 IsTaken {A} text Is at = (bytes : List ℕ) (x : A × List ℕ) → AreBytes bytes → at bytes ≡ Ok x → Takes bytes (text x.0) x.1 × Is x.0
 

@@ -43,7 +43,7 @@ number_at width text =
     else Ok (from_be_bytes width (take (byte_len width) text), drop (byte_len width) text)
 
 -- the bytes of the sized buffer at the front of a text, and what is after it. The fault is "too
--- long" where its size is over the limit, whether its bytes are there or not, and else "short"
+-- long" where its size is over the limit, whether its bytes are there or not, and otherwise "short"
 -- where they are not
 abbrev pub sized_at : ℕ → List ℕ → Result (List ℕ × List ℕ) SizedFault
 sized_at limit text = do

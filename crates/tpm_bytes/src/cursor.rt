@@ -16,7 +16,7 @@ pub struct Short;
 pub enum SizedFault {
     /// The size of the buffer is over the limit, whether its bytes are there or not.
     TooLong,
-    /// The size of the buffer, or some of its bytes, are not there.
+    /// The size of the buffer or some of its bytes are missing.
     Short,
 }
 

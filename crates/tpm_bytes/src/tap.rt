@@ -59,7 +59,7 @@ impl<D> Tap<D> {
         self.reads
     }
 
-    /// For how many bytes the last read had room.
+    /// How many bytes the last read had room for.
     pub fn room(&self) -> usize
         ensures { result ≡ (marks_of self.now).room }
     {

@@ -1,4 +1,4 @@
--- Where the device's response stands.
+-- The device's response stands, but for a few named cases.
 use Rattle.std.proofs.Common.{◌≡◌, ℕ, ◌/◌, ◌^◌, ◌&&◌, ◌||◌, not, Bool, true, false, if◌then◌else◌, List, [], Option, None, Result, Ok, Err, refl, ap, sym, ◌∙◌}
 use Rattle.std.proofs.lemmas.Bool.{false≢true}
 use Rattle.std.specs.Prelude.{◌==◌}
@@ -31,11 +31,11 @@ and_right : (a b : Bool) → b ≡ false → (a && b) ≡ false
 and_right false b e = refl
 and_right true b e = e
 
--- what is chosen by two tests, of which none holds
+-- a choice by two tests, neither of which holds
 either : {X : Type 0} (a b : Bool) (x y z : X) → a ≡ false → b ≡ false → (if a then x else (if b then y else z)) ≡ z
 either a b x y z e f = if_false a x (if b then y else z) e ∙ if_false b y z f
 
--- handles of which the layer has no list
+-- the layer has no list of handles with another highest byte
 no_handles : (r : Record) (c : Completion) (asked : Asked) (kind : ℕ) → ((kind == 0x80) || ((kind == 0x02) || (kind == 0x03))) ≡ false → handles_told r c asked kind ≡ None
 no_handles r c asked kind none =
     if_false (kind == 0x80) _ _ (or_left (kind == 0x80) ((kind == 0x02) || (kind == 0x03)) none)
@@ -43,7 +43,7 @@ no_handles r c asked kind none =
     (or_left (kind == 0x02) (kind == 0x03) (or_right (kind == 0x80) ((kind == 0x02) || (kind == 0x03)) none))
     (or_right (kind == 0x02) (kind == 0x03) (or_right (kind == 0x80) ((kind == 0x02) || (kind == 0x03)) none))
 
--- what is asked for, of which the layer has no list, by the tests of its capability
+-- the layer has no list of what is asked for, by the tests of its capability
 none_by : {X : Type 0} (handles commands properties kinds : Bool) (of_handles of_commands of_properties : Option X) → (commands || (properties || (handles && kinds))) ≡ false → (kinds ≡ false → of_handles ≡ None) → (if handles then of_handles else (if commands then of_commands else (if properties then of_properties else None))) ≡ None
 none_by true false false kinds h c p none of = of none
 none_by false false false kinds h c p none of = refl

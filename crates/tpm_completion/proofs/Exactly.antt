@@ -1,4 +1,4 @@
--- Where no memory is refused, what is seen of an event is what the function gives.
+-- Where no memory is refused, the effect of an event is what the function gives.
 use Rattle.std.proofs.Common.{◌≡◌, ℕ, Bool, true, false, List, [], Option, Some, None, refl, ap, sym, ◌∙◌}
 use Rattle.std.proofs.lemmas.Bool.{false≢true}
 use Rattle.tpm_machine.specs.Drawn.{drawn_by}
@@ -41,13 +41,14 @@ pub completes_exactly : (c : Completion) (old : Record) (event : PlainEvent) (se
 completes_exactly c old (Given buffer locality elapsed random) seen x = completes_by_exactly c old buffer locality elapsed random (flush_asked c buffer) seen x
 completes_exactly c old Cycled seen x = passes_exactly c old Cycled seen x
 
--- the same for any value of `can` that is false, with the layer or without it
+-- the effect is that of the function for any value of `can` that is false, with the layer or
+-- without it
 pub exactly : (can completes : Bool) (c : Completion) (old : Record) (event : PlainEvent) (seen : Seen) → CompletesIf can completes c old event seen → can ≡ false → seen ≡ completed completes c old event
 exactly false false c old event seen is never = passes_exactly c old event seen is
 exactly false true c old event seen is never = completes_exactly c old event seen is
 exactly true completes c old event seen is never = absurd (false≢true (sym never))
 
--- what is said by cases
+-- the effect by cases: with the layer or without it
 pub completes_by_cases : (can completes : Bool) (c : Completion) (old : Record) (event : PlainEvent) (seen : Seen) → (completes ≡ false → Passes can c old event seen) → (completes ≡ true → Completes can c old event seen) → CompletesIf can completes c old event seen
 completes_by_cases can false c old event seen off on = off refl
 completes_by_cases can true c old event seen off on = on refl

@@ -1,4 +1,4 @@
--- The executions on the device behind one event lead from its record to the one after it.
+-- The executions on the device for one event lead from its record to the one after it.
 use Rattle.std.proofs.Common.{◌≡◌, ℕ, Bool, true, false, List, [], Option, Some, None, refl, ap}
 use Rattle.tpm_history.specs.Executions.{Leads}
 use Rattle.tpm_history.proofs.Following.{stretch_follows}

@@ -4,13 +4,13 @@ use Rattle.std.specs.Prelude.{ℕ, Bool, List, []}
 use Rattle.std.specs.Str.{bytes_eq}
 use Rattle.tpm_step.specs.Answer.{framed}
 
--- the response of a success, and of a refusal with a code
+-- the response of a success, and the refusal with a code
 abbrev pub success : List ℕ → List ℕ
 success body = framed 0x8001 0 body
 
 abbrev pub refusal : ℕ → List ℕ
 refusal code = framed 0x8001 code []
 
--- whether a response is the refusal with this code
+-- whether a response is a refusal with this code
 abbrev pub is_refusal : ℕ → List ℕ → Bool
 is_refusal code response = bytes_eq response (refusal code)

@@ -52,19 +52,22 @@ algorithm_elements =
 
 -- ---- handles
 
--- the transient objects but for those that wait, of which no client has the handle
+-- the handle of the transient object in a place, unless it waits; no client has the handle of one
+-- that waits
 unfoldable pub object_shown : Record → Completion → ℕ → List Element
 object_shown r c place = if (object_held c place).waits == 0 then object_element r place else []
 
 abbrev pub objects_shown : Record → Completion → List Element
 objects_shown r c = flat_map (object_shown r c) (numbers_below object_limit)
 
--- whether a session with this context, or none (0), is saved (true), or loaded (false)
+-- whether a session with this context number is in the state that `saved` says: saved (true), or
+-- loaded (false), where the number is 0
 abbrev pub is_in_state : (saved : Bool) → (context : ℕ) → Bool
 is_in_state true context = not (context == 0)
 is_in_state false context = context == 0
 
--- the sessions that are saved (true), or loaded (false)
+-- the handle of the session in a place, if it is in the state that `saved` says: saved (true) or
+-- loaded (false)
 unfoldable pub session_shown : Record → Completion → (saved : Bool) → ℕ → List Element
 session_shown r c saved place =
     if is_in_state saved (session_context c place) then session_element r place else []
@@ -79,7 +82,7 @@ own_before command.PolicyNv = element 0x146 0x146 ∷ []
 own_before command.FlushContext = element 0x161 0x1000_0161 ∷ element 0x162 0x0200_0162 ∷ []
 own_before _ = []
 
--- the commands that are served, with the layer's own in their places
+-- the elements of a command: those of the layer's own that come before it, and its own
 unfoldable pub commands_by : CommandCode → List Element
 commands_by code = own_before code ++ command_element code ∷ []
 
@@ -111,7 +114,7 @@ property_elements lockout =
 
 -- ---- the answer
 
--- the list of the handles with a highest byte that the layer tells otherwise than the device
+-- the list of the handles with a highest byte, where the layer lists them otherwise than the device
 abbrev pub handles_told : Record → Completion → Asked → (kind : ℕ) → Option (List ℕ)
 handles_told r c asked kind =
     if kind == 0x80 then
@@ -122,7 +125,7 @@ handles_told r c asked kind =
     Some (listing form.Value 1 (asked.property % 2 ^ 24) asked.count (sessions_shown r c true))
     else None))
 
--- what the layer lists of a capability that the device told, if it is one of its own
+-- the layer's list of a capability that the device answered, if it has one
 abbrev pub told_of : Record → Completion → Asked → Option (List ℕ)
 told_of r c asked =
     if asked.capability == 1 then handles_told r c asked (asked.property / 2 ^ 24)
@@ -133,8 +136,8 @@ told_of r c asked =
     (property_elements r.fixed.lockout))
     else None))
 
--- what stands behind the header of the answer to TPM2_GetCapability, if the layer has one: where
--- the device told the capability; and the algorithms, where it refused them with VALUE for
+-- the bytes after the header of the layer's answer to TPM2_GetCapability, if it has one: where the
+-- device answered the capability; or for algorithms, where the device refused them with VALUE for
 -- parameter 1
 unfoldable pub capability_told : Record → Completion → Asked → (was_told : Bool) → List ℕ
     → Option (List ℕ)

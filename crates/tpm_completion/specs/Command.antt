@@ -6,7 +6,7 @@ use Rattle.tpm_bytes.specs.Reading.{◌>>=◌, number_at, refused_if, too_short}
 use Rattle.tpm_bytes.specs.declared.cursor.Short.{Short}
 use Rattle.tpm_completion.specs.declared.command.PlainCommand.{PlainCommand}
 
--- a command without sessions: its code, and what stands behind its header
+-- a command without sessions: its code, and the bytes after its header
 pub record Command : Type 0 where
   pub code : ℕ
   pub parameters : List ℕ

@@ -1,5 +1,5 @@
--- What is seen of one event, with the completing layer or without it, where no memory is refused: a
--- function of the layer, the record and the event.
+-- The effect of one event, with the completing layer or without it, where no memory is refused, as
+-- a function of the layer, the record and the event.
 use Rattle.std.specs.Prelude.{ℕ, Bool, true, false, List, [], Option, Some, None}
 use Rattle.tpm_machine.specs.Drawn.{drawn_by}
 use Rattle.tpm_record.specs.Record.{Record}
@@ -10,7 +10,7 @@ use Rattle.tpm_completion.specs.Execution.{Seen, answered, given_up_behind, no_r
 use Rattle.tpm_completion.specs.Room.{flush_asked, flush_text, noted}
 use Rattle.tpm_completion.specs.declared.completion.Completion.{Completion}
 
--- an event that passes to the device alone
+-- the effect of an event that passes to the device alone
 unfoldable pub passed : Completion → Record → PlainEvent → Seen
 passed c old event = record {
   step = step old event;
@@ -18,24 +18,25 @@ passed c old event = record {
   drawn = drawn_by old event (step old event).row.check;
 }
 
--- behind an empty command: the flush of the object in a place is noted
+-- the effect where an empty command passed to the device, and the flush of the object in a place is
+-- noted
 abbrev pub noted_behind : (tick : Seen) → (place : ℕ) → Seen
 noted_behind tick place = answered tick (noted tick.layer place)
 
--- a command once more, for which no time passes, behind what the device did
+-- the effect of a command that is executed once more after this effect, for which no time passes
 abbrev pub again_behind : Seen → (buffer : List ℕ) → (locality : ℕ) → List ℕ → Seen
 again_behind flush buffer locality random =
     passed flush.layer flush.step.after (Given buffer locality 0 random)
 
--- behind a command that found no room: the object in a place is given up
+-- the effect where the object in a place is given up for a command that found no room
 abbrev pub gave_up_behind : Seen → (buffer : List ℕ) → (locality : ℕ) → List ℕ → (place : ℕ) → Seen
 gave_up_behind first buffer locality random place =
     again_behind
     (passed first.layer first.step.after (Given (flush_text place) locality 0 no_random))
     buffer locality random
 
--- behind the device's first execution of a command, for which the object in a place is given up, or
--- none
+-- the effect after the device's first execution of a command: the object in a place is given up for
+-- it, or none is
 abbrev pub done_behind : Seen → (buffer : List ℕ) → (locality : ℕ) → List ℕ → Option ℕ → Seen
 done_behind first buffer locality random (Some place) =
     gave_up_behind first buffer locality random place
@@ -45,7 +46,8 @@ abbrev pub behind : Seen → (buffer : List ℕ) → (locality : ℕ) → List �
 behind first buffer locality random =
     done_behind first buffer locality random (given_up_behind first)
 
--- a command with the layer, which flushes the object with a context in a place, or does not
+-- the effect of a command with the layer: it flushes the object in a place, which has a context, or
+-- it does not
 abbrev pub completed_by : Completion → Record → (buffer : List ℕ) → (locality elapsed : ℕ) → List ℕ
     → Option ℕ → Seen
 completed_by c old buffer locality elapsed random (Some place) =
@@ -58,7 +60,7 @@ completed_with c old (Given buffer locality elapsed random) =
     completed_by c old buffer locality elapsed random (flush_asked c buffer)
 completed_with c old Cycled = passed c old Cycled
 
--- an event with the layer (true), or without it (false)
+-- the effect of an event with the layer (true), or without it (false)
 abbrev pub completed : (completes : Bool) → Completion → Record → PlainEvent → Seen
 completed false c old event = passed c old event
 completed true c old event = completed_with c old event

@@ -13,7 +13,7 @@ use Rattle.tpm_completion.specs.declared.completion.Held.{Held}
 abbrev pub no_context : Held
 no_context = record { context = 0; waits = 0 }
 
--- at a start no context was given
+-- the layer of a start, at which no context was given yet
 abbrev pub new_completion : (start : ℕ) → Completion
 new_completion start = record {
   start = start;
@@ -23,14 +23,15 @@ new_completion start = record {
 }
 
 -- what is remembered of the object in a place, and the number of the context with which the session
--- in a place was saved, 0 where that is loaded
+-- in a place was saved, 0 where it is loaded
 abbrev pub object_held : Completion → ℕ → Held
 object_held c place = get_or c.objects place no_context
 
 abbrev pub session_context : Completion → ℕ → ℕ
 session_context c place = get_or c.sessions place 0
 
--- what is left of them in this state of the device: nothing where the place is free
+-- what is remembered of the object in a place, and of the session in a place, where the device
+-- still has it
 unfoldable pub object_kept : Record → Completion → ℕ → Held
 object_kept r c place =
     if is_some (object_at r.objects (object_handle place)) then object_held c place else no_context
@@ -38,8 +39,7 @@ object_kept r c place =
 unfoldable pub session_kept : Record → Completion → ℕ → ℕ
 session_kept r c place = if is_some (at_place r.sessions place) then session_context c place else 0
 
--- the layer without the contexts of objects and sessions that are gone: a context is worth nothing
--- once what it was given for is no longer there
+-- the layer without the contexts of objects and sessions that are gone
 unfoldable pub forgotten : Record → Completion → Completion
 forgotten r c = record c {
   objects = map (object_kept r c) (numbers_below object_limit);

@@ -15,21 +15,21 @@ use Rattle.tpm_completion.specs.declared.context.Token.{Token}
 abbrev pub mark : List ℕ
 mark = 0x74 ∷ 0x70 ∷ 0x6d ∷ 0x73 ∷ 0x69 ∷ 0x6d ∷ 0x20 ∷ 0x31 ∷ []
 
--- contextBlob: the mark, the start of the layer, and the handle
+-- the contextBlob of a token: the mark, the start of the layer, and the handle
 abbrev pub token_text : (start : ℕ) → Handle → List ℕ
 token_text start handle = mark ++ to_be_bytes w64 start ++ to_be_bytes w32 handle.number
 
--- savedHandle: 80000000 for every object, and a session's own
+-- the savedHandle of a token: 80000000 for every object, and a session's own
 abbrev pub saved_handle : Handle → ℕ
 saved_handle handle = if is_transient handle then 0x8000_0000 else handle.number
 
--- the context with a number, of what has a handle; its hierarchy is told as TPM_RH_NULL
+-- the context of a token: its number is the sequence, and its hierarchy is TPM_RH_NULL
 unfoldable pub context_text : (start : ℕ) → Token → List ℕ
 context_text start token =
     to_be_bytes w64 token.context ++ to_be_bytes w32 (saved_handle token.handle)
     ++ to_be_bytes w32 null_handle.number ++ sized_text (token_text start token.handle)
 
--- the token of a context's bytes: its number stands in front, its handle behind 26 bytes more, and
+-- the token of a context's bytes: its number is in front, its handle after another 26 bytes, and
 -- the bytes are those of the token's context
 unfoldable pub token_at : (start : ℕ) → List ℕ → Result Token Short
 token_at start text = do

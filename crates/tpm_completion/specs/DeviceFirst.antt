@@ -1,4 +1,4 @@
--- Where the device's response stands.
+-- The device's response stands, but for a few named cases.
 use Rattle.std.specs.Prelude.{◌≡◌, ℕ, ◌/◌, ◌^◌, ◌==◌, ◌&&◌, ◌||◌, Bool, false, List, [], Result, Ok, Err}
 use Rattle.std.specs.Str.{bytes_eq}
 use Rattle.tpm_bytes.specs.declared.cursor.Short.{Short}
@@ -11,15 +11,15 @@ use Rattle.tpm_completion.specs.Reply.{reply, stands}
 use Rattle.tpm_completion.specs.declared.capability.Asked.{Asked}
 use Rattle.tpm_completion.specs.declared.completion.Completion.{Completion}
 
--- whether a response is a refusal behind which the layer may answer: COMMAND_CODE, VALUE for
--- parameter 1, or that of a bad tag
+-- whether a response is a refusal after which the layer may answer: COMMAND_CODE, VALUE for
+-- parameter 1, or BAD_TAG
 abbrev pub is_gap : List ℕ → Bool
 is_gap response =
     is_refusal 0x143 response
     || (is_refusal 0x1c4 response || bytes_eq response (framed 0xc4 0x1e []))
 
 -- whether the layer has a list of what TPM2_GetCapability asks for: commands, properties, transient
--- objects, sessions loaded or saved
+-- objects, and loaded or saved sessions
 abbrev pub has_list : Asked → Bool
 has_list asked =
     (asked.capability == 2)

@@ -1,4 +1,4 @@
--- What the completing layer does of one event: which events the device executes, what is answered,
+-- How the completing layer handles one event: which events the device executes, what is answered,
 -- and what the layer remembers then.
 use Rattle.std.specs.Prelude.{◌≡◌, ℕ, ◌==◌, Bool, true, false, List, [], Option, Some, None, replicate}
 use Rattle.tpm_history.specs.Follows.{After, Follows}
@@ -16,14 +16,14 @@ use Rattle.tpm_completion.specs.Room.{flush_asked, flush_text, given_up, noted}
 use Rattle.tpm_completion.specs.Saving.{Reply}
 use Rattle.tpm_completion.specs.declared.completion.Completion.{Completion}
 
--- what is seen of an event: the response, the device's own row, and its record; what the layer
+-- the effect of an event: the response, the device's own row, and its record; what the layer
 -- remembers then; and how many random bytes the device's latest event drew
 pub record Seen : Type 0 where
   pub step : Stepped
   pub layer : Completion
   pub drawn : ℕ
 
--- what is seen of a machine, a layer and an outcome
+-- the effect that a machine, a layer and an outcome of the code show
 abbrev pub seen_of : {K S O P N : Type 0} → (K → Record) → Machine K S O P N → Completion → Outcome
     → Seen
 seen_of record_of machine layer outcome = record {
@@ -32,7 +32,7 @@ seen_of record_of machine layer outcome = record {
   drawn = latest_drawn machine;
 }
 
--- what is seen where the layer answers in the place of the device
+-- the effect where the layer answers in place of the device
 abbrev pub answered : Seen → Reply → Seen
 answered seen reply = record {
   step = record seen.step { response = reply.response };
@@ -50,7 +50,7 @@ pub record Passes (can : Bool) (c : Completion) (old : Record) (event : PlainEve
     pub layer : seen.layer ≡ forgotten seen.step.after c
     pub drawn : seen.drawn ≡ drawn_by old event seen.step.row.check
 
--- The flush of an object that has a context: an empty command passes to the device, so that time
+-- The flush of an object that has a context: an empty command passes to the device, for which time
 -- passes and nothing else happens, and the layer answers.
 abbrev pub Notes : Bool → Completion → Record → (locality elapsed : ℕ) → List ℕ → (place : ℕ) → Seen
     → Type 0
@@ -63,7 +63,7 @@ unfoldable pub no_random : List ℕ
 no_random = replicate 256 0
 
 -- The object in a place is given up: its flush passes to the device, and then the command once
--- more. No time passes in either.
+-- more. No time passes for either.
 abbrev pub GivesUp : Bool → Seen → (buffer : List ℕ) → (locality : ℕ) → List ℕ → (place : ℕ) → Seen
     → Type 0
 GivesUp can first buffer locality random place seen =
@@ -71,13 +71,13 @@ GivesUp can first buffer locality random place seen =
     × Passes can first.layer first.step.after (Given (flush_text place) locality 0 no_random) flush
     × Passes can flush.layer flush.step.after (Given buffer locality 0 random) seen
 
--- the layer's answer behind what the device did
+-- the layer's answer after this effect on the device
 abbrev pub reply_behind : Seen → (buffer : List ℕ) → Reply
 reply_behind first buffer =
     reply first.step.after first.layer buffer first.step.response (first.step.row.check == 0)
 
--- Behind the device's first execution of a command: an object is given up for it, or the layer
--- answers, or lets the device's response stand.
+-- After the device's first execution of a command, an object is given up for it, or the layer
+-- answers, or the device's response stands.
 abbrev pub Behind : Bool → Seen → (buffer : List ℕ) → (locality : ℕ) → List ℕ → Option ℕ → Seen
     → Type 0
 Behind can first buffer locality random (Some place) seen =
@@ -85,7 +85,7 @@ Behind can first buffer locality random (Some place) seen =
 Behind can first buffer locality random None seen =
     seen ≡ answered first (reply_behind first buffer)
 
--- the place of the object that is given up behind what the device did
+-- the place of the object that is given up after this effect on the device, if one is
 abbrev pub given_up_behind : Seen → Option ℕ
 given_up_behind first = given_up first.layer first.step.row first.step.response
 
@@ -105,13 +105,13 @@ CompletesBy can c old buffer locality elapsed random (Some place) seen =
 CompletesBy can c old buffer locality elapsed random None seen =
     AsksFirst can c old buffer locality elapsed random seen
 
--- An event with the layer: a command is completed, and a power cycle passes.
+-- An event had this effect with the layer: a command is completed, and a power cycle passes.
 abbrev pub Completes : Bool → Completion → Record → PlainEvent → Seen → Type 0
 Completes can c old (Given buffer locality elapsed random) seen =
     CompletesBy can c old buffer locality elapsed random (flush_asked c buffer) seen
 Completes can c old Cycled seen = Passes can c old Cycled seen
 
--- An event with the layer (true), or without it (false).
+-- An event had this effect with the layer (true), or without it (false).
 abbrev pub CompletesIf : (can completes : Bool) → Completion → Record → PlainEvent → Seen → Type 0
 CompletesIf can false c old event seen = Passes can c old event seen
 CompletesIf can true c old event seen = Completes can c old event seen

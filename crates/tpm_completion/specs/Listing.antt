@@ -15,13 +15,13 @@ told_text form.Value e = to_be_bytes w32 e.told
 told_text form.Property e = to_be_bytes w32 e.number ++ to_be_bytes w32 e.told
 told_text form.Algorithm e = to_be_bytes w16 (e.number % 2 ^ 16) ++ to_be_bytes w32 e.told
 
--- the text of the first elements from a number on, at most this many
+-- the text of the first elements from a number on, at most `count`
 abbrev pub text_of : Form → (from count : ℕ) → List Element → List ℕ
 text_of form from count elements =
     flat_map (told_text form) (take count (filter (is_from from) elements))
 
 -- the text of a list: whether there are more elements than are listed (moreData), the capability,
--- how many are listed, and these, the first from a number on
+-- how many are listed, and the elements
 abbrev pub listing : Form → (capability from count : ℕ) → List Element → List ℕ
 listing form capability from count elements =
     (if nat_lt (told_count from count elements) (found_count from elements) then 1 else 0)

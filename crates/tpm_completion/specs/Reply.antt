@@ -1,4 +1,4 @@
--- What the completing layer answers behind the device's response. TPM 2.0 Library, Part 3, sections
+-- The completing layer's answers after the device's response. TPM 2.0 Library, Part 3, sections
 -- 16.2 (TPM2_StirRandom), 28.2 (TPM2_ContextSave), 28.3 (TPM2_ContextLoad) and 30.2
 -- (TPM2_GetCapability).
 use Rattle.std.specs.Prelude.{ℕ, ◌==◌, ◌&&◌, not, Bool, false, List, [], length, if◌then◌else◌, Option, Some, None, Result, Ok, Err}
@@ -17,11 +17,12 @@ use Rattle.tpm_completion.specs.Saving.{Reply, loaded, saved}
 use Rattle.tpm_completion.specs.declared.capability.Asked.{Asked}
 use Rattle.tpm_completion.specs.declared.completion.Completion.{Completion}
 
--- the device's response stands
+-- the reply where the device's response stands
 abbrev pub stands : Completion → List ℕ → Reply
 stands c response = record { response = response; after = c }
 
--- TPM2_StirRandom takes at most 128 bytes; the device has no use for them
+-- whether these are the parameters of TPM2_StirRandom: at most 128 bytes, for which the device has
+-- no use
 abbrev pub is_stirred : Result (List ℕ × List ℕ) SizedFault → Bool
 is_stirred (Ok bytes) = length bytes.1 == 0
 is_stirred (Err e) = false
@@ -31,7 +32,7 @@ stirred c parameters response =
     if is_stirred (sized_at 128 parameters) then record { response = success []; after = c }
     else stands c response
 
--- TPM2_ContextSave of a handle, which nothing stands behind
+-- the answer to TPM2_ContextSave, whose only parameter is a handle
 abbrev pub save_asked : Record → Completion → (response : List ℕ) → Result (ℕ × List ℕ) Short
     → Reply
 save_asked r c response (Ok handle) =
@@ -47,7 +48,7 @@ served r c command response =
     save_asked r c response (number_at w32 command.parameters)
     else stands c response))
 
--- the answer to TPM2_GetCapability: what the layer lists, or the device's
+-- the answer to TPM2_GetCapability: the layer's list, or the device's response
 abbrev pub listed : Completion → (response : List ℕ) → Option (List ℕ) → Reply
 listed c response (Some text) = record { response = success text; after = c }
 listed c response None = stands c response
@@ -58,8 +59,8 @@ capability_asked r c response was_told (Ok asked) =
     listed c response (capability_told r c asked was_told response)
 capability_asked r c response was_told (Err e) = stands c response
 
--- the answer to a command without sessions: before TPM2_Startup always the device's; then the
--- layer's own commands, where the device refused them with COMMAND_CODE (143)
+-- the answer to a command without sessions: before TPM2_Startup always the device's; afterwards the
+-- layer's own commands too, where the device refused them with COMMAND_CODE (143)
 unfoldable pub command_reply : Record → Completion → Command → (response : List ℕ)
     → (was_told : Bool) → Reply
 command_reply r c command response was_told =
@@ -69,9 +70,8 @@ command_reply r c command response was_told =
     capability_asked r c response was_told (asked_at command.parameters)
     else stands c response))
 
--- a command of TPM 1.2 (tag 00C1), which the device refused with BAD_TAG (1E) and its tag (00C4), is
--- refused with VALUE (84) and the tag of this version, by which firmware knows that there is no TPM
--- 1.2
+-- the answer to a command of TPM 1.2 (tag 00C1), which the device refused with BAD_TAG (1E) and tag
+-- 00C4: VALUE (84) with the tag of this version, by which firmware knows that there is no TPM 1.2
 unfoldable pub probed : Completion → (buffer response : List ℕ) → Reply
 probed c buffer response =
     if (tag_of buffer == 0xc1) && bytes_eq response (framed 0xc4 0x1e []) then

@@ -1,6 +1,6 @@
--- Objects that wait: a client flushed them, and they stay in their places for their contexts, until
--- a place is needed. TPM 2.0 Library, Part 3, section 28.4 (TPM2_FlushContext), and Part 1, section
--- 30 (context management).
+-- Objects that wait: a client flushed them, and they stay in their places for the sake of their
+-- contexts, until a place is needed. TPM 2.0 Library, Part 3, section 28.4 (TPM2_FlushContext), and
+-- Part 1, section 30 (context management).
 use Rattle.std.specs.Prelude.{ℕ, ◌+◌, ◌-◌, ◌^◌, ◌==◌, ◌&&◌, ◌||◌, nat_lt, not, Bool, List, [], length, if◌then◌else◌, Option, Some, None, Result, Ok, Err}
 use Rattle.std.specs.Int.{w32, to_be_bytes}
 use Rattle.std.specs.List.{fold}
@@ -24,8 +24,7 @@ use Rattle.tpm_completion.specs.declared.room.Waiting.{Waiting}
 abbrev pub has_context : Completion → (place : ℕ) → Bool
 has_context c place = not ((object_held c place).context == 0)
 
--- the place of the handle that is flushed, where its object has a context; while a number is left
--- for the flush
+-- the place of the object that is flushed, if it has a context and a number is left for the flush
 abbrev pub flush_of : Completion → Result (ℕ × List ℕ) Short → Option ℕ
 flush_of c (Ok handle) =
     if (length handle.1 == 0) && (is_transient (numbered handle.0)
@@ -39,12 +38,13 @@ flush_in c (Ok command) =
     if command.code == 0x165 then flush_of c (number_at w32 command.parameters) else None
 flush_in c (Err e) = None
 
--- the place of the object with a context that a buffer flushes, TPM2_FlushContext without sessions
+-- the place of the object with a context that a buffer flushes by TPM2_FlushContext without
+-- sessions
 unfoldable pub flush_asked : Completion → (buffer : List ℕ) → Option ℕ
 flush_asked c buffer = flush_in c (plain_command buffer)
 
--- the flush of such an object: it waits from then on. Where it waits already, no object has this
--- handle: HANDLE for parameter 1 (1CB)
+-- the answer to the flush of an object with a context, which waits from then on. Where it waits
+-- already, no object has this handle: HANDLE for parameter 1 (1CB)
 abbrev pub flush_noted : Completion → (place : ℕ) → Held → Reply
 flush_noted c place held =
     if held.waits == 0 then record {
@@ -59,11 +59,11 @@ noted c place = flush_noted c place (object_held c place)
 
 -- ---- room for another object
 
--- none waits
+-- no object waits
 abbrev pub none_waits : Waiting
 none_waits = record { place = 0; since = 0 }
 
--- of the object in a place, and one that waits or none, the one that waits longer
+-- of the object in a place and the longest waiting one so far, the one that waits longer
 unfoldable pub longer : Completion → Waiting → (place : ℕ) → Waiting
 longer c best place =
     let waits : ℕ = (object_held c place).waits in
@@ -79,7 +79,7 @@ longest c = fold (longer c) none_waits (numbers_below object_limit)
 abbrev pub wants_room : Row → (response : List ℕ) → Bool
 wants_room row response = ((row.code == 0x131) || (row.code == 0x157)) && is_refusal 0x902 response
 
--- the place of the object that is given up for a command with this outcome, if any is
+-- the place of the object that is given up for a command with this outcome, if one is
 unfoldable pub given_up : Completion → Row → (response : List ℕ) → Option ℕ
 given_up c row response =
     if wants_room row response && not ((longest c).since == 0) then Some (longest c).place

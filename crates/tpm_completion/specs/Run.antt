@@ -1,5 +1,5 @@
--- The executions on the device behind one event: one without the layer, and with it as many as the
--- layer has executed.
+-- The executions on the device for one event: one without the layer, and with it as many as the
+-- layer causes.
 use Rattle.std.specs.Prelude.{ℕ, Bool, true, false, List, [], ◌∷◌, Option, Some, None}
 use Rattle.tpm_history.specs.Executions.{Execution}
 use Rattle.tpm_history.specs.Follows.{Follows, StretchFollows}
@@ -10,12 +10,12 @@ use Rattle.tpm_completion.specs.Execution.{AsksFirst, Behind, Completes, Complet
 use Rattle.tpm_completion.specs.Room.{flush_asked, flush_text}
 use Rattle.tpm_completion.specs.declared.completion.Completion.{Completion}
 
--- an event that passed to the device, as this was seen
+-- the execution of an event that passed to the device, with this effect
 abbrev pub executed : Record → PlainEvent → Seen → Execution
 executed old event seen = record { before = old; event = event; seen = seen.step }
 
--- behind the device's first execution of a command: the flush of the object that is given up, and
--- the command once more; or nothing
+-- the executions after the device's first one of a command: the flush of the object that is given
+-- up, and the command once more; or none
 abbrev pub run_behind : (can : Bool) (first : Seen) (buffer : List ℕ) (locality : ℕ)
     (random : List ℕ) (place : Option ℕ) (seen : Seen)
     → Behind can first buffer locality random place seen → List Execution
@@ -45,7 +45,7 @@ abbrev pub run_of : (can completes : Bool) (c : Completion) (old : Record) (even
 run_of can false c old event seen passes = executed old event seen ∷ []
 run_of can true c old event seen completes = run_with can c old event seen completes
 
--- A device that follows a history follows the history with all executions of the event then.
+-- A device that follows a history follows the history with all executions for an event.
 abbrev pub RunsFollow : Type 0
 RunsFollow =
     (can completes : Bool) (c : Completion) (old : Record) (event : PlainEvent) (seen : Seen)

@@ -24,7 +24,7 @@ pub record Reply : Type 0 where
 abbrev pub place_named : Handle → ℕ
 place_named handle = place_of handle.number
 
--- the layer with something else remembered of the object, or of the session, in a place
+-- the layer that remembers this of the object, or of the session, in a place
 abbrev pub with_object : Completion → ℕ → Held → Completion
 with_object c place held = record c { objects = slice_set c.objects place held }
 
@@ -38,19 +38,19 @@ next_number c = if nat_lt c.count (2 ^ 64 - 1) then Some (c.count + 1) else None
 abbrev pub counted : Completion → (number : ℕ) → Completion
 counted c number = record c { count = number }
 
--- the answer where a context was given: the context
+-- the reply with a context
 abbrev pub context_given : Completion → Handle → (context : ℕ) → Reply
 context_given c handle context = record {
   response = success (context_text c.start (record { context = context; handle = handle }));
   after = c;
 }
 
--- a refusal leaves the layer as it was
+-- the reply with a refusal, which leaves the layer as it was
 abbrev pub refused : Completion → ℕ → Reply
 refused c code = record { response = refusal code; after = c }
 
--- an object that is saved again has the context that it had; TOO_MANY_CONTEXTS (12E) where no
--- number is left
+-- the reply with a new context of an object that had none; TOO_MANY_CONTEXTS (12E) where no number
+-- is left
 abbrev pub object_numbered : Completion → Handle → Option ℕ → Reply
 object_numbered c handle (Some number) =
     context_given
@@ -58,28 +58,30 @@ object_numbered c handle (Some number) =
     handle number
 object_numbered c handle None = refused c 0x12e
 
--- an object that is there and does not wait is saved; else its handle names nothing: REFERENCE_H0
+-- the reply that saves an object which is there and does not wait, with the context that it has or
+-- a new one; otherwise its handle names nothing: REFERENCE_H0
 abbrev pub object_saved : Record → Completion → Handle → Held → Reply
 object_saved r c handle held =
     if not (is_some (object_at r.objects handle) && (held.waits == 0)) then refused c 0x910
     else (if held.context == 0 then object_numbered c handle (next_number c)
     else context_given c handle held.context)
 
--- a session is saved with a new context each time, and is loaded no more
+-- the reply that saves a session with a new context, each time it is saved; it is no longer loaded
+-- then
 abbrev pub session_numbered : Completion → Handle → Option ℕ → Reply
 session_numbered c handle (Some number) =
     context_given (with_session (counted c number) (place_named handle) number) handle number
 session_numbered c handle None = refused c 0x12e
 
--- a session that is loaded is saved; one that is saved already is named by no handle: REFERENCE_H0
+-- the reply that saves a loaded session; the handle of a saved one names nothing: REFERENCE_H0
 abbrev pub session_saved : Record → Completion → Handle → (context : ℕ) → Reply
 session_saved r c handle context =
     if is_some (session_at r.sessions handle) && (context == 0) then
     session_numbered c handle (next_number c)
     else refused c 0x910
 
--- TPM2_ContextSave of a handle: VALUE for handle 1 (184) where it is neither an object's nor a
--- session's
+-- the reply to TPM2_ContextSave of a handle: VALUE for handle 1 (184) where it is neither an
+-- object's nor a session's
 unfoldable pub saved : Record → Completion → Handle → Reply
 saved r c handle =
     if is_transient handle then object_saved r c handle (object_held c (place_named handle))
@@ -89,12 +91,13 @@ saved r c handle =
 
 -- ---- TPM2_ContextLoad
 
--- the answer where a context was loaded: the handle
+-- the reply with the handle of a context that was loaded
 abbrev pub handle_given : Completion → Handle → Reply
 handle_given c handle =
     record { response = success (to_be_bytes w32 handle.number); after = c }
 
--- the object of a context is loaded as often as one likes, while it is there; it waits no longer
+-- the reply that loads the object of a context, any number of times while it is there; it no longer
+-- waits then
 abbrev pub object_loaded : Record → Completion → Token → Reply
 object_loaded r c token =
     if is_some (object_at r.objects token.handle)
@@ -104,7 +107,7 @@ object_loaded r c token =
     (record { context = token.context; waits = 0 })) token.handle
     else refused c 0x1cb
 
--- the session of a context is loaded once
+-- the reply that loads the session of a context, once
 abbrev pub session_loaded : Record → Completion → Token → Reply
 session_loaded r c token =
     if is_some (session_at r.sessions token.handle)
@@ -118,9 +121,9 @@ token_loaded r c token =
     if is_transient token.handle then object_loaded r c token
     else (if is_session token.handle then session_loaded r c token else refused c 0x1cb)
 
--- TPM2_ContextLoad of these bytes. INTEGRITY for parameter 1 (1DF): they are no context of this
--- layer since its start; HANDLE for parameter 1 (1CB): what they name is not there, is another
--- object or session, or a session that was loaded since
+-- the reply to TPM2_ContextLoad of these bytes. INTEGRITY for parameter 1 (1DF): they are no
+-- context of this layer since its start; HANDLE for parameter 1 (1CB): what they name is not there,
+-- or is another object or session, or a session that was loaded since
 abbrev pub loaded_by : Record → Completion → Result Token Short → Reply
 loaded_by r c (Ok token) = token_loaded r c token
 loaded_by r c (Err e) = refused c 0x1df

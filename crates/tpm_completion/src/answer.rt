@@ -20,7 +20,7 @@ pub fn answer(code: u32, body: &[u8], text: &mut Response)
     append(text, body);
 }
 
-/// Whether a response is the refusal with this code.
+/// Whether a response is a refusal with this code.
 pub fn is_refusal(code: u32, response: &[u8]) -> bool
     ensures { result ≡ is_refusal code response.now }
 {

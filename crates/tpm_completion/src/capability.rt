@@ -23,7 +23,7 @@ use tpm_session::handle_of;
 use tpm_types::{Handle, OBJECT_LIMIT, SESSION_LIMIT};
 use tpm_types_command::CommandCode;
 
-/// The text of what is listed.
+/// The text of a list that TPM2_GetCapability answers.
 pub type Listing = Sink<LISTING_LIMIT>;
 
 /// Room for three elements for each command of the device.
@@ -114,7 +114,7 @@ fn command(code: CommandCode) -> Element
     element(code.number(), attributes)
 }
 
-/// Lists the layer's own commands that stand before this one, and this one.
+/// Lists those of the layer's own commands that come before this one, and then this one.
 #[tactic(auto, unfolding(crate::specs::Capability::commands_by))]
 fn list_command(code: CommandCode, elements: &mut Commands)
     requires { length elements.old.items + 3 ≤ COMMANDS_ROOM }
@@ -132,7 +132,7 @@ fn list_command(code: CommandCode, elements: &mut Commands)
     elements.push(command(code));
 }
 
-/// Lists these commands, and the layer's own before each of them.
+/// Lists these commands, and before each of them those of the layer's own that come before it.
 #[tactic(auto, using(crate::proofs::Commands::commands_more))]
 fn list_commands(codes: &[CommandCode], elements: &mut Commands)
     requires empty { elements.old.items ≡ [] }
@@ -152,7 +152,7 @@ fn commands(elements: &mut Commands)
     list_commands(CommandCode::ALL, elements);
 }
 
-/// Lists the transient object in a place, if it is there and does not wait.
+/// Lists the transient object in a place, if there is one that does not wait.
 #[tactic(auto, unfolding(crate::specs::Capability::object_shown))]
 fn object<K: Keep>(layer: &Completion, keep: &K, place: u32, elements: &mut Elements)
     requires place { place < object_limit }
@@ -180,14 +180,16 @@ fn objects<K: Keep>(layer: &Completion, keep: &K, elements: &mut Elements)
     }
 }
 
-/// Whether a session with this context, or none, is saved, or is loaded.
+/// Whether a session with this context number is in the state that `saved` says: saved (true), or
+/// loaded (false), where the number is 0.
 fn is_in_state(saved: bool, context: u64) -> bool
     ensures { result ≡ is_in_state saved context }
 {
     if saved { context != 0 } else { context == 0 }
 }
 
-/// Lists the session in a place, if there is one, and it is saved or is loaded.
+/// Lists the session in a place, if it is in the state that `saved` says: saved (true) or loaded
+/// (false).
 #[tactic(auto, unfolding(crate::specs::Capability::session_shown))]
 fn session<K: Keep>(layer: &Completion, keep: &K, saved: bool, place: u32, elements: &mut Elements)
     requires place { place < session_limit }
@@ -205,7 +207,7 @@ fn session<K: Keep>(layer: &Completion, keep: &K, saved: bool, place: u32, eleme
     }
 }
 
-/// Lists the sessions that are saved, or those that are loaded.
+/// Lists the sessions that are saved, where `saved` is true, or those that are loaded.
 #[tactic(auto, using(tpm_actions_capability::proofs::Listing::one_more))]
 fn sessions<K: Keep>(layer: &Completion, keep: &K, saved: bool, elements: &mut Elements)
     requires { elements.old.items ≡ [] }
@@ -244,7 +246,7 @@ fn tell_sessions<K: Keep>(
     list(elements.as_slice(), Form::Value, 1, from, asked.count, text);
 }
 
-/// Writes the handles of objects or sessions, if it is these that are asked for.
+/// Writes the handles of objects or sessions, if these are asked for.
 fn tell_handles<K: Keep>(layer: &Completion, keep: &K, asked: Asked, text: &mut Listing) -> bool
     requires { text.old ≡ [] }
     ensures { Tells (handles_told (K.record_of keep.now) layer.now asked (asked.property / 2 ^ 24))
@@ -287,7 +289,7 @@ fn tell_properties<K: Keep>(keep: &K, asked: Asked, text: &mut Listing)
     );
 }
 
-/// Writes what is listed of a capability that the device told, if the layer has it.
+/// Writes the layer's list of a capability that the device answered, if the layer has one.
 fn tell_told<K: Keep>(layer: &Completion, keep: &K, asked: Asked, text: &mut Listing) -> bool
     requires { text.old ≡ [] }
     ensures { Tells (told_of (K.record_of keep.now) layer.now asked) result text.new }
@@ -301,8 +303,8 @@ fn tell_told<K: Keep>(layer: &Completion, keep: &K, asked: Asked, text: &mut Lis
     true
 }
 
-/// Writes what the layer lists behind the device's response, if it lists anything. `was_told` says
-/// whether the device told the capability.
+/// Writes the layer's list in place of the device's response, if the layer has one. `was_told` says
+/// whether the device answered the capability.
 #[tactic(auto, unfolding(crate::specs::Capability::capability_told))]
 pub fn tell<K: Keep>(
     layer: &Completion,

@@ -6,7 +6,7 @@ ghost use Rattle.tpm_completion.specs.Command.{command_of, plain_command, tag_of
 
 use tpm_bytes::{Cursor, Short};
 
-/// A command without sessions: its code, and what stands behind its header.
+/// A command without sessions: its code, and the bytes after its header.
 #[derive(Drop)]
 pub struct PlainCommand<'a> {
     pub code: u32,
@@ -14,7 +14,8 @@ pub struct PlainCommand<'a> {
 }
 
 impl<'a> PlainCommand<'a> {
-    /// Reads a command without sessions, as long as its header says; any other is passed over.
+    /// Reads a command without sessions whose size is the one that its header says; any other is
+    /// passed over.
     #[tactic(auto, unfolding(crate::specs::Command::plain_command))]
     pub fn read(buffer: &'a [u8]) -> Result<PlainCommand<'a>, Short>
         ensures { Gives command_of (plain_command buffer.now) result }

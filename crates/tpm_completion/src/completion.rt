@@ -8,31 +8,32 @@ use tpm_containers::numbered;
 use tpm_record::Keep;
 use tpm_types::{Handle, OBJECT_LIMIT, SESSION_LIMIT};
 
-/// What is remembered of the object in a place.
+/// What the layer remembers of the object in a place.
 #[derive(Clone, Copy, Debug, PartialEq, Eq)]
 pub struct Held {
-    /// The number of its context, 0 where it has none.
+    /// The number of the object's context, 0 where it has none.
     pub context: u64,
-    /// The number of its flush, 0 where it was not flushed. A flushed object waits in its place.
+    /// The number of the object's flush, 0 where it was not flushed. A flushed object waits in its
+    /// place.
     pub waits: u64,
 }
 
 /// The state of the layer. Contexts and flushes are counted together, from 1 on.
 #[derive(Clone, Copy, Debug, PartialEq, Eq)]
 pub struct Completion {
-    /// A number of who uses the layer, by which the contexts of one start are told from those of
-    /// another.
+    /// A number that the layer's user chooses, by which the contexts of one start are told from
+    /// those of another.
     pub start: u64,
     pub count: u64,
-    /// By the places of the transient objects.
+    /// What the layer remembers of each transient object, by its place.
     pub objects: [Held; 8],
-    /// By the places of the sessions: the number of the context with which a session was saved, 0
-    /// where the session is loaded.
+    /// For each session, by its place: the number of the context with which it was saved, 0 where
+    /// it is loaded.
     pub sessions: [u64; 16],
 }
 
 impl Held {
-    /// No context.
+    /// What the layer remembers of an object without a context.
     pub const NONE: Held = Held {
         context: 0,
         waits: 0,
@@ -40,8 +41,8 @@ impl Held {
 }
 
 impl Completion {
-    /// No context was given yet. A number that is another one at each start, as the host's clock,
-    /// lets no context of an earlier start be loaded.
+    /// The layer of a start at which no context was given yet. A number that differs at each start,
+    /// such as the host's clock, lets no context of an earlier start be loaded.
     pub fn of_start(start: u64) -> Completion
         ensures { result ≡ new_completion start }
     {
@@ -63,7 +64,7 @@ impl Completion {
         Completion::of_start(0)
     }
 
-    /// What is remembered of the object in a place.
+    /// What the layer remembers of the object in a place.
     pub(crate) fn object(&self, place: usize) -> Held
         ensures { result ≡ object_held self.now place }
     {
@@ -88,7 +89,7 @@ impl Completion {
         }
     }
 
-    /// What is left of an object's context in this state of the device.
+    /// What the layer remembers of the object in a place, if the device still has one there.
     #[tactic(auto, unfolding(crate::specs::Completion::object_kept))]
     fn object_kept<K: Keep>(&self, keep: &K, place: usize) -> Held
         requires { place < object_limit }
@@ -107,7 +108,8 @@ impl Completion {
         }
     }
 
-    /// What is left of a session's context in this state of the device.
+    /// The number of the context of the session in a place, if the device still has one there, or
+    /// else 0.
     #[tactic(auto, unfolding(crate::specs::Completion::session_kept))]
     fn session_kept<K: Keep>(&self, keep: &K, place: usize) -> u64
         requires { place < session_limit }

@@ -6,7 +6,7 @@ ghost use Rattle.tpm_completion.specs.Context.{context_text, mark, saved_handle,
 use tpm_bytes::{Cursor, Short, Sink, is_equal};
 use tpm_types::Handle;
 
-/// How many bytes a token's blob has, and its whole context.
+/// How many bytes a token's blob has, and how many its whole context.
 pub const TOKEN_SIZE: usize = 20;
 
 pub const CONTEXT_SIZE: usize = 38;

@@ -15,9 +15,9 @@ use tpm_record::Keep;
 use tpm_step::{Event, Outcome};
 use tpm_types::Locality;
 
-/// Executes one event, and writes its outcome over that of an event before. Where `completes` is
+/// Executes one event, and writes its outcome over that of an earlier event. Where `completes` is
 /// true, the layer completes what the device does; where it is false, the device alone executes the
-/// event. The outcome's row is always the device's own, and `drawn` of the machine is of the last
+/// event. The outcome's row is always the device's own, and `drawn` of the machine counts the last
 /// event that it executed.
 pub fn execute<K: Keep>(
     machine: &mut Machine<K>,
@@ -30,8 +30,8 @@ pub fn execute<K: Keep>(
         (state_of K.record_of machine.old) (plain_event event.now)
         (seen_of K.record_of machine.new layer.new outcome.new) }
 
-    // Where no memory can be refused, all of it is a function of the layer, the record and the
-    // event.
+    // Where no memory can be refused, the whole effect is a function of the layer, the record and
+    // the event.
     ensures exactly { K.can_refuse ≡ false
         → seen_of K.record_of machine.new layer.new outcome.new
         ≡ completed completes layer.old (state_of K.record_of machine.old)
@@ -153,7 +153,7 @@ fn ask_first<K: Keep>(
     answer_behind(machine, layer, buffer, locality, random, outcome);
 }
 
-/// Gives up an object for a command that found no room, or answers behind the device.
+/// Gives up an object for a command that found no room, or answers after the device.
 fn answer_behind<K: Keep>(
     machine: &mut Machine<K>,
     layer: &mut Completion,
@@ -184,7 +184,7 @@ fn no_random() -> [u8; 256]
     [0; 256]
 }
 
-/// Flushes the object in a place, and executes a command once more, which found no room before.
+/// Flushes the object in a place, and executes a command that found no room once more.
 fn give_up<K: Keep>(
     machine: &mut Machine<K>,
     layer: &mut Completion,

@@ -1,4 +1,4 @@
-//! How a capability's list is answered: from a number on, as many elements as are asked for.
+//! How a capability's list is answered: as many elements as are asked for, from a number on.
 
 ghost use Rattle.std.specs.Prelude.{◌≡◌, ◌≤◌, ◌<◌, ◌+◌, ◌*◌, ◌^◌, ◌++◌, List, [], ◌∷◌, length};
 ghost use Rattle.tpm_actions_capability.specs.Element.{found_count, is_from};
@@ -19,7 +19,7 @@ pub const LISTING_LIMIT: usize = 521;
 /// All elements that a capability lists.
 pub type Elements = ArrayVec<Element, ELEMENT_LIMIT>;
 
-/// What is listed of an element.
+/// The form in which an element is listed.
 #[derive(Clone, Copy, Debug, PartialEq, Eq)]
 pub enum Form {
     Value,
@@ -53,8 +53,8 @@ fn found_count(elements: &[Element], from: u32) -> usize
     elements.iter().filter(|e| is_from(e, from)).count()
 }
 
-/// Writes an element, if it is from this number on and any is left to be written; gives how many
-/// are left then.
+/// Writes an element, if its number is not below this one and any is left to be written; gives how
+/// many are left then.
 #[tactic(auto, using(crate::proofs::Telling::telling_one))]
 fn tell_if(
     element: &Element,

@@ -1,4 +1,4 @@
-//! What the layer answers behind the device's response.
+//! The layer's answers after the device's response.
 
 ghost use Rattle.std.specs.Prelude.{◌≡◌, [], length};
 ghost use Rattle.tpm_bytes.specs.Reading.{sized_at};
@@ -126,8 +126,8 @@ impl Completion {
         }
     }
 
-    /// Answers behind the device, whose response this is: in its place, or not at all. `was_told`
-    /// says whether the response was a success.
+    /// Answers after the device, whose response is in `text`: the layer's answer replaces it, or it
+    /// stands. `was_told` says whether the response was a success.
     #[tactic(auto, unfolding(crate::specs::Reply::reply))]
     pub(crate) fn reply<K: Keep>(
         &mut self,

@@ -1,4 +1,4 @@
-//! Objects that wait in their places, and the one that gives up its own.
+//! Objects that wait in their places, and the choice of the one that gives up its place.
 
 ghost use Rattle.std.specs.Prelude.{◌≡◌, ◌<◌, ◌-◌, ◌^◌, IfSome, length};
 ghost use Rattle.std.specs.Int.{w32};
@@ -17,7 +17,7 @@ use tpm_containers::numbered;
 use tpm_step::{Response, Row};
 use tpm_types::{Handle, OBJECT_LIMIT};
 
-/// An object that waits: its place, and the number of its flush, which is 0 where there is none.
+/// An object that waits: its place, and the number of its flush; 0 means that none waits.
 #[derive(Clone, Copy, Debug, PartialEq, Eq)]
 pub struct Waiting {
     pub place: usize,
@@ -25,7 +25,7 @@ pub struct Waiting {
 }
 
 impl Completion {
-    /// The place of the handle that is flushed, where its object has a context.
+    /// The place of the object that is flushed, if it has a context.
     fn flush_of(&self, parameters: &[u8]) -> Option<usize>
         ensures place { result ≡ flush_of self.now (number_at w32 parameters.now) }
         ensures counts { IfSome result (λ place. self.now.count < 2 ^ 64 - 1) }
@@ -47,7 +47,7 @@ impl Completion {
         }
     }
 
-    /// The place of the object with a context that a buffer flushes.
+    /// The place of the object that a buffer flushes, if it has a context.
     #[tactic(auto, unfolding(crate::specs::Room::flush_asked))]
     pub(crate) fn flush_asked(&self, buffer: &[u8]) -> Option<usize>
         ensures place { result ≡ flush_asked self.now buffer.now }
@@ -82,7 +82,7 @@ impl Completion {
         answer(SUCCESS, &[], text);
     }
 
-    /// Of the object in a place, and one that waits or none, the one that waits longer.
+    /// Of the object in a place and the longest waiting one so far, the one that waits longer.
     #[tactic(auto, unfolding(crate::specs::Room::longer))]
     fn longer(&self, best: Waiting, place: usize) -> Waiting
         requires place { place < object_limit }
@@ -111,7 +111,7 @@ impl Completion {
         best
     }
 
-    /// The place of the object that is given up for a command with this outcome, if any is.
+    /// The place of the object that is given up for a command with this outcome, if one is.
     #[tactic(auto, unfolding(crate::specs::Room::given_up))]
     pub(crate) fn given_up(&self, row: Row, response: &[u8]) -> Option<usize>
         ensures place { result ≡ given_up self.now row response.now }

@@ -24,7 +24,7 @@ fn place_named(handle: Handle) -> usize
 }
 
 impl Completion {
-    /// Remembers something else of the object in a place.
+    /// Sets what the layer remembers of the object in a place.
     pub(crate) fn set_object(&mut self, place: usize, held: Held)
         ensures { self.new ≡ with_object self.old place held }
     {
@@ -33,7 +33,7 @@ impl Completion {
         }
     }
 
-    /// Remembers something else of the session in a place.
+    /// Sets the number of the context of the session in a place.
     fn set_session(&mut self, place: usize, context: u64)
         ensures { self.new ≡ with_session self.old place context }
     {
@@ -62,7 +62,7 @@ impl Completion {
         answer(SUCCESS, context_text(self.start, token).as_slice(), text);
     }
 
-    /// Refuses with this code.
+    /// Answers with the refusal of this code.
     fn refuse(&self, code: u32, text: &mut Response)
         ensures { record { response = text.new.items; after = self.now } ≡ refused self.now code }
     {

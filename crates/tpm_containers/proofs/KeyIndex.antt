@@ -63,7 +63,7 @@ module _ {X : Type 0} where
 
   -- ---- edits where a key is found
 
-  -- At this index inside, a test holds that holds at none before it.
+  -- The index is inside, and is the first at which a test holds.
   abbrev IsFirst : (ℕ × X → Bool) → Entries X → ℕ → ℕ × X → Type 0
   IsFirst test es i d =
       (i < length es) × (test (get_or es i d) ≡ true) × ((k : ℕ) → k < i → test (get_or es k d) ≡ false)

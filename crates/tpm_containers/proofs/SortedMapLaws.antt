@@ -1,5 +1,6 @@
--- Entries in ascending order of their keys: what is found after one is put, removed or changed,
--- or some are kept, that the keys still ascend, how many there are, and which key comes next.
+-- Laws of entries in ascending order of their keys: what is found after one is put, removed or
+-- changed, or some are kept; that the keys still ascend; how many there are; and which key comes
+-- next.
 use Rattle.std.proofs.Common.{◌≡◌, ◌≢◌, ℕ, ◌<◌, ◌≤◌, ◌+◌, ◌⊎◌, Bool, false, true, cond, eqb, leb, [], ◌∷◌, length, Option, Some, None, is_some, refl, sym, ap, subst, ◌∙◌, arith, inl, inr}
 use Rattle.std.proofs.lemmas.Bool.{cases_eq, cases_lt, cond_both, cond-true, cond-false, eq-eqb, ne_eqb, eqb-true, leb-true, leb-false}
 use Rattle.tpm_containers.specs.SortedMap.{AllAbove, AreEach, Ascends, Entries, at_key, changed_key, kept_entries, key_from, with_key, without_key}

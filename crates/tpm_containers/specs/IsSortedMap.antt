@@ -22,8 +22,8 @@ pub record IsSortedMap (X : Type 0) : Type 0 where
   -- removing a key that is not there changes nothing
   pub removed_absent : (entries : Entries X) (key : ℕ) → at_key entries key ≡ None
       → without_key entries key ≡ entries
-  -- after a removal the keys still ascend, and there is one less where the key was there, and never
-  -- one more
+  -- after a removal the keys still ascend, and there is one fewer where the key was there, and
+  -- never one more
   pub removed_ascends : (entries : Entries X) (key : ℕ) → Ascends entries
       → Ascends (without_key entries key)
   pub removed_length : (entries : Entries X) (key : ℕ) (x : X) → at_key entries key ≡ Some x

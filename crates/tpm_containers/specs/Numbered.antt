@@ -42,7 +42,7 @@ module _ {X : Type 0} where
     pub put_others : (places : List (Option X)) (place : ℕ) (x : X) (other : ℕ) → place < 2 ^ 24
         → lowest_free places ≡ Some place → other ≢ number_of (kind x) place
         → at_number kind (slice_set places place (Some x)) other ≡ at_number kind places other
-    -- under no number of the lowest free place was anything, and each lower place is taken
+    -- nothing was under any number of the lowest free place, and each lower place is taken
     pub free : (places : List (Option X)) (k place : ℕ) → place < 2 ^ 24
         → lowest_free places ≡ Some place → at_number kind places (number_of k place) ≡ None
     pub lowest : (places : List (Option X)) (place below : ℕ)
@@ -68,7 +68,7 @@ module _ {X : Type 0} where
     pub changed_others : (change : X → X) → ((x : X) → kind (change x) ≡ kind x)
         → (places : List (Option X)) (number other : ℕ) → other ≢ number
         → at_number kind (changed_at kind change places number) other ≡ at_number kind places other
-    -- where a value is put in, one place more is taken; where one is removed, one less; where one
+    -- where a value is put in, one place more is taken; where one is removed, one fewer; where one
     -- is changed, as many
     pub put_taken : (places : List (Option X)) (place : ℕ) (x : X)
         → lowest_free places ≡ Some place

@@ -11,7 +11,7 @@ free n = replicate n None
 abbrev pub at_place : {X : Type 0} → List (Option X) → ℕ → Option X
 at_place places place = option_and_then (λ x. x) (slice_get places place)
 
--- This holds of the value in each place that is taken.
+-- A property holds of the value in each place that is taken.
 abbrev pub AreAll : {X : Type 0} → (X → Type 0) → List (Option X) → Type 0
 AreAll IsOne places = (place : ℕ) → IfSome (at_place places place) IsOne
 

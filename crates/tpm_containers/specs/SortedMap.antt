@@ -47,7 +47,7 @@ module _ {X : Type 0} where
   Ascends [] = Unit {0}
   Ascends (e ∷ es) = AllAbove e.0 es × Ascends es
 
-  -- This holds of each key with its value.
+  -- A property holds of each key with its value.
   abbrev pub AreEach : (ℕ → X → Type 0) → Entries X → Type 0
   AreEach Is [] = Unit {0}
   AreEach Is (e ∷ es) = Is e.0 e.1 × AreEach Is es

@@ -23,10 +23,10 @@ pub trait Items<const N: usize>: Drop + Sized {
     /// The items.
     ghost items: { Self → List Self.Item };
 
-    /// The same items with another one in a place.
+    /// The same items with another item in a place.
     ghost with_item: { Self → ℕ → Self.Item → Self };
 
-    /// The same items where others are written over them.
+    /// The same items with others written over them.
     ghost with_items: { Self → List Self.Item → Self };
 
     /// Whether memory can be refused.

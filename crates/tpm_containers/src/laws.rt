@@ -14,9 +14,9 @@ pub fn sorted_map_laws<T>()
     ensures { IsSortedMap T }
 {}
 
-/// What is found under any key: once one is removed, or some are kept, what was found before or
-/// nothing; where one changes and shows the same by a view, what shows the same; and where all
-/// change, what was found, changed. The function does nothing.
+/// What is found under any key after a change: once a key is removed, or some values are kept, what
+/// was found before, or nothing; where a value changes and shows the same by a view, what shows the
+/// same; where all values change, each value changed. The function does nothing.
 #[inline(always)]
 #[tactic(auto, using(crate::proofs::FoundKeys::removed_or_same, crate::proofs::FoundKeys::kept_or_gone, crate::proofs::FoundKeys::changed_shows, crate::proofs::FoundKeys::all_changed_found))]
 pub fn found_laws<T, V>()

@@ -17,12 +17,12 @@ pub trait Kinded: Drop {
         ensures { result ≡ kind self.now };
 }
 
-/// A value of which something holds by the types of its parts.
+/// A value that has properties by the types of its parts.
 pub trait Sizes: Drop {
-    /// What holds of the value by the types of its parts.
+    /// What holds of a value by the types of its parts.
     ghost IsOne: { Self → Type 0 };
 
-    /// Says of the value what holds by the types of its parts. The call only reads.
+    /// Promises what holds of the value by the types of its parts. The call only reads.
     fn read_sizes(&self)
         ensures { IsOne self.now };
 }
@@ -90,8 +90,8 @@ pub fn remove<T: Kinded, const N: usize, P: Slots<T, N>>(places: &mut P, number:
     true
 }
 
-/// Says of each value what holds of it by the types of its parts, and how many places there are.
-/// The call only reads.
+/// Promises what holds of each value by the types of its parts, and how many places there are. The
+/// call only reads.
 pub fn read_sizes<T: Sizes, const N: usize, P: Slots<T, N>>(places: &P)
     ensures each { AreAll T.IsOne (P.places places.now) }
     // There are always `N` places.
@@ -112,8 +112,8 @@ pub fn numbered_laws<T: Kinded>()
     ensures { MapLaws T.kind }
 {}
 
-/// What is found under any number: once one is removed, what was found before or nothing; and
-/// nothing where all places are free. The function does nothing.
+/// What is found under any number: after a removal, what was found before, or nothing; where all
+/// places are free, nothing. The function does nothing.
 #[inline(always)]
 #[tactic(auto, using(crate::proofs::FoundNumbers::removed_or_same, crate::proofs::FoundNumbers::free_found))]
 pub fn found_laws<T: Kinded>()

@@ -1,24 +1,24 @@
--- Steps of what acts alike with other random bytes.
+-- Steps that act alike with other random bytes.
 use Rattle.std.proofs.Common.{◌≡◌, ◌∙◌, ℕ, List, take, Result, Ok, Err, ap, refl, sym}
 use Rattle.tpm_bytes.specs.Reading.{◌>>=◌}
 use Rattle.tpm_step.specs.General.{in_command}
 use Rattle.tpm_types.specs.declared.refused.Refused.{Refused}
 use Rattle.tpm_types_command.specs.declared.command_code.CommandCode.{CommandCode}
 
--- A success says how many bytes it draws. With other bytes it is moved, where those that it draws are the same; and a
--- refusal is the same.
+-- Two results are alike: a success says how many bytes it draws, and where these are the same, the
+-- other result is the success moved to the other bytes; a refusal is the same.
 abbrev pub Alike : {A E : Type 0} → (drawn : A → ℕ) → (moved : A → A) → (random other : List ℕ) → (x y : Result A E) → Type 0
 Alike drawn moved random other (Ok a) y = take (drawn a) other ≡ take (drawn a) random → y ≡ Ok (moved a)
 Alike drawn moved random other (Err e) y = y ≡ Err e
 
 module _ {A B E : Type 0} (random other : List ℕ) where
-  -- after a step that reads none
+  -- what acts alike still does after a step that reads no random bytes
   pub alike_after : (drawn : B → ℕ) (moved : B → B) (x : Result A E) (f g : A → Result B E)
       → ((a : A) → Alike drawn moved random other (f a) (g a)) → Alike drawn moved random other (x >>= f) (x >>= g)
   alike_after drawn moved (Ok a) f g alike = alike a
   alike_after drawn moved (Err e) f g alike = refl
 
-  -- before a last step that makes of a success what draws as many
+  -- what acts alike still does before a last step that keeps how many bytes are drawn
   pub alike_before : (drawn : A → ℕ) (moved : A → A) (drawn' : B → ℕ) (moved' : B → B) (x y : Result A E) (f g : A → B)
       → ((a : A) → drawn' (f a) ≡ drawn a) → ((a : A) → g (moved a) ≡ moved' (f a))
       → Alike drawn moved random other x y → Alike drawn' moved' random other (x >>= λ a. Ok (f a)) (y >>= λ a. Ok (g a))
@@ -27,7 +27,7 @@ module _ {A B E : Type 0} (random other : List ℕ) where
       ∙ ap Ok (made a)
   alike_before drawn moved drawn' moved' (Err e) y f g as_many made alike = ap (λ (z : Result A E). z >>= λ a. Ok (g a)) alike
 
--- what is refused of a command
+-- results that are alike still are where a refusal names its command
 pub alike_in_command : {A : Type 0} (drawn : A → ℕ) (moved : A → A) (random other : List ℕ) (c : CommandCode) (x y : Result A Refused)
     → Alike drawn moved random other x y → Alike drawn moved random other (in_command c x) (in_command c y)
 alike_in_command drawn moved random other c (Ok a) y alike = λ same. ap (in_command c) (alike same)

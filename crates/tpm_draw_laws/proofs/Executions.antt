@@ -54,7 +54,7 @@ module _ (r : Record) (buffer : List ℕ) (locality elapsed : ℕ) (random other
     fits = done.fits;
   }
 
--- ---- zeros behind the drawn bytes
+-- ---- zeros after the drawn bytes
 
 -- the check that the step reports tells how many bytes are drawn, since a refusal draws none
 drawn_told : (r : Record) (random : List ℕ) (a : Result Accepted RefusedCommand)
@@ -62,14 +62,14 @@ drawn_told : (r : Record) (random : List ℕ) (a : Result Accepted RefusedComman
 drawn_told r random (Ok a) = refl
 drawn_told r random (Err e) = refl
 
--- no more are drawn than there are
+-- no more random bytes are drawn than there are
 drawn_of_those : (random : List ℕ) (a : Result Accepted RefusedCommand) → drawn_by_command random a 0 ≤ length random
 drawn_of_those random (Ok a) = omega arith
 drawn_of_those random (Err e) = omega arith
 
 module _ (r : Record) (buffer : List ℕ) (locality elapsed : ℕ) (random : List ℕ) (x : Stepped)
     (done : Executes false r (Given buffer locality elapsed random) x) where
-  -- how many bytes were drawn, as is told by the check, and as the step draws them
+  -- how many bytes were drawn, as the check tells and as the step draws them
   abbrev told : ℕ
   told = drawn_by r (Given buffer locality elapsed random) x.row.check
 

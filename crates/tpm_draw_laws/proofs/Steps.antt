@@ -1,4 +1,5 @@
--- What acts alike with other random bytes is accepted alike, takes a like step, and draws as many bytes.
+-- What acts alike with other random bytes is accepted alike, takes a like step, and draws as many
+-- bytes.
 use Rattle.std.proofs.Common.{◌≡◌, ◌≤◌, ◌+◌, ◌-◌, ◌∙◌, ℕ, zero, suc, Bool, true, false, List, [], ◌∷◌, length, take, drop, Option, Result, Ok, Err, refl, ap, arith}
 use Rattle.std.proofs.lemmas.List.{length-drop}
 use Rattle.std.specs.Prelude.{if◌then◌else◌}
@@ -60,7 +61,8 @@ fewer_left r (e ∷ es) left =
     let later = fewer_left (entry_rolled r e left).after es (drop (draw_of r e) left) in
     omega (arith, later, length-drop (draw_of r e) left)
 
--- New nonces are the same where all bytes that are drawn for them are, and as many bytes are left then.
+-- New nonces are the same where all bytes that are drawn for them are, and as many bytes are left
+-- then.
 pub record RolledAlike (r : Record) (es : List Entry) (left other : List ℕ) : Type 0 where
   pub after : (entries_rolled r es other).after ≡ (entries_rolled r es left).after
   pub as_long : length (entries_rolled r es other).left ≡ length (entries_rolled r es left).left
@@ -89,7 +91,7 @@ answer_alike : (c : Whole) (grants : List (Option Grant)) (a : Written) (effect 
 unfolding answer_to
 answer_alike c grants a effect random other same = rw same refl
 
--- What a success draws is the same: the bytes of its row, and those of the nonces behind them.
+-- What a success draws is the same: the bytes of its row, and those of the nonces after them.
 module _ (a : Accepted) (random other : List ℕ) (as_long : length other ≡ length random) where
   abbrev drawn : ℕ
   drawn = bytes_drawn random a.success.after a.command.entries (row_drawn a)
@@ -108,7 +110,7 @@ module _ (a : Accepted) (random other : List ℕ) (as_long : length other ≡ le
       rw (answer_alike a.command a.grants (written_of a.success.answer) a.success.after random other (nonces_alike same).after) refl
 
 module _ (r : Record) (random other : List ℕ) (as_long : length other ≡ length random) where
-  -- whether memory is refused, or not
+  -- a step is the same with other random bytes, whether memory is refused or not
   pub where_alike : (refused : Bool) (a b : Result Accepted RefusedCommand) → AcceptedAlike random other a b
       → take (drawn_by_command random a 0) other ≡ take (drawn_by_command random a 0) random
       → answer_where refused r other b ≡ answer_where refused r random a
@@ -120,7 +122,7 @@ module _ (r : Record) (random other : List ℕ) (as_long : length other ≡ leng
   where_alike false (Err e) b alike same = ap (answer_where false r other) alike
   where_alike true (Err e) b alike same = ap (answer_where true r other) alike
 
-  -- as many bytes are drawn
+  -- with other random bytes as many are drawn
   pub drawn_alike : (check : ℕ) (a b : Result Accepted RefusedCommand) → AcceptedAlike random other a b
       → take (drawn_by_command random a 0) other ≡ take (drawn_by_command random a 0) random
       → drawn_by_command other b check ≡ drawn_by_command random a check

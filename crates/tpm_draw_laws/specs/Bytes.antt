@@ -1,4 +1,4 @@
--- What an event does when other bytes stand behind the random bytes that it draws.
+-- What an event does when other bytes stand after the random bytes that it draws.
 use Rattle.std.specs.Prelude.{◌≡◌, ◌-◌, ℕ, List, ◌++◌, length, replicate, take, Result, Ok, Err}
 use Rattle.tpm_actions_base.specs.Request.{Request}
 use Rattle.tpm_actions_base.specs.Rows.{Success}
@@ -30,7 +30,7 @@ abbrev pub zeros_behind : (drawn : ℕ) → (random : List ℕ) → List ℕ
 zeros_behind drawn random = take drawn random ++ replicate (256 - drawn) 0
 
 -- an event with the random bytes that it drew, as is told by the check that it reported, and zeros
--- behind them; power has no random bytes
+-- after them; power has no random bytes
 abbrev pub replayed : Record → PlainEvent → (check : ℕ) → PlainEvent
 replayed r (Given buffer locality elapsed random) check =
     let drawn = drawn_by r (Given buffer locality elapsed random) check in

@@ -1,8 +1,8 @@
 #![tactic(auto)]
 
 //! What a command does depends on its random bytes only through those that it draws, from their
-//! front: any others may stand behind them. Who writes down the bytes that a command drew can execute
-//! it again.
+//! front: any others may stand after them. Whoever writes down the bytes that a command drew can
+//! execute it again.
 //!
 //! Each law is the contract of a function that does nothing. The laws are about the definitions of
 //! tpm_step; how many bytes an event draws is said in tpm_machine.
@@ -53,8 +53,8 @@ pub fn step_laws()
         ≡ drawn_by r (Given buffer locality elapsed random) check }
 {}
 
-/// What an execution of a command is with some random bytes it is with others, as many, that agree
-/// on those that it draws.
+/// An execution of a command with some random bytes is one with others too, as many, that agree on
+/// those that it draws.
 #[inline(always)]
 pub fn execution_laws()
     ensures { (can : Bool) (r : Record) (buffer : List ℕ) (locality elapsed : ℕ)
@@ -65,7 +65,7 @@ pub fn execution_laws()
 {}
 
 /// An event that was executed is executed again, with the same outcome, by the random bytes that it
-/// drew and zeros behind them; and it draws as many again.
+/// drew and zeros after them; and it draws as many again.
 #[inline(always)]
 #[tactic(auto, using(crate::proofs::Executions::replays, crate::proofs::Executions::replay_draws))]
 pub fn replay_laws()

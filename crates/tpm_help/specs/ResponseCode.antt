@@ -123,9 +123,9 @@ located = (0x081, codes "ASYMMETRIC")
 abbrev pub name_in : List (ℕ × List ℕ) → ℕ → Option (List ℕ)
 name_in rows number = option_map (λ row. row.1) (find (λ row. row.0 == number) rows)
 
--- where the fault is that a code of RC_FMT1 tells of: bit 6 is set for a parameter, whose number is
--- in bits 8 to 11; else bit 11 is set for a session and clear for a handle, whose number is in bits
--- 8 to 10. The number 0 is no place
+-- the place of the fault that a code of RC_FMT1 tells: bit 6 is set for a parameter, whose number
+-- is in bits 8 to 11; else bit 11 is set for a session and clear for a handle, whose number is in
+-- bits 8 to 10. The number 0 is no place
 unfoldable pub place_in : ℕ → Place
 place_in code =
     let number : ℕ = code / 0x100 in

@@ -10,18 +10,18 @@ use Rattle.tpm_text.specs.declared.fault.AsmFault.{AsmFault}
 use Rattle.tpm_text.specs.declared.fault.AsmFault.TheVariants as fault
 use Rattle.tpm_help.specs.Form.{handle_word, parameter_word}
 
--- how many entries these tokens of a command have: at most three behind the handles, up to the
--- first token that does not begin like an entry
+-- how many entries these tokens of a command have: at most three after the handles, up to the first
+-- token that does not begin like an entry
 abbrev pub entry_count : CommandCode → (tokens : List (List ℕ)) → ℕ
 entry_count code tokens =
     length (take_while begins_entry (take 3 (drop (handle_count code + 1) tokens)))
 
--- the words for what stands behind the name of a command with this many entries, in order
+-- the words for what follows the name of a command with this many entries, in order
 abbrev pub words_behind : CommandCode → (entries : ℕ) → List (List ℕ)
 words_behind code entries = map (λ rule. handle_word rule.kind) (shape_of code).handles
     ++ (replicate entries (codes "entry") ++ map parameter_word (shape_of code).parameters)
 
--- the word for what is wanted in a place behind the name, from 0, of the command that the first
+-- the word for what is wanted in a place after the name, from 0, of the command that the first
 -- token names
 abbrev pub word_for : Option CommandCode → (tokens : List (List ℕ)) → (place : ℕ) → List ℕ
 word_for None tokens place = codes "command"
@@ -38,7 +38,7 @@ word_behind words place =
 abbrev pub space_count : List ℕ → ℕ
 space_count text = count_by (λ byte. byte == space) text
 
--- what is wanted where words have this fault, by its column, or behind the last token
+-- what is wanted where words have this fault, by its column, or after the last token
 unfoldable pub word_at : (words : List ℕ) → AsmFault → List ℕ
 word_at words fault.BadName = codes "command"
 word_at words (fault.BadField column) =

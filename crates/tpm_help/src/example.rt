@@ -2,8 +2,8 @@
 
 use tpm_types_command::CommandCode;
 
-/// What stands behind the name of the command in a line that spells it, without the space before it:
-/// an example, for a device that has the first objects, sessions and indices.
+/// An example of a command in words: what follows its name and a space in a line, for a device that
+/// has the first objects, sessions and indices.
 pub fn example_of(code: CommandCode) -> &'static str {
     match code {
         CommandCode::EvictControl => "OWNER 80000000 pw:- 0x81000001",

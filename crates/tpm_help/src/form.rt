@@ -50,8 +50,8 @@ pub fn parameter_word(kind: ParameterKind) -> &'static str
     }
 }
 
-/// The form of a command in words, as `NV_Write @Entity Index Buffer u16`: a handle with an @ has to
-/// be authorized by an entry, and entries stand behind the handles.
+/// The form of a command in words, as `NV_Write @Entity Index Buffer u16`: a handle with an @ has
+/// to be authorized by an entry, and entries stand after the handles.
 pub fn form_of(alloc: Global, code: CommandCode) -> Result<String, AllocError>
     ensures { IfOk result (λ form. form.bytes.items ≡ form_of code) }
 {
@@ -63,7 +63,7 @@ pub fn form_of(alloc: Global, code: CommandCode) -> Result<String, AllocError>
     Ok(form)
 }
 
-/// Adds a word for each handle, behind a space.
+/// Adds a word for each handle, after a space.
 fn put_handles(rules: &[HandleRule], form: &mut String) -> Result<(), AllocError>
     ensures { IfOk result (λ done. form.new.bytes.items
         ≡ form.old.bytes.items ++ flat_map handle_form rules.now) }
@@ -76,7 +76,7 @@ fn put_handles(rules: &[HandleRule], form: &mut String) -> Result<(), AllocError
     put_handles(others, form)
 }
 
-/// Adds a word for each parameter, behind a space.
+/// Adds a word for each parameter, after a space.
 fn put_parameters(kinds: &[ParameterKind], form: &mut String) -> Result<(), AllocError>
     ensures { IfOk result (λ done. form.new.bytes.items
         ≡ form.old.bytes.items ++ flat_map parameter_form kinds.now) }

@@ -1,12 +1,12 @@
 #![tactic(auto)]
 
-//! What the writer of a script is told: how a command is said in words ([`form`]), an example of each
-//! ([`example`]), what is wanted where words are at fault ([`wanted`]), and what a response code
-//! says ([`response_code`]).
+//! What the writer of a script is told: how a command is said in words ([`form`]), an example of
+//! each ([`example`]), what is wanted where words are at fault ([`wanted`]), and what a response
+//! code says ([`response_code`]).
 //!
 //! The crate uses `tpm_types_command` for the shapes of commands, and `tpm_text` for faults. Each
-//! call equals its definition in `specs/`. Of the examples nothing is said here but that a test has
-//! each of them assembled.
+//! call equals its definition in `specs/`. The crate says nothing of the examples; a test assembles
+//! each of them.
 
 pub mod example;
 pub mod form;

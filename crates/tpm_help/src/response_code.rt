@@ -159,7 +159,7 @@ fn located_name(number: u32) -> Option<&'static str>
     }
 }
 
-/// Where the fault is that a code tells of, by its bits 6 and 8 to 11.
+/// The place of the fault that a code tells, by its bits 6 and 8 to 11.
 #[tactic(auto, unfolding(crate::specs::ResponseCode::place_in))]
 fn place_in(code: u32) -> Place
     requires { code < 0x1000 }

@@ -43,7 +43,7 @@ fn space_count(text: &[u8]) -> usize
     text.iter().filter(|byte| **byte == b' ').count()
 }
 
-/// The word for what is wanted in a place behind the name, from 0, of the command that the first
+/// The word for what is wanted in a place after the name, from 0, of the command that the first
 /// token names.
 fn word_behind(words: &[u8], place: usize) -> &'static str
     ensures { result.now ≡ word_behind words.now place }
@@ -82,7 +82,7 @@ fn begins_entry(token: &[u8]) -> bool
     token.starts_with(b"pw:") || token.starts_with(b"s:")
 }
 
-/// The word for what stands in a place behind the name of a command with this many entries.
+/// The word for what stands in a place after the name of a command with this many entries.
 fn word_in(code: CommandCode, entries: usize, place: usize) -> &'static str
     ensures { result.now ≡ get_or (words_behind code entries) place (codes "end of line") }
 {

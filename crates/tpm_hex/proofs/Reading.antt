@@ -13,7 +13,7 @@ PairsTellSoFar digits largest place bytes =
     ≡ prepend (take place bytes) (decode_pairs (2 * place) (drop (2 * place) digits)))
     × (16 ≤ largest → (fault : FromHexError) × (decode_pairs 0 digits ≡ Err fault))
 
--- the value of a digit is below 16, and that of no other byte
+-- the value of a byte is below 16 exactly where it is a digit
 small_is_digit : (digit : Option ℕ) (value : ℕ) → value ≡ unwrap_or digit 255 → value < 16 → digit ≡ Some value
 small_is_digit (Some own) value e small = ap Some (sym e)
 small_is_digit None value e small = absurd (omega (arith, e, small))

@@ -16,7 +16,7 @@ ghost use Rattle.tpm_hex.specs.declared.TheConstants.{NO_DIGIT};
 #[derive(Clone, Copy, Debug, PartialEq, Eq)]
 pub struct NotHex;
 
-/// The value that a byte has which is no digit.
+/// The value of a byte that is no digit.
 const NO_DIGIT: u8 = 255;
 
 /// Writes bytes in hex, in lower case.

@@ -138,7 +138,7 @@ module _ (r : Record) (c : AcceptedCommand) (history : History) (are : AreIndice
   abbrev q : Request
   q = c.request
 
-  -- Of an assertion that the device made of what it found, a history tells one that found the same.
+  -- A history tells an assertion that found the same as the one that the device made.
   abbrev Agrees : Code → (Session → Assertion) → Type 0
   Agrees code made =
       (s : Session) (told : Assertion) → assertion_by code c history s.hash s.nonce_tpm ≡ Ok told
@@ -150,7 +150,7 @@ module _ (r : Record) (c : AcceptedCommand) (history : History) (are : AreIndice
       let one : tell s x ≡ told = ok_is {E = Refused} (tell s x) told (sym (tells s ∙ ap (λ (y : Result X Refused). y >>= λ x. let it : Result Assertion Refused = Ok (tell s x) in it) found) ∙ is) in
       subst (λ (b : Assertion). Finds b p × HasWidths s.hash b) one (same s x p holds))
 
-  -- A history tells of an assertion whatever the device found.
+  -- A history tells an assertion that does not depend on what the device found.
   abbrev TellsPlainly : Code → Type 0
   TellsPlainly code = (s : Session) → IfOk (assertion_by code c history s.hash s.nonce_tpm) (λ told. (p : Policy) → Finds told p × HasWidths s.hash told)
 

@@ -53,7 +53,7 @@ pub record HaveSame (r t : Record) : Type 0 where
   pub written : (handle : Handle) → written_of r handle ≡ written_of t handle
   pub available : (handle : Handle) (means : Means) (nv_use : NvUse) → is_available r handle means nv_use ≡ is_available t handle means nv_use
 
--- two steps that are the same, after two that are the same
+-- two steps that are the same are followed by the same
 bind_same : {A B : Type 0} {E : Type 0} (x y : Result A E) (f g : A → Result B E) → x ≡ y → ((a : A) → f a ≡ g a) → (x >>= f) ≡ (y >>= g)
 bind_same {A} {B} {E} x y f g first then = ap (λ (z : Result A E). z >>= f) first ∙ by y
   where

@@ -135,7 +135,7 @@ refusal_pays s counted.Lockout counts unlocked = same_pays s (closed_by_failure 
 -- ---- all steps of a stretch
 
 -- The tries that failed from a state on, while this number of milliseconds passed, are none, or no
--- more than maxTries and that time pay for.
+-- more than maxTries and that time allow.
 abbrev pub IsPaid : LockoutState → (failed elapsed : ℕ) → Type 0
 IsPaid s failed elapsed =
     (failed ≡ 0)

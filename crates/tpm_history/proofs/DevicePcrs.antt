@@ -106,7 +106,7 @@ module _ (r : Record) (a : Accepted) (locality : ℕ) (random : List ℕ) (histo
       settled_saved (shape_of a.command.code).keeps_shutdown answered (saved_by a.command.code pcrs)
       (subst (λ (x : SavedState). IsSavedAs x (saved_by a.command.code pcrs)) (sym same) row)
 
-  -- of a record whose banks have all 24 values
+  -- the PCRs are those of the history, where the record's banks have all 24 values
   pub pcrs_done : HaveAll after.fixed.banks → HasPcrs after (Done (command_of r a) ∷ history)
   pcrs_done all = record {
     all = all;

@@ -232,7 +232,8 @@ IfTryOf r locality buffer e = is_try e.counted ≡ true → FailsTry r locality 
 plain_of : (r : Record) (locality : ℕ) (buffer : List ℕ) (e : Refused) → IsPlain e → IfTryOf r locality buffer e
 plain_of r locality buffer e plain tries = absurd (false≢true (sym (ap is_try plain) ∙ tries))
 
--- what holds of the refusal of a step, if it refuses, and of each refusal after it
+-- a property of the refusal of a step, if it refuses, and of each refusal after it, is one of each
+-- refusal of the whole
 err_bind_at : {A B E : Type 0} (Q : E → Type 0) (x : Result A E) (f : A → Result B E) → ((e : E) → x ≡ Err e → Q e) → ((a : A) → IfErr (f a) Q) → IfErr (x >>= f) Q
 err_bind_at Q (Ok a) f here after = after a
 err_bind_at Q (Err e) f here after = here e refl

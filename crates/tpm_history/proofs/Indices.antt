@@ -21,7 +21,7 @@ some_same x y is = cc
 pub some_none : {X : Type 0} (x : X) → (let none : Option X = None in none ≡ Some x) → ⊥
 some_none x is = cc
 
--- This holds of each index and its handle.
+-- A property holds of each index and its handle.
 abbrev pub EachIndex : (Handle → NvIndex → Type 0) → NvContents → Type 0
 EachIndex Is contents = (handle : Handle) (index : NvIndex) → index_at contents handle ≡ Some index → Is handle index
 
@@ -41,21 +41,21 @@ module _ (Was Is : Handle → NvIndex → Type 0) where
         | inr away ↦ stay other found away (was other found (sym (apart other away) ∙ there))
       ]
 
-  -- an index is changed in its place
+  -- a property of all indices stays where one is changed in its place
   pub changed_each : (contents : NvContents) (handle : Handle) (old new : NvIndex) → index_at contents handle ≡ Some old → Is handle new → OthersStay handle → EachIndex Was contents → EachIndex Is (changed_index contents handle new)
   changed_each contents handle old new found =
       but_one contents (changed_index contents handle new) handle new
       (index_map.changed_found contents.indices handle.number old new found)
       (λ other away. index_map.changed_others contents.indices handle.number new other.number away)
 
-  -- an index is defined
+  -- a property of all indices stays where one is defined
   pub defined_each : (contents : NvContents) (handle : Handle) (new : NvIndex) → index_at contents handle ≡ None → Is handle new → OthersStay handle → EachIndex Was contents → EachIndex Is (with_index contents handle new)
   defined_each contents handle new free =
       but_one contents (with_index contents handle new) handle new
       (index_map.put_found contents.indices handle.number new free)
       (λ other away. index_map.put_others contents.indices handle.number new other.number away)
 
-  -- all indices start
+  -- a property of all indices stays where all of them start
   pub started_each : ((handle : Handle) (index : NvIndex) → Was handle index → Is handle (started_index index)) → (contents : NvContents) → EachIndex Was contents → EachIndex Is (started contents)
   unfolding started
   started_each starts contents was handle index there =
@@ -71,7 +71,7 @@ module _ (Was Is : Handle → NvIndex → Type 0) where
           by false more there = more there
 
 module _ (Is : Handle → NvIndex → Type 0) where
-  -- an index is removed
+  -- a property of all indices stays where one is removed
   pub removed_each : (contents : NvContents) (handle : Handle) → Ascends contents.indices → EachIndex Is contents → EachIndex Is (without_index contents handle)
   removed_each contents handle up is other index there =
       elim (cases_eq other.number handle.number) [
@@ -83,7 +83,7 @@ module _ (Is : Handle → NvIndex → Type 0) where
             is other index (sym (index_map.removed_others contents.indices handle.number other.number away) ∙ there)
       ]
 
-  -- all indices are removed but the platform's
+  -- a property of all indices stays where all are removed but the platform's
   pub cleared_each : (contents : NvContents) → Ascends contents.indices → EachIndex Is contents → EachIndex Is (cleared contents)
   unfolding cleared
   cleared_each contents up is handle index there = is handle index (kept_was handle.number index there)

@@ -43,7 +43,8 @@ of_one P found one is holds s also = subst P (same_Some one s (sym is ∙ also))
 
 -- ---- something else under one handle of sessions
 
--- where the same facts are found under one handle, and nothing changed under any other
+-- the device and the history match, where the same facts are found under one handle and nothing
+-- changed under any other
 replaced : (new old : List (Option Session)) (handle : Handle) (told : Option LiveSession) (live : LiveSessions) → Matches (session_at new handle) told → ((other : Handle) → other.number ≢ handle.number → session_at new other ≡ session_at old other) → AreLive old live → AreLive new (with_at handle told live)
 replaced new old handle told live here elsewhere are other =
     elim (cases_eq other.number handle.number) [

@@ -26,8 +26,8 @@ index_auth found = option_map (λ (index : NvIndex). index.auth_value) found
 abbrev pub object_auth : Option Object → Option (List ℕ)
 object_auth found = option_map (λ (object : Object). object.auth_value) found
 
--- the authorization value of what a handle names, if that is there; what is neither an index nor an
--- object counts as there
+-- the authorization value of what a handle names, if that is there; a handle that is neither an
+-- index's nor an object's always names something
 abbrev pub auth_seen : Record → Handle → Option (List ℕ)
 auth_seen r handle =
     by_type handle (index_auth (index_at r.nv handle))

@@ -74,8 +74,8 @@ pub record MeetsPolicy (history : History) (c : AcceptedCommand) (place : ℕ) (
   pub written : IfSome (policy_in s).nv_written (λ is_written. written_at c place ≡ Some is_written)
   pub locality : bit_at (policy_in s).localities c.request.locality ≡ 1
 
--- The entry of a policy session has the password where the session's policy demands one, and else
--- its HMAC.
+-- The entry of a policy session has the password where the session's policy demands one, and
+-- otherwise its HMAC.
 abbrev pub HasDemanded : Bool → History → AcceptedCommand → ℕ → Entry → LiveSession → Type 0
 HasDemanded true history c place e s = HasPassword history c place e
 HasDemanded false history c place e s = HasHmac history c place e s

@@ -80,7 +80,7 @@ with_command r (Ok a) zero history = Done (command_of r a) ∷ history
 with_command r (Ok a) (suc check) history = history
 with_command r (Err e) check history = history
 
--- the history with one event more, that happened to this record, and whose row reported this check
+-- the history with one more event, which happened to this record, and whose row reported this check
 abbrev pub recorded : Record → PlainEvent → (check : ℕ) → History → History
 recorded r (Given buffer locality elapsed random) check history =
     let t = ticked r elapsed in

@@ -36,7 +36,7 @@ use Rattle.tpm_history.specs.View.{OfIndex, OfObject}
 
 -- ---- what is reviewed
 
--- This holds of each command that a device accepted since it was manufactured, by the history
+-- A property holds of each command that a device accepted since it was manufactured, by the history
 -- before the command.
 abbrev pub OfEachAccepted : (History → AcceptedCommand → Type 0) → Type 0
 OfEachAccepted Holds =
@@ -68,8 +68,8 @@ pub record WritesIndex (c : AcceptedCommand) (place : ℕ) (public : NvPublic)
     pub no_auth_write : index_has public.attributes mark.AuthWrite ≡ false
     pub auth_policy : public.auth_policy ≡ policy_digest public.name_alg policy
 
--- The entry in a place of a command names a policy session of this hash, and this holds of the use;
--- or the hash is broken, by texts that a policy and the session spell.
+-- The entry in a place of a command names a policy session of this hash, and a property holds of
+-- the use; or the hash is broken, by texts that a policy and the session spell.
 pub record IsUsedBySession (history : History) (c : AcceptedCommand) (place : ℕ) (hash : HashAlg)
     (policy : PolicyExpression) (Holds : PolicyUse → Type 0) : Type 0
   where

@@ -16,7 +16,7 @@ use Rattle.tpm_history.specs.History.{AcceptedCommand, Done, History, PastEvent,
 use Rattle.tpm_history.specs.Pcrs.{digest_in, updates_of, writes}
 use Rattle.tpm_history.specs.Sessions.{LiveSession, policy_in, sessions_of}
 
--- whether an assertion of a session is one of TPM2_PolicyPCR, and whether one among them is
+-- whether an assertion is one of TPM2_PolicyPCR, and whether one of these assertions is
 abbrev pub is_pcr : Assertion → Bool
 is_pcr (Pcr parts) = true
 is_pcr _ = false

@@ -43,8 +43,8 @@ pub record Bound : Type 0 where
   pub auth_value : List ℕ
   pub protection : Protection
 
--- a session that lives: of its start the type, the hash, the symmetric algorithm, what it is bound
--- to, and its key; its latest nonceTPM, and those that it had before, the latest first; and its
+-- a live session: the type, the hash, the symmetric algorithm, what it is bound to, and the key,
+-- all as at its start; its latest nonceTPM, and those that it had before, the latest first; and its
 -- assertions, the latest first, since its start, its latest TPM2_PolicyRestart or its latest use
 -- for authorization, whichever came last
 pub record LiveSession : Type 0 where
@@ -237,7 +237,7 @@ sessions_of (Done c ∷ history) handle =
     (zip c.command.entries c.grants) handle
 sessions_of (PowerCycled ∷ history) handle = None
 
--- of the session of a handle the latest nonceTPM, the key and the policy
+-- the latest nonceTPM, the key and the policy of the session of a handle
 abbrev pub nonce_of : History → Handle → Option (List ℕ)
 nonce_of history handle = option_map (λ (s : LiveSession). s.nonce_tpm) (sessions_of history handle)
 

@@ -59,9 +59,9 @@ fails_try r (Given buffer locality elapsed random) =
 fails_try r Cycled = false
 
 -- What an entry touches is what its comparison uses: the authorization value of the entity that it
--- is to authorize, where the password is compared with it or it is part of the HMAC's key; and else
--- that of the entity to which the entry's session was bound at the start. Where a session may not
--- authorize the entity, nothing is compared, and nothing is touched.
+-- is to authorize, where the password is compared with it or it is part of the HMAC's key; and
+-- otherwise that of the entity to which the entry's session was bound at the start. Where a session
+-- may not authorize the entity, nothing is compared, and nothing is touched.
 
 -- the protection of the entity that a session's entry touches, where the entry is to authorize this
 -- handle, by what the session demands for that, or by why it may not

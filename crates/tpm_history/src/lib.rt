@@ -83,7 +83,7 @@ pub fn stretch_laws()
 {}
 
 /// A stretch of events leads a device that follows a history to one that follows the history with
-/// all of the events that were accepted; and what else holds of such a stretch.
+/// all of the events that were accepted. The law also says what else holds of such a stretch.
 #[inline(always)]
 pub fn stretch_history_laws()
     ensures { (can : Bool) (old : Record) (executions : List Execution) (new : Record)
@@ -278,11 +278,11 @@ pub fn auth_policy_laws()
 
 /// Since a device was manufactured, an object without userWithAuth was used by policy sessions
 /// alone, and each use met its policy. With a policy of PCRs the object was used only while they
-/// had the values of the policy, and if the policy asks for a PIN too, only by who had it; with a
-/// policy of a PIN or a recovery secret, only by who had one of them; with a policy that compares a
-/// counter, only where TPM2_PolicyNV was accepted. An NV index without AUTHWRITE, whose policy is
-/// that it is not written, was written only while it was not. All this is so, or the hash is
-/// broken.
+/// had the values of the policy, and if the policy asks for a PIN too, only by someone who had it;
+/// with a policy of a PIN or a recovery secret, only by someone who had one of them; with a policy
+/// that compares a counter, only where TPM2_PolicyNV was accepted. An NV index without AUTHWRITE,
+/// whose policy is that it is not written, was written only while it was not. All this is so, or
+/// the hash is broken.
 #[inline(always)]
 pub fn policy_review_laws()
     ensures every { OfEachAccepted NeedsItsPolicy }

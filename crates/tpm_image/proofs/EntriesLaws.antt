@@ -91,7 +91,7 @@ module _ {X : Type 0} (at : List ℕ → Result ((ℕ × X) × List ℕ) Malform
       by (Err fault) is under = rw (left, is) refl
       by (Ok x) is under = rw (left, is, lt-leb low x.0.0 under) refl
 
-  -- why the filling ended, for a text whose reading ends here
+  -- the fault of a filling, for a text whose reading ends here
   pub filled_cut : (can : Bool) (low : ℕ) (so_far new filled : Entries X) (text rest behind : List ℕ) (whole : Result (Entries X × List ℕ) Malformed) (fault : FillFault) → (IfOk (at text) (λ x. x.0.0 < low) → whole ≡ Err malformed) → Appends can (at text) low (λ e. e.0 < low) so_far (Err fault) new rest → Fills can whole filled (Err fault) behind
   filled_cut can low so_far new filled text rest behind whole unfilled.Malformed ends misfits = ends misfits
   filled_cut can low so_far new filled text rest behind whole unfilled.NoMemory ends may = may

@@ -105,7 +105,7 @@ index_spelled = made_of keyed (λ e. e.1) to from (passing_spelled is_index fiel
 
 -- ---- all NV indices
 
--- This holds of the NV indices in an image of a version.
+-- A property holds of the NV indices in an image of a version.
 pub record AreStored (version : Version) (indices : Entries NvIndex) : Type 0 where
   pub ascends : Ascends indices
   pub few : length indices ≤ index_limit version

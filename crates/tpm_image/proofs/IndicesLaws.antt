@@ -54,7 +54,7 @@ entries_full limit at count place low so_far text below full = rw left (by (at t
     by (Err fault) over = refl
     by (Ok x) over = in_order (nat_le low x.0.0) x.0 (entries_from at (count - (place + 1)) (x.0.0 + 1) x.1) over
 
--- why the filling ended, for a text whose reading ends here
+-- the fault of a filling, for a text whose reading ends here
 pub indices_cut : (limit : ℕ) (can : Bool) (at : List ℕ → Result ((ℕ × NvIndex) × List ℕ) Malformed) (count place low : ℕ) (so_far new filled : Entries NvIndex) (text rest behind : List ℕ) (whole : Result (Entries NvIndex × List ℕ) Malformed) (fault : FillFault) → limit ≤ nv_space_limit → place < count → (entries_left at count place low so_far text >>= with_space limit) ≡ whole → Appends can (at text) low (λ e. (e.0 < low) ⊎ (nv_space_limit < bytes_of so_far + e.1.public.data_size)) so_far (Err fault) new rest → Fills can whole filled (Err fault) behind
 indices_cut limit can at count place low so_far new filled text rest behind whole unfilled.NoMemory less below is may = may
 indices_cut limit can at count place low so_far new filled text rest behind whole unfilled.Malformed less below is misfits = sym is ∙ by (at text) refl misfits

@@ -17,7 +17,7 @@ use Rattle.tpm_image.specs.declared.fault.ImageFault.TheVariants as fault
 use Rattle.tpm_image.specs.declared.fault.Malformed.{Malformed}
 use Rattle.tpm_image.specs.declared.version.Version.{Version}
 
--- no fault of the frame is a want of memory
+-- no fault of the frame is NoMemory
 frame_fits : (text : List ℕ) → framed_body text ≡ Err fault.NoMemory → ⊥
 unfolding framed_body
 frame_fits text is =

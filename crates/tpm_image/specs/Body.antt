@@ -349,7 +349,7 @@ image_body_text version kept =
     limits_text version ++ state_text kept.state ++ objects_text kept.persistent
     ++ indices_text kept.indices
 
--- what a body keeps that has these bytes, and no more
+-- what a body keeps, where it has exactly these bytes
 unfoldable pub body_of : Version → List ℕ → Result NonVolatile Malformed
 body_of version text = do
   limits ← limits_in version text

@@ -66,7 +66,7 @@ PowersOn can read (Ok done) new = (kept : NonVolatile) × (read ≡ Ok kept) × 
 PowersOn can read (Err unfilled.Malformed) new = read ≡ Err malformed
 PowersOn can read (Err unfilled.NoMemory) new = can ≡ true
 
--- A new keep stands for the record of the device that kept what the text spells; or the text is
+-- A new state stands for the record of the device that kept what the text spells; or the text is
 -- malformed; or memory was refused.
 abbrev pub Filled : {K : Type 0} → (K → Record) → Bool → Result NonVolatile Malformed
     → Result K FillFault → Type 0

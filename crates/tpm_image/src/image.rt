@@ -63,9 +63,8 @@ pub fn save<K: Keep, D: Write>(machine: &Machine<K>, tap: &mut Tap<D>) -> Result
     send(tap, head.as_slice(), text.as_slice())
 }
 
-/// Writes the image of a device, which stays as it is, in version 2, to the front of a room that has
-/// as many bytes. Gives how many bytes the image has, also where there is no room for it and nothing
-/// is written.
+/// Writes the image of a device, which stays as it is, in version 2, to the front of a room. Gives
+/// how many bytes the image has; where the room is smaller, nothing is written.
 pub fn save_into<K: Keep>(machine: &Machine<K>, room: &mut [u8]) -> usize
     ensures { PutsFront (image_text Two (kept_of (state_of K.record_of machine.now))) room.old
         result room.new }
@@ -75,8 +74,8 @@ pub fn save_into<K: Keep>(machine: &Machine<K>, room: &mut [u8]) -> usize
     put_front(head.as_slice(), text.as_slice(), room)
 }
 
-/// Writes a head, and the text after it, to the front of a room that has as many bytes. Gives how
-/// many bytes they have.
+/// Writes a head, and the text after it, to the front of a room, if they fit. Gives how many bytes
+/// they have.
 pub(crate) fn put_front(head: &[u8], text: &[u8], room: &mut [u8]) -> usize
     requires { length head.now + length text.now < 2 ^ 32 }
     ensures { PutsFront (head.now ++ text.now) room.old result room.new }
@@ -178,16 +177,16 @@ fn open_device<K: Keep>(alloc: Global, text: &[u8]) -> Result<Machine<K>, ImageF
     }
 }
 
-/// Opens a device from its image, of either version, where a new machine of zeros lies, which is
-/// never refused memory. It is the device of [`open`], and is not moved. After a fault nothing is
+/// Opens a device from its image, of either version, in place of a new machine of zeros, which is
+/// never refused memory. The device is that of [`open`], and is not moved. After a fault nothing is
 /// said of the machine.
 pub fn open_into<K: Keep>(machine: &mut Machine<K>, text: &[u8]) -> Result<(), ImageFault>
     requires new { state_of K.record_of machine.old ≡ manufactured (replicate 256 0) }
     requires never_refused { K.can_refuse ≡ false }
-    // Which device it is, or the first fault.
+    // Says which device was opened, or which fault is the first.
     ensures exact { Opens (λ done. state_of K.record_of machine.new) false text.now result }
 
-    // It follows the history of the device that was saved, with one power cycle more.
+    // The device follows the history of the one that was saved, with one power cycle more.
     ensures history { (version : Version) (r : Record) (history : History) → IsRecord r
         → Follows r history → IsImage version (kept_of r) text.now
         → IfOk result (λ done. Follows (state_of K.record_of machine.new)
@@ -196,7 +195,7 @@ pub fn open_into<K: Keep>(machine: &mut Machine<K>, text: &[u8]) -> Result<(), I
     fill_machine(machine, text)
 }
 
-/// Opens a device from its image where a new machine of zeros lies; the contract says nothing of
+/// Opens a device from its image in place of a new machine of zeros; the contract says nothing of
 /// histories.
 fn fill_machine<K: Keep>(machine: &mut Machine<K>, text: &[u8]) -> Result<(), ImageFault>
     requires new { state_of K.record_of machine.old ≡ manufactured (replicate 256 0) }
@@ -211,8 +210,8 @@ fn fill_machine<K: Keep>(machine: &mut Machine<K>, text: &[u8]) -> Result<(), Im
     }
 }
 
-/// Why a text is opened as no device where memory is refused: its first fault, or NoMemory where it
-/// is an image. It takes no memory.
+/// The fault of opening a text where memory is refused: its first fault, or NoMemory where it is an
+/// image. The call takes no memory.
 #[inline(never)]
 pub fn fault_of(alloc: Global, text: &[u8]) -> ImageFault
     ensures { Opens (λ (r : Record). r) true text.now (Err result) }

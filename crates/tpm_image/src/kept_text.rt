@@ -48,9 +48,8 @@ impl KeptText {
     }
 }
 
-/// Writes the text of what a device keeps, without its clock, to the front of a room that has as
-/// many bytes. Gives how many bytes the text has, also where there is no room for it and nothing is
-/// written.
+/// Writes the text of what a device keeps, without its clock, to the front of a room, if that fits.
+/// Gives how many bytes the text has, written or not.
 pub fn kept_into<K: Keep>(machine: &Machine<K>, room: &mut [u8]) -> usize
     ensures { PutsFront (kept_text (state_of K.record_of machine.now)) room.old result room.new }
 {

@@ -36,7 +36,7 @@ pub fn kept_text_laws()
 {}
 
 /// No proper prefix of an image, of either version, is an image: below 42 bytes it is Short, and
-/// else it is refused by Length.
+/// otherwise it is refused by Length.
 #[inline(always)]
 #[tactic(auto, using(crate::proofs::ImageLaws::front_short, crate::proofs::RecordLaws::record_cut))]
 pub fn prefix_laws()

@@ -1,4 +1,4 @@
--- A text that was written of a live device, followed again.
+-- A text that was written of a live device leads to that device when it is followed again.
 use Rattle.std.proofs.Common.{◌≡◌, ℕ, ◌+◌, false, List, [], ◌∷◌, ◌++◌, length, map, drop, Option, Some, None, Result, Ok, Err, refl, ap, sym, subst, ◌∙◌, append_assoc, append-nil}
 use Rattle.std.specs.List.{AllByRecursion}
 use Rattle.std.proofs.lemmas.List.{length-take-le, take-append-drop}
@@ -80,7 +80,7 @@ seen_once : (layer : Completion) (old : Record) (e : PlainEntry) (a b : Seen) �
 seen_once layer old e a b is also =
     exactly false e.completes layer old (event_of e) a is refl ∙ sym (exactly false e.completes layer old (event_of e) b also refl)
 
--- entries that are performed lead where these answers lead, and have them
+-- entries that are performed lead where these answers lead, and have the same answers
 same_run : (before : Journal) (old : Record) (performances : List Performance) (after : Journal) (new : Record) (layer : Completion) (mid : Record)
     → LeadsBy false before old performances after new → Answers before.layer old (map entry_in performances) layer mid
     → (after ≡ journal_after_all before (map entry_in performances) layer) × (new ≡ mid) × (map response_sum performances ≡ map answer_said performances)
@@ -96,7 +96,8 @@ same_run before old (one ∷ performances) after new layer mid leads answers =
           ∙ ap (λ (l : List ℕ). one.entry.answered ∷ l) next.2,
     )
 
--- a text that ends in less than an entry is followed to its end, where the device answers as it says
+-- a text that ends in less than an entry is followed to its end, where the device answers as it
+-- says
 ended : (fault : Option FollowFault) (sum : ℕ) (sums said : List ℕ) (more : List PlainEntry) (rest left : List ℕ)
     → AnswersAre fault sums said → sums ≡ said → EndsIn fault sum left → left ≡ entries_text sum more ++ rest
     → AllByRecursion IsEntry more → IsCutOff (sum_after_all sum more) rest → (fault ≡ None) × (more ≡ [])

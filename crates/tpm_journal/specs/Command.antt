@@ -1,4 +1,5 @@
--- A command as it is given, the entry that is written of it, and the event that is executed again.
+-- A command as it is given, the entry that is written of it, and the event that is executed again
+-- from the entry.
 use Rattle.std.specs.Prelude.{ℕ, ◌-◌, ◌^◌, Bool, List, ◌++◌, length, min, replicate, take}
 use Rattle.tpm_completion.specs.Execution.{CompletesIf, Seen}
 use Rattle.tpm_completion.specs.declared.completion.Completion.{Completion}
@@ -19,12 +20,12 @@ pub record Command : Type 0 where
 abbrev pub given : Command → PlainEvent
 given c = Given c.buffer c.locality c.elapsed c.random
 
--- the elapsed time of a command by the host's clock, where a journal has come to this time: at least
--- 0, and at most what has 32 bits
+-- the elapsed time of a command by the host's clock, where a journal has this time: at least 0, and
+-- at most 2^32 - 1
 abbrev pub elapsed_of : (now time : ℕ) → ℕ
 elapsed_of now time = min (now - time) (2 ^ 32 - 1)
 
--- the command of a buffer, which is cut to the most bytes of an entry's
+-- the command of a buffer, cut to as many bytes as an entry can have
 abbrev pub command_at : (buffer : List ℕ) (locality elapsed : ℕ) (completes : Bool)
     (random : List ℕ) → Command
 command_at buffer locality elapsed completes random = record {
@@ -35,11 +36,11 @@ command_at buffer locality elapsed completes random = record {
   random = random;
 }
 
--- A command was executed on this record, with the layer or without it, and this was seen.
+-- A command was executed on this record, with the layer or without it, with this effect.
 abbrev pub Executed : (can : Bool) → Completion → Record → Command → Seen → Type 0
 Executed can layer old c seen = CompletesIf can c.completes layer old (given c) seen
 
--- the entry of a command of which this was seen: its random bytes are those that were drawn
+-- the entry of a command with this effect: its random bytes are those that were drawn
 abbrev pub entry_of : Command → Seen → PlainEntry
 entry_of c seen = record {
   elapsed = c.elapsed;
@@ -50,15 +51,15 @@ entry_of c seen = record {
   answered = sum_of seen.step.response;
 }
 
--- 256 random bytes: these, and zeros behind them
+-- 256 random bytes: these, and zeros after them
 abbrev pub padded : List ℕ → List ℕ
 padded drawn = drawn ++ replicate (256 - length drawn) 0
 
--- the event of an entry
+-- the event that executes an entry's command again
 abbrev pub event_of : PlainEntry → PlainEvent
 event_of e = Given e.buffer e.locality e.elapsed (padded e.drawn)
 
--- An entry was performed on this record: its command was executed again, with the layer where the
--- entry says so, and this was seen.
+-- An entry was performed on this record, with this effect: its command was executed again, with the
+-- layer where the entry says so.
 abbrev pub IsPerformed : (can : Bool) → Completion → Record → PlainEntry → Seen → Type 0
 IsPerformed can layer old e seen = CompletesIf can e.completes layer old (event_of e) seen

@@ -15,13 +15,13 @@ use Rattle.tpm_journal.specs.declared.opening.OpenFault.{OpenFault}
 use Rattle.tpm_journal.specs.declared.opening.OpenFault.TheVariants as fault
 use Rattle.tpm_journal.specs.declared.opening.Opened.{Opened}
 
--- A text begins with the head of this clock and this image, and then goes on so.
+-- A text is the head of this clock and this image, followed by the rest.
 pub record BeginsWith (text : List ℕ) (clock : ℕ) (image rest : List ℕ) : Type 0 where
   pub has : HasHead clock image
   pub is : text ≡ head_text clock image ++ rest
 
--- A text begins with a head, whose image is that of what a device kept; and from that device, as power
--- comes on, the entries behind the head were executed, until it ended so.
+-- A text begins with a head that has the image of a device. From that device, as power comes on,
+-- the entries after the head were executed, with this result.
 pub record Reads (text : List ℕ) (followed : Followed) (journal : Journal) (new : Record) : Type 0 where
   pub clock : ℕ
   pub image : List ℕ
@@ -31,16 +31,16 @@ pub record Reads (text : List ℕ) (followed : Followed) (journal : Journal) (ne
   pub is_image : image_of image ≡ Ok kept
   pub replays : Replays false (journal_begun clock image) (powered_on kept) rest followed journal new
 
--- A text is a journal: the device that it was opened as, and the layer above it, executed exactly the
--- entries behind its head, and less than an entry is left behind them.
+-- A text is a journal: its device and the layer above it executed exactly the entries after its
+-- head, and less than an entry is left after them.
 pub record IsJournal (text : List ℕ) (opened : Opened) (new : Record) : Type 0 where
   pub followed : Followed
   pub reads : Reads text followed opened.journal new
   pub whole : followed.fault ≡ None
   pub size : opened.taken ≡ length (head_text reads.clock reads.image) + followed.taken
 
--- A text was opened: as the device of a journal; or no head stands at its front; or the image of its
--- head is none, by this fault; or its entries were executed until this fault.
+-- A text was opened as the device of a journal; or it has no head; or its head's image has this
+-- fault; or its entries were executed until this fault.
 abbrev pub OpensJournal : List ℕ → Result Opened OpenFault → Record → Type 0
 OpensJournal text (Ok opened) new = IsJournal text opened new
 OpensJournal text (Err fault.NoJournal) new =
@@ -52,8 +52,8 @@ OpensJournal text (Err (fault.Follow why)) new =
     (followed : Followed) × (journal : Journal) × Reads text followed journal new
     × (followed.fault ≡ Some why)
 
--- The journal of a head and these entries was opened, and gave the layer and the device to whose record
--- the entries lead; all of them were taken.
+-- The journal of a head and these entries was opened whole, and gave the layer and the record to
+-- which the entries lead.
 abbrev pub IsOpenedAgain : (clock : ℕ) → (image : List ℕ) → List PlainEntry → (layer : Completion)
     → (final : Record) → Result Opened OpenFault → Record → Type 0
 IsOpenedAgain clock image entries layer final (Ok opened) new =

@@ -18,7 +18,7 @@ use Rattle.tpm_journal.specs.declared.following.Followed.{Followed}
 use Rattle.tpm_journal.specs.declared.following.FollowFault.{FollowFault}
 use Rattle.tpm_journal.specs.declared.following.FollowFault.TheVariants.{Damaged, Otherwise}
 
--- an entry that was performed, and what was seen of it
+-- an entry that was performed, and its effect
 pub record Performance : Type 0 where
   pub entry : PlainEntry
   pub seen : Seen
@@ -26,15 +26,15 @@ pub record Performance : Type 0 where
 abbrev pub entry_in : Performance → PlainEntry
 entry_in one = one.entry
 
--- the sum of the response, and the one that the entry says
+-- the sum of the response, and the sum that the entry says
 abbrev pub response_sum : Performance → ℕ
 response_sum one = sum_of one.seen.step.response
 
 abbrev pub answer_said : Performance → ℕ
 answer_said one = one.entry.answered
 
--- These entries were performed one after another, with the layer where they say so, and led from one
--- journal and record to others. `can` says whether memory can be refused.
+-- These entries were performed one after another, with the layer where they say so, and led from
+-- this journal and record to those. `can` says whether memory can be refused.
 abbrev pub LeadsBy : (can : Bool) → Journal → Record → List Performance → Journal → Record → Type 0
 LeadsBy can before old [] after new = (after ≡ before) × (new ≡ old)
 LeadsBy can before old (one ∷ performances) after new =
@@ -42,7 +42,7 @@ LeadsBy can before old (one ∷ performances) after new =
     × LeadsBy can (journal_after before one.entry one.seen.layer) one.seen.step.after performances
     after new
 
--- the executions on the device behind all of them
+-- all executions on the device for these performances
 abbrev pub run_of_all : (can : Bool) (before : Journal) (old : Record)
     (performances : List Performance) (after : Journal) (new : Record)
     → LeadsBy can before old performances after new → List Execution
@@ -52,8 +52,8 @@ run_of_all can before old (one ∷ performances) after new leads =
     ++ run_of_all can (journal_after before one.entry one.seen.layer) one.seen.step.after
     performances after new leads.1
 
--- The sums of the responses are those that the entries say; where the device answered otherwise, those
--- of all but the last, and that of the last is not.
+-- The sums of the responses are those that the entries say; where the device answered otherwise,
+-- only the last one differs.
 abbrev pub AnswersAre : Option FollowFault → (sums said : List ℕ) → Type 0
 AnswersAre None sums said = sums ≡ said
 AnswersAre (Some Damaged) sums said = sums ≡ said
@@ -61,15 +61,15 @@ AnswersAre (Some Otherwise) sums said =
     (front : List ℕ) × (sum : ℕ) × (other : ℕ) × (sums ≡ front ++ sum ∷ [])
     × (said ≡ front ++ other ∷ []) × (sum ≢ other)
 
--- Behind the entries that were executed less than an entry is left, or damage; where the device
--- answered otherwise, anything.
+-- The entries that were executed are followed by less than an entry, or by damage; where the device
+-- answered otherwise, by anything.
 abbrev pub EndsIn : Option FollowFault → (sum : ℕ) → (left : List ℕ) → Type 0
 EndsIn None sum left = IsCutOff sum left
 EndsIn (Some Damaged) sum left = IsDamaged sum left
 EndsIn (Some Otherwise) sum left = Unit {0}
 
 -- A device, with its layer, executed exactly the entries at the front of a text, one after another,
--- from one journal and record to others.
+-- from this journal and record to those.
 pub record Repeats (can : Bool) (before : Journal) (old : Record) (text : List ℕ) (taken : ℕ)
     (fault : Option FollowFault) (after : Journal) (new : Record) : Type 0
   where
@@ -80,7 +80,7 @@ pub record Repeats (can : Bool) (before : Journal) (old : Record) (text : List �
     pub leads : LeadsBy can before old performances after new
     pub answers : AnswersAre fault (map response_sum performances) (map answer_said performances)
 
--- A device executed the entries of a text, until it ended so.
+-- A device executed the entries of a text, with this result.
 pub record Replays (can : Bool) (before : Journal) (old : Record) (text : List ℕ)
     (followed : Followed) (after : Journal) (new : Record) : Type 0
   where
@@ -89,7 +89,7 @@ pub record Replays (can : Bool) (before : Journal) (old : Record) (text : List �
 
 -- ---- one entry
 
--- The entry at the front of a text was performed, of which this holds: the sum of its response, and
+-- The entry at the front of a text was performed, and `Holds` relates the sum of its response and
 -- the sum that the entry says.
 pub record Performs (can : Bool) (before : Journal) (old : Record) (text : List ℕ) (size : ℕ)
     (after : Journal) (new : Record) (Holds : ℕ → ℕ → Type 0) : Type 0

@@ -1,4 +1,4 @@
-//! A device, with its completing layer, executes again what a text says that they answered.
+//! A device, with its completing layer, executes the entries of a text again.
 
 ghost use Rattle.std.specs.Prelude.{◌≡◌, ◌≤◌, length};
 ghost use Rattle.tpm_completion.specs.Execution.{seen_of};
@@ -18,9 +18,9 @@ use tpm_types::Locality;
 /// Why a text was not followed to its end.
 #[derive(Clone, Copy, Debug, PartialEq, Eq)]
 pub enum FollowFault {
-    /// As many bytes as an entry says that it has are no entry.
+    /// The text has as many bytes as its first line says, but is no entry.
     Damaged,
-    /// The device answered the last entry otherwise than it says.
+    /// The device answered the last entry otherwise than the entry says.
     Otherwise,
 }
 
@@ -34,18 +34,18 @@ pub struct Followed {
 
 /// What was done about the front of a text.
 enum Deed {
-    /// Its entry, of so many bytes, was executed, and answered as it says.
+    /// The entry, of this many bytes, was executed, and answered as it says.
     Executed(usize),
-    /// Its entry, of so many bytes, was executed, and answered otherwise.
+    /// The entry, of this many bytes, was executed, and answered otherwise than it says.
     Otherwise(usize),
-    /// It is less than an entry.
+    /// The text is less than an entry.
     CutOff,
-    /// It is damaged.
+    /// The text is damaged.
     Damaged,
 }
 
-/// Performs an entry: executes its command again, with the completing layer where the entry says so.
-/// This is the one place where an entry is executed.
+/// Performs an entry: executes its command again, with the completing layer where the entry says
+/// so. Entries are executed only here.
 pub fn perform<K: Keep>(
     machine: &mut Machine<K>,
     layer: &mut Completion,
@@ -64,7 +64,7 @@ pub fn perform<K: Keep>(
     execute(machine, layer, entry.completes, &event, outcome);
 }
 
-/// These random bytes, and zeros behind them.
+/// 256 random bytes: these, and zeros after them.
 fn padded(drawn: &[u8]) -> [u8; 256]
     requires { length drawn.now ≤ 256 }
     ensures { result ≡ padded drawn.now }
@@ -76,8 +76,8 @@ fn padded(drawn: &[u8]) -> [u8; 256]
 }
 
 impl Journal {
-    /// Executes the entry at the front of a text. Its bytes go to the first room, and its text is
-    /// written to the second, to be compared.
+    /// Executes the entry at the front of a text. The entry's bytes go to the first room, and its
+    /// text is written to the second, to be compared.
     fn follow_one<K: Keep>(
         &mut self,
         machine: &mut Machine<K>,
@@ -104,7 +104,7 @@ impl Journal {
         }
     }
 
-    /// Executes the entries of a text that was added behind what this journal has.
+    /// Executes the entries of a text that follows what this journal has.
     pub fn follow<K: Keep>(
         &mut self,
         machine: &mut Machine<K>,

@@ -1,4 +1,4 @@
-//! A journal begins, and goes on with each command.
+//! A journal begins, and grows with each command.
 
 ghost use Rattle.std.specs.Prelude.{◌≡◌, ◌≤◌, ◌<◌, false, length, take};
 ghost use Rattle.tpm_completion.specs.Execution.{seen_of};
@@ -27,20 +27,21 @@ use tpm_record::Keep;
 use tpm_step::{Event, Outcome};
 use tpm_types::Locality;
 
-/// What a journal has beside the device.
+/// The state of a journal beside its device.
 #[derive(Clone, Copy, Debug, PartialEq, Eq)]
 pub struct Journal {
-    /// The sum of its text so far.
+    /// The sum of the marks so far.
     pub sum: u64,
-    /// The time to which it has come, in milliseconds of the host's clock.
+    /// The time of the journal in milliseconds: its head's clock, and the elapsed times of its
+    /// commands.
     pub time: u64,
-    /// The completing layer's state.
+    /// The state of the completing layer.
     pub layer: Completion,
 }
 
 impl Journal {
-    /// The journal whose head ends in this sum, and has this clock. The completing layer begins anew,
-    /// with the sum as the number of its start.
+    /// The journal whose head has this sum and this clock. The completing layer begins anew, with
+    /// the sum as the number of its start.
     pub fn begun(sum: u64, clock_ms: u64) -> Journal
         ensures { result ≡ journal_of sum clock_ms }
     {
@@ -51,9 +52,8 @@ impl Journal {
         }
     }
 
-    /// Cycles the power of the device, and writes the head of its new journal to the front of a room
-    /// that has as many bytes. Gives how many bytes the head has, also where there is no room and
-    /// nothing is done.
+    /// Cycles the power of the device, and writes the head of its new journal to the front of a
+    /// room. Gives how many bytes the head has; where the room is smaller, nothing is done.
     pub fn begin<K: Keep>(
         &mut self,
         machine: &mut Machine<K>,
@@ -98,8 +98,8 @@ impl Journal {
     }
 
     /// Executes a command by the host's clock, with the completing layer or without it, and writes
-    /// its entry to the front of a room. Gives how many bytes the entry has. A buffer of more than
-    /// 4,097 bytes is cut to as many, which are refused alike.
+    /// its entry to the front of a room. Gives how many bytes the entry has. A longer buffer than
+    /// 4,097 bytes is cut to 4,097, and is refused alike.
     pub fn execute<K: Keep>(
         &mut self,
         machine: &mut Machine<K>,
@@ -121,7 +121,7 @@ impl Journal {
             take result room.new ≡ entry_text self.old.sum (entry_of c seen) }
         ensures fits { result ≤ length room.new }
 
-        // What is written is an entry, and so can be read again.
+        // What is written is an entry, which can be read again.
         ensures entry { let c = command_at buffer.now (locality_number locality)
             (elapsed_of now_ms self.old.time) completes random.now in
             let seen = seen_of K.record_of machine.new self.new.layer outcome.new in
@@ -162,7 +162,7 @@ fn save<K: Keep>(machine: &Machine<K>, room: &mut [u8; IMAGE_ROOM]) -> usize
     save_into(machine, room)
 }
 
-/// The front of a buffer that an entry has.
+/// The front of a buffer, at most as many bytes as an entry can have.
 #[tactic(auto, using(std::proofs::lemmas::List::take_all))]
 fn cut(buffer: &[u8]) -> &[u8]
     ensures { result.now ≡ take 4097 buffer.now }

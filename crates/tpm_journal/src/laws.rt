@@ -34,8 +34,8 @@ pub fn living_laws()
         (new : Record) → Lives layer old entries after new → Answers layer old entries after new }
 {}
 
-/// A text of entries, and then of less than an entry, is followed to its end, where the device and
-/// its layer answer them as they say.
+/// A text of entries, followed by less than an entry, is followed to its end, where the device and
+/// its layer answer the entries as they say.
 #[inline(always)]
 pub fn following_laws()
     ensures { (before : Journal) (old : Record) (layer : Completion) (final new : Record)
@@ -47,8 +47,8 @@ pub fn following_laws()
         → IsFollowedWhole before entries layer final followed after new }
 {}
 
-/// A text of the head of a device, of entries, and then of less than an entry, is opened as the
-/// device and the layer to which the entries lead, where they answer as the entries say.
+/// A text of a device's head and entries, followed by less than an entry, is opened as the device
+/// and the layer to which the entries lead, where they answer as the entries say.
 #[inline(always)]
 #[tactic(auto, using(crate::proofs::Again::opened_again))]
 pub fn opening_laws()
@@ -64,8 +64,8 @@ pub fn opening_laws()
         → IsOpenedAgain clock (image_text Two (kept_of r)) entries layer final result new }
 {}
 
-/// Entries that are executed again lead a device that follows a history to one that follows the
-/// history with all that was executed for them and accepted; and what else holds of such a stretch.
+/// A device that follows a history and executes entries again follows the history with everything
+/// that was executed for them and accepted. The law also says what else holds of such a stretch.
 #[inline(always)]
 pub fn repeating_laws()
     ensures { (can : Bool) (before : Journal) (old : Record) (text : List ℕ) (taken : ℕ)

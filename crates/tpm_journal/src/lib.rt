@@ -3,11 +3,11 @@
 //! The journal of a device: the image of the device as power came on, and an entry for each command
 //! that was answered since. A device is opened from it by executing the entries again.
 //!
-//! [`Journal`] is what a journal has beside the device: its sum, its time, and the state of the
-//! completing layer, which begins anew with each head. It begins at a power cycle, executes commands
-//! and gives their entries, follows a text, and is opened from a text. An entry says whether the layer
-//! was on. What is opened is the device and the layer that executed exactly the answered commands.
-//! The crate does no input or output: texts are read from the caller's memory and written to it.
+//! [`Journal`] is the state of a journal beside the device: its sum, its time, and the completing
+//! layer, which begins anew with each head. It begins at a power cycle, executes commands and gives
+//! their entries, follows a text, and is opened from a text. An entry says whether the layer was
+//! on. The device and the layer that are opened executed exactly the answered commands. The crate
+//! does no input or output: texts are read from the caller's memory and written to it.
 
 pub mod following;
 pub mod journal;

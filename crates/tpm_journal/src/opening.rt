@@ -16,11 +16,11 @@ use tpm_step::Outcome;
 /// Why a text was not opened as a journal.
 #[derive(Clone, Copy, Debug, PartialEq, Eq)]
 pub enum OpenFault {
-    /// No head stands at its front.
+    /// The text does not begin with a head.
     NoJournal,
-    /// The head's image is none, or is of a device that this one is not.
+    /// The head does not hold an image from which this device can be opened.
     Image(ImageFault),
-    /// What stands behind the head was followed to a fault.
+    /// The entries after the head were followed to a fault.
     Follow(FollowFault),
 }
 
@@ -32,8 +32,8 @@ pub struct Opened {
     pub taken: usize,
 }
 
-/// Opens a device and its completing layer from their journal, where a new machine of zeros lies. After a fault nothing is said
-/// of the machine.
+/// Opens a device and its completing layer from their journal, in place of a new machine of zeros.
+/// After a fault nothing is said of the machine.
 pub fn open<K: Keep>(
     machine: &mut Machine<K>,
     text: &[u8],

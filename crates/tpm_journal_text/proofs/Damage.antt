@@ -1,4 +1,4 @@
--- What is damaged: no entry stands at the front of a text that is long enough.
+-- A text is damaged where it is long enough and no entry stands at its front.
 use Rattle.std.proofs.Common.{◌≡◌, ℕ, ◌≤◌, inl, inr, List, ◌++◌, length, take, ap, sym, ◌∙◌, arith}
 use Rattle.tpm_bytes.specs.Reading.{AreBytes}
 use Rattle.tpm_journal_text.specs.Entry.{PlainEntry, entry_size, entry_text, entry_word, mark_line, mark_of}
@@ -8,7 +8,7 @@ use Rattle.tpm_journal_text.specs.Sum.{sum_from}
 use Rattle.tpm_journal_text.proofs.Pieces.{line_same}
 use Rattle.tpm_journal_text.proofs.Standing.{line_stands, mark_bytes, mark_many, stands}
 
--- where no mark's line stands there
+-- a text that is long enough and begins with no line of a mark is damaged
 pub no_line : (sum : ℕ) (text : List ℕ) → 72 ≤ length text
     → ((mark : List ℕ) → length mark ≡ 26 → AreBytes mark → take 72 text ≡ mark_line sum mark → ⊥) → IsDamaged sum text
 no_line sum text long none = record {
@@ -19,13 +19,14 @@ no_line sum text long none = record {
   no_entry = λ e rest is t. none (mark_of e) (mark_many e) (mark_bytes e) (line_stands sum e text rest t);
 }
 
--- marks whose lines stand in one place are one
+-- two marks whose lines stand at the same place are equal
 pub same_mark : (sum : ℕ) (text mark other : List ℕ) → length mark ≡ 26 → AreBytes mark → take 72 text ≡ mark_line sum mark
     → length other ≡ 26 → AreBytes other → take 72 text ≡ mark_line sum other → mark ≡ other
 same_mark sum text mark other many are line other_many other_are other_line =
     line_same entry_word mark other (sum_from sum mark) (sum_from sum other) are other_are (many ∙ sym other_many) (sym line ∙ other_line)
 
--- where the line of a mark stands there, and no entry with it
+-- a text that begins with the line of a mark, and holds no entry of this mark though it is long
+-- enough, is damaged
 pub no_entry_with : (sum : ℕ) (text mark : List ℕ) → length mark ≡ 26 → AreBytes mark → take 72 text ≡ mark_line sum mark
     → entry_size mark ≤ length text
     → ((e : PlainEntry) (rest : List ℕ) → Stands e mark text → text ≡ entry_text sum e ++ rest → ⊥) → IsDamaged sum text

@@ -1,4 +1,4 @@
--- Digits that are compared with those of bytes, pair by pair.
+-- Digits are compared with those of bytes, pair by pair.
 use Rattle.std.proofs.Common.{◌≡◌, ℕ, ◌+◌, ◌*◌, ◌/◌, ◌%◌, ◌<◌, eqb, ◌&&◌, Bool, true, false, List, [], ◌∷◌, ◌++◌, length, take, drop, slice_index, Option, Some, None, IfNone, refl, ap, sym, ◌∙◌}
 use Rattle.std.specs.Prelude.{codes}
 use Rattle.std.specs.Str.{bytes_eq}
@@ -29,7 +29,7 @@ none_left [] [] e f = refl
 none_left [] (b ∷ bytes) e f = absurd cc
 none_left (d ∷ digits) bytes e f = absurd cc
 
--- where the end of the line of an image does not stand behind its digits, the line does not stand
+-- the line of an image does not stand in a text where its end does not follow its digits
 pub end_missing : {X : Type 0} (text digits image end : List ℕ) (found : Option X) → text ≡ codes "# " ++ digits
     → digits ≡ encode_lower image ++ end → IfNone found ((rest : List ℕ) → end ≡ 10 ∷ [] ++ rest → ⊥)
     → IfNone found ((rest : List ℕ) → text ≡ codes "# " ++ (encode_lower image ++ (10 ∷ [] ++ rest)) → ⊥)

@@ -1,4 +1,4 @@
--- The parts of a head, by their places in its mark and in its text.
+-- The parts of a head stand at their places in its mark and in its text.
 use Rattle.std.proofs.Common.{◌≡◌, ℕ, ◌*◌, List, [], ◌∷◌, ◌++◌, length, take, drop, refl, ap, sym, ◌∙◌, append_assoc, arith, length-append}
 use Rattle.std.specs.Prelude.{codes}
 use Rattle.std.specs.Int.{w32, w64, from_be_bytes}
@@ -34,7 +34,7 @@ count_is clock image has = from_be_bytes-to_be_bytes_4 (length image) (omega (ar
 regrouped : (line word image end rest : List ℕ) → (line ++ word ++ image ++ end) ++ rest ≡ (line ++ word) ++ (image ++ (end ++ rest))
 regrouped line word image end rest = simp append_assoc refl
 
--- the line of its mark
+-- the line of the mark of a head
 head_line : (clock : ℕ) → (image : List ℕ) → List ℕ
 head_line clock image = marked_line head_word (head_mark clock image) (head_sum clock image)
 
@@ -50,7 +50,7 @@ head_line_many clock image = line_length head_word (head_mark clock image) (head
 before_many : (clock : ℕ) (image : List ℕ) → length (head_line clock image ++ codes "# ") ≡ 79
 before_many clock image = omega (arith, head_line_many clock image, length-append (head_line clock image) (codes "# "))
 
--- the line of its mark stands at the front of the text of a head
+-- the line of a head's mark stands at the front of the head's text
 pub head_line_stands : (clock : ℕ) (image text rest : List ℕ) → text ≡ head_text clock image ++ rest
     → take 77 text ≡ marked_line head_word (head_mark clock image) (head_sum clock image)
 unfolding head_line
@@ -90,14 +90,14 @@ head_stands clock image mark text rest has many are line t =
       long = omega (arith, ap length t, length-append (head_text clock image) rest, head_text_many clock image);
     }
 
--- the line of the image stands behind that of the mark
+-- the line of the image follows that of the mark
 pub image_line_stands : (clock : ℕ) (image text rest : List ℕ) → text ≡ head_text clock image ++ rest
     → drop 77 text ≡ codes "# " ++ (encode_lower image ++ (10 ∷ [] ++ rest))
 image_line_stands clock image text rest t =
     ap (drop 77) (t ∙ parts clock image rest ∙ append_assoc (head_line clock image) (codes "# ") (encode_lower image ++ (10 ∷ [] ++ rest)))
     ∙ drop_at (head_line clock image) (codes "# " ++ (encode_lower image ++ (10 ∷ [] ++ rest))) 77 (head_line_many clock image)
 
--- both lines make a head
+-- the lines of the mark and of the image make a head
 head_whole : (clock : ℕ) (image text rest : List ℕ) → take 77 text ≡ head_line clock image
     → drop 77 text ≡ codes "# " ++ (encode_lower image ++ (10 ∷ [] ++ rest)) → text ≡ head_text clock image ++ rest
 head_whole clock image text rest line behind =
@@ -123,7 +123,7 @@ head_found text mark rest head has is sum line behind size =
       after = after;
     }
 
--- heads that stand at one front are one
+-- two heads at the front of one text are equal
 pub same_head : (clock other : ℕ) (image bytes x y : List ℕ) → HasHead clock image → HasHead other bytes
     → head_text clock image ++ x ≡ head_text other bytes ++ y → (clock ≡ other) × (image ≡ bytes)
 same_head clock other image bytes x y has others same =

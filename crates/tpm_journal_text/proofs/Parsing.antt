@@ -1,4 +1,4 @@
--- A text is read in one way alone.
+-- A text can be read in only one way.
 use Rattle.std.proofs.Common.{◌≡◌, ℕ, ◌+◌, ◌*◌, inl, inr, Bool, true, false, List, [], ◌∷◌, ◌++◌, length, take, drop, max, refl, ap, sym, subst, ◌∙◌, append_assoc, arith, length-append}
 use Rattle.std.specs.List.{AllByRecursion}
 use Rattle.std.proofs.lemmas.List.{drop_at}
@@ -41,7 +41,7 @@ fields_same e f a b d g h i =
     ∙ ap (λ (l : List ℕ). made f.elapsed f.locality f.completes f.drawn l e.answered) h
     ∙ ap (made f.elapsed f.locality f.completes f.drawn f.buffer) i
 
--- what stands in one place with one mark is one
+-- two entries that stand in one text with one mark are equal
 one_stands : (e f : PlainEntry) (mark text : List ℕ) → Stands e mark text → Stands f mark text → e ≡ f
 one_stands e f mark text a b =
     let drawn_many : length e.drawn ≡ length f.drawn = sym a.drawn_size ∙ b.drawn_size in
@@ -82,7 +82,7 @@ cut_off_is_no_entry sum e rest text is t cut =
 
 -- ---- entries
 
--- of two readings of a text, of which one ends in less than an entry, the other is a front of that
+-- entries that end in less than an entry begin with the entries of any other reading of the text
 pub others_are_more : (sum : ℕ) (entries others : List PlainEntry) (rest left : List ℕ) → AllByRecursion IsEntry entries → AllByRecursion IsEntry others
     → entries_text sum entries ++ rest ≡ entries_text sum others ++ left → IsCutOff (sum_after_all sum entries) rest
     → (more : List PlainEntry) × AllByRecursion IsEntry more × (entries ≡ others ++ more) × (left ≡ entries_text (sum_after_all sum others) more ++ rest)

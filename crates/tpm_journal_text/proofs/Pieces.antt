@@ -1,4 +1,4 @@
--- Pieces of a text, by their places.
+-- Pieces of a text stand at their places.
 use Rattle.std.proofs.Common.{◌≡◌, ℕ, ◌*◌, ◌+◌, List, [], ◌∷◌, ◌++◌, length, take, drop, Result, Ok, IsErr, refl, ap, sym, ◌∙◌, append_assoc, arith, length-append, take_all}
 use Rattle.std.specs.Prelude.{MatchResult, true, nat_eq}
 use Rattle.std.specs.Cmp.Lexicographic.{pointwise}
@@ -13,7 +13,7 @@ use Rattle.hex.specs.declared.error.FromHexError.{FromHexError}
 use Rattle.tpm_journal_text.specs.Marked.{marked_line}
 use Rattle.tpm_hex.specs.declared.NotHex.{NotHex}
 
--- a piece stands at its place in a text, however this goes on
+-- a piece stands at its place in a text, whatever follows
 pub piece_in : (front piece back text : List ℕ) (size place count : ℕ) → take size text ≡ front ++ piece ++ back
     → length front ≡ place → length piece ≡ count → take count (drop place text) ≡ piece
 piece_in front piece back text size place count e at of =
@@ -23,13 +23,13 @@ piece_in front piece back text size place count e at of =
     ap (λ (t : List ℕ). take count (drop place t)) whole
     ∙ rw (drop_at front (piece ++ (back ++ drop size text)) place at, take_at piece (back ++ drop size text) count of) refl
 
--- digits that spell bytes are read as these
+-- digits that spell bytes are read as these bytes
 pub digits_read : (digits bytes new : List ℕ) (result : Result (Unit {0}) NotHex)
     → MatchResult (decode_of digits) (λ read. (result ≡ Ok tt) × (new ≡ read)) (λ fault. IsErr result)
     → digits ≡ encode_lower bytes → AreBytes bytes → (result ≡ Ok tt) × (new ≡ bytes)
 digits_read digits bytes new result read e are = rw (e, decode_of-encode_lower bytes are) at read
 
--- ---- a line in which bytes stand with their sum
+-- ---- a marked line
 
 pub line_parts : (word bytes : List ℕ) (sum : ℕ) → marked_line word bytes sum
     ≡ word ++ encode_lower bytes ++ (32 ∷ [] ++ (encode_lower (to_be_bytes w64 sum) ++ 10 ∷ []))
@@ -55,7 +55,7 @@ all_equal (byte ∷ text) = rw (eq-eqb byte byte refl, all_equal text) refl
 pub same_is_equal : (text other : List ℕ) → text ≡ other → pointwise nat_eq text other ≡ true
 same_is_equal text other e = rw (← e) (all_equal text)
 
--- a text that stands at the front of another, however it goes on
+-- a text that stands at the front of another, whatever follows
 pub front_of : (front rest text : List ℕ) (size : ℕ) → length front ≡ size → text ≡ front ++ rest → take size text ≡ front
 front_of front rest text size many e = ap (take size) e ∙ take_at front rest size many
 
@@ -71,12 +71,12 @@ line_length word bytes sum count many =
     let e = length-encode_with lower_digits (to_be_bytes w64 sum) in
     omega (arith, head, a, b, c, d, e, many)
 
--- bytes whose hex is one are one
+-- bytes with the same hex are equal
 pub hex_same : (bytes others : List ℕ) → AreBytes bytes → AreBytes others → encode_lower bytes ≡ encode_lower others → bytes ≡ others
 hex_same bytes others are others_are e =
     ok_is {E = FromHexError} bytes others (sym (decode_of-encode_lower bytes are) ∙ ap decode_of e ∙ decode_of-encode_lower others others_are)
 
--- bytes that stand in one line are one
+-- the bytes of two equal marked lines are equal
 pub line_same : (word bytes others : List ℕ) (sum other_sum : ℕ) → AreBytes bytes → AreBytes others → length bytes ≡ length others
     → marked_line word bytes sum ≡ marked_line word others other_sum → bytes ≡ others
 line_same word bytes others sum other_sum are others_are many e =

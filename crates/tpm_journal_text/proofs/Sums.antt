@@ -1,4 +1,4 @@
--- Sums over bytes that come in two parts.
+-- The sum of bytes in two parts is that of the first part, with the second added.
 use Rattle.std.proofs.Common.{◌≡◌, ℕ, List, [], ◌∷◌, ◌++◌, refl, sym}
 use Rattle.tpm_journal_text.specs.Sum.{sum_from, sum_of, with_byte, offset_basis}
 

@@ -22,7 +22,7 @@ pub record PlainEntry : Type 0 where
 abbrev pub entry_room : ℕ
 entry_room = 9216
 
--- the most bytes of a buffer; a longer one is refused as one of so many bytes is
+-- the most bytes of a buffer; a longer buffer is refused as one of 4,097 bytes is
 abbrev pub entry_limit : ℕ
 entry_limit = 4097
 
@@ -37,7 +37,7 @@ plain_entry e = record {
   answered = e.answered;
 }
 
--- What can be an entry.
+-- What a command has to be to have an entry.
 pub record IsEntry (e : PlainEntry) : Type 0 where
   pub elapsed : e.elapsed < 2 ^ 32
   pub locality : e.locality ≤ 4
@@ -49,7 +49,7 @@ pub record IsEntry (e : PlainEntry) : Type 0 where
 
 -- ---- the mark of an entry
 
--- what the mark says of the completing layer
+-- the byte of a mark that says whether the completing layer was on
 abbrev pub flag : Bool → ℕ
 flag false = 0
 flag true = 1
@@ -65,7 +65,7 @@ mark_of e =
 abbrev pub mark_size : ℕ
 mark_size = 26
 
--- how many bytes the entry of a mark drew, and how many its buffer has
+-- how many bytes the entry of a mark drew, and how many bytes its buffer has
 abbrev pub drawn_size : (mark : List ℕ) → ℕ
 drawn_size mark = from_be_bytes w16 (take 2 (drop 6 mark))
 
@@ -77,7 +77,7 @@ buffer_size mark = from_be_bytes w16 (take 2 (drop 8 mark))
 abbrev pub entry_word : List ℕ
 entry_word = codes "# "
 
--- the line of a mark, after what this sum is of
+-- the line of a mark, where `sum` is the sum of the marks before it
 abbrev pub mark_line : (sum : ℕ) → (mark : List ℕ) → List ℕ
 mark_line sum mark = marked_line entry_word mark (sum_from sum mark)
 
@@ -93,12 +93,12 @@ unfoldable pub ten_digits : ℕ → List ℕ
 ten_digits number =
     map (digit_at number) (1000000000 ∷ 100000000 ∷ 10000000 ∷ 1000000 ∷ 100000 ∷ 10000 ∷ 1000 ∷ 100 ∷ 10 ∷ 1 ∷ [])
 
--- the random bytes of a script's line, which has one at least
+-- the random bytes for a script's line, which needs at least one
 abbrev pub shown : List ℕ → List ℕ
 shown [] = 0 ∷ []
 shown (byte ∷ bytes) = byte ∷ bytes
 
--- the lines of a script that set when and from where the command of an entry comes
+-- the lines of a script that set the time and the locality of an entry's command
 unfoldable pub setting_lines : PlainEntry → List ℕ
 setting_lines e =
     codes "wait " ++ ten_digits e.elapsed ++ codes "\nloc " ++ (48 + e.locality) ∷ [] ++ 10 ∷ []
@@ -108,19 +108,19 @@ unfoldable pub executing_lines : PlainEntry → List ℕ
 executing_lines e =
     codes "entropy " ++ encode_lower (shown e.drawn) ++ codes "\ncmd " ++ encode_lower e.buffer ++ 10 ∷ []
 
--- how many bytes these lines have
+-- how many bytes the setting and the executing lines have together
 abbrev pub lines_size : (drawn buffer : ℕ) → ℕ
 lines_size drawn buffer = 36 + (2 * max 1 drawn + 2 * buffer)
 
--- the text of an entry, after what this sum is of: the line of its mark, and the four lines of a
--- script that execute its command
+-- the text of an entry, where `sum` is the sum of the marks before it: the line of its mark, and
+-- the four lines of a script that execute its command
 unfoldable pub entry_text : (sum : ℕ) → PlainEntry → List ℕ
 entry_text sum e = mark_line sum (mark_of e) ++ setting_lines e ++ executing_lines e
 
--- how many bytes the text of an entry has whose mark is this
+-- how many bytes the text of the entry with this mark has
 abbrev pub entry_size : (mark : List ℕ) → ℕ
 entry_size mark = mark_line_size + lines_size (drawn_size mark) (buffer_size mark)
 
--- the sum after an entry
+-- the sum with the mark of an entry added
 abbrev pub sum_after : (sum : ℕ) → PlainEntry → ℕ
 sum_after sum e = sum_from sum (mark_of e)

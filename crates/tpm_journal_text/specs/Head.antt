@@ -7,16 +7,17 @@ use Rattle.tpm_journal_text.specs.declared.head.Head.{Head}
 use Rattle.tpm_journal_text.specs.Marked.{marked_line, marked_size}
 use Rattle.tpm_journal_text.specs.Sum.{offset_basis, sum_from, sum_of}
 
--- the word with which a journal of this form begins
+-- the word with which a journal of this format begins
 abbrev pub head_word : List ℕ
 head_word = codes "# tpmsim journal 1 "
 
--- the mark of a head, 20 bytes: the clock in milliseconds, how many bytes the image has, and its sum
+-- the mark of a head, 20 bytes: the clock in milliseconds, how many bytes the image has, and its
+-- sum
 unfoldable pub head_mark : (clock : ℕ) → (image : List ℕ) → List ℕ
 head_mark clock image =
     to_be_bytes w64 clock ++ (to_be_bytes w32 (length image) ++ to_be_bytes w64 (sum_of image))
 
--- the sum after a head
+-- the sum of the mark of a head
 abbrev pub head_sum : (clock : ℕ) → (image : List ℕ) → ℕ
 head_sum clock image = sum_from offset_basis (head_mark clock image)
 
@@ -26,7 +27,7 @@ head_text clock image =
     marked_line head_word (head_mark clock image) (head_sum clock image)
     ++ codes "# " ++ encode_lower image ++ 10 ∷ []
 
--- how many bytes the head with an image of so many bytes has
+-- how many bytes a head has whose image has `count` bytes
 abbrev pub head_size : (count : ℕ) → ℕ
 head_size count = marked_size head_word 20 + (3 + 2 * count)
 
@@ -34,13 +35,13 @@ head_size count = marked_size head_word 20 + (3 + 2 * count)
 abbrev pub image_limit : ℕ
 image_limit = 28672
 
--- What has a head.
+-- A head can be written for this clock and this image.
 pub record HasHead (clock : ℕ) (image : List ℕ) : Type 0 where
   pub in_time : clock < 2 ^ 64
   pub small : length image ≤ image_limit
   pub are_bytes : AreBytes image
 
--- A head stands at the front of a text: this clock, this image, so many bytes, and the sum after it.
+-- The text begins with a head of this clock and image, of this size, whose sum is this one.
 pub record IsHeadOf (text : List ℕ) (head : Head) : Type 0 where
   pub has : HasHead head.clock head.image.now
   pub whole : head.size ≤ length text

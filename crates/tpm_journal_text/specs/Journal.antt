@@ -1,4 +1,4 @@
--- Entries one after another, and what may stand behind them.
+-- The entries of a journal one after another, and how their text ends.
 use Rattle.std.specs.Prelude.{◌≡◌, ℕ, ◌≤◌, ◌<◌, ◌⊎◌, List, [], ◌∷◌, ◌++◌, length, take}
 use Rattle.tpm_bytes.specs.Reading.{AreBytes}
 use Rattle.tpm_journal_text.specs.Entry.{IsEntry, PlainEntry, entry_size, entry_text, mark_line}
@@ -6,37 +6,36 @@ use Rattle.tpm_journal_text.specs.declared.reading.Next.{Next}
 use Rattle.tpm_journal_text.specs.declared.reading.Next.TheVariants.{Whole, CutOff, Damaged}
 use Rattle.tpm_journal_text.specs.Entry.{plain_entry, mark_line_size, mark_size, sum_after}
 
--- the text of entries, the first of them after what this sum is of
+-- the text of entries, where `sum` is the sum of the marks before the first
 abbrev pub entries_text : (sum : ℕ) → List PlainEntry → List ℕ
 entries_text sum [] = []
 entries_text sum (e ∷ entries) = entry_text sum e ++ entries_text (sum_after sum e) entries
 
--- the sum after entries
+-- the sum with the marks of these entries added
 abbrev pub sum_after_all : (sum : ℕ) → List PlainEntry → ℕ
 sum_after_all sum [] = sum
 sum_after_all sum (e ∷ entries) = sum_after_all (sum_after sum e) entries
 
--- A text begins with the line of a mark, after what this sum is of.
+-- A text begins with the line of this mark, where `sum` is the sum of the marks before it.
 pub record BeginsWithMark (sum : ℕ) (mark text : List ℕ) : Type 0 where
   pub count : length mark ≡ mark_size
   pub bytes : AreBytes mark
   pub line : take mark_line_size text ≡ mark_line sum mark
 
--- A text is less than the text of an entry: its first line is not whole, or it has fewer bytes than
--- its first line says, whose sum is right.
+-- A text is less than an entry: its first line is cut, or is the line of a mark that announces more
+-- bytes than the text has.
 abbrev pub IsCutOff : (sum : ℕ) → List ℕ → Type 0
 IsCutOff sum text =
     (length text < mark_line_size)
     ⊎ ((mark : List ℕ) × BeginsWithMark sum mark text × (length text < entry_size mark))
 
--- A text has as many bytes as its first line says, if that can be told, and no entry's text stands at
--- its front, however it goes on.
+-- A text is neither cut off nor begins with an entry.
 pub record IsDamaged (sum : ℕ) (text : List ℕ) : Type 0 where
   pub not_cut_off : IsCutOff sum text → ⊥
   pub no_entry : (e : PlainEntry) (rest : List ℕ) → IsEntry e → text ≡ entry_text sum e ++ rest → ⊥
 
--- What was found at the front of a text: an entry, how many bytes its text has, and the sum after it;
--- or less than an entry; or damage.
+-- What was found at the front of a text: an entry, its size and the sum after it; or less than an
+-- entry; or damage.
 abbrev pub Finds : (sum : ℕ) → List ℕ → Next → Type 0
 Finds sum text (Whole entry size after) =
     IsEntry (plain_entry entry) × (size ≤ length text)

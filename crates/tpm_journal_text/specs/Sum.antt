@@ -1,5 +1,5 @@
--- The sum of bytes: FNV-1a of 64 bits (Fowler, Noll, Vo). Each of its steps takes different sums to
--- different ones, and different bytes too, so that one byte that was turned makes another sum.
+-- The sum of bytes: FNV-1a of 64 bits (Fowler, Noll, Vo). Each step takes different sums to
+-- different sums, and different bytes too, so that changing a single byte changes the sum.
 use Rattle.std.specs.Prelude.{ℕ, ◌*◌, ◌%◌, ◌^◌, bit_xor, List, [], ◌∷◌}
 
 -- the sum of no bytes
@@ -9,11 +9,11 @@ offset_basis = 0xcbf29ce484222325
 abbrev pub prime : ℕ
 prime = 0x100000001b3
 
--- a sum with one byte more
+-- a sum with one byte added
 abbrev pub with_byte : (sum : ℕ) → (byte : ℕ) → ℕ
 with_byte sum byte = (bit_xor sum byte * prime) % 2 ^ 64
 
--- a sum with these bytes more
+-- a sum with these bytes added
 abbrev pub sum_from : (sum : ℕ) → List ℕ → ℕ
 sum_from sum [] = sum
 sum_from sum (byte ∷ bytes) = sum_from (with_byte sum byte) bytes

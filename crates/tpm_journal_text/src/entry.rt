@@ -8,7 +8,7 @@ use crate::put::{put, put_hex};
 use crate::sum::{sum_from, sum_of};
 use tpm_bytes::Sink;
 
-/// The most bytes of a buffer; a longer one is refused as one of so many bytes is.
+/// The most bytes of a buffer. A longer buffer is refused as one of 4,097 bytes is.
 pub const ENTRY_LIMIT: usize = 4_097;
 
 /// The most bytes of the text of an entry.
@@ -20,15 +20,15 @@ pub(crate) const ENTRY_WORD: &[u8] = b"# ";
 /// A command that was answered.
 #[derive(Clone, Copy)]
 pub struct Entry<'a> {
-    /// The milliseconds since the command before it.
+    /// The milliseconds since the previous command.
     pub elapsed_ms: u32,
     pub locality: u8,
     /// Whether the completing layer was on.
     pub completes: bool,
-    /// The random bytes that it drew.
+    /// The random bytes that the command drew.
     pub drawn: &'a [u8],
     pub buffer: &'a [u8],
-    /// The sum of its response.
+    /// The sum of the command's response.
     pub answered: u64,
 }
 
@@ -80,8 +80,8 @@ impl<'a> Entry<'a> {
         mark
     }
 
-    /// Puts the lines that set when and from where the command comes at a place of a room, and gives
-    /// the place behind them.
+    /// Puts the lines that set the command's time and locality at a place of a room, and gives the
+    /// place after them.
     #[tactic(auto, unfolding(crate::specs::Entry::setting_lines))]
     fn put_setting(&self, room: &mut [u8], place: usize) -> usize
         requires entry { IsEntry (plain_entry self.now) }
@@ -98,7 +98,7 @@ impl<'a> Entry<'a> {
         put(room, place, b"\n")
     }
 
-    /// The random bytes of a script's line, which has one at least.
+    /// The random bytes for a script's line, which needs at least one.
     fn shown(&self) -> &[u8]
         ensures value { result.now ≡ shown self.now.drawn.now }
         ensures size { length result.now ≡ max 1 (length self.now.drawn.now) }
@@ -111,7 +111,7 @@ impl<'a> Entry<'a> {
     }
 
     /// Puts the lines that give the command its random bytes and execute it at a place of a room,
-    /// and gives the place behind them.
+    /// and gives the place after them.
     #[tactic(auto, unfolding(crate::specs::Entry::executing_lines))]
     fn put_executing(&self, room: &mut [u8], place: usize) -> usize
         requires entry { IsEntry (plain_entry self.now) }
@@ -130,8 +130,8 @@ impl<'a> Entry<'a> {
         put(room, place, b"\n")
     }
 
-    /// Writes the text of the entry to the front of a room, and gives how many bytes it has. The sum
-    /// goes on over the entry.
+    /// Writes the text of the entry to the front of a room, and gives how many bytes it has. Adds
+    /// its mark to `sum`, the sum of the marks before it.
     #[tactic(auto, unfolding(crate::specs::Entry::entry_text))]
     pub fn write(&self, sum: &mut u64, room: &mut [u8]) -> usize
         requires entry { IsEntry (plain_entry self.now) }

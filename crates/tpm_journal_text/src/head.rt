@@ -9,18 +9,18 @@ use crate::put::{put, put_hex};
 use crate::sum::{OFFSET_BASIS, sum_from, sum_of};
 use tpm_bytes::Sink;
 
-/// Enough for an image.
+/// The most bytes of an image that a head can hold.
 pub const IMAGE_ROOM: usize = 28_672;
 
-/// The word with which a journal of this form begins.
+/// The word with which a journal of this format begins.
 pub(crate) const HEAD_WORD: &[u8] = b"# tpmsim journal 1 ";
 
-/// How many bytes the mark of a head has, and the line of that.
+/// How many bytes the mark of a head has, and how many the mark's line has.
 pub(crate) const MARK_SIZE: usize = 20;
 
 pub(crate) const MARK_LINE_SIZE: usize = 77;
 
-/// A head that was read.
+/// A head that was read from a text.
 #[derive(Clone, Copy)]
 pub struct Head<'a> {
     /// The host's clock in milliseconds, as power came on.
@@ -28,11 +28,11 @@ pub struct Head<'a> {
     pub image: &'a [u8],
     /// How many bytes the text of the head has.
     pub size: usize,
-    /// The sum after it.
+    /// The sum of the head's mark.
     pub sum: u64,
 }
 
-/// How many bytes the head with an image of so many bytes has.
+/// How many bytes a head has whose image has `count` bytes.
 #[tactic(auto, using(crate::proofs::HeadStanding::head_text_many))]
 pub fn head_size(count: usize) -> usize
     requires { count ≤ image_limit }
@@ -57,8 +57,8 @@ pub(crate) fn mark_of(clock: u64, image: &[u8]) -> Sink<MARK_SIZE>
     mark
 }
 
-/// Puts the head of a clock and an image into a room, with the sum after it, and gives how many bytes
-/// it has.
+/// Puts the head of a clock and an image into a room, and gives how many bytes it has. `sum`
+/// becomes the sum of its mark.
 #[tactic(auto, unfolding(crate::specs::Head::head_text))]
 fn put_head(clock: u64, image: &[u8], sum: &mut u64, room: &mut [u8]) -> usize
     requires small { length image.now ≤ image_limit }
@@ -76,7 +76,8 @@ fn put_head(clock: u64, image: &[u8], sum: &mut u64, room: &mut [u8]) -> usize
     put(room, place, b"\n")
 }
 
-/// Writes the head of a clock and an image to a room of as many bytes, and gives the sum after it.
+/// Writes the head of a clock and an image to a room of exactly its size, and gives the sum of its
+/// mark.
 #[tactic(auto, using(std::proofs::lemmas::List::take_all))]
 pub fn write_head(clock: u64, image: &[u8], room: &mut [u8]) -> u64
     requires small { length image.now ≤ image_limit }

@@ -33,7 +33,7 @@ fn count_of(mark: &[u8; MARK_SIZE]) -> usize
     u32::from_be_bytes([mark[8], mark[9], mark[10], mark[11]]) as usize
 }
 
-/// The image of a head whose mark was read; none where no image stands in the text.
+/// The image of a head whose mark was read; None where the text does not hold it.
 fn image_behind<'a>(
     mark: &[u8; MARK_SIZE],
     text: &[u8],
@@ -52,8 +52,7 @@ fn image_behind<'a>(
     read_hex(text, IMAGE_PLACE, image)
 }
 
-/// What stands behind the line of an image at the front of a text; none where it does not stand
-/// there.
+/// The text after the line of an image at the front of a text; None where that line is not there.
 fn behind_image<'a>(text: &'a [u8], image: &[u8]) -> Option<&'a [u8]>
     ensures some { IfSome result (λ rest. text.now
         ≡ codes "# " ++ (encode_lower image.now ++ (10 ∷ [] ++ rest.now))) }
@@ -65,7 +64,7 @@ fn behind_image<'a>(text: &'a [u8], image: &[u8]) -> Option<&'a [u8]>
     strip(end, b"\n")
 }
 
-/// Reads the head at the front of a text. Its image goes to the room.
+/// Reads the head at the front of a text. Its image goes to `image`.
 pub fn read_head<'a>(text: &[u8], image: &'a mut [u8; IMAGE_ROOM]) -> Option<Head<'a>>
     ensures head { IfSome result (IsHeadOf text.now) }
     ensures only { (clock : ℕ) (bytes : List ℕ) (rest : List ℕ) → HasHead clock bytes

@@ -2,9 +2,9 @@
 
 //! The text of a journal: its head, and an entry for each command that was answered.
 //!
-//! Each line is a line of a script. The specs say what the text is; [`entry`] and [`head`] write it
-//! and read it. What is read is written again and compared, so an entry is read from its one text
-//! alone.
+//! Each line is a line of a script. The specs define the text; [`entry`] and [`head`] write it and
+//! read it. What is read is written again and compared, so that an entry is read only from its own
+//! text.
 
 pub mod entry;
 pub mod head;

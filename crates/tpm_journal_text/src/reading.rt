@@ -1,4 +1,4 @@
-//! The entry at the front of a text.
+//! Reading the entry at the front of a text.
 
 ghost use Rattle.std.specs.Prelude.{◌≡◌, ◌+◌, ◌*◌, ◌≤◌, ◌<◌, ◌++◌, ℕ, List, true, IfNone, IfSome, IsSomeAnd, drop, length, max, take};
 ghost use Rattle.hex.specs.Hex.{encode_lower};
@@ -13,12 +13,12 @@ use crate::marked::read_marked_line;
 use tpm_bytes::is_equal;
 use tpm_hex::decode;
 
-/// How many bytes the mark of an entry has, and the line of that.
+/// How many bytes the mark of an entry has, and how many the mark's line has.
 const MARK_SIZE: usize = 26;
 
 const MARK_LINE_SIZE: usize = 72;
 
-/// Enough for the bytes that an entry drew, and its buffer.
+/// Room for the bytes that an entry drew, and for its buffer.
 pub const BYTES_ROOM: usize = 256 + ENTRY_LIMIT;
 
 /// Where the random bytes stand in the text of an entry.
@@ -34,7 +34,7 @@ pub enum Next<'a> {
     },
     /// Less than an entry.
     CutOff,
-    /// As many bytes as an entry says that it has, which are no entry.
+    /// The text has as many bytes as its first line says, but is no entry.
     Damaged,
 }
 
@@ -47,7 +47,7 @@ fn u16_at(mark: &[u8; MARK_SIZE], place: usize) -> usize
     usize::from(u16::from_be_bytes([mark[place], mark[place + 1]]))
 }
 
-/// Reads bytes in hex at a place of a text; none where no hex stands there.
+/// Reads bytes in hex at a place of a text; None where there is no hex.
 pub(crate) fn read_hex<'a>(text: &[u8], place: usize, room: &'a mut [u8]) -> Option<&'a [u8]>
     requires { place + 2 * length room.old ≤ length text.now }
     ensures size { IfSome result (λ read. length read.now ≡ length room.old) }
@@ -80,14 +80,14 @@ fn u64_at(mark: &[u8; MARK_SIZE]) -> u64
     ])
 }
 
-/// How many bytes the text of an entry has whose mark is this.
+/// How many bytes the text of the entry with this mark has.
 fn size_told(mark: &[u8; MARK_SIZE]) -> usize
     ensures { result ≡ entry_size mark.now }
 {
     MARK_LINE_SIZE + 36 + 2 * u16_at(mark, 6).max(1) + 2 * u16_at(mark, 8)
 }
 
-/// The entry that a text may be the text of, whose mark was read; none where it is no entry's.
+/// The entry that the text may hold after its mark was read; None where it holds none.
 fn entry_behind<'a>(
     mark: &[u8; MARK_SIZE],
     text: &[u8],
@@ -129,8 +129,8 @@ pub(crate) fn begins_with(text: &[u8], front: &[u8]) -> bool
     is_equal(begin, front)
 }
 
-/// Reads the entry at the front of a text, after what this sum is of. Its bytes go to the first
-/// room, and its text is written to the second, to be compared.
+/// Reads the entry at the front of a text. `sum` is the sum of the marks before it. The entry's
+/// bytes go to the first room, and its text is written to the second, to be compared.
 pub fn read_entry<'a>(
     sum: u64,
     text: &[u8],

@@ -8,7 +8,7 @@ pub const OFFSET_BASIS: u64 = 0xcbf2_9ce4_8422_2325;
 
 const PRIME: u64 = 0x100_0000_01b3;
 
-/// The sum with these bytes more.
+/// The sum with these bytes added.
 pub fn sum_from(sum: u64, bytes: &[u8]) -> u64
     ensures { result ≡ sum_from sum bytes.now }
 {
@@ -26,8 +26,8 @@ pub fn sum_of(bytes: &[u8]) -> u64
     sum_from(OFFSET_BASIS, bytes)
 }
 
-/// The sums that FNV's authors publish of no bytes, of `a` and of `foobar`. The function does
-/// nothing.
+/// The sums that FNV's authors publish of no bytes, of `a` and of `foobar` are those of this
+/// definition. The function does nothing.
 pub fn published_sums()
     ensures none { sum_of [] ≡ 0xcbf29ce484222325 }
     ensures a { sum_of (codes "a") ≡ 0xaf63dc4c8601ec8c }

@@ -1,4 +1,4 @@
--- Steps of a row.
+-- Facts about the steps of a row.
 use Rattle.std.proofs.Common.{◌≡◌, Bool, true, false, Option, Some, None, Result, Ok, Err, IfOk, IfErr, refl, subst}
 use Rattle.std.specs.Prelude.{not, ok_or}
 use Rattle.std.proofs.lemmas.Bool.{not-false}
@@ -11,43 +11,45 @@ use Rattle.tpm_types.specs.declared.check.Check.{Check}
 use Rattle.tpm_types.specs.declared.rc.Rc.{Rc}
 use Rattle.tpm_types.specs.declared.refused.Refused.{Refused}
 
--- what holds of each success after a step holds of each success
+-- a property of each success after a step is one of each success of the whole
 pub ok_bind : {A B E : Type 0} (Q : B → Type 0) (x : Result A E) (f : A → Result B E) → ((a : A) → IfOk (f a) Q) → IfOk (x >>= f) Q
 ok_bind Q (Ok a) f h = h a
 ok_bind Q (Err e) f h = tt
 
--- what holds of each success after a step holds of each success, by what the step gave
+-- a property of each success after a step is one of each success of the whole, by what the step
+-- gave
 pub ok_bind_is : {A B E : Type 0} (Q : B → Type 0) (x : Result A E) (f : A → Result B E) → ((a : A) → x ≡ Ok a → IfOk (f a) Q) → IfOk (x >>= f) Q
 ok_bind_is Q (Ok a) f h = h a refl
 ok_bind_is Q (Err e) f h = tt
 
--- what holds of each success after a step holds of each success, by what holds of each success of
--- the step
+-- a property of each success after a step is one of each success of the whole, by a property of the
+-- step's successes
 pub ok_then : {A B E : Type 0} (P : A → Type 0) (Q : B → Type 0) (x : Result A E) (f : A → Result B E) → IfOk x P → ((a : A) → P a → IfOk (f a) Q) → IfOk (x >>= f) Q
 ok_then P Q (Ok a) f k h = h a k
 ok_then P Q (Err e) f k h = tt
 
--- what follows from what holds of each success
+-- a property of each success implies a weaker one
 pub ok_weaker : {A E : Type 0} (P Q : A → Type 0) (x : Result A E) → IfOk x P → ((a : A) → P a → Q a) → IfOk x Q
 ok_weaker P Q (Ok a) k h = h a k
 ok_weaker P Q (Err e) k h = tt
 
--- what holds of each success holds of the success that there is
+-- a property of each success holds of the success that there is
 pub ok_at : {A E : Type 0} (P : A → Type 0) (x : Result A E) (a : A) → IfOk x P → x ≡ Ok a → P a
 ok_at P (Ok b) a holds is = subst P (ok_is b a is) holds
 ok_at P (Err e) a holds is = absurd cc
 
--- what holds of each refusal of a step, and of each after it
+-- a property of each refusal of a step, and of each after it, is one of each refusal of the whole
 pub err_bind : {A B E : Type 0} (Q : E → Type 0) (x : Result A E) (f : A → Result B E) → IfErr x Q → ((a : A) → IfErr (f a) Q) → IfErr (x >>= f) Q
 err_bind Q (Ok a) f k h = h a
 err_bind Q (Err e) f k h = k
 
--- what holds of each refusal of a step, and of each after it, by what the step gave
+-- a property of each refusal of a step, and of each after it, is one of each refusal of the whole,
+-- by what the step gave
 pub err_bind_is : {A B E : Type 0} (Q : E → Type 0) (x : Result A E) (f : A → Result B E) → IfErr x Q → ((a : A) → x ≡ Ok a → IfErr (f a) Q) → IfErr (x >>= f) Q
 err_bind_is Q (Ok a) f k h = h a refl
 err_bind_is Q (Err e) f k h = k
 
--- what holds of the only refusal of a step that tests something
+-- a property of a step's only refusal, where the step tests something, is one of each refusal
 pub err_if : {E : Type 0} (Q : E → Type 0) (b : Bool) (e : E) → Q e → IfErr (refused_if b e) Q
 err_if Q true e h = h
 err_if Q false e h = tt
@@ -64,7 +66,7 @@ pub err_checked : {X : Type 0} (Q : Refused → Type 0) (check : Check) (x : Res
 err_checked Q check (Ok x) h = tt
 err_checked Q check (Err rc) h = h rc
 
--- where a step asked for something and succeeded, it was there
+-- where a step asked for a value and succeeded, the value was there
 pub some_is : {X E : Type 0} (o : Option X) (e : E) (x : X) → ok_or o e ≡ Ok x → o ≡ Some x
 some_is None e x is = absurd (let never : ⊥ = cc in never)
 some_is (Some y) e x is = cc
@@ -82,7 +84,7 @@ ok_in_command P c (Err e) h = tt
 pub asked : {E : Type 0} (b : Bool) (fault : E) (u : Unit {0}) → refused_if (not b) fault ≡ Ok u → b ≡ true
 asked b fault u is = not-false b (passed (not b) fault u is)
 
--- two steps and a third are a step and the two others
+-- the grouping of three steps makes no difference
 pub bind_assoc : {A B C E : Type 0} (x : Result A E) (f : A → Result B E) (g : B → Result C E) → ((x >>= f) >>= g) ≡ (x >>= λ a. f a >>= g)
 bind_assoc (Ok a) f g = refl
 bind_assoc (Err e) f g = refl

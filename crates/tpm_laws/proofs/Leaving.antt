@@ -18,7 +18,7 @@ use Rattle.tpm_step.specs.Granted.{Granted, granted_entries}
 use Rattle.tpm_step.specs.Step.{Accepted, success_step}
 use Rattle.tpm_laws.specs.Acceptance.{LeavesEffect, OnlySessions}
 
--- one change of sessions alone after another
+-- two changes of sessions alone, one after the other, change sessions alone
 then_only : (a b c : Record) → OnlySessions a b → OnlySessions b c → OnlySessions a c
 then_only a b c first second = second ∙ ap (λ (r : Record). record r { sessions = c.sessions }) first
 

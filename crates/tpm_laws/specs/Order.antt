@@ -1,4 +1,4 @@
--- In which order a row refuses, and what its refusals count.
+-- The order in which a row refuses, and what its refusals count.
 use Rattle.std.specs.Prelude.{◌≡◌, ◌⊎◌, ℕ, List, Result, Ok, Err, IfErr}
 use Rattle.tpm_types.specs.declared.check.Check.{Check}
 use Rattle.tpm_types.specs.declared.check.Check.TheVariants as check

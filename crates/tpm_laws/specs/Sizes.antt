@@ -6,8 +6,8 @@ use Rattle.tpm_session.specs.Key.{is_nonce_size}
 use Rattle.tpm_session.specs.declared.session.Session.{Session}
 use Rattle.tpm_record.specs.Record.{Record}
 
--- A session's policy digest has the size of its hash, its key that size or no byte, and its
--- nonceTPM from 16 bytes to the size of its hash.
+-- A session's policy digest has the size of its hash, its key has that size or is empty, and its
+-- nonceTPM has from 16 bytes to the size of its hash.
 pub record IsSized (session : Session) : Type 0 where
   pub digest : length session.policy.digest ≡ digest_size session.hash
   pub key : (session.key ≡ []) ⊎ (length session.key ≡ digest_size session.hash)

@@ -8,7 +8,8 @@ use Rattle.std.specs.declared.alloc.Global.{Global}
 use Rattle.std.specs.declared.option.Option.{Option}
 use Rattle.std.specs.declared.option.Option.TheVariants.{None, Some}
 
--- the box of its device, at its pointer, with the right to free it; or no device, and null
+-- what a holder owns: the box of its device, at its pointer, with the right to free it; or no
+-- device, and null
 abbrev pub held : (R : RattleType) → Global → Ptr → Option R.Denot → Fml
 held R alloc at None = feq Ptr at null_ptr
 held R alloc at (Some device) = box_owns (ghosts.dealloc_token alloc) R at device

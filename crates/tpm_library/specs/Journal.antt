@@ -1,4 +1,4 @@
--- What a device does by its journal.
+-- What a device does with its journal.
 use Rattle.std.specs.Prelude.{◌≡◌, ◌≤◌, ◌<◌, ℕ, Bool, false, List, length, take, Option, Some, None, Result, Ok, Err}
 use Rattle.tpm_completion.specs.Execution.{Seen}
 use Rattle.tpm_history.specs.Follows.{After, Follows}
@@ -22,7 +22,7 @@ use Rattle.tpm_library.specs.declared.device.Device.{Device}
 abbrev pub image_at_power : Device → List ℕ
 image_at_power device = image_text Two (kept_of (cycled (record_of device)))
 
--- The power of a device was cycled, and its new journal begun by this clock.
+-- The power of a device was cycled, and its new journal begins with this clock.
 pub record BeginsJournal (before : Device) (now : ℕ) (after : Device) : Type 0 where
   pub executes : Executes false (record_of before) Cycled (cycle_seen after)
   pub history : After Follows (record_of before) Cycled (cycle_seen after)
@@ -32,20 +32,20 @@ pub record BeginsJournal (before : Device) (now : ℕ) (after : Device) : Type 0
 abbrev pub IsAsBefore : (before after : Device) → Type 0
 IsAsBefore before after = (record_of after ≡ record_of before) × (after.journal ≡ before.journal)
 
--- A device begins its journal where there is room for the head, which has so many bytes, and else is as
--- it was.
+-- A device begins its journal where the room has space for the head, whose size is `size`, and is
+-- otherwise as it was.
 abbrev pub BeginsIfRoom : (before : Device) → (now room size : ℕ) → (after : Device) → Type 0
 BeginsIfRoom before now room size after =
     (size ≤ room → BeginsJournal before now after) × (room < size → IsAsBefore before after)
 
--- the command of a buffer that a device is given by this clock, with the completing layer or without
--- it
+-- the command of a buffer that a device is given at this clock, with the completing layer or
+-- without it
 abbrev pub command_by : Device → (buffer : List ℕ) → (locality now : ℕ) → (completes : Bool)
     → (random : List ℕ) → Command
 command_by device buffer locality now completes random =
     command_at buffer locality (elapsed_of now device.journal.time) completes random
 
--- what is seen of a command whose response stands at the front of a room
+-- the effect of a command whose response stands at the front of a room
 abbrev pub seen_in : (room : List ℕ) → Answered → (after : Device) → Seen
 seen_in room answered after = record {
   step = command_seen room answered after;
@@ -53,8 +53,8 @@ seen_in room answered after = record {
   drawn = answered.drawn;
 }
 
--- A device, with its completing layer or without it, executed a command, whose response stands at the
--- front of a room, and wrote its entry, of so many bytes, to the front of another. The execution says
+-- A device executed a command, with its completing layer or without it. Its response stands at the
+-- front of one room, and its entry, of `size` bytes, at the front of another. The execution says
 -- what was executed on the device, and what history it follows then.
 pub record Records (before : Device) (c : Command) (response : List ℕ) (answered : Answered)
     (size : ℕ) (entry : List ℕ) (after : Device) : Type 0
@@ -67,18 +67,19 @@ pub record Records (before : Device) (c : Command) (response : List ℕ) (answer
     pub journal : after.journal ≡ journal_after before.journal
         (entry_of c (seen_in response answered after)) after.journal.layer
 
--- A device is that of a journal, whose head and entries have so many bytes.
+-- A device is that of a journal, whose head and entries have `taken` bytes.
 abbrev pub IsOfJournal : List ℕ → (taken : ℕ) → Device → Type 0
 IsOfJournal text taken device =
     IsJournal text (record { journal = device.journal; taken = taken }) (record_of device)
 
--- A text is not opened as a journal by this fault.
+-- A text is not opened as a journal, because of this fault.
 abbrev pub HasFault : List ℕ → OpenFault → Type 0
 HasFault text fault = (new : Record) × OpensJournal text (Err fault) new
 
--- A device was opened from a journal, of which so many bytes were taken; or the text has this fault; or
--- memory was refused.
-abbrev pub OpensDevice : {B : Type 0} → (B → Device) → List ℕ → (old : ℕ) → Option (Result B OpenFault) → (taken : ℕ) → Type 0
+-- A device was opened from a journal, of which `taken` bytes are head and entries; or the text has
+-- this fault; or memory was refused.
+abbrev pub OpensDevice : {B : Type 0} → (B → Device) → List ℕ → (old : ℕ)
+    → Option (Result B OpenFault) → (taken : ℕ) → Type 0
 OpensDevice device_in text old (Some (Ok opened)) taken = IsOfJournal text taken (device_in opened)
 OpensDevice device_in text old (Some (Err fault)) taken = HasFault text fault × (taken ≡ old)
 OpensDevice device_in text old None taken = taken ≡ old

@@ -1,4 +1,4 @@
--- The record of a device, and what is seen of an event on it.
+-- The record of a device, and the effect of an event on it.
 use Rattle.std.specs.Prelude.{List, [], take, ℕ}
 use Rattle.tpm_record.specs.Kept.{kept_record}
 use Rattle.tpm_record.specs.Record.{Record}
@@ -6,11 +6,12 @@ use Rattle.tpm_step.specs.Step.{Stepped}
 use Rattle.tpm_library.specs.declared.device.Answered.{Answered}
 use Rattle.tpm_library.specs.declared.device.Device.{Device}
 
--- by its keep, whose containers are seen as what they hold
+-- the record of a device; its containers are seen as their contents
 abbrev pub record_of : Device → Record
 record_of device = kept_record (λ s. s) (λ o. o) (λ p. p) (λ n. n) device.machine.keep
 
--- of a command: the response at the front of the room for it, the row, and the record after it
+-- the effect of a command: the response at the front of the room for it, the row, and the record
+-- after it
 abbrev pub command_seen : List ℕ → Answered → Device → Stepped
 command_seen room answered after = record {
   response = take answered.size room;
@@ -18,7 +19,7 @@ command_seen room answered after = record {
   after = record_of after;
 }
 
--- of a power cycle, which has no response and the row of no command
+-- the effect of a power cycle, which has no response and the row of no command
 abbrev pub cycle_seen : Device → Stepped
 cycle_seen after =
     record { response = []; row = record { code = 0; check = 0 }; after = record_of after }

@@ -20,7 +20,7 @@ no_locality = 2
 abbrev pub no_memory : ℕ
 no_memory = 3
 
--- why a device is not opened
+-- the number of the fault for which an image is not opened
 abbrev pub fault_number : ImageFault → ℕ
 fault_number fault.Short = 4
 fault_number fault.Magic = 5
@@ -30,19 +30,20 @@ fault_number fault.Digest = 8
 fault_number fault.Body = 9
 fault_number fault.NoMemory = no_memory
 
--- how far a text was followed: to its end, or to this fault
+-- the number of how far a text was followed: to its end, or to this fault
 abbrev pub follow_number : Option FollowFault → ℕ
 follow_number None = done
 follow_number (Some follow.Damaged) = 11
 follow_number (Some follow.Otherwise) = 12
 
--- why a text is not opened as a journal
+-- the number of the fault for which a text is not opened as a journal
 abbrev pub open_number : OpenFault → ℕ
 open_number opening.NoJournal = 10
 open_number (opening.Image fault) = fault_number fault
 open_number (opening.Follow fault) = follow_number (Some fault)
 
--- What was opened is told by its number: a holder has the device, or what it had before.
+-- The number tells the result of opening, and the holder has the opened device, or what it had
+-- before.
 abbrev pub Tells : Result Device ImageFault → (old new : Option Device) → (told : ℕ) → Type 0
 Tells (Ok device) old new told = (told ≡ done) × (new ≡ Some device)
 Tells (Err fault) old new told = (told ≡ fault_number fault) × (new ≡ old)

@@ -1,5 +1,5 @@
-//! The calls on what holds a device, as C has them. A call takes the device out, uses it, and puts
-//! it back; that moves a pointer.
+//! The calls on a device's holder, as C has them. A call takes the device out, uses it, and puts it
+//! back, which moves only a pointer.
 
 ghost use Rattle.std.specs.Prelude.{◌≡◌, ◌≢◌, ◌<◌, ◌∷◌, [], drop, false, true};
 ghost use Rattle.std.specs.Option.{MatchOption};
@@ -32,7 +32,7 @@ use std::alloc::Global;
 use tpm_step::Event;
 use tpm_types::Locality;
 
-/// The version, with 256 times the number behind the first point, and 65,536 times that before it.
+/// The version as one number: 65,536 times major, plus 256 times minor, plus patch.
 pub fn version() -> u32
     ensures { result ≡ version_number 0 1 0 }
 {
@@ -54,8 +54,8 @@ pub fn manufacture(alloc: Global, holder: &mut Holder, random: &[u8; 256]) -> u8
     DONE
 }
 
-/// Executes a command, and writes its response to the front of the room for it. NO_LOCALITY: a
-/// locality is 0 to 4. NO_DEVICE: there is none. In both cases nothing is written.
+/// Executes a command, and writes its response to the front of the room for it. NO_LOCALITY: the
+/// locality is not 0 to 4. NO_DEVICE: the holder has no device. In both cases nothing is written.
 pub fn execute(
     alloc: Global,
     holder: &mut Holder,
@@ -94,7 +94,7 @@ pub fn execute(
     DONE
 }
 
-/// Takes power away and gives it back. NO_DEVICE: there is none.
+/// Takes power away and gives it back. NO_DEVICE: the holder has no device.
 pub fn power_cycle(alloc: Global, holder: &mut Holder) -> u8
     ensures executes { MatchOption holder.old.device (holder.new.device ≡ None) (λ before.
         (after : Device) × (holder.new.device ≡ Some after)
@@ -110,9 +110,8 @@ pub fn power_cycle(alloc: Global, holder: &mut Holder) -> u8
     DONE
 }
 
-/// Writes the image of the device to the front of a room that has as many bytes. Gives how many
-/// bytes the image has, also where there is no room for it and nothing is written; 0 where there
-/// is no device.
+/// Writes the image of the device to the front of a room. Gives how many bytes the image has, or 0
+/// where there is no device. Nothing is written to a smaller room.
 pub fn save(alloc: Global, holder: &mut Holder, room: &mut [u8]) -> usize
     ensures saved { MatchOption holder.old.device ((result ≡ 0) × (room.new ≡ room.old))
         (λ device. PutsFront (image_text Two (kept_of (record_of device))) room.old result
@@ -127,9 +126,8 @@ pub fn save(alloc: Global, holder: &mut Holder, room: &mut [u8]) -> usize
     size
 }
 
-/// Writes what the device keeps without power, but for its clock, to the front of a room that has as
-/// many bytes. Gives how many bytes that has, also where there is no room for it and nothing is
-/// written; 0 where there is no device.
+/// Writes what the device keeps without power, but for its clock, to the front of a room, if that
+/// fits. Gives how many bytes it has, written or not; 0 where there is no device.
 pub fn kept(alloc: Global, holder: &mut Holder, room: &mut [u8]) -> usize
     ensures told { MatchOption holder.old.device ((result ≡ 0) × (room.new ≡ room.old))
         (λ device. PutsFront (kept_text (record_of device)) room.old result room.new) }
@@ -143,9 +141,8 @@ pub fn kept(alloc: Global, holder: &mut Holder, room: &mut [u8]) -> usize
     size
 }
 
-/// Opens a device from its image, as after a power cycle, in place of the holder's own. Else the
-/// number is that of the first fault, or NO_MEMORY in place of a device, and the holder is as it
-/// was.
+/// Opens a device from its image, as after a power cycle, in place of the holder's own. Otherwise
+/// the number is that of the first fault, or NO_MEMORY, and the holder is as it was.
 pub fn open(alloc: Global, holder: &mut Holder, image: &[u8]) -> u8
     ensures opens { (opened : Result Device Fault) × Opens record_of true image.now opened
         × Tells opened holder.old.device holder.new.device result }
@@ -163,7 +160,7 @@ pub fn open(alloc: Global, holder: &mut Holder, image: &[u8]) -> u8
     }
 }
 
-/// Frees the device, if there is one. The holder has none then.
+/// Frees the device, if there is one, and leaves the holder with none.
 pub fn free(alloc: Global, holder: &mut Holder)
     ensures { holder.new.device ≡ None }
 {

@@ -32,8 +32,8 @@ use tpm_record::SlotKeep;
 use tpm_step::{Event, Outcome};
 use tpm_types::Locality;
 
-/// A device, the outcome of its latest event, which the next one's is written over, and what its
-/// journal has beside the device.
+/// A device, the outcome of its latest event, over which the next outcome is written, and the state
+/// of its journal.
 #[derive(Drop)]
 pub struct Device {
     machine: Machine<SlotKeep>,
@@ -41,7 +41,7 @@ pub struct Device {
     journal: Journal,
 }
 
-/// What a command is told beside its response.
+/// What the caller of a command is told beside its response.
 #[repr(C)]
 #[derive(Clone, Copy, Debug, PartialEq, Eq)]
 pub struct Answered {
@@ -51,12 +51,12 @@ pub struct Answered {
     pub drawn: usize,
     /// The command's code, 0 where none was found.
     pub code: u32,
-    /// The number of the check that refused it, 0 where none did.
+    /// The number of the check that refused the command, 0 where none did.
     pub check: u8,
 }
 
 impl Device {
-    /// A new device, whose secrets are these random bytes; none where memory is refused.
+    /// A new device, whose secrets are these random bytes; None where memory is refused.
     pub fn manufacture(alloc: Global, random: &[u8; 256]) -> Option<Box<Device>>
         ensures state { IfSome result (λ b. record_of b.value ≡ manufactured random.now) }
         ensures history { IfSome result (λ b. Follows (record_of b.value) []) }
@@ -75,7 +75,8 @@ impl Device {
         }
     }
 
-    /// The device of an image, or the first fault.
+    /// The device of an image, or the first fault; NoMemory where the text is an image and memory
+    /// is refused.
     pub fn open(alloc: Global, image: &[u8]) -> Result<Box<Device>, ImageFault>
         ensures exact { Opens (λ b. record_of b.value) true image.now result }
         ensures history { (version : Version) (r : Record) (history : History) → IsRecord r
@@ -89,7 +90,7 @@ impl Device {
         Ok(device)
     }
 
-    /// Executes a command, and writes its response to the front of this room; the rest of it stays.
+    /// Executes a command, and writes its response to the front of this room, whose rest stays.
     pub fn execute(&mut self, event: &Event, response: &mut [u8; 4096]) -> Answered
         ensures executes { Executes false (record_of self.old) (plain_event event.now)
             (command_seen response.new result self.new) }
@@ -112,7 +113,8 @@ impl Device {
             .execute_into(&Event::PowerCycle, &mut self.outcome);
     }
 
-    /// Writes the image to the front of a room that has as many bytes. Gives how many bytes it has.
+    /// Writes the image to the front of a room, if that is large enough. Gives how many bytes it
+    /// has.
     pub fn save_into(&self, room: &mut [u8]) -> usize
         ensures { PutsFront (image_text Two (kept_of (record_of self.now))) room.old result
             room.new }
@@ -120,17 +122,16 @@ impl Device {
         save_into(&self.machine, room)
     }
 
-    /// Writes what the device keeps without power, but for its clock, to the front of a room that has
-    /// as many bytes. Gives how many bytes that has.
+    /// Writes what the device keeps without power, but for its clock, to the front of a room, if that
+    /// fits. Gives how many bytes it has.
     pub fn kept_into(&self, room: &mut [u8]) -> usize
         ensures { PutsFront (kept_text (record_of self.now)) room.old result room.new }
     {
         kept_into(&self.machine, room)
     }
 
-    /// Cycles the device's power, and writes the head of its new journal to the front of a room that
-    /// has as many bytes. Gives how many bytes the head has, also where there is no room for it and
-    /// nothing is done.
+    /// Cycles the device's power, and writes the head of its new journal to the front of a room.
+    /// Gives how many bytes the head has; where the room is smaller, nothing is done.
     pub fn begin_journal(&mut self, now_ms: u64, room: &mut [u8]) -> usize
         ensures head { PutsFront (head_text now_ms (image_at_power self.old)) room.old result
             room.new }
@@ -140,8 +141,8 @@ impl Device {
             .begin(&mut self.machine, now_ms, &mut self.outcome, room)
     }
 
-    /// The device of a journal, and how many bytes of that are its head and its entries; or the first
-    /// fault. None where memory is refused.
+    /// The device of a journal, and how many bytes of the text are its head and entries; or the
+    /// first fault; None where memory is refused.
     pub fn open_journal(
         alloc: Global,
         text: &[u8],
@@ -159,8 +160,8 @@ impl Device {
         }
     }
 
-    /// Opens the device of a journal where a new device of zeros lies. After a fault nothing is said
-    /// of the device.
+    /// Opens the device of a journal in place of a new device of zeros. After a fault nothing is
+    /// said of the device.
     fn open_in_place(&mut self, text: &[u8]) -> Result<usize, OpenFault>
         requires { record_of self.old ≡ manufactured (replicate 256 0) }
         ensures opens { IfOk result (λ taken. IsOfJournal text.now taken self.new) }
@@ -171,7 +172,7 @@ impl Device {
         Ok(opened.taken)
     }
 
-    /// Executes the entries of a text that was added behind the device's journal.
+    /// Executes the entries of a text that follows the device's journal.
     pub fn follow(&mut self, text: &[u8]) -> Followed
         ensures { Replays false self.old.journal (record_of self.old) text.now result
             self.new.journal (record_of self.new) }
@@ -181,8 +182,8 @@ impl Device {
     }
 
     /// Executes a command by the host's clock, with the completing layer or without it, writes its
-    /// response to the front of a room, whose rest stays, and its entry to the front of another. Gives
-    /// how many bytes the entry has.
+    /// response to the front of a room, whose rest stays, and its entry to the front of another.
+    /// Gives how many bytes the entry has.
     pub fn execute_recorded(
         &mut self,
         buffer: &[u8],
@@ -214,7 +215,7 @@ impl Device {
     }
 }
 
-/// Writes a response to the front of a room, and tells of its row and of what was drawn.
+/// Writes a response to the front of a room, and gives what its caller is told beside it.
 fn tell(outcome: &Outcome, drawn: usize, response: &mut [u8; 4096]) -> Answered
     ensures front { take result.size response.new ≡ outcome.now.response.items }
     ensures rest { drop result.size response.new ≡ drop result.size response.old }

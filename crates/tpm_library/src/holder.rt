@@ -1,4 +1,4 @@
-//! What C holds of a device: one pointer.
+//! The one pointer by which C holds a device.
 
 ghost use Rattle.std.specs.Prelude.{◌≡◌};
 ghost use Rattle.std.specs.Option.{MatchOption};
@@ -13,8 +13,8 @@ use std::alloc::Global;
 use std::marker::Model;
 use std::mem;
 
-/// What C holds of a device: a pointer to the box of it, which the holder owns; or null, and no
-/// device. C sees one pointer, since an allocator has no bytes.
+/// The pointer by which C holds a device: it leads to the device's box, which the holder owns, or
+/// is null where there is no device. C sees one pointer, since an allocator has no bytes.
 #[repr(C)]
 #[derive(Drop)]
 pub struct Holder {
@@ -49,7 +49,7 @@ impl Holder {
         }
     }
 
-    /// The device, if there is one.
+    /// The device of the holder, if there is one.
     pub fn into_box(self) -> Option<Box<Device>>
         ensures { MatchOption result (self.device ≡ None) (λ b. self.device ≡ Some b.value) }
     {
@@ -60,7 +60,7 @@ impl Holder {
         Some(unsafe { Box::from_raw(alloc, at as *mut Device) })
     }
 
-    /// Takes the device out, if there is one. There is none left.
+    /// Takes the device out, if there is one, and leaves the holder with none.
     pub fn take(&mut self, alloc: Global) -> Option<Box<Device>>
         ensures taken { MatchOption result (self.old.device ≡ None)
             (λ b. self.old.device ≡ Some b.value) }
@@ -69,7 +69,7 @@ impl Holder {
         mem::replace(self, Holder::empty(alloc)).into_box()
     }
 
-    /// Puts a device in. What was there is freed.
+    /// Puts a device in, and frees the one that was there.
     pub fn put(&mut self, device: Box<Device>)
         ensures { self.new.device ≡ Some device.value }
     {

@@ -22,9 +22,9 @@ use crate::told::{DONE, NO_DEVICE, NO_LOCALITY, NO_MEMORY, follow_number, open_n
 use std::alloc::Global;
 use tpm_types::Locality;
 
-/// Cycles the power of the device, and writes the head of its new journal to the front of a room
-/// that has as many bytes. Gives how many bytes the head has, also where there is no room for it and
-/// nothing is done; 0 where there is no device.
+/// Cycles the power of the device, and writes the head of its new journal to the front of a room.
+/// Gives how many bytes the head has, or 0 where there is no device. Nothing is done where the room
+/// is smaller.
 pub fn begin(alloc: Global, holder: &mut Holder, now_ms: u64, room: &mut [u8]) -> usize
     ensures head { MatchOption holder.old.device ((result ≡ 0) × (room.new ≡ room.old))
         (λ before. PutsFront (head_text now_ms (image_at_power before)) room.old result room.new) }
@@ -41,8 +41,8 @@ pub fn begin(alloc: Global, holder: &mut Holder, now_ms: u64, room: &mut [u8]) -
 }
 
 /// Opens the device of a journal, in place of the holder's own, and says how many bytes of the text
-/// are the head and entries. Else the number is that of the first fault, or NO_MEMORY in place of a
-/// device, and the holder is as it was.
+/// are the head and entries. Otherwise the number is that of the first fault, or NO_MEMORY, and the
+/// holder is as it was.
 pub fn open(alloc: Global, holder: &mut Holder, text: &[u8], taken: &mut usize) -> u8
     ensures opens { result ≡ done → (device : Device) × (holder.new.device ≡ Some device)
         × IsOfJournal text.now taken.new device }
@@ -61,8 +61,8 @@ pub fn open(alloc: Global, holder: &mut Holder, text: &[u8], taken: &mut usize) 
     }
 }
 
-/// Executes the entries of a text that was added behind what the device executed, and says how many
-/// bytes of the text they are. NO_DEVICE: there is none, and nothing is done.
+/// Executes the entries of a text that follows what the device executed, and says how many bytes of
+/// the text they are. NO_DEVICE: the holder has no device, and nothing is done.
 pub fn follow(alloc: Global, holder: &mut Holder, text: &[u8], taken: &mut usize) -> u8
     ensures follows { MatchOption holder.old.device
         ((result ≡ no_device) × (holder.new.device ≡ None) × (taken.new ≡ taken.old))
@@ -81,9 +81,9 @@ pub fn follow(alloc: Global, holder: &mut Holder, text: &[u8], taken: &mut usize
 }
 
 /// Executes a command by the host's clock, writes its response to the front of the room for it, and
-/// its entry to the front of another. Where `completes` is not 0, the completing layer completes what
-/// the device does. NO_LOCALITY: a locality is 0 to 4. NO_DEVICE: there is none. In both cases nothing
-/// is written.
+/// its entry to the front of another. Where `completes` is not 0, the completing layer completes
+/// what the device does. NO_LOCALITY: the locality is not 0 to 4. NO_DEVICE: the holder has no
+/// device. In both cases nothing is written.
 pub fn execute(
     alloc: Global,
     holder: &mut Holder,

@@ -12,13 +12,13 @@ pub const DONE: u8 = 0;
 /// The holder has no device.
 pub const NO_DEVICE: u8 = 1;
 
-/// There is no such locality.
+/// The locality is not 0 to 4.
 pub const NO_LOCALITY: u8 = 2;
 
 /// Memory was refused.
 pub const NO_MEMORY: u8 = 3;
 
-/// The number of why a device is not opened.
+/// The number of the fault for which an image is not opened.
 pub fn fault_number(fault: ImageFault) -> u8
     ensures { result ≡ fault_number fault }
 {
@@ -44,7 +44,7 @@ pub fn follow_number(fault: Option<FollowFault>) -> u8
     }
 }
 
-/// The number of why a text is not opened as a journal.
+/// The number of the fault for which a text is not opened as a journal.
 pub fn open_number(fault: OpenFault) -> u8
     ensures { result ≡ open_number fault }
 {

@@ -10,7 +10,7 @@ pub record LockoutState : Type 0 where
   pub forgiving_time : ℕ
   pub closed_time : ℕ
 
--- the milliseconds of so many seconds
+-- the milliseconds of this many seconds
 abbrev pub milliseconds : ℕ → ℕ
 milliseconds seconds = 1000 * seconds
 

@@ -1,6 +1,6 @@
 -- Failed tries at protected entities: how they are counted, what they lock, and how they are
 -- forgiven. TPM 2.0 Library, Part 1, section 19.8 (failedTries, maxTries, recoveryTime). That a
--- recoveryTime of 0 counts and locks nothing, and that a maxTries of 0 else locks all, is this
+-- recoveryTime of 0 counts and locks nothing, and that a maxTries of 0 otherwise locks all, is this
 -- device's own.
 use Rattle.std.specs.Prelude.{ℕ, ◌+◌, ◌-◌, ◌/◌, ◌%◌, ◌==◌, ◌&&◌, ◌||◌, not, nat_le, Bool, if◌then◌else◌}
 use Rattle.tpm_lockout.specs.Lockout.{LockoutState, milliseconds}
@@ -17,8 +17,8 @@ is_locked f = counts_tries f && nat_le f.max_tries f.failed_tries
 abbrev pub with_tries : ℕ → LockoutState → LockoutState
 with_tries tries s = record s { fields = record s.fields { failed_tries = tries } }
 
--- lockout after a failed try, which counts; the time after which one is forgiven begins anew, but
--- not while all is locked out
+-- lockout after a failed try that counts: the time after which one is forgiven begins anew, unless
+-- all is locked out
 unfoldable pub after_failure : LockoutState → LockoutState
 after_failure s =
     if counts_tries s.fields && not (is_locked s.fields)
@@ -30,8 +30,8 @@ after_failure s =
 abbrev pub tries_left : LockoutFields → (time : ℕ) → ℕ
 tries_left f time = f.failed_tries - time / milliseconds f.recovery_time
 
--- lockout at a time since a try was counted or forgiven: the rest of that time, after the tries
--- that it forgave, goes on while there are tries
+-- lockout this long after a try was counted or forgiven: each whole recoveryTime forgave a try, and
+-- the rest counts towards the next, while one is left
 abbrev pub forgiven_at : (time : ℕ) → LockoutState → LockoutState
 forgiven_at time s =
     let left = tries_left s.fields time in

@@ -36,7 +36,7 @@ impl Model for Lockout {
     } };
 }
 
-/// The milliseconds of so many seconds.
+/// The milliseconds of this many seconds.
 fn milliseconds(seconds: u32) -> u64
     ensures { result ≡ milliseconds seconds }
 {

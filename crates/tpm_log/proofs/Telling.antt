@@ -9,7 +9,7 @@ use Rattle.tpm_journal_text.specs.Journal.{entries_text, sum_after_all}
 use Rattle.tpm_log.specs.Executed.{entry_in}
 use Rattle.tpm_log.specs.Log.{Adds, AddsAll, AddsSome, Written}
 
--- the text behind a log whose first entry was written, and then those of others
+-- the text of a log to which one entry was appended, and then those of others
 behind_first : (old mid new : Written) (one : Execution) (found : Option PlainEntry) (executions : List Execution)
     → entry_in one ≡ found → AddsSome old found mid → AddsAll mid executions new → AddsAll old (one ∷ executions) new
 behind_first old mid new one None executions is adds all = absurd adds

@@ -6,8 +6,8 @@ use Rattle.tpm_machine.specs.Drawn.{drawn_by}
 use Rattle.tpm_journal_text.specs.Entry.{PlainEntry}
 use Rattle.tpm_journal_text.specs.Sum.{sum_of}
 
--- the entry of an event that drew so many of its random bytes and was answered so, with no layer
--- above the device; a power cycle has none
+-- the entry of an event with this response, which drew `drawn` random bytes, with no layer above
+-- the device; a power cycle has none
 abbrev pub entry_by : PlainEvent → (drawn : ℕ) → (response : List ℕ) → Option PlainEntry
 entry_by (Given buffer locality elapsed random) drawn response = Some (record {
   elapsed = elapsed;

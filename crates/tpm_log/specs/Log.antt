@@ -10,28 +10,28 @@ use Rattle.tpm_journal_text.specs.Journal.{entries_text, sum_after_all}
 use Rattle.tpm_log.specs.Executed.{entry_in}
 use Rattle.tpm_log.specs.declared.log.Log.{Log}
 
--- what a log has come to: its text, where that is known, and the sum of it
+-- the state of a log: its text, where that is known, and the sum of its marks
 pub record Written : Type 0 where
   pub text : Option (List ℕ)
   pub sum : ℕ
 
--- what a log has come to, by a function that gives the text of its writer
+-- the state of a log, by a function that gives the text of its writer
 abbrev pub written_of : {W : Type 0} → (W → Option (List ℕ)) → Log W → Written
 written_of contents log = record { text = contents (device_of log.writer); sum = log.sum }
 
--- The head of this clock and this image was written behind what there was.
+-- The head of this clock and this image was appended to the text.
 pub record Begins (clock : ℕ) (image : List ℕ) (before : Option (List ℕ)) (now : Written) : Type 0
   where
     pub text : Appends before now.text (head_text clock image)
     pub sum : now.sum ≡ head_sum clock image
 
--- An entry was written behind a log.
+-- An entry was appended to a log.
 pub record AddsEntry (old : Written) (e : PlainEntry) (new : Written) : Type 0 where
   pub is : IsEntry e
   pub text : Appends old.text new.text (entry_text old.sum e)
   pub sum : new.sum ≡ sum_after old.sum e
 
--- An execution has an entry, which was written behind a log.
+-- An execution has an entry, which was appended to a log.
 abbrev pub AddsSome : Written → Option PlainEntry → Written → Type 0
 AddsSome old None new = ⊥
 AddsSome old (Some e) new = AddsEntry old e new
@@ -39,7 +39,7 @@ AddsSome old (Some e) new = AddsEntry old e new
 abbrev pub Adds : Written → Execution → Written → Type 0
 Adds old one new = AddsSome old (entry_in one) new
 
--- The text of exactly these executions was written behind a log, in order.
+-- The text of exactly these executions was appended to a log, in order.
 pub record AddsAll (old : Written) (executions : List Execution) (new : Written) : Type 0 where
   pub entries : List PlainEntry
   pub are : map entry_in executions ≡ map Some entries
@@ -52,9 +52,9 @@ abbrev pub LogsTellAll : Type 0
 LogsTellAll = (old : Written) (executions : List Execution) (new : Written)
     → FoldsTo Adds old executions new → AddsAll old executions new
 
--- ---- a log that may be kept
+-- ---- a log, if there is one
 
--- An execution was written behind a log, where one is kept.
+-- An execution was appended to a log, if there is one.
 abbrev pub AddsWhereKept : {W : Type 0} → (W → Option (List ℕ)) → Option (Log W) → Execution
     → Option (Log W) → Type 0
 AddsWhereKept contents None one new = new ≡ None
@@ -62,7 +62,7 @@ AddsWhereKept contents (Some old) one (Some new) =
     Adds (written_of contents old) one (written_of contents new)
 AddsWhereKept contents (Some old) one None = ⊥
 
--- whether a write to a log failed, where one is kept
+-- whether a write to a log failed, if there is one
 abbrev pub log_failed : {W : Type 0} → Option (Log W) → Bool
 log_failed None = false
 log_failed (Some log) = log.failed

@@ -10,8 +10,8 @@ use tpm_journal_text::{ENTRY_LIMIT, Entry, sum_of};
 use tpm_step::Event;
 use tpm_types::Locality;
 
-/// The entry of an event that drew so many of its random bytes and was answered so. There is none
-/// of a power cycle, nor of a buffer that has more bytes than an entry's.
+/// The entry of an event with this outcome, which drew `drawn` random bytes. A power cycle has
+/// none, nor has a buffer of more bytes than an entry can have.
 pub(crate) fn entry_of<'a>(event: &'a Event, drawn: usize, response: &[u8]) -> Option<Entry<'a>>
     ensures is { IfSome result (λ entry. IsEntry (plain_entry entry)) }
     ensures value { IfSome result (λ entry.

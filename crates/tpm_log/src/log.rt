@@ -18,24 +18,25 @@ use tpm_record::Keep;
 use tpm_saver::{Unsaved, Witness};
 use tpm_step::{Event, Outcome};
 
-/// Enough for a head.
+/// Room for a head.
 const HEAD_ROOM: usize = 57_472;
 
 /// A log, to which nothing is added once a write has failed.
 #[derive(Drop)]
 pub struct Log<W> {
     pub(crate) writer: Tap<W>,
-    /// The sum of the text so far.
+    /// The sum of the marks so far.
     pub(crate) sum: u64,
     pub(crate) failed: bool,
-    /// The text of an entry is written here, and then to the writer at once.
+    /// The room to which the text of an entry is written, before it goes to the writer at once.
     pub(crate) room: [u8; ENTRY_ROOM],
 }
 
 impl<W: Write + Drop> Log<W> {
     ghost use Rattle.tpm_log.specs.Log.{Begins, written_of};
 
-    /// Begins the log of a device as power came on, at this time of the host's clock in milliseconds.
+    /// Begins the log of a device as power comes on, at this time of the host's clock in
+    /// milliseconds.
     pub fn begin<K: Keep>(writer: W, machine: &Machine<K>, now_ms: u64) -> Result<Log<W>, Unsaved>
         ensures { IfOk result (λ log. Begins now_ms
             (image_text Two (kept_of (state_of K.record_of machine.now)))

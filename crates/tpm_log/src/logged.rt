@@ -1,4 +1,4 @@
-//! A witness that keeps a log, if there is one, and tells another witness behind it.
+//! A witness that keeps a log, if there is one, and then tells another witness.
 
 ghost use Rattle.std.specs.Prelude.{◌≡◌, OnErr, OnOk, true};
 ghost use Rattle.tpm_history.specs.Executions.{Execution};
@@ -14,7 +14,7 @@ use tpm_record::Keep;
 use tpm_saver::{Unsaved, Witness};
 use tpm_step::{Event, Outcome};
 
-/// A log, if there is one, and another witness, which is told each command that is in the log.
+/// A log, if there is one, and another witness, which is told each command once it is in the log.
 #[derive(Drop)]
 pub struct Logged<W, S> {
     pub log: Option<Log<W>>,

@@ -41,8 +41,8 @@ impl Mac {
         mac
     }
 
-    /// A `Mac` of two hashes that have taken nothing. Where time counts a `Mac` is keyed in its
-    /// place, since each return of one copies it.
+    /// A `Mac` of two hashes that have taken no text. A `Mac` is keyed in its place, since each
+    /// return of one copies it.
     #[inline(always)]
     #[tactic(auto, unfolding(crate::specs::Mac::IsUnkeyed))]
     pub(crate) fn unkeyed(alg: HashAlg) -> Mac

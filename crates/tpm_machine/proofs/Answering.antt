@@ -24,7 +24,7 @@ unfolding success_text
 success_some [] handle answer area some = absurd (let none : ⊥ = omega arith in none)
 success_some (entry ∷ entries) handle answer area some = refl
 
--- an answer of its three passes, and then its text
+-- the answer whose three passes are rolling, encrypting and answering entries, followed by its text
 answered_by : (c : Whole) (grants : List (Option Grant)) (a : Written) (effect : Record) (random : List ℕ) (mid after : Record) (left parameters area text : List ℕ) → 1 ≤ length c.entries
     → entries_rolled effect c.entries (drop a.drawn random) ≡ record { after = mid; left = left }
     → parameters ≡ encrypted_answer mid (granted_entries c grants) a.parameters
@@ -37,7 +37,7 @@ answered_by c grants a effect random mid after left parameters area text some ro
     let texts : text ≡ success_text c.entries a.handle parameters area = spelled ∙ sym (success_some c.entries a.handle parameters area some) in
     rw (rolled, ← encrypted, ← answered) (λ i. record { response = texts i; after = ended i })
 
--- an answer of three passes, by the variables of the code
+-- the same answer, by the variables of the code
 pub answered_with : (c : Whole) (grants : List (Option Grant)) (a : Written) (effect : Record) (random : List ℕ) (mid after : Record) (entries : List Entry) (granted : List Granted) (draws left parameters sent area text : List ℕ) → 1 ≤ length c.entries
     → entries ≡ c.entries → granted ≡ granted_entries c grants → draws ≡ drop a.drawn random → sent ≡ parameters
     → entries_rolled effect entries draws ≡ record { after = mid; left = left }
@@ -54,7 +54,7 @@ answered_with c grants a effect random mid after entries granted draws left para
     spelled
     (rw (← paired) ended)
 
--- what is left behind the row's bytes and the nonces
+-- how many bytes are left after those of the row and the nonces
 left_behind : (r mid : Record) (entries sent : List Entry) (draws left random : List ℕ) (drawn : ℕ)
     → entries ≡ sent → draws ≡ drop drawn random → entries_rolled r entries draws ≡ record { after = mid; left = left } → length left ≡ length (entries_rolled r sent (drop drawn random)).left
 left_behind r mid entries sent draws left random drawn same behind rolled =
@@ -67,7 +67,7 @@ drawn_few r mid entries sent draws left random drawn same behind rolled few row 
     let is = left_behind r mid entries sent draws left random drawn same behind rolled in
     omega (arith, is, ap length behind, length-drop drawn random)
 
--- and how many bytes that is in all
+-- how many bytes the row and the nonces draw in all
 pub drawn_in_all : (r mid : Record) (entries sent : List Entry) (draws left random : List ℕ) (drawn : ℕ)
     → entries ≡ sent → draws ≡ drop drawn random → entries_rolled r entries draws ≡ record { after = mid; left = left } → length random - length left ≡ bytes_drawn random r sent drawn
 drawn_in_all r mid entries sent draws left random drawn same behind rolled =

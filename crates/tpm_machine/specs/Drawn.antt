@@ -7,20 +7,21 @@ use Rattle.tpm_step.specs.Entries.{entries_rolled}
 use Rattle.tpm_step.specs.Events.{PlainEvent, Given, Cycled}
 use Rattle.tpm_step.specs.Step.{Accepted, accepted}
 
--- those that are no longer left behind a row that drew so many, and the nonces of these entries
+-- how many of the random bytes are drawn by a row, which draws `drawn` of them, and by the new
+-- nonces of these entries
 abbrev pub bytes_drawn : List ℕ → Record → List Entry → (drawn : ℕ) → ℕ
 bytes_drawn random r entries drawn =
     length random - length (entries_rolled r entries (drop drawn random)).left
 
--- those of a command whose row reported this check: neither a refusal draws any, nor MEMORY in
--- place of a success
+-- how many random bytes a command draws whose row reported this check: a refusal draws none, nor
+-- does MEMORY in place of a success
 abbrev pub drawn_by_command : {E : Type 0} → List ℕ → Result Accepted E → (check : ℕ) → ℕ
 drawn_by_command random (Ok a) zero =
     bytes_drawn random a.success.after a.command.entries a.success.answer.drawn
 drawn_by_command random (Ok a) (suc check) = 0
 drawn_by_command random (Err e) check = 0
 
--- those of an event that happened to this record
+-- how many random bytes an event draws on this record
 abbrev pub drawn_by : Record → PlainEvent → (check : ℕ) → ℕ
 drawn_by r (Given buffer locality elapsed random) check =
     drawn_by_command random (accepted (ticked r elapsed) buffer locality random) check

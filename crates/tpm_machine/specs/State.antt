@@ -1,4 +1,4 @@
--- The record of a machine, and what it tells beside.
+-- The record of a machine, and what the machine tells besides.
 use Rattle.std.specs.Prelude.{ℕ}
 use Rattle.tpm_record.specs.Record.{Record}
 use Rattle.tpm_machine.specs.declared.machine.Machine.{Machine}
@@ -7,10 +7,10 @@ use Rattle.tpm_machine.specs.declared.machine.Machine.{Machine}
 abbrev pub state_of : {K S O P N : Type 0} → (K → Record) → Machine K S O P N → Record
 state_of record_of machine = record_of machine.keep
 
--- with another keep
+-- a machine with another state
 abbrev pub with_keep : {K S O P N : Type 0} → Machine K S O P N → K → Machine K S O P N
 with_keep machine keep = record machine { keep = keep }
 
--- how many random bytes its latest event drew
+-- how many random bytes a machine's latest event drew
 abbrev pub latest_drawn : {K S O P N : Type 0} → Machine K S O P N → ℕ
 latest_drawn machine = machine.drawn

@@ -40,12 +40,12 @@ use tpm_types_command::{Command, CommandCode};
 #[derive(Drop)]
 pub struct Machine<K: Keep> {
     keep: K,
-    /// The answer of a command is written here. It is cleared for each command, and is no part of
-    /// the state.
+    /// The room for a command's answer, which is cleared for each command, and is no part of the
+    /// state.
     answer: Answer,
     /// The key of the latest HMAC, which is no part of the state.
     keyed: KeyedMac,
-    /// How many random bytes the latest event drew, which is none of it either.
+    /// How many random bytes the latest event drew, which is no part of the state.
     drawn: usize,
 }
 
@@ -93,7 +93,7 @@ impl<K: Keep> Machine<K> {
         &self.keep
     }
 
-    /// What keeps the device's state, to be filled where it lies.
+    /// The device's state, to be filled in its place.
     pub fn keep_mut(&mut self) -> &mut K
         ensures* writes_back { sem 𝓛 (Lends (machine_row K.row K.SessionSlots.row
             K.ObjectSlots.row K.PersistentMap.row K.NvIndices.row) K.row self.entry result
@@ -151,7 +151,7 @@ impl<K: Keep> Machine<K> {
         ensures executes { Executes K.can_refuse (state_of K.record_of self.old)
             (plain_event event.now) (outcome_step (state_of K.record_of self.new) outcome.new) }
 
-        // So many of the event's random bytes were drawn.
+        // The number of the event's random bytes that were drawn is told.
         ensures drawn { latest_drawn self.new ≡ drawn_by (state_of K.record_of self.old)
             (plain_event event.now) outcome.new.row.check }
 
@@ -359,8 +359,8 @@ ghost use Rattle.tpm_step.specs.Step.{counted_in, settled};
 ghost use Rattle.tpm_step.specs.Answer.{refusal_text};
 ghost use Rattle.tpm_types.specs.Locality.{locality_number};
 
-/// Tells what the types of an event's parts say, and so what holds of every command's event. The
-/// function does nothing.
+/// Promises what the types of an event's parts say of them, and so what holds of every command's
+/// event. The function does nothing.
 #[inline(always)]
 fn read_command(locality: Locality, elapsed_ms: u32, random: &[u8; 256])
     ensures locality { locality_number locality ≤ 4 }

@@ -10,7 +10,7 @@ use Rattle.tpm_nv.specs.Definition.{has_type_size}
 use Rattle.tpm_nv.specs.Index.{NvContents, NvIndex, data_bytes}
 
 -- An index has its handle as the key: its public area has a text and the size of its type, and the
--- index has as many bytes of data as that says where it is written, and else none.
+-- index has as many bytes of data as that says where it is written, and otherwise none.
 pub record IsIndex (key : ℕ) (index : NvIndex) : Type 0 where
   pub named : key ≡ index.public.nv_index.number
   pub public : IsNvPublic index.public

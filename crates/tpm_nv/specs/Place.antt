@@ -10,7 +10,7 @@ use Rattle.tpm_nv.specs.declared.pieces.Piece.{Piece}
 use Rattle.tpm_nv.specs.declared.place.Found.{Found}
 use Rattle.tpm_nv.specs.declared.place.DataPlace.{DataPlace}
 
--- the place of an index with this head whose bytes begin here, and its bytes there
+-- the place of an index with this head, whose bytes begin at this place and are these
 abbrev pub place_of : Head → ℕ → DataPlace
 place_of head start =
     record { attributes = head.public.attributes; start = start; size = size_of head }

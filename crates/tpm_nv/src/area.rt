@@ -18,7 +18,7 @@ pub trait Area: Drop + Sized {
     /// Whether memory can be refused.
     ghost can_refuse: { Bool };
 
-    /// An area of no byte; no memory is taken.
+    /// An empty area; no memory is taken.
     fn new(alloc: Global) -> Self
         ensures { bytes result ≡ [] };
 

@@ -23,7 +23,8 @@ pub enum DefinitionFault {
     DataSize,
 }
 
-/// Whether the attributes have a state, or something that is not served.
+/// Whether an attribute is set that no index may have as it is defined: one of its state, or one
+/// that is not served.
 fn is_undefinable(attributes: NvAttributes) -> bool
     ensures { result ≡ has_one attributes undefinable_attributes }
 {

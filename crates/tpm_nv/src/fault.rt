@@ -1,6 +1,6 @@
 //! Why a call on an NV index, its definition, or putting it back from what was kept, is refused.
 
-/// The handle has no index: no other fault can refuse another authorization value.
+/// The handle has no index. A change of the authorization value has no other fault.
 #[derive(Clone, Copy, Debug, PartialEq, Eq)]
 pub struct Undefined;
 
@@ -39,7 +39,7 @@ pub enum ReadFault {
 pub enum LockFault {
     /// The handle has no index.
     Undefined,
-    /// The index has no attribute that lets it be locked so.
+    /// The index has no attribute that allows this lock.
     Attributes,
 }
 

@@ -82,7 +82,7 @@ pub(crate) fn set_auth_value<H: SortedMap<Head, NV_INDEX_LIMIT>>(
     }
 }
 
-/// Says of an authorization value what its type says. The function does nothing.
+/// Promises what the type of an authorization value says of it. The function does nothing.
 pub(crate) fn auth_value_fits(value: &AuthValue)
     ensures { IsAuthValue value.now }
 {

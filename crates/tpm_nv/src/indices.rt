@@ -138,7 +138,7 @@ pub trait Indices: Drop + Sized {
     fn set_max_count(&mut self, count: u64)
         ensures { contents self.new ≡ record (contents self.old) { max_count = count } };
 
-    /// Says what holds of the indices, whatever came before. The call does nothing.
+    /// Promises what holds of the indices, whatever came before. The call does nothing.
     fn read_sizes(&self)
         ensures { IsContents (contents self.now) };
 }

@@ -45,8 +45,8 @@ writing_refusal write_fault.Partial = action_refusal action.Fourth (plain code.N
 writing_refusal write_fault.Exhausted = action_refusal action.Fourth (plain code.NvRange)
 writing_refusal write_fault.Undefined = handle_refusal
 
--- the refusal of a lock after A1. A2: the index has no attribute that lets it be locked so. A
--- missing index does not occur here
+-- the refusal of a lock after A1. A2: the index has no attribute that allows this lock. A missing
+-- index does not occur here
 abbrev pub lock_refusal : LockFault → Refused
 lock_refusal lock_fault.Attributes =
     action_refusal action.Second (at (place.Handle 2) (plain code.Attributes))

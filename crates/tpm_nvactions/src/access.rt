@@ -31,7 +31,7 @@ pub fn check_reader(target: &Target) -> Result<(), Refused>
     }
 }
 
-/// The refusal of a write.
+/// The refusal that answers a fault of writing an index.
 pub fn writing_refusal(fault: WriteFault) -> Refused
     ensures { result ≡ writing_refusal fault }
 {
@@ -50,7 +50,7 @@ pub fn writing_refusal(fault: WriteFault) -> Refused
     }
 }
 
-/// The refusal of a lock.
+/// The refusal that answers a fault of locking an index.
 pub fn lock_refusal(fault: LockFault) -> Refused
     ensures { result ≡ lock_refusal fault }
 {

@@ -65,7 +65,7 @@ unfoldable pub private_text : (parent : Object) → (name iv : List ℕ) → Sen
 private_text parent name iv area =
     authenticated_text parent name (protected_text parent name iv area)
 
--- This is what a parent protects of a sensitive area, by some IV.
+-- A parent protects this text of a sensitive area, by some IV.
 abbrev pub IsProtected : (parent : Object) → (name protected : List ℕ) → Sensitive → Type 0
 IsProtected parent name protected area =
     (iv : List ℕ) × (length iv ≡ 16) × (protected ≡ protected_text parent name iv area)

@@ -6,8 +6,8 @@
 //! The crate uses `tpm_types_object` for the areas of objects, `tpm_mac` and `tpm_aes` for digests,
 //! keys and encryption, `tpm_types_name` for Names, and `tpm_types`. Each call equals its
 //! definition in `specs/`. Unwrapping a private area gives back the sensitive area that was wrapped
-//! for a public area of its type, and those of each object that is made are of one type; it accepts
-//! nothing but what the parent wraps. No call here takes memory.
+//! for a public area of its type, and the two areas of each object that is made are of one type.
+//! Unwrapping accepts nothing but what the parent wraps. No call here takes memory.
 
 mod areas;
 mod creation;

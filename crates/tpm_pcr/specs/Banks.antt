@@ -15,7 +15,8 @@ use Rattle.tpm_pcr.specs.Values.{BankValues}
 unfoldable pub all_pcrs : List ℕ
 all_pcrs = numbers_below 24
 
--- the value with which a PCR starts: all ones from 17 to 22, until a dynamic launch, and else zeros
+-- the value with which a PCR starts: all ones from 17 to 22, until a dynamic launch, and otherwise
+-- zeros
 abbrev pub starting_value : HashAlg → ℕ → List ℕ
 starting_value bank pcr =
     replicate (digest_size bank) (if nat_le 17 pcr && nat_le pcr 22 then 0xff else 0)

@@ -20,7 +20,7 @@ use tpm_types::{DigestValue, DigestValues, Locality, PcrIndex};
 /// Why no PCR was changed.
 #[derive(Clone, Copy, Debug, PartialEq, Eq)]
 pub enum ChangeFault {
-    /// The PCR may not be changed so from this locality.
+    /// The PCR does not allow this change from this locality.
     Locality,
     /// The count of updates would pass 2^64 - 1.
     Failure,
@@ -29,13 +29,15 @@ pub enum ChangeFault {
 /// What a PCR is for, which decides from where it may be changed.
 #[derive(Clone, Copy, Debug, PartialEq, Eq)]
 pub enum PcrUse {
-    /// 0 to 15: the platform's start. Extended from anywhere, never reset.
+    /// PCRs 0 to 15 measure the platform's start. They are extended from any locality, and never
+    /// reset.
     Static,
-    /// 16: debugging. Extended and reset from anywhere.
+    /// PCR 16 is for debugging. It is extended and reset from any locality.
     Debug,
-    /// 17 to 22: a dynamic launch. Extended from localities 2 to 4, reset from 4.
+    /// PCRs 17 to 22 measure a dynamic launch. They are extended from localities 2 to 4, and reset
+    /// from 4.
     Dynamic,
-    /// 23: the applications'. Extended and reset from anywhere.
+    /// PCR 23 is the applications'. It is extended and reset from any locality.
     Application,
 }
 

@@ -11,7 +11,7 @@ ghost use Rattle.tpm_pcr.specs.Values.{BankValues};
 
 /// New banks have a value for each PCR, that with which it starts. Digests extend the value of
 /// their PCR in their bank, one after another, and zeros replace it in both banks; all other values
-/// stay. Each digest counts. The function does nothing.
+/// stay. Each digest counts as an update. The function does nothing.
 #[inline(always)]
 #[tactic(auto, using(crate::proofs::OneValue::new_all, crate::proofs::OneValue::new_values, crate::proofs::OneValue::extensions_at, crate::proofs::OneValue::extensions_count, crate::proofs::OneValue::zeros_at))]
 pub fn value_laws()

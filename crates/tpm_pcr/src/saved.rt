@@ -66,8 +66,8 @@ impl SavedPcrs {
         &self.sha256
     }
 
-    /// Says of the values what their types say: there are sixteen of their hash's size in each
-    /// bank. The call only reads.
+    /// Promises what the types of the values say of them: there are sixteen of their hash's size in
+    /// each bank. The call only reads.
     #[inline(always)]
     pub fn read_sizes(&self)
         ensures { IsSaved self.now }

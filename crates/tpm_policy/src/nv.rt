@@ -19,7 +19,7 @@ pub struct NvAssertion<'a> {
     pub operand: &'a [u8],
     pub offset: u16,
     pub operation: Operation,
-    /// As many bytes of the index as the operand has, from the offset on, or why they cannot be
+    /// The bytes of the index that are compared, as many as the operand has, or why they cannot be
     /// read.
     pub compared: Result<&'a [u8], ActionFault>,
 }

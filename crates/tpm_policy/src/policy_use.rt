@@ -36,7 +36,7 @@ pub struct Use<'a> {
     pub update_count: u64,
     /// The number of the command.
     pub command: u32,
-    /// In which role the entity is authorized.
+    /// The role in which the entity is authorized.
     pub role: Role,
     /// The cpHash of the command.
     pub cp_hash: &'a [u8],

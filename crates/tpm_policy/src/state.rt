@@ -153,7 +153,7 @@ impl PolicyState {
         }
     }
 
-    /// Says what the types of the state's fields say. The call only reads.
+    /// Promises what the types of the state's fields say of them. The call only reads.
     #[inline(always)]
     pub fn read_sizes(&self)
         ensures { IsPolicy self.now }

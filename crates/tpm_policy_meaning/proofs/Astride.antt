@@ -18,7 +18,7 @@ same_first x y xs ys is = (cc, cc)
 has_first : (x : ℕ) (xs : List ℕ) → x ∷ xs ≡ [] → ⊥
 has_first x xs is = absurd cc
 
--- One text in two ways: the first front goes on after the second, or the second after the first.
+-- Of one text that is cut in two ways, the first front is the second one and more.
 abbrev GoesOn : (front back short rest : List ℕ) → Type 0
 GoesOn front back short rest = (more : List ℕ) × (front ≡ short ++ more) × (more ++ back ≡ rest)
 

@@ -21,7 +21,7 @@ use Rattle.tpm_policy_meaning.specs.Expression.{PolicyExpression, Nothing, Then,
 use Rattle.tpm_policy_meaning.specs.Expression.{PolicyBranches, NoBranch, Branch}
 
 -- what an assertion puts into the digest: the code of its command, what it is about, and policyRef,
--- where it has one; and the text that is hashed apart, where it is about the hash of one
+-- where it has one; and where it is about the hash of a text, that text
 pub record PolicyUpdate : Type 0 where
   pub code : CommandCode
   pub about : List ℕ

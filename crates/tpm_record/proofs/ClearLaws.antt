@@ -21,7 +21,7 @@ rest_cleared : (b : Bool) (p : Option Object) (ps qs : List (Option Object)) →
 rest_cleared true p ps qs = refl
 rest_cleared false p ps qs = refl
 
--- where the next place is cleared, one more is
+-- where the next place is cleared, one more place is cleared
 pub cleared_in_turn : (places : List (Option Object)) (i : ℕ) → cond (is_place_cleared (at_place (cleared_up_to i places) i)) (slice_set (cleared_up_to i places) i None) (cleared_up_to i places) ≡ cleared_up_to (suc i) places
 cleared_in_turn [] zero = refl
 cleared_in_turn [] (suc i) = refl

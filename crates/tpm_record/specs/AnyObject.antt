@@ -35,7 +35,7 @@ without_object_of r handle =
 
 -- ---- the next handle of an object
 
--- the first value, if it is there, and else the other
+-- the first value, if it is there, and otherwise the other
 abbrev pub or_else : {X : Type 0} → Option X → Option X → Option X
 or_else (Some x) other = Some x
 or_else None other = other

@@ -26,7 +26,7 @@ state_kept kind.Nothing values = Nothing
 state_kept kind.Clear values = Clear
 state_kept kind.State values = State values
 
--- of which kind the saved state is
+-- the kind of the saved state
 abbrev pub kind_of : SavedState → SavedKind
 kind_of Nothing = kind.Nothing
 kind_of Clear = kind.Clear

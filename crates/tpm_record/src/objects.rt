@@ -16,7 +16,7 @@ use tpm_containers::{SlotFault, Slots, numbered};
 use tpm_object::{Object, TRANSIENT_BYTE};
 use tpm_types::{Handle, OBJECT_LIMIT};
 
-/// The transient objects of a device, at most [`OBJECT_LIMIT`], by their handles. `O` keeps their
+/// The transient objects of a device, at most [`OBJECT_LIMIT`], by their handles. `O` holds their
 /// places.
 #[derive(Drop)]
 pub struct Objects<O: Slots<Object, OBJECT_LIMIT>> {
@@ -60,8 +60,8 @@ impl<O: Slots<Object, OBJECT_LIMIT>> Objects<O> {
         Some(handle_of(self.places.free()?))
     }
 
-    /// Says of each object what the types of its fields say, and how many places there are. The
-    /// call only reads.
+    /// Promises what the types of each object's fields say of them, and how many places there are.
+    /// The call only reads.
     #[inline(always)]
     pub fn read_sizes(&self)
         ensures each { AreAll IsObject (objects_of O.places self.now) }

@@ -61,7 +61,7 @@ pub trait PersistentObjects: Drop + Sized {
     fn clear_hierarchies(&mut self)
         ensures { entries self.new ≡ cleared_persistent (entries self.old) };
 
-    /// Says what holds of the objects, whatever came before. The call does nothing.
+    /// Promises what holds of the objects, whatever came before. The call does nothing.
     fn read_sizes(&self)
         ensures { ArePersistent (entries self.now) };
 }

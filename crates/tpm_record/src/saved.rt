@@ -109,7 +109,7 @@ impl Saved {
         }
     }
 
-    /// Says of what is saved what its types say. The call only reads.
+    /// Promises what the types of the saved values say of them. The call only reads.
     #[inline(always)]
     pub fn read_sizes(&self)
         ensures { IsSavedState self.now }

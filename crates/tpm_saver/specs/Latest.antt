@@ -8,8 +8,8 @@ use Rattle.tpm_step.specs.declared.event.Outcome.{Outcome}
 use Rattle.tpm_history.specs.Executions.{Execution}
 use Rattle.tpm_machine.specs.Drawn.{drawn_by}
 
--- An execution is the latest of a machine, which stands at this record now: this event was executed,
--- with this outcome, and so many of its random bytes were drawn.
+-- An execution is the latest of a machine with this record: the event was executed with this
+-- outcome, and this many of its random bytes were drawn.
 pub record IsLatest (now : Record) (drawn : ℕ) (event : PlainEvent) (outcome : Outcome)
     (one : Execution) : Type 0
   where

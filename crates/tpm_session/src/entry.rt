@@ -75,7 +75,7 @@ pub fn entry_text<'a>(
 }
 
 impl<'a> EntryText<'a> {
-    /// Whether the text fits into room for so many bytes.
+    /// Whether the text fits into room for this many bytes.
     fn fits(&self, room: usize) -> bool
         ensures { IsTrue result ↔ (length self.now ≤ room) }
     {

@@ -8,7 +8,7 @@ ghost use Rattle.tpm_session.specs.ParameterHash.{command_hash_of, response_hash
 use tpm_mac::{Digest, HashAlg, digest_parts};
 use tpm_types_name::Name;
 
-/// The bytes of the Name in a place, and no byte after the last.
+/// The bytes of the Name in a place; none after the last.
 fn name_at(names: &[Name], place: usize) -> &[u8]
     ensures { result.now ≡ slice_index_or names.now place [] }
 {

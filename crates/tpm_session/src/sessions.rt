@@ -38,7 +38,7 @@ pub enum StartFault {
     Memory,
 }
 
-/// The sessions of a device, at most [`SESSION_LIMIT`], by their handles. `S` keeps their places.
+/// The sessions of a device, at most [`SESSION_LIMIT`], by their handles. `S` holds their places.
 #[derive(Drop)]
 pub struct Sessions<S: Slots<Session, SESSION_LIMIT>> {
     slots: S,
@@ -165,8 +165,8 @@ impl<S: Slots<Session, SESSION_LIMIT>> Sessions<S> {
             None => false,
         }
     }
-    /// Says of each session what the types of its fields say, and how many places there are. The
-    /// call only reads.
+    /// Promises what the types of each session's fields say of them, and how many places there are.
+    /// The call only reads.
     #[inline(always)]
     pub fn read_sizes(&self)
         ensures each { AreAll IsSession (places_of S.places self.now) }

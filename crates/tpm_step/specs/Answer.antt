@@ -18,7 +18,7 @@ use Rattle.tpm_types.specs.declared.check.Check.{Check}
 use Rattle.tpm_types.specs.declared.check.Check.TheVariants as check
 use Rattle.tpm_types.specs.declared.refused.Refused.{Refused}
 
--- a response's tag, its size, its code, and what stands after that header
+-- a response: its tag, its size, its code, and what follows this header
 abbrev pub framed : (tag code : ℕ) → List ℕ → List ℕ
 framed tag code body =
     to_be_bytes w16 tag ++ to_be_bytes w32 (10 + length body) ++ to_be_bytes w32 code ++ body

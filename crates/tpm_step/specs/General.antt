@@ -98,7 +98,7 @@ body_of r header text = do
     parameters = entries.1;
   })
 
--- the first general check that refuses a buffer, or the command that it spells
+-- the command that a buffer spells, or the first general check that refuses the buffer
 unfoldable pub general : Record → List ℕ → Result Whole RefusedCommand
 general r buffer = do
   header ← in_header (header_at buffer)

@@ -12,7 +12,7 @@ use Rattle.tpm_step.specs.Entries.{DrawsFew}
 use Rattle.tpm_step.specs.Events.{PlainEvent, Given, Cycled}
 use Rattle.tpm_step.specs.Step.{Accepted, Stepped, accepted, counted_in}
 
--- the record after a command's elapsed time, which else is as it was
+-- the record once a command's time has elapsed, otherwise as it was
 abbrev pub only_ticked : Record → PlainEvent → Record
 only_ticked r (Given buffer locality elapsed random) = ticked r elapsed
 only_ticked r Cycled = r

@@ -103,7 +103,7 @@ lockout_counted counted.Lockout s = closed_by_failure s
 abbrev pub counted_in : Counted → Record → Record
 counted_in counted r = with_lockout r (lockout_counted counted r.fixed.lockout)
 
--- the step of a refusal, which leaves the record, but for what it counts
+-- the step of a refusal, which leaves the record but for what the refusal counts
 abbrev pub refusal_step : Record → RefusedCommand → Stepped
 refusal_step r e = record {
   response = refusal_text e.refused;
@@ -145,7 +145,7 @@ success_without_memory r random a =
     if (shape_of a.command.code).grows then refusal_without_memory r a.command
     else success_step a random
 
--- the step of a command where memory is refused; a command that is refused anyway wants none
+-- the step of a command where memory is refused; a command that is refused anyway takes no memory
 abbrev pub answer_without_memory : Record → List ℕ → Result Accepted RefusedCommand → Stepped
 answer_without_memory r random (Ok a) = success_without_memory r random a
 answer_without_memory r random (Err e) = refusal_step r e

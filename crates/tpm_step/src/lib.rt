@@ -7,7 +7,7 @@
 //! a parameter.
 //!
 //! The crate uses the definitions of the rows in tpm_actions_base and the crates of the commands,
-//! and those of tpm_auth. tpm_machine computes the step, and is proved to; laws and theorems over
+//! and those of tpm_auth. tpm_machine is proved to compute the step; laws and theorems over
 //! histories use this crate alone, and so no code.
 
 pub mod direction;

@@ -64,7 +64,7 @@ fn times_begin_anew(rt: HostRuntime) {
 #[test]
 fn the_longest_elapsed_time_forgives_many(rt: HostRuntime) {
     let mut lockout = locked(5_000_000, 1);
-    // These are 4,294,967 seconds, and 295 milliseconds that carry on
+    // Time passes by 4,294,967 seconds, and 295 milliseconds carry over
     lockout.tick(u32::MAX);
     check(&rt, tries(&lockout), 705_033);
     lockout.tick(704);

@@ -66,7 +66,7 @@ sized_too_long (Ok bytes) old (Err fault) long h = absurd h
 sized_too_long (Err fault) old (Ok done) long h = absurd h
 sized_too_long (Err fault) old (Err found) long h = h
 
--- a write of this text, or its fault
+-- a write that succeeded gives its text, and the draft grown by it
 pub drafts_ok : {E : Type 0} (read : Result (List ℕ) E) (old new : Option (List ℕ)) (result : Result (Unit {0}) E) → result ≡ Ok tt → Drafts read old result new → (text : List ℕ) × (read ≡ Ok text) × (new ≡ grown old text)
 drafts_ok (Ok text) old new (Ok done) e h = (text, refl, h)
 drafts_ok (Ok text) old new (Err found) e h = absurd h

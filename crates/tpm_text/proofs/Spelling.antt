@@ -58,7 +58,7 @@ octet_below piece octet e =
 
 -- ---- entries
 
--- This holds of an entry that was read, but for its sizes.
+-- The numbers of an entry that was read fit their fields, its sizes apart.
 abbrev Spells : Entry → Type 0
 Spells entry = (entry.session.number < 2 ^ 32) × (entry.attributes.octet < 2 ^ 8)
 

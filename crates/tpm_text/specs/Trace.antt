@@ -34,7 +34,7 @@ unfoldable pub name_text : ℕ → List ℕ
 name_text number = unwrap_or (option_map code_name (code_named number)) (codes "?")
 
 -- the name of the check with this number: ok where none refused; G1 to G11 are those of every
--- command, A1 to A7 the command's own, and M is want of memory
+-- command, A1 to A7 the command's own, and M is refused memory
 unfoldable pub check_text : ℕ → List ℕ
 check_text number =
     if number == 0 then codes "ok"

@@ -33,7 +33,7 @@ pub fn check_hex(digits: &[u8]) -> Result<(), TokenFault>
     Ok(())
 }
 
-/// The hex digits of a token, which are none where it is `-`: Bad where it is empty.
+/// The hex digits of a token, where the token `-` has none: Bad where it is empty.
 #[tactic(auto, using(crate::proofs::HexDigits::none_is_good), unfolding(crate::specs::Number::bytes_in))]
 pub fn digits_of(token: &[u8]) -> Result<&[u8], TokenFault>
     ensures { MatchResult result

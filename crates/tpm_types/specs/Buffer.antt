@@ -9,7 +9,7 @@ use Rattle.tpm_types.specs.declared.rc.ResponseCode.TheVariants as code
 use Rattle.tpm_types.specs.Rc.{plain}
 
 -- the response code for a bad sized buffer: one over its limit is SIZE, whether it is whole or cut,
--- and else a cut one is INSUFFICIENT
+-- and otherwise a cut one is INSUFFICIENT
 abbrev pub sized_rc : SizedFault → Rc
 sized_rc fault.TooLong = plain code.Size
 sized_rc fault.Short = plain code.Insufficient

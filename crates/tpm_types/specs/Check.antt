@@ -6,7 +6,7 @@ use Rattle.tpm_types.specs.declared.check.Check.{Check}
 use Rattle.tpm_types.specs.declared.check.Check.TheVariants as check
 
 -- the number of a check: 1 to 11 are the general checks G1 to G11, those of every command, 20 + k
--- is the k-th check Ak of a command's own, and 255 is want of memory
+-- is the k-th check Ak of a command's own, and 255 is refused memory
 abbrev pub check_number : Check → ℕ
 check_number check.Length = 1
 check_number check.Tag = 2

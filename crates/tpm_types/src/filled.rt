@@ -9,7 +9,8 @@ use crate::buffer::read_buffer;
 use crate::rc::{Rc, ResponseCode};
 use tpm_bytes::{Cursor, Readable};
 
-/// A fault within a sized buffer: SIZE where the buffer's bytes ran out, and else the fault itself.
+/// A fault within a sized buffer: SIZE where the buffer's bytes ran out, and otherwise the fault
+/// itself.
 fn within_buffer(fault: Rc) -> Rc
     ensures { result ≡ record fault { code = within_buffer fault.code } }
 {

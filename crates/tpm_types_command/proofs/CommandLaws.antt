@@ -25,7 +25,7 @@ header_or_rc_ok (Err f) x e = absurd cc
 
 -- ---- the authorization area, where there are sessions
 
--- These are the entries that were read after a header of this tag.
+-- The entries are those that were read after a header of this tag.
 pub record AreSessions (tag : Tag) (bytes : List ℕ) (x : List Entry × List ℕ) : Type 0 where
   pub text : Takes bytes (sessions_text x.0) x.1
   pub tag_is : tag_for x.0 ≡ tag

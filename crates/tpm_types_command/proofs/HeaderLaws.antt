@@ -43,7 +43,7 @@ fields_take bytes fits long =
     let t01 = Takes-then bytes (to_be_bytes w16 (tag_field bytes)) (drop 2 bytes) (to_be_bytes w32 (size_field bytes)) (drop 6 bytes) t0 t1' in
     Takes-then bytes (to_be_bytes w16 (tag_field bytes) ++ to_be_bytes w32 (size_field bytes)) (drop 6 bytes) (to_be_bytes w32 (code_field bytes)) (drop 10 bytes) t01 t2'
 
--- These are the results of the header's steps.
+-- The header has these results of its steps.
 pub record IsHeader (bytes : List ℕ) (x : Header × List ℕ) : Type 0 where
   pub text : Takes bytes (header_text x.0.tag (length bytes) x.0.code) x.1
   pub least : 10 ≤ length bytes

@@ -62,7 +62,7 @@ entry_at text = do
   )
 
 -- A write of an entry put all of its text at the end exactly where the entry has a text and it
--- fits, and else nothing.
+-- fits, and otherwise nothing.
 abbrev pub PutsEntry : {E : Type 0} → ℕ → Entry → List ℕ → Result (Unit {0}) E → List ℕ → Type 0
 PutsEntry capacity e old result new =
     (IsOk result

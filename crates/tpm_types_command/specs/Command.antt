@@ -118,7 +118,7 @@ command_at text = do
   )
 
 -- A write of a command put all of its text at the end exactly where the command has a text and it
--- fits, and else nothing.
+-- fits, and otherwise nothing.
 abbrev pub PutsCommand : {E : Type 0} → ℕ → Whole → List ℕ → Result (Unit {0}) E → List ℕ → Type 0
 PutsCommand capacity c old result new =
     (IsOk result ↔ (HasText c × (length old + command_size c ≤ capacity)))

@@ -41,7 +41,7 @@ answering shape = record shape { sized_answer = true }
 abbrev pub keeping : Facts → Facts
 keeping shape = record shape { keeps_shutdown = true }
 
--- the shape of a command that may want memory
+-- the shape of a command that may be refused memory
 abbrev pub growing : Facts → Facts
 growing shape = record shape { grows = true }
 
@@ -53,8 +53,8 @@ reading shape = record shape { reads_nv = true }
 abbrev pub without_sessions : Facts → Facts
 without_sessions shape = record shape { forbids_sessions = true }
 
--- the shape of a command that may want memory for what it makes, and answers the handle of that and
--- then a sized buffer
+-- the shape of a command that may be refused memory for what it makes, and answers the handle of
+-- that and then a sized buffer
 abbrev pub making : Facts → Facts
 making shape = record shape { sized_answer = true; answers_handle = true; grows = true }
 

@@ -74,10 +74,10 @@ is_sized parameter.YesNo = false
 
 -- the shape of a command, wherever its lists lie in memory: its handles and who authorizes each,
 -- its parameters, whether the first parameter of its answer is a sized buffer, whether a handle
--- stands before the parameters of its answer, whether it may have no sessions, whether it may want
--- memory, whether it reads the NV index that authorizes it, where one does (any other command
--- writes that index, or administers it in the role ADMIN), and whether its success leaves what a
--- TPM2_Shutdown saved, which any other success cancels (Part 3, section 9.4)
+-- stands before the parameters of its answer, whether it may have no sessions, whether it may be
+-- refused memory, whether it reads the NV index that authorizes it, where one does (any other
+-- command writes that index, or administers it in the role ADMIN), and whether its success leaves
+-- what a TPM2_Shutdown saved, which any other success cancels (Part 3, section 9.4)
 pub record Facts : Type 0 where
   pub handles : List HandleRule
   pub parameters : List ParameterKind

@@ -27,7 +27,7 @@ impl NvPublic {
     ghost use Rattle.tpm_types_nv.specs.declared.nv_public.NvPublic.{NvPublic};
     ghost use Rattle.tpm_types.specs.Filled.{filled_by};
 
-    /// Reads a public area: INSUFFICIENT where it is cut, and else the first fault of a field.
+    /// Reads a public area: INSUFFICIENT where it is cut, and otherwise the first fault of a field.
     pub fn read(text: &mut Cursor) -> Result<NvPublic, Rc>
         // Says which value is read, or the first fault.
         ensures exact { Reads (λ public. public) (nv_public_at text.old) text.old result text.new }

@@ -33,7 +33,8 @@ impl CreationData {
     ghost use Rattle.tpm_types.specs.Filled.{filled_by};
     ghost use Rattle.tpm_types_object.specs.declared.creation_data.CreationData.{CreationData};
 
-    /// Reads creation data: INSUFFICIENT where they are cut, and else the first fault of a field.
+    /// Reads creation data: INSUFFICIENT where they are cut, and otherwise the first fault of a
+    /// field.
     pub fn read(text: &mut Cursor) -> Result<CreationData, Rc>
         // Says which value is read, or the first fault.
         ensures exact { Reads (λ creation. creation) (creation_data_at text.old)

@@ -206,7 +206,7 @@ impl Public {
     ghost use Rattle.tpm_types.specs.Filled.{filled_by};
     ghost use Rattle.tpm_types_object.specs.declared.public.Public.{Public};
 
-    /// Reads a public area: INSUFFICIENT where it is cut, and else the first fault of a field.
+    /// Reads a public area: INSUFFICIENT where it is cut, and otherwise the first fault of a field.
     pub fn read(text: &mut Cursor) -> Result<Public, Rc>
         // Says which value is read, or the first fault.
         ensures exact { Reads (λ public. public) (public_at text.old) text.old result text.new }

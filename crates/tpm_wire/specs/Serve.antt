@@ -46,7 +46,7 @@ abbrev pub Asks : {F : Type 0} → Asking F → F → Execution → F → Type 0
 Asks g old one new =
     (host : Host) × Called g old tt (Ok host) new × (one.event ≡ given (buffer_in one.event) host)
 
--- The host was asked so for each of these executions, in order.
+-- The host was asked once for each of these executions, in order.
 abbrev pub AsksForEach : {F : Type 0} → Asking F → F → List Execution → F → Type 0
 AsksForEach g old executions new = FoldsTo (Asks g) old executions new
 
@@ -97,8 +97,8 @@ HoldsLastBack held holds executions =
     (answered : List Execution) × (last : Execution) × (executions ≡ answered ++ last ∷ [])
     × Appends held holds (responses_of answered)
 
--- All buffers that are whole were executed, which are these executions, and the responses were
--- written: how that finished.
+-- All whole buffers were executed, by these executions, and their responses written, with this
+-- result.
 abbrev pub Finishes : {F : Type 0} → Asking F → Option (List ℕ) → Option (List ℕ)
     → Marks → Marks → F → List Execution → F → Stream → Result ℕ ServeFault → Type 0
 Finishes g held holds before after asked executions asking left (Ok count) =
@@ -115,7 +115,7 @@ Finishes g held holds before after asked executions asking left (Err e) = ⊥
 
 -- ---- what is read
 
--- These buffers are the first of all, and perhaps there are others.
+-- The buffers are the first ones of all, of which there may be others.
 abbrev pub AreFirst : List (List ℕ) → List (List ℕ) → Type 0
 AreFirst done buffers = (others : List (List ℕ)) × (buffers ≡ done ++ others)
 
@@ -133,7 +133,7 @@ ReadsPiece done old piece new =
 
 -- ---- how serving ends
 
--- These buffers are the first of all, and there is at least one more.
+-- The buffers are the first ones of all, of which there is at least one more.
 abbrev pub AreFewer : List (List ℕ) → List (List ℕ) → Type 0
 AreFewer done buffers =
     (next : List ℕ) × (others : List (List ℕ)) × (buffers ≡ done ++ next ∷ others)

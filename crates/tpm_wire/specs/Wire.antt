@@ -27,7 +27,7 @@ pub record Wire : Type 0 where
   pub streams : List (Option Stream)
 
 -- the machine and the connections of a `Mux`, by a function that gives the record of its machine's
--- keep
+-- state
 abbrev pub wire_of : {K S O P N : Type 0} → (K → Record) → Mux K S O P N → Wire
 wire_of record_of mux = record {
   machine = state_of record_of mux.machine;

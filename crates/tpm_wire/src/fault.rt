@@ -23,7 +23,7 @@ pub enum ServeFault {
     Write,
     /// The host answered a fault; the command that it was asked for has not been executed.
     Host,
-    /// What is told each command failed; the command has been executed, and nothing of its response
-    /// was written.
+    /// The witness that is told each command failed; the command has been executed, and nothing of
+    /// its response was written.
     Save,
 }

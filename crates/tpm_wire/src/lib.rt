@@ -5,11 +5,11 @@
 //!
 //! [`mux::Mux`] is a machine and up to eight connections, which take turns as their caller wants;
 //! [`serving::serve`] serves one connection to its end over any reader and writer, and
-//! [`serving::serve_saving`] tells a witness each command before its response. [`connection`] has what a
-//! connection holds, and [`front`] where its next buffer ends.
+//! [`serving::serve_saving`] tells a witness each command before its response. [`connection`] has
+//! what a connection holds, and [`front`] where its next buffer ends.
 //!
-//! The crate uses the machine and its witnesses, and knows nothing of sockets, of images, or of where
-//! the host's time and random bytes come from. Its contracts say that a stream is cut as
+//! The crate uses the machine and its witnesses, and knows nothing of sockets, of images, or of
+//! where the host's time and random bytes come from. Its contracts say that a stream is cut as
 //! `specs/Stream` says, whatever the pieces in which it comes, and that each buffer is executed
 //! once and in its order, whatever the order of the calls ([`schedule`]).
 

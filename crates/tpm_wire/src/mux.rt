@@ -181,7 +181,8 @@ fn waiting(connection: &Connection) -> Turn
     }
 }
 
-/// Executes the buffer in front of a connection in its place, tells a witness, and drops the buffer.
+/// Executes the buffer in front of a connection in its place, tells a witness, and drops the
+/// buffer.
 pub(crate) fn execute_front<K: Keep, S: Witness>(
     machine: &mut Machine<K>,
     connection: &mut Connection,

@@ -59,8 +59,8 @@ pub fn serve<K: Keep, R: Read, W: Write, H: FnMut() -> Result<Host, HostFault>>(
     serve_saving(mux, reader, writer, host, &mut SavesNothing)
 }
 
-/// Serves one connection as [`serve`] does, where a witness is told each command before its response
-/// is written. Where the witness fails, nothing of that response is written.
+/// Serves one connection as [`serve`] does, where a witness is told each command before its
+/// response is written. Where the witness fails, nothing of that response is written.
 pub fn serve_saving<K: Keep, R: Read, W: Write, H: FnMut() -> Result<Host, HostFault>, S: Witness>(
     mux: &mut Mux<K>,
     reader: &mut Tap<R>,

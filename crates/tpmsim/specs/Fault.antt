@@ -19,7 +19,7 @@ use Rattle.tpmsim_kept.specs.declared.stop.PlayFault.TheVariants as play
 use Rattle.tpmsim_script.specs.declared.fault.ScriptFault.{ScriptFault}
 use Rattle.tpmsim_script.specs.declared.fault.ScriptFault.TheVariants.{Line, Read, TooManyLines, Write, Save, NoMemory}
 
--- the fault Memory where an error is of that kind, and else the other fault
+-- the fault Memory where an error is of that kind, and otherwise the other fault
 abbrev pub fault_or : Fault → ErrorKind → Fault
 fault_or otherwise OutOfMemory = Memory
 fault_or otherwise _ = otherwise

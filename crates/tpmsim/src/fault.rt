@@ -42,7 +42,7 @@ impl Fault {
     ghost use Rattle.std.specs.IoError.{error_kind};
     ghost use Rattle.tpmsim.specs.Fault.{fault_or, status_of};
 
-    /// `Memory` where memory ran out, and else `otherwise`.
+    /// `Memory` where memory ran out, and otherwise `otherwise`.
     pub fn of_io(error: io::Error, otherwise: Fault) -> Fault
         ensures { result ≡ fault_or otherwise (error_kind error) }
     {
@@ -188,7 +188,8 @@ impl From<ArgumentFault> for Fault {
     }
 }
 
-/// The exit status of a fault of a kept device: 4 where its journal is none that the program takes.
+/// The exit status of a fault of a kept device: 4 where its journal is not one that the program
+/// takes.
 fn kept_status(fault: KeptFault) -> u8
     ensures { result ≡ (if is_of_contents fault.said then 4 else 3) }
 {

@@ -47,7 +47,7 @@ impl<'a> ImageFile<'a> {
         })
     }
 
-    /// The device whose image is in the file, or none where there is no file.
+    /// The device whose image is in the file; None where there is no file.
     pub fn open(&self, rt: &HostRuntime) -> Result<Option<Machine<SlotKeep>>, Fault> {
         match fs::read(rt, self.path) {
             Ok(image) => Ok(Some(open(rt.alloc(), image.as_slice())?)),

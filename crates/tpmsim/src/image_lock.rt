@@ -5,8 +5,8 @@ use std::io;
 use std::io::ErrorKind;
 use std::os::unix::fs::OpenOptionsExt;
 
-/// The permissions of the file: who may open the file may lock it, and so keep the image from its
-/// owner.
+/// The permissions of the file: whoever may open the file may lock it, and so keep the image from
+/// its owner.
 const OWNER_ALONE: u32 = 0o600;
 
 /// A lock that nobody else holds while this value is there. It is a lock on an open file, so that
@@ -17,9 +17,9 @@ pub struct ImageLock {
 }
 
 impl ImageLock {
-    /// Takes the lock whose file is at this path, or fails at once where another one holds it. The
-    /// file is made where there is none. The file stays: a lock on a file that was removed is not
-    /// seen by those who make a new one.
+    /// Takes the lock whose file is at this path, or fails at once where another run holds it. The
+    /// file is made where it is missing, and stays: a lock on a file that was removed is not seen
+    /// by those who make a new one.
     pub fn take(rt: &HostRuntime, path: &str) -> io::Result<ImageLock> {
         let file = open_or_create(rt, path)?;
         file.try_lock()?;
@@ -27,8 +27,8 @@ impl ImageLock {
     }
 }
 
-/// The file at a path, which is made where there is none, but not where a link leads to. The file
-/// is opened to be read and written, so that a pipe there does not wait for its other end.
+/// The file at a path, which is made where it is missing, but not through a link. The file is
+/// opened to be read and written, so that a pipe there does not wait for its other end.
 fn open_or_create(rt: &HostRuntime, path: &str) -> io::Result<File> {
     let made = OpenOptions::new()
         .read(true)

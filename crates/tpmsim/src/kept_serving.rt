@@ -1,5 +1,5 @@
-//! How the program serves a device that is kept in a folder, one connection after another. Between two
-//! commands of a connection other processes may have theirs.
+//! How the program serves a device that is kept in a folder, one connection after another. Between
+//! two commands of a connection other processes may have theirs.
 
 use crate::entropy::Entropy;
 use crate::fault::Fault;
@@ -18,8 +18,8 @@ impl RandomBytes for Entropy {
     }
 }
 
-/// Serves the device in a folder on a socket; a new one where none is there. Removes the socket's file
-/// in the end, if it is still at its path.
+/// Serves the device in a folder on a socket; a new one where none is there. Removes the socket's
+/// file in the end, if it is still at its path.
 pub fn serve_kept(rt: &HostRuntime, service: &Service, folder: &str) -> Result<(), Fault> {
     let mut kept = Kept::at(rt, folder, true, force_of(service))?;
     let mut entropy = Entropy::open(rt, service.entropy)?;

@@ -1,20 +1,20 @@
 #![tactic(auto)]
 
 //! A TPM 2.0 simulator: it runs scripts of commands, `tpmsim run`, and checks them, `check`;
-//! assembles commands from words, `asm`, and finds the words of a command, `line`; tells how commands
-//! are said in words, `lines`, and what a response code says, `code`; and serves a device on a
-//! socket, `serve`. A device is kept in an image, or in a folder with its state, whose power `power`
-//! cycles, and of which `script` tells what happened.
+//! assembles commands from words, `asm`, and finds the words of a command, `line`; tells how
+//! commands are said in words, `lines`, and what a response code says, `code`; and serves a device
+//! on a socket, `serve`. A device is kept in an image, or in a folder with its state, whose power
+//! `power` cycles, and of which `script` tells what happened.
 //!
-//! On standard output stands what was asked for: of `run` each response in hex on a line of its own,
-//! with `--trace` behind a line that traces the command; of `check` a line for each bad line. A run
-//! that fails says why in one line on standard error, and its exit status says of what kind that is
-//! ([`fault`]).
+//! Standard output has what was asked for: for `run` each response in hex on a line of its own,
+//! with `--trace` after a line that traces the command; for `check` a line for each bad line. A run
+//! that fails says why in one line on standard error, and its exit status says which kind of fault
+//! it is ([`fault`]).
 //!
 //! The program uses tpmsim_arguments for its words, tpmsim_script for scripts and tpmsim_check for
 //! their check, `tpm_text` and `tpm_line` for lines, `tpm_help` for what it tells of these,
-//! `tpm_image` and tpmsim_kept for a device that is kept, tpmsim_journal_script for what happened to
-//! it, and `tpm_wire` and `tpm_log` for one that is served. All that touches files, sockets and
+//! `tpm_image` and tpmsim_kept for a device that is kept, tpmsim_journal_script for what happened
+//! to it, and `tpm_wire` and `tpm_log` for one that is served. All that touches files, sockets and
 //! clocks is here or in tpmsim_kept; what the device answers is proved in the crates below.
 
 mod checking;

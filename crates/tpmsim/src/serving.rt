@@ -76,7 +76,7 @@ fn serve_socket<K: Keep>(
     serve_connections(rt, service.connections, socket, mux, source, witness)
 }
 
-/// Serves so many connections, one after another.
+/// Serves this many connections, one after another.
 fn serve_connections<K: Keep>(
     rt: &HostRuntime,
     connections: u32,
@@ -97,7 +97,7 @@ fn serve_connections<K: Keep>(
 
 /// Saves the device after a connection, its clock too, and says why the program ends, if it does. A
 /// device that is saved before each response is not saved again where a command was not answered
-/// since the log or the image was not written: all that was answered is in the image.
+/// because the log or the image was not written: the image already has all that was answered.
 fn save_behind<K: Keep>(
     served: Result<u64, ServeFault>,
     mux: &Mux<K>,
@@ -116,7 +116,7 @@ fn save_behind<K: Keep>(
     }
 }
 
-/// Executes the commands of a connection, and answers each when the witness was told it.
+/// Executes the commands of a connection, and answers each once the witness was told of it.
 fn exchange<K: Keep>(
     rt: &HostRuntime,
     stream: &UnixStream,

@@ -36,7 +36,7 @@ impl Stopwatch {
         }
     }
 
-    /// The milliseconds that a command is told that comes now: 0 for the first command, and for
+    /// The milliseconds that a command is told which comes now: 0 for the first command, and for
     /// each later one those since the first that no command was told, 2^32 - 1 at most. The others
     /// are dropped.
     pub fn tell(&mut self, now: Instant) -> u32

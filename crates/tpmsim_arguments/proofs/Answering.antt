@@ -39,7 +39,7 @@ no_run kind trace None storage e = cc
 no_run kind trace (Some s) None e = cc
 no_run kind trace (Some s) (Some kept) e = cc
 
--- nor does one of a few commands, if none of them does
+-- a choice of two wishes is not this one, where neither of them is
 otherwise : {A : Type 0} (wish : A) (here : Bool) (this other : Option A) → (this ≡ Some wish → ⊥) → (other ≡ Some wish → ⊥)
     → (if here then this else other) ≡ Some wish → ⊥
 otherwise wish true this other one two e = one e
@@ -140,7 +140,7 @@ is_wish Io never = absurd (never (λ e. cc, λ e. cc))
 is_wish Format never = absurd (never (λ e. cc, λ e. cc))
 is_wish OutOfMemory never = absurd (never (λ e. cc, λ e. cc))
 
--- the answer where clap refuses the words for help or the version, which it tells
+-- the answer where clap refuses the words since help or the version is wanted, which is then told
 pub told : (words : List Text) (kind : ErrorKind) → (kind ≡ OutOfMemory) ⊎ IsAmong kind (fault_of program words)
     → ((kind ≢ DisplayHelp) × (kind ≢ DisplayVersion) → ⊥) → IsAmong kind (fault_of program words) × IsTold kind
 told words kind (inr among) never = (among, is_wish kind never)

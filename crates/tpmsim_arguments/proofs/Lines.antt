@@ -81,7 +81,7 @@ device_is_kept name image entropy script (inr e) = rw e (refl, refl)
 locality_is : (number : ℕ) → number ≤ 4 → locality_of number ≡ Some number
 locality_is number small = rw (le-leb number 4 small) refl
 
--- what a service with these numbers is asked for by, if both are numbers
+-- what the words of a service with these numbers ask for, if both are numbers
 abbrev pub with_numbers : (socket : Text) → Kept → (log : Option Text) → (entropy : Text) → Option ℕ → Option ℕ → Bool → Option Invocation
 with_numbers socket place log entropy locality connections saves = option_map serve (option_and_then (λ l. option_and_then (λ c.
     Some (record { socket = socket; place = place; log = log; entropy = entropy; locality = l; connections = c; saves_each = saves })) connections)

@@ -56,7 +56,7 @@ pub data Invocation : Type 0 where
 
 -- ---- what words ask for
 
--- whether a flag was given: clap finds "true" for it then, and else "false"
+-- whether a flag was given: clap finds "true" for it then, and otherwise "false"
 abbrev pub is_set : Text → List Row → Bool
 is_set flag rows =
     option_map_or (λ text. bytes_eq text (codes "true")) (first_of flag rows) false

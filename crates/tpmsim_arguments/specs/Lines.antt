@@ -94,7 +94,7 @@ saving_line name socket image entropy locality connections = name ∷ codes "ser
     ∷ (codes "--entropy=" ++ entropy) ∷ (codes "--locality=" ++ locality)
     ∷ (codes "--connections=" ++ connections) ∷ []
 
--- the command line of serve with --log=LOG behind the image
+-- the command line of serve with --log=LOG after the image
 abbrev pub logging_line : (name socket image log entropy locality connections : Text) → List Text
 logging_line name socket image log entropy locality connections = name ∷ codes "serve"
     ∷ (codes "--socket=" ++ socket) ∷ (codes "--image=" ++ image) ∷ (codes "--log=" ++ log)
@@ -108,8 +108,9 @@ state_line name socket state entropy locality connections = name ∷ codes "serv
     ∷ (codes "--entropy=" ++ entropy) ∷ (codes "--locality=" ++ locality)
     ∷ (codes "--connections=" ++ connections) ∷ []
 
--- These words ask for a device that is kept in this place, with these paths, and with these numbers
--- where the words are numbers, which is saved before each response or not.
+-- These words ask for the service of a device that is kept in this place, with these paths, and
+-- with these numbers where the words are numbers; `saves_each` says whether the device is saved
+-- before each response.
 abbrev pub AskForService : (words : List Text) (socket : Text) (place : Kept) (log : Option Text)
     (entropy locality connections : Text) (saves_each : Bool) → Type 0
 AskForService words socket place log entropy locality connections saves_each = (number count : ℕ)

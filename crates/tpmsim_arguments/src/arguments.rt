@@ -135,8 +135,8 @@ fn value<'a>(options: &ArgMatches<'a>, name: &str) -> Option<&'a str>
     options.get_str(name)
 }
 
-/// Whether a flag was given. clap has "true" for it then, and else "false"; of any other text its
-/// own `get_flag` would promise nothing.
+/// Whether a flag was given. clap has "true" for it then, and otherwise "false"; of any other text
+/// its own `get_flag` would promise nothing.
 fn is_set(options: &ArgMatches<'_>, flag: &str) -> bool
     ensures { result ≡ is_set flag.now (rows_of (found_of options.now)) }
 {

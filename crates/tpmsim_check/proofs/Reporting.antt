@@ -9,11 +9,11 @@ use Rattle.tpmsim_check.specs.Report.{report_text, script_faults, told}
 use Rattle.tpmsim_script.specs.Checking.{Fault, fault_at, faults_of, first_number, line_check, waited_behind}
 use Rattle.tpmsim_script.specs.Line.{lines_of}
 
--- the faults of the lines that are left, of which the first has this number
+-- the faults of the remaining lines, whose first has this number
 abbrev pub left : (waited number : ℕ) → (text : List ℕ) → List Fault
 left waited number text = faults_of waited number (take (1048577 - number) (lines_of text))
 
--- one line fewer is left
+-- one line fewer remains
 pub left_more : (waited number : ℕ) (text line others : List ℕ) → number ≤ 1048576 → lines_of text ≡ line ∷ lines_of others
     → left waited number text ≡ fault_at (line_check waited line) number line ++ left (waited_behind (line_check waited line) waited) (number + 1) others
 left_more waited number text line others small e =
@@ -24,7 +24,7 @@ take_none : (count : ℕ) → take count (lines_of []) ≡ []
 take_none zero = refl
 take_none (suc count) = refl
 
--- no line is left of an empty text
+-- no line of an empty text remains
 pub left_none : (waited number : ℕ) (text : List ℕ) → length text ≡ 0 → left waited number text ≡ []
 left_none waited number [] e = ap (faults_of waited number) (take_none (1048577 - number))
 left_none waited number (byte ∷ text) e = absurd cc
@@ -66,8 +66,8 @@ some_lines (byte ∷ text) some = by_break (byte == 10)
 
 -- ---- what was found so far
 
--- What was found, with the faults of the lines that are left, is what the whole has: this text, this
--- first number, and so many lines.
+-- The faults that were found, and those of the remaining lines, are those of the whole script: this
+-- text, this first number, and this many lines.
 pub record SoFar (text : List ℕ) (first : Option ℕ) (waited number : ℕ) (rest whole : List ℕ) (whole_first : Option ℕ) (lines : ℕ) : Type 0 where
   pub text_is : text ++ flat_map told (left waited number rest) ≡ whole
   pub first_is : option_or first (first_number (left waited number rest)) ≡ whole_first
@@ -101,7 +101,7 @@ turned old new first next waited after number rest line others whole whole_first
       count_is = count_more rest line others number lines cut sofar.count_is;
     }
 
--- where no fault is left, what was found is what the whole has
+-- where no fault remains, those that were found are all
 all_told : (text : List ℕ) (first : Option ℕ) (waited number : ℕ) (rest whole : List ℕ) (whole_first : Option ℕ) (lines : ℕ)
     → left waited number rest ≡ [] → SoFar text first waited number rest whole whole_first lines → (text ≡ whole) × (first ≡ whole_first)
 all_told text first waited number rest whole whole_first lines none sofar = (
@@ -122,14 +122,14 @@ no_lines : (text : List ℕ) → length text ≡ 0 → length (lines_of text) �
 no_lines [] e = refl
 no_lines (byte ∷ text) e = absurd cc
 
--- whether there are more lines than a script may have, where no text is left
+-- a script has no more lines than it may have, where no text remains
 pub no_more : (text : List ℕ) (first : Option ℕ) (waited number : ℕ) (rest whole : List ℕ) (whole_first : Option ℕ) (lines : ℕ)
     → number ≤ 1048576 → length rest ≡ 0 → SoFar text first waited number rest whole whole_first lines → nat_lt 1048576 lines ≡ not (length rest == 0)
 no_more text first waited number rest whole whole_first lines small none sofar =
     let gone = no_lines rest none in
     le-ltb 1048576 lines (omega (arith, small, gone, sofar.count_is)) ∙ sym (ap not (eq-eqb (length rest) 0 none))
 
--- whether there are more lines than a script may have, behind as many
+-- whether a script has more lines than it may have, where it has this many before the rest
 more_by : (rest : List ℕ) (lines : ℕ) → length (lines_of rest) + 1048577 ≡ lines + 1 → nat_lt 1048576 lines ≡ not (length rest == 0)
 more_by [] lines count = le-ltb 1048576 lines (omega (arith, count))
 more_by (byte ∷ rest) lines count =

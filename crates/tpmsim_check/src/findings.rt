@@ -1,4 +1,4 @@
-//! What was found in the lines of a script so far.
+//! The bad lines that were found in a script so far.
 
 ghost use Rattle.std.specs.Prelude.{◌≡◌, ◌==◌, ◌++◌, ◌∷◌, ◌<◌, [], None, Some, length, nat_lt, not, IfOk, OnOk};
 ghost use Rattle.std.specs.List.{flat_map};
@@ -16,9 +16,9 @@ use tpmsim_script::{Checker, SCRIPT_LINES};
 /// The bad lines that were found in a script.
 #[derive(Drop)]
 pub struct Findings {
-    /// A line of text for each of them.
+    /// The text of the report so far, a line for each bad line.
     pub text: String,
-    /// The number of the first one.
+    /// The number of the first bad line.
     pub first: Option<u32>,
 }
 
@@ -33,7 +33,7 @@ impl Findings {
         }
     }
 
-    /// Checks the lines of a text, as many as a script may have, and gives the text behind them.
+    /// Checks the lines of a text, as many as a script may have, and gives the text after them.
     pub fn check_lines<'t>(
         &mut self,
         text: &'t [u8],
@@ -79,7 +79,7 @@ impl Findings {
         }
     }
 
-    /// Adds what is told of a bad line.
+    /// Adds a bad line's report.
     fn put(&mut self, fault: ToldFault) -> Result<(), AllocError>
         ensures text { OnOk result (self.new.text.bytes.items ≡ self.old.text.bytes.items
             ++ (fault_text fault.number fault.fault fault.wanted.now ++ 10 ∷ [])) }
@@ -91,7 +91,7 @@ impl Findings {
     }
 }
 
-/// The first line of a text that is not empty, without its 0a, and the text behind it.
+/// The first line of a text that is not empty, without its 0a, and the text after it.
 fn first_line(text: &[u8]) -> (&[u8], &[u8])
     ensures { 0 < length text.now → lines_of text.now ≡ result.0.now ∷ lines_of result.1.now }
 {

@@ -12,12 +12,12 @@ use tpmsim_script::{Checker, ScriptFault};
 pub struct Report {
     /// A line of text for each bad line.
     pub text: String,
-    /// How the script ends where it is run: well, at its first bad line, or since it has more lines
-    /// than a script may have.
+    /// How the script would end: well, at its first bad line, or because it has more lines than a
+    /// script may have.
     pub end: Result<(), ScriptFault>,
 }
 
-/// The report of the script that a text is.
+/// The report of this script.
 pub fn report_of(alloc: Global, text: &[u8]) -> Result<Report, AllocError>
     ensures text { IfOk result (λ report. report.text.bytes.items ≡ report_text text.now) }
     ensures end { IfOk result (λ report. report.end ≡ report_end text.now) }
@@ -32,8 +32,8 @@ pub fn report_of(alloc: Global, text: &[u8]) -> Result<Report, AllocError>
     })
 }
 
-/// How a script ends that has this first bad line, if it has one, and perhaps more lines than a
-/// script may have.
+/// How a script ends whose first bad line, if it has one, has this number; `more` says whether it
+/// has more lines than a script may have.
 fn end_of(first: Option<u32>, more: bool) -> Result<(), ScriptFault>
     ensures { result ≡ end_of first more }
 {

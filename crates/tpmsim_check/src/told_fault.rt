@@ -1,4 +1,4 @@
-//! What is told of a bad line.
+//! The report of one bad line.
 
 ghost use Rattle.std.specs.Prelude.{◌≡◌, drop};
 ghost use Rattle.tpmsim_check.specs.Report.{wanted_text};
@@ -8,7 +8,7 @@ use tpm_help::word_at;
 use tpm_text::AsmFault;
 use tpmsim_script::{BadLine, Wanted};
 
-/// A bad line: its number and what is wrong with it, and what is wanted there.
+/// A bad line: its number, what is wrong with it, and what is wanted there.
 #[derive(Clone, Copy)]
 pub struct ToldFault {
     pub number: u32,
@@ -17,7 +17,7 @@ pub struct ToldFault {
 }
 
 impl ToldFault {
-    /// What is told of the line of this number, which is bad.
+    /// The report of the bad line of this number.
     pub fn new(number: u32, line: &[u8], bad: BadLine) -> ToldFault
         ensures number { result.number ≡ number }
         ensures fault { result.fault ≡ bad.fault }
@@ -85,7 +85,7 @@ fn wanted_text(bad: BadLine, line: &[u8]) -> &'static str
     }
 }
 
-/// What stands behind the word `do` and its space.
+/// The words after `do` and its space.
 fn words_of(line: &[u8]) -> &[u8]
     ensures { result.now ≡ drop 3 line.now }
 {

@@ -1,4 +1,4 @@
--- The head of a journal is told, and then its entries.
+-- The head of a journal is told first, and then its entries.
 use Rattle.std.proofs.Common.{◌≡◌, ℕ, Bool, false, List, Option, Ok, take, drop, subst, ◌∙◌}
 use Rattle.std.specs.Io.KnownBytes.{Appends}
 use Rattle.std.proofs.KnownBytes.{Appends-trans}
@@ -14,7 +14,7 @@ use Rattle.tpm_journal_text.specs.declared.head.Head.{Head}
 use Rattle.tpm_record.specs.Record.{Record}
 use Rattle.tpmsim_journal_script.specs.Retelling.{RetellsEntries, RetellsText}
 
--- the entries were told from the state that a head begins
+-- the entries are told from the state with which the head begins
 from_head : (can : Bool) (text : List ℕ) (head : Head) (kept : NonVolatile) (at : Record) (rest : List ℕ) (followed : Followed) (start after : Journal) (new : Record)
     (held holds : Option (List ℕ)) → can ≡ false → IsHeadOf text head → at ≡ powered_on kept → rest ≡ drop head.size text
     → start ≡ journal_of head.sum head.clock → RetellsEntries can start at rest held holds followed after new

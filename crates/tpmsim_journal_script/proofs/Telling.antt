@@ -32,7 +32,7 @@ lines_of sum e =
     ap (drop 72) (append_assoc (mark_line sum (mark_of e)) (setting_lines e) (executing_lines e))
     ∙ dropped (mark_line sum (mark_of e)) (setting_lines e ++ executing_lines e) 72 (mark_line_many sum (mark_of e) (mark_many e))
 
--- ---- one performance behind others
+-- ---- one performance after others
 
 are_more : (entries : List PlainEntry) (e : PlainEntry) → AllByRecursion IsEntry entries → IsEntry e → AllByRecursion IsEntry (entries ++ e ∷ [])
 are_more [] e are is = (is, tt)
@@ -204,7 +204,7 @@ pub told_damaged : (can : Bool) (before : Journal) (old : Record) (text : List �
 told_damaged can before old text taken mid here after new held holds r end =
     rw (end.1, end.2) (told_damaged_here can before old text taken mid here held holds r end.0)
 
--- ---- the same of what is left of a text
+-- ---- the telling of the rest of a text
 
 pub long_enough : (can : Bool) (before : Journal) (old : Record) (left : List ℕ) (size : ℕ) (words : List ℕ) (after : Journal) (new : Record)
     (Holds : ℕ → ℕ → Type 0) → PerformsSo can before old left size words after new Holds → 72 ≤ size

@@ -1,4 +1,5 @@
--- How an entry was answered can be told in words, and what is written of it is put together.
+-- The answer to an entry can be told in words, and the lines that tell it are written piece by
+-- piece.
 use Rattle.std.proofs.Common.{ℕ, Bool, true, false, List, ◌++◌, Option}
 use Rattle.std.specs.Io.KnownBytes.{Appends}
 use Rattle.std.proofs.KnownBytes.{Appends-trans}

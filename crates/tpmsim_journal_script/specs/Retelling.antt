@@ -1,4 +1,4 @@
--- A journal, told as a script: a map over the entries that are executed again.
+-- A journal as a script, which is a map over the entries that are executed again.
 use Rattle.std.specs.Prelude.{◌≡◌, ◌≢◌, ℕ, false, true, Bool, List, [], ◌∷◌, ◌++◌, codes, flat_map, Option, Some, None, Result, Ok, Err}
 use Rattle.std.specs.Io.KnownBytes.{Appends, Keeps}
 use Rattle.tpm_bytes.specs.Tap.{Marks}
@@ -24,12 +24,13 @@ use Rattle.tpmsim_journal_script.specs.declared.front.Front.TheVariants as front
 use Rattle.tpmsim_journal_script.specs.declared.retelling.RetellFault.{RetellFault}
 use Rattle.tpmsim_journal_script.specs.declared.retelling.RetellFault.TheVariants.{Open, Write}
 
--- the words that tell how an event was answered: that the completing layer was on, or the trace
+-- the words that tell how an event was answered: `completed` where the completing layer was on, or
+-- else the trace
 abbrev pub words_of : (completes : Bool) → PlainEvent → Row → (response : List ℕ) → List ℕ
 words_of true event row response = codes "completed"
 words_of false event row response = trace_text event row response
 
--- How an event was answered can be told in words.
+-- The answer to an event can be told in words.
 abbrev pub CanBeTold : (completes : Bool) → PlainEvent → Row → (response : List ℕ) → Type 0
 CanBeTold true event row response = Unit {0}
 CanBeTold false event row response = IsRow row × IsAnswered event response
@@ -39,12 +40,12 @@ abbrev pub comment_of : Performance → List ℕ
 comment_of one =
     words_of one.entry.completes (event_of one.entry) one.seen.step.row one.seen.step.response
 
--- the lines of a script that tell an entry: a comment with these words, and the lines that execute
+-- the lines of a script that tell an entry: a comment of these words, and the lines that execute
 -- its command
 abbrev pub lines_with : (words : List ℕ) → PlainEntry → List ℕ
 lines_with words e = codes "# " ++ words ++ 10 ∷ [] ++ (setting_lines e ++ executing_lines e)
 
--- an entry that was performed, told
+-- the lines that tell an entry that was performed
 abbrev pub retold : Performance → List ℕ
 retold one = lines_with (comment_of one) one.entry
 
@@ -56,7 +57,7 @@ pub record Retells (can : Bool) (before : Journal) (old : Record) (text : List �
     pub repeats : Repeats can before old text taken fault after new
     pub told : Appends held holds (flat_map retold repeats.performances)
 
--- The entries of a text were executed and told, until that ended so.
+-- The entries of a text were executed and told, with this result.
 pub record RetellsEntries (can : Bool) (before : Journal) (old : Record) (text : List ℕ)
     (held : Option (List ℕ)) (holds : Option (List ℕ)) (followed : Followed) (after : Journal)
     (new : Record) : Type 0
@@ -64,8 +65,8 @@ pub record RetellsEntries (can : Bool) (before : Journal) (old : Record) (text :
     pub replays : Replays can before old text followed after new
     pub told : Appends held holds (flat_map retold replays.repeats.performances)
 
--- A text begins with a head, whose image is that of what a device kept; what was written is the head,
--- and behind it each entry, told, until that ended so.
+-- A text begins with a head that has the image of a device. The head, and then each entry that was
+-- executed, was told, with this result.
 pub record RetellsText (text : List ℕ) (held : Option (List ℕ)) (holds : Option (List ℕ))
     (fault : Option FollowFault) : Type 0
   where
@@ -83,7 +84,7 @@ pub record RetellsText (text : List ℕ) (held : Option (List ℕ)) (holds : Opt
     pub told : Appends held holds
         (head_text clock image ++ flat_map retold replays.repeats.performances)
 
--- A text was told as a script to its end; or to a fault; or the writer failed.
+-- A text was told as a script to its end; or up to a fault; or the writer failed.
 abbrev pub RetellsJournal : List ℕ → (held : Option (List ℕ)) → (holds : Option (List ℕ)) → Marks
     → Result (Unit {0}) RetellFault → Type 0
 RetellsJournal text held holds marks (Ok done) = RetellsText text held holds None
@@ -98,7 +99,8 @@ RetellsJournal text held holds marks (Err Write) = marks.failed ≡ true
 
 -- ---- one entry
 
--- The entry at the front of a text was performed, of which this holds, and told in these words.
+-- The entry at the front of a text was performed, and its words are these; `Holds` relates the sum
+-- of its response and the sum that it says.
 pub record PerformsSo (can : Bool) (before : Journal) (old : Record) (text : List ℕ) (size : ℕ)
     (words : List ℕ) (after : Journal) (new : Record) (Holds : ℕ → ℕ → Type 0) : Type 0
   where

@@ -12,11 +12,11 @@ use tpm_step::{Event, Outcome};
 use tpm_text::trace_text;
 use tpm_types::Locality;
 
-/// The words of a comment.
+/// The text of a comment.
 pub type Comment = ArrayString<64>;
 
-/// The words that tell how an entry was answered: `completed`, where the completing layer was on, and
-/// else the trace of its command.
+/// The words that tell how an entry was answered: `completed` where the completing layer was on,
+/// and otherwise the trace of its command.
 pub fn comment_of(entry: &Entry, outcome: &Outcome) -> Comment
     requires entry { IsEntry (plain_entry entry.now) }
     requires told { CanBeTold entry.now.completes (event_of (plain_entry entry.now)) outcome.now.row
@@ -39,7 +39,7 @@ fn completed() -> Comment
     words
 }
 
-/// The trace of an entry's command, in which its random bytes do not stand.
+/// The trace of an entry's command, which does not depend on its random bytes.
 fn trace_of(entry: &Entry, outcome: &Outcome) -> Comment
     requires entry { IsEntry (plain_entry entry.now) }
     requires row { IsRow outcome.now.row }

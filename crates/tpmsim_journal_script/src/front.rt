@@ -1,4 +1,4 @@
-//! The entry at the front of a text: it is executed again, and what it says is told.
+//! The entry at the front of a text: it is executed again and told.
 
 ghost use Rattle.std.specs.Prelude.{◌≡◌, ◌≤◌, ◌++◌, ◌∷◌, [], OnErr, OnOk, codes, drop, length, true};
 ghost use Rattle.std.specs.Io.KnownBytes.{Appends};
@@ -15,23 +15,23 @@ use tpm_machine::Machine;
 use tpm_record::Keep;
 use tpm_step::Outcome;
 
-/// How many bytes the first line of an entry has, in which its sums stand.
+/// How many bytes the first line of an entry has, which holds its sums.
 const MARK_LINE_SIZE: usize = 72;
 
 /// What was done about the front of a text.
 pub enum Front {
-    /// Its entry, of so many bytes, was executed, and answered as it says.
+    /// The entry, of this many bytes, was executed, and answered as it says.
     Executed { size: usize, comment: Comment },
-    /// Its entry, of so many bytes, was executed, and answered otherwise.
+    /// The entry, of this many bytes, was executed, and answered otherwise than it says.
     Otherwise { size: usize, comment: Comment },
-    /// It is less than an entry.
+    /// The text is less than an entry.
     CutOff,
-    /// It is damaged.
+    /// The text is damaged.
     Damaged,
 }
 
-/// Executes the entry at the front of a text. Its bytes go to the first room, and its text is written
-/// to the second, to be compared.
+/// Executes the entry at the front of a text. The entry's bytes go to the first room, and its text
+/// is written to the second, to be compared.
 #[tactic(auto, using(crate::proofs::Words::can_be_told))]
 pub fn execute_front<K: Keep>(
     journal: &mut Journal,

@@ -22,14 +22,15 @@ use tpm_step::Outcome;
 /// Why a journal was not told to its end.
 #[derive(Clone, Copy, Debug, PartialEq, Eq)]
 pub enum RetellFault {
-    /// It was not opened. What stands before the fault was told.
+    /// The journal was not opened. Everything before the fault was told.
     Open(OpenFault),
     /// The script could not be written.
     Write,
 }
 
-/// Tells a journal as a script: opens the device of its head where a new machine of zeros lies, and
-/// executes its entries again. What is behind the last whole entry was not answered, and is not told.
+/// Tells a journal as a script: opens the device of its head in place of a new machine of zeros,
+/// and executes its entries again. What follows the last whole entry was never answered, and is not
+/// told.
 pub fn retell<K: Keep, W: Write>(
     machine: &mut Machine<K>,
     text: &[u8],
@@ -62,7 +63,7 @@ pub fn retell<K: Keep, W: Write>(
     }
 }
 
-/// Executes the entries of a text behind a journal, and tells each.
+/// Executes the entries of a text that follows a journal, and tells each.
 pub fn retell_entries<K: Keep, W: Write>(
     journal: &mut Journal,
     machine: &mut Machine<K>,
@@ -101,7 +102,7 @@ fn ended(taken: usize, fault: Option<FollowFault>) -> Followed
     Followed { taken, fault }
 }
 
-/// Tells the entry whose text has so many bytes at the front of a text.
+/// Tells the entry at the front of a text, whose size is `size`.
 fn put_front<W: Write>(
     writer: &mut Tap<W>,
     comment: &Comment,

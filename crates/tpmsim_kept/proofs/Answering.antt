@@ -1,4 +1,4 @@
--- What a command is answered by a device.
+-- The answer of a device to a command.
 use Rattle.std.proofs.Common.{ℕ, List}
 use Rattle.tpm_text.proofs.Traceable.{executed}
 use Rattle.tpm_step.specs.declared.event.Outcome.{Outcome}

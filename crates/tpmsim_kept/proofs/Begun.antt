@@ -1,4 +1,4 @@
--- A journal begins: the head has bytes, and so no room in a room of none.
+-- A head has at least one byte, so that it does not fit into an empty room.
 use Rattle.std.proofs.Common.{◌≡◌, ℕ, ◌<◌, List, ◌∷◌, length, drop, ap, subst, ◌∙◌, arith}
 use Rattle.std.specs.Prelude.{false}
 use Rattle.tpm_history.specs.Follows.{After, Follows}

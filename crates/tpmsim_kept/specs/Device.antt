@@ -1,4 +1,4 @@
--- What a device in memory does by its journal.
+-- What a device in memory does with its journal.
 use Rattle.std.specs.Prelude.{◌≡◌, ℕ, ◌≤◌, false, ◌⊎◌, length, List, Some, None, Result, Ok, Err}
 use Rattle.tpm_completion.specs.Execution.{Seen}
 use Rattle.tpm_history.specs.Follows.{After, Follows}
@@ -25,11 +25,11 @@ use Rattle.tpmsim_kept.specs.declared.device.Device.{Device}
 use Rattle.tpmsim_kept.specs.declared.fault.Said.{Said}
 use Rattle.tpmsim_kept.specs.declared.fault.Said.TheVariants.{WantsMemory}
 
--- the record of a device, by its keep, whose containers are seen as what they hold
+-- the record of a device; its containers are seen as their contents
 abbrev pub record_of : Device → Record
 record_of device = kept_record (λ s. s) (λ o. o) (λ p. p) (λ n. n) device.machine.keep
 
--- what is seen of the latest event of a device, which has this outcome
+-- the effect of a device's latest event, which has this outcome
 abbrev pub seen_by : Device → Outcome → Seen
 seen_by device outcome = record {
   step = outcome_step (record_of device) outcome;
@@ -37,7 +37,7 @@ seen_by device outcome = record {
   drawn = device.machine.drawn;
 }
 
--- What a command is answered: by a row of the table, and with a header, which has ten bytes.
+-- The answer to a command has a row of the table, and a response with a header of ten bytes.
 abbrev pub IsAnswer : Outcome → Type 0
 IsAnswer outcome = IsRow outcome.row × (10 ≤ length outcome.response.items)
 
@@ -45,28 +45,27 @@ IsAnswer outcome = IsRow outcome.row × (10 ≤ length outcome.response.items)
 abbrev pub image_at_power : Device → List ℕ
 image_at_power device = image_text Two (kept_of (cycled (record_of device)))
 
--- The power of a device was cycled, and its new journal begun by this clock.
+-- The power of a device was cycled, and its new journal begins with this clock.
 pub record BeginsJournal (before : Device) (now : ℕ) (outcome : Outcome) (after : Device) : Type 0 where
   pub executes : Executes false (record_of before) Cycled (outcome_step (record_of after) outcome)
   pub history : After Follows (record_of before) Cycled (outcome_step (record_of after) outcome)
   pub journal : after.journal ≡ journal_begun now (image_at_power before)
 
--- A device is that of a journal, whose head and entries have so many bytes.
+-- A device is that of a journal, whose head and entries have `taken` bytes.
 abbrev pub IsOfJournal : List ℕ → (taken : ℕ) → Device → Type 0
 IsOfJournal text taken device =
     IsJournal text (record { journal = device.journal; taken = taken }) (record_of device)
 
--- A text is not opened as a journal by this fault.
+-- A text is not opened as a journal, because of this fault.
 abbrev pub HasFault : List ℕ → OpenFault → Type 0
 HasFault text fault = (new : Record) × OpensJournal text (Err fault) new
 
--- This is said of a text that is no journal, or where there is no memory.
+-- A fault says this of a text that is no journal, or where memory was refused.
 abbrev pub IsSaidOf : List ℕ → Said → Type 0
 IsSaidOf text said =
     ((fault : OpenFault) × (said ≡ said_of_opening fault) × HasFault text fault) ⊎ (said ≡ WantsMemory)
 
--- A device executed the entries of a text, of which so many bytes were taken; or it did so to a fault,
--- and this is said of it.
+-- A device executed the entries of a text, which have `taken` bytes; or it did so up to this fault.
 abbrev pub FollowsText : (before : Device) → List ℕ → Result ℕ Said → (after : Device) → Type 0
 FollowsText before text (Ok taken) after =
     Replays false before.journal (record_of before) text (record { taken = taken; fault = None })
@@ -76,7 +75,7 @@ FollowsText before text (Err said) after =
     × Replays false before.journal (record_of before) text
     (record { taken = taken; fault = Some fault }) after.journal (record_of after)
 
--- the command of a buffer that a device is given by this clock, without the completing layer
+-- the command of a buffer that a device is given at this clock, without the completing layer
 abbrev pub command_by : Device → (buffer : List ℕ) → (locality now : ℕ) → (random : List ℕ) → Command
 command_by device buffer locality now random =
     command_at buffer locality (elapsed_of now device.journal.time) false random

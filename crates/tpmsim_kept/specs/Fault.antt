@@ -1,4 +1,4 @@
--- What a fault of a kept device says.
+-- What the faults of a kept device say.
 use Rattle.std.specs.Prelude.{Bool, true, false, List, ℕ, ◌++◌, codes}
 use Rattle.tpm_journal.specs.declared.following.FollowFault.{FollowFault}
 use Rattle.tpm_journal.specs.declared.following.FollowFault.TheVariants as following
@@ -47,7 +47,7 @@ said_text said.WasAnsweredOtherwise =
 abbrev pub kept_fault_text : KeptFault → List ℕ
 kept_fault_text fault = place_text fault.place ++ codes " " ++ said_text fault.said
 
--- what is said of a journal that was not followed, or not opened
+-- what a fault says of a journal that was not followed, or not opened
 abbrev pub said_of_following : FollowFault → Said
 said_of_following following.Damaged = said.IsDamaged
 said_of_following following.Otherwise = said.WasAnsweredOtherwise
@@ -57,7 +57,7 @@ said_of_opening opening.NoJournal = said.IsNoJournal
 said_of_opening (opening.Image fault) = said.HoldsNoImage
 said_of_opening (opening.Follow fault) = said_of_following fault
 
--- whether a journal is none that the program takes, whatever the system does
+-- whether a journal's contents are at fault, and not the system
 abbrev pub is_of_contents : Said → Bool
 is_of_contents said.IsNoJournal = true
 is_of_contents said.HoldsNoImage = true

@@ -1,4 +1,4 @@
--- Why a script that is played on a kept device ends where it stops at a line.
+-- Why a script that is played on a kept device ends at a line.
 use Rattle.std.specs.Prelude.{ℕ}
 use Rattle.tpmsim_kept.specs.declared.stop.PlayFault.{PlayFault}
 use Rattle.tpmsim_kept.specs.declared.stop.PlayFault.TheVariants.{Script, Kept}

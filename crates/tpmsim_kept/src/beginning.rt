@@ -1,5 +1,5 @@
-//! How a journal begins: as a file beside the other one, whose place it then takes. A whole journal
-//! stands there at each moment.
+//! How a journal begins: it is written to a new file, which then takes the place of the old one, so
+//! that a whole journal stands there at each moment.
 
 use crate::device::Device;
 use crate::fault::{KeptFault, Place, Said};
@@ -11,8 +11,8 @@ use std::fs::File;
 use std::os::unix::fs::FileExt;
 use tpm_step::Outcome;
 
-/// Cycles the power of a device, and begins a new journal of it in place of any other. Where the new
-/// one cannot be written, the other one stays.
+/// Cycles the power of a device, and begins a new journal of it in place of any old one. Where the
+/// new one cannot be written, the old one stays.
 pub fn begin(
     rt: &HostRuntime,
     folder: &mut Folder,
@@ -27,7 +27,7 @@ pub fn begin(
     Ok(JournalFile::begun(device, opened, head.len() as u64))
 }
 
-/// Puts a head into a file of its own, which takes the journal's place.
+/// Writes a head to a new file, which takes the journal's place.
 fn replace(
     rt: &HostRuntime,
     folder: &mut Folder,
@@ -49,7 +49,7 @@ fn replace(
     }
 }
 
-/// Makes the file, where one may stand that a killed process left.
+/// Makes the new file, in place of one that a killed process may have left.
 fn make_new(rt: &HostRuntime, folder: &Folder) -> Result<File, KeptFault> {
     if folder.look(rt, Place::NewJournal)?.is_some() {
         remove_new(rt, folder);
@@ -61,7 +61,7 @@ fn remove_new(rt: &HostRuntime, folder: &Folder) {
     let _ = fs::remove_file(rt, folder.path(Place::NewJournal));
 }
 
-/// Writes the file, and gives it the journal's name.
+/// Writes the new file, and gives it the journal's name.
 fn put_in_place(
     rt: &HostRuntime,
     folder: &Folder,

@@ -19,8 +19,8 @@ use tpm_record::SlotKeep;
 use tpm_step::Outcome;
 use tpm_types::Locality;
 
-/// A device, and what its journal has beside the device. The outcome of an event is written over one
-/// that its caller lends.
+/// A device, and the state of its journal. The outcome of an event is written over one that the
+/// caller lends.
 #[derive(Drop)]
 pub struct Device {
     machine: Machine<SlotKeep>,
@@ -39,7 +39,8 @@ impl Device {
         })
     }
 
-    /// The time to which the journal has come, in milliseconds of the host's clock.
+    /// The time of the journal in milliseconds: its head's clock, and the elapsed times of its
+    /// commands.
     pub fn time(&self) -> u64
         ensures { result ≡ self.now.journal.time }
     {
@@ -60,8 +61,8 @@ impl Device {
         }
     }
 
-    /// Opens the device of a journal where a new device of zeros lies. After a fault nothing is said
-    /// of the device.
+    /// Opens the device of a journal in place of a new device of zeros. After a fault nothing is
+    /// said of the device.
     fn open_in_place(&mut self, text: &[u8], outcome: &mut Outcome) -> Result<usize, OpenFault>
         requires { record_of self.old ≡ manufactured (replicate 256 0) }
         ensures opens { IfOk result (λ taken. IsOfJournal text.now taken self.new) }
@@ -72,8 +73,7 @@ impl Device {
         Ok(opened.taken)
     }
 
-    /// Executes the entries of a text that was added behind the journal. Gives how many bytes they
-    /// have.
+    /// Executes the entries of a text that follows the journal. Gives how many bytes they have.
     pub fn follow(&mut self, text: &[u8], outcome: &mut Outcome) -> Result<usize, Said>
         ensures { FollowsText self.old text.now result self.new }
     {
@@ -106,7 +106,7 @@ impl Device {
     }
 
     /// Cycles the power, and writes the head of the new journal to the front of a room, if the head
-    /// has room there. Gives how many bytes it has.
+    /// fits. Gives how many bytes it has.
     fn put_head(&mut self, now_ms: u64, outcome: &mut Outcome, room: &mut [u8]) -> usize
         ensures head { PutsFront (head_text now_ms (image_at_power self.old)) room.old result room.new }
         ensures begins { result ≤ length room.old → BeginsJournal self.old now_ms outcome.new self.new }
@@ -116,7 +116,8 @@ impl Device {
         self.journal.begin(&mut self.machine, now_ms, outcome, room)
     }
 
-    /// Executes a command, and writes its entry to the front of a room. Gives how many bytes it has.
+    /// Executes a command, and writes its entry to the front of a room. Gives how many bytes the
+    /// entry has.
     pub fn execute(
         &mut self,
         buffer: &[u8],

@@ -1,4 +1,4 @@
-//! What a fault of a kept device says, and of what.
+//! The faults of a kept device: the place that a fault concerns, and what it says of it.
 
 ghost use Rattle.std.specs.Prelude.{◌≡◌};
 ghost use Rattle.tpmsim_kept.specs.Fault.{is_of_contents, place_text, said_of_following};
@@ -7,17 +7,17 @@ ghost use Rattle.tpmsim_kept.specs.Fault.{said_of_opening, said_text};
 use std::fmt;
 use tpm_journal::{FollowFault, OpenFault};
 
-/// What a fault is about.
+/// The place that a fault concerns.
 #[derive(Clone, Copy, Debug, PartialEq, Eq)]
 pub enum Place {
     Folder,
     Journal,
-    /// The journal that is to take the other one's place.
+    /// The new journal, which is to take the old one's place.
     NewJournal,
     Lock,
 }
 
-/// What is said of it.
+/// What a fault says of its place.
 #[derive(Clone, Copy, Debug, PartialEq, Eq)]
 pub enum Said {
     IsLink,
@@ -41,9 +41,9 @@ pub enum Said {
     IsReplaced,
     WantsClock,
     WantsMemory,
-    /// No head stands at the front of it.
+    /// The journal does not begin with a head.
     IsNoJournal,
-    /// The head's image is none of this version of the program.
+    /// The head's image is not one of this version of the program.
     HoldsNoImage,
     IsDamaged,
     WasAnsweredOtherwise,
@@ -57,7 +57,7 @@ pub struct KeptFault {
 }
 
 impl Place {
-    /// The name of the place, as of a folder that is called `state`.
+    /// The name of the place in the message of a fault, where the folder is called `state`.
     pub fn name(self) -> &'static str
         ensures { result.now ≡ place_text self }
     {
@@ -69,7 +69,7 @@ impl Place {
         }
     }
 
-    /// A fault of this place.
+    /// The fault that says this of the place.
     pub fn that(self, said: Said) -> KeptFault
         ensures { result ≡ record { place = self; said = said } }
     {
@@ -78,7 +78,7 @@ impl Place {
 }
 
 impl Said {
-    /// What is said of a journal that was not opened.
+    /// What a fault says of a journal that was not opened.
     pub fn of(fault: OpenFault) -> Said
         ensures { result ≡ said_of_opening fault }
     {
@@ -89,7 +89,7 @@ impl Said {
         }
     }
 
-    /// What is said of a journal that was not followed.
+    /// What a fault says of a journal that was not followed.
     pub fn of_following(fault: FollowFault) -> Said
         ensures { result ≡ said_of_following fault }
     {
@@ -99,7 +99,7 @@ impl Said {
         }
     }
 
-    /// The words for it.
+    /// The words of the message.
     pub fn words(self) -> &'static str
         ensures { result.now ≡ said_text self }
     {
@@ -134,7 +134,7 @@ impl Said {
         }
     }
 
-    /// Whether the journal is none that this program takes, whatever the system does.
+    /// Whether the journal's contents are at fault, and not the system.
     pub fn is_of_contents(self) -> bool
         ensures { result ≡ is_of_contents self }
     {

@@ -1,5 +1,5 @@
-//! The folder of a kept device, and what may stand in it. Only what belongs to the user who runs the
-//! process is opened, and no link is followed.
+//! The folder of a kept device, and what may stand in it. Only files and folders of the user who
+//! runs the process are opened, and no link is followed.
 
 use crate::fault::{KeptFault, Place, Said};
 use crate::standing::{file_fault, folder_fault, kind_of};
@@ -21,7 +21,7 @@ pub struct Identity {
     inode: u64,
 }
 
-/// The identity of what has this metadata.
+/// The identity of the file with this metadata.
 pub fn identity_of(metadata: &Metadata) -> Identity {
     Identity {
         device: metadata.dev(),
@@ -29,7 +29,7 @@ pub fn identity_of(metadata: &Metadata) -> Identity {
     }
 }
 
-/// A file that was opened, and which one it is.
+/// A file that was opened, and its identity.
 #[derive(Drop)]
 pub struct OpenedFile {
     pub file: File,
@@ -49,7 +49,7 @@ pub struct Folder {
 }
 
 impl Folder {
-    /// The folder at a path, which is made where it is not there and `makes` says so.
+    /// Opens the folder at a path, or makes it where it is missing and `makes` is true.
     pub fn open(rt: &HostRuntime, path: &str, makes: bool) -> Result<Folder, KeptFault> {
         let user = user_of(rt)?;
         let was_made = makes && make(rt, without_slashes(path))?;
@@ -79,7 +79,7 @@ impl Folder {
         }
     }
 
-    /// The metadata of a regular file of the user at a place; none where nothing stands there.
+    /// The metadata of the user's regular file at a place; None where nothing is there.
     pub fn look(&self, rt: &HostRuntime, place: Place) -> Result<Option<Metadata>, KeptFault> {
         match fs::symlink_metadata(rt, self.path(place)) {
             Ok(metadata) => match self.fault_at(place, &metadata) {
@@ -91,7 +91,7 @@ impl Folder {
         }
     }
 
-    /// Why what stands at a place is no file of the user, if it is none.
+    /// Why what is at a place is not a regular file of the user, if it is not.
     fn fault_at(&self, place: Place, metadata: &Metadata) -> Option<KeptFault> {
         match file_fault(kind_of(metadata), metadata.uid(), self.user) {
             Some(said) => Some(place.that(said)),
@@ -99,8 +99,8 @@ impl Folder {
         }
     }
 
-    /// Opens a file that is there, to be read and written. Where another one was put there meanwhile,
-    /// which may be a link, the file is not used.
+    /// Opens an existing file, to be read and written. The file is not used where another one,
+    /// perhaps a link, was put in its place meanwhile.
     pub fn open_file(&self, rt: &HostRuntime, place: Place) -> Result<OpenedFile, KeptFault> {
         let Some(looked) = self.look(rt, place)? else {
             return Err(place.that(Said::IsNotThere));
@@ -119,7 +119,7 @@ impl Folder {
         }
     }
 
-    /// Makes a file that is not there, which only its owner may use.
+    /// Makes a new file, which only its owner may use.
     pub fn make_file(&self, rt: &HostRuntime, place: Place) -> Result<File, KeptFault> {
         let file = match create(rt, self.path(place)) {
             Ok(file) => file,
@@ -131,7 +131,8 @@ impl Folder {
         }
     }
 
-    /// Forces what stands in the folder to the disk; where it was made here, its own name too.
+    /// Forces the folder's contents to the disk, and where the folder was made here, its own name
+    /// too.
     pub fn force(&mut self, rt: &HostRuntime) -> Result<(), KeptFault> {
         let forced = force_folders(rt, self.path.as_str(), self.was_made);
         self.was_made = self.was_made && forced.is_err();
@@ -142,7 +143,7 @@ impl Folder {
     }
 }
 
-/// The fault of an error: memory ran out, or what is said of the place.
+/// The fault of an error: memory ran out, or else this is said of the place.
 pub fn fault_of(error: &io::Error, place: Place, said: Said) -> KeptFault {
     match error.kind() {
         ErrorKind::OutOfMemory => place.that(Said::WantsMemory),
@@ -150,13 +151,13 @@ pub fn fault_of(error: &io::Error, place: Place, said: Said) -> KeptFault {
     }
 }
 
-/// A path without the slashes at its end, behind which a link would be followed.
+/// A path without the slashes at its end, since a link before a slash would be followed.
 fn without_slashes(path: &str) -> &str {
     let front = path.trim_end_matches('/');
     if front.is_empty() { path } else { front }
 }
 
-/// The user who runs the process, to whom Linux gives the process's own folder of /proc.
+/// The user who runs the process, who owns the process's own folder in Linux's /proc.
 fn user_of(rt: &HostRuntime) -> Result<u32, KeptFault> {
     match fs::metadata(rt, "/proc/self") {
         Ok(metadata) => Ok(metadata.uid()),
@@ -164,8 +165,8 @@ fn user_of(rt: &HostRuntime) -> Result<u32, KeptFault> {
     }
 }
 
-/// Makes the folder where it is not there, and says whether it did. The umask may have taken bits that
-/// its user needs.
+/// Makes the folder where it is missing, gives it its permissions, whatever the umask is, and says
+/// whether it did.
 fn make(rt: &HostRuntime, path: &str) -> Result<bool, KeptFault> {
     match DirBuilder::new().mode(FOLDER_MODE).create(rt, path) {
         Ok(()) => match fs::set_permissions(rt, path, Permissions::from_mode(FOLDER_MODE)) {
@@ -202,7 +203,7 @@ fn create(rt: &HostRuntime, path: &str) -> io::Result<File> {
         .open(rt, path)
 }
 
-/// Forces a folder to the disk, and where that is asked for the folder above it.
+/// Forces a folder to the disk, and the folder above it where that is asked for.
 fn force_folders(rt: &HostRuntime, path: &str, above: bool) -> io::Result<()> {
     fs::open(rt, path)?.sync_all()?;
     if above {

@@ -3,10 +3,10 @@
 /// When the journal is forced to the disk.
 #[derive(Clone, Copy, Debug, PartialEq, Eq)]
 pub enum Force {
-    /// Never.
+    /// The journal is never forced.
     Never,
-    /// Where the journal begins, which is at each power cycle.
+    /// The journal is forced where it begins, at each power cycle.
     Power,
-    /// Where it begins, and before each response.
+    /// The journal is forced where it begins, and before each response.
     Always,
 }

@@ -1,4 +1,4 @@
-//! The file of a journal, and the device that executed it.
+//! The file of a journal, and the device that executed its entries.
 
 ghost use Rattle.tpmsim_kept.specs.Device.{IsAnswer};
 
@@ -14,11 +14,11 @@ use tpm_journal_text::ENTRY_ROOM;
 use tpm_step::Outcome;
 use tpm_types::Locality;
 
-/// A journal is read in parts of so many bytes. The head fits into one, and each entry does.
+/// How many bytes of a journal are read at once. A head fits, and so does each entry.
 const PART: u64 = 262_144;
 
-/// A journal's file, and the device that executed it up to a place. What stands behind that is the
-/// rest of an entry whose writer was ended before it answered.
+/// A journal's file, and the device that executed it up to a place. What follows is the rest of an
+/// entry whose writer ended before it answered.
 #[derive(Drop)]
 pub struct JournalFile {
     device: Box<Device>,
@@ -26,12 +26,12 @@ pub struct JournalFile {
     pub identity: Identity,
     /// How many bytes the file has.
     size: u64,
-    /// How many of them the device has executed.
+    /// How many of the file's bytes the device has executed.
     executed: u64,
 }
 
 impl JournalFile {
-    /// A journal that a device has begun: its head alone is in the file.
+    /// The journal that a device has begun, whose file holds the head alone.
     pub fn begun(device: Box<Device>, opened: OpenedFile, size: u64) -> JournalFile {
         JournalFile {
             device,
@@ -42,7 +42,7 @@ impl JournalFile {
         }
     }
 
-    /// Opens the journal that stands in the folder, and executes it.
+    /// Opens the journal in the folder, and executes it.
     pub fn open(
         rt: &HostRuntime,
         folder: &Folder,
@@ -69,12 +69,12 @@ impl JournalFile {
         Ok(journal)
     }
 
-    /// The device alone; the file is closed.
+    /// Gives the device alone, and closes the file.
     pub fn into_device(self) -> Box<Device> {
         self.device
     }
 
-    /// Executes what stands in the file behind what was executed.
+    /// Executes the entries that follow in the file.
     pub fn catch_up(&mut self, rt: &HostRuntime, outcome: &mut Outcome) -> Result<(), KeptFault> {
         self.size = size_of(&self.file)?;
         if self.size < self.executed {
@@ -101,7 +101,8 @@ impl JournalFile {
         Err(Place::Journal.that(Said::CannotBeRead))
     }
 
-    /// Executes the whole entries of the next bytes, and says how many bytes these are.
+    /// Executes the whole entries among the next bytes of the file, and says how many bytes they
+    /// are.
     fn follow_part(
         &mut self,
         rt: &HostRuntime,
@@ -118,7 +119,7 @@ impl JournalFile {
         }
     }
 
-    /// Executes a command at this moment, and adds its entry.
+    /// Executes a command at this moment, and adds its entry to the file.
     pub fn execute(
         &mut self,
         buffer: &[u8],
@@ -137,12 +138,13 @@ impl JournalFile {
         self.add(entry, force)
     }
 
-    /// The time to which the journal has come, in milliseconds of the host's clock.
+    /// The time of the journal in milliseconds: its head's clock, and the elapsed times of its
+    /// commands.
     pub fn time(&self) -> u64 {
         self.device.time()
     }
 
-    /// Adds an entry behind what was executed. Where that fails the file is cut to what it was.
+    /// Adds an entry after what was executed. Where that fails, the file is cut to what it was.
     fn add(&mut self, entry: &[u8], force: Force) -> Result<(), KeptFault> {
         if self.size > self.executed {
             self.cut()?;
@@ -196,7 +198,7 @@ fn size_of(file: &File) -> Result<u64, KeptFault> {
     }
 }
 
-/// So many bytes of a file, from this place on.
+/// Reads this many bytes of a file, from a place on.
 fn read_part(rt: &HostRuntime, file: &File, place: u64, count: u64) -> Result<Vec<u8>, KeptFault> {
     match read_exactly(rt, file, place, count) {
         Ok(part) => Ok(part),

@@ -14,8 +14,8 @@ use crate::moment::{Moment, clock_of};
 use tpm_step::Outcome;
 use tpm_types::Locality;
 
-/// A device that is kept in a folder. A call that fails had nothing answered, and the next one begins
-/// with what the journal has.
+/// A device that is kept in a folder. A call that fails has answered nothing, and the next one
+/// begins with what the journal has.
 #[derive(Drop)]
 pub struct Kept<'a> {
     rt: &'a HostRuntime,
@@ -27,8 +27,8 @@ pub struct Kept<'a> {
 }
 
 impl<'a> Kept<'a> {
-    /// The device in this folder, which is made where it is not there and `makes` says so. Nothing of
-    /// the device is read yet.
+    /// Opens the folder of a device, or makes it where it is missing and `makes` is true. Nothing
+    /// of the device is read yet.
     pub fn at(
         rt: &'a HostRuntime,
         path: &str,
@@ -49,7 +49,7 @@ impl<'a> Kept<'a> {
         Ok(self.folder.look(self.rt, Place::Journal)?.is_some())
     }
 
-    /// Begins a new device, whose secrets are these random bytes, where none is in the folder.
+    /// Begins a new device, whose secrets are these random bytes, unless one is in the folder.
     pub fn manufacture(&mut self, random: &[u8; 256]) -> Result<(), KeptFault> {
         self.lock.take(self.rt, &self.folder)?;
         let made = self.manufacture_locked(random);
@@ -114,7 +114,7 @@ impl<'a> Kept<'a> {
         Ok(())
     }
 
-    /// Takes power away from the device and gives it back, for every process that holds it.
+    /// Takes power away from the device and gives it back, for all processes that use it.
     pub fn cycle_power(&mut self) -> Result<(), KeptFault> {
         self.lock.take(self.rt, &self.folder)?;
         let done = self.cycle_power_locked();
@@ -143,8 +143,8 @@ impl<'a> Kept<'a> {
         Ok(())
     }
 
-    /// The journal that stands in the folder, and its device, which has executed all of it. It is
-    /// taken out, so that it is opened anew where what is done with it fails.
+    /// The journal in the folder, and its device, which has executed all of it. Both are taken out,
+    /// so that they are opened anew where the caller fails.
     fn caught_up(&mut self, outcome: &mut Outcome) -> Result<JournalFile, KeptFault> {
         let held = self.journal.take();
         let Some(metadata) = self.folder.look(self.rt, Place::Journal)? else {

@@ -1,16 +1,16 @@
 #![tactic(auto)]
 
 //! A device that is kept in a folder: its journal has the device as its power came on, and each
-//! command that was answered since. To open the device is to execute the journal again, and a
-//! command's entry is in the file before its response goes out, so that nothing that was answered is
-//! lost with a process.
+//! command that was answered since. Opening the device executes the journal again. A command's
+//! entry is in the file before its response goes out, so that no answered command is lost with a
+//! process.
 //!
 //! [`Kept`] is a kept device. Several processes may hold one at once: each locks the folder for a
-//! command, executes what the others added, and then its own. [`playing`] plays a script on it, and
-//! [`serving`] serves it on a connection. The parts below are a device with its journal in memory
-//! ([`device`]), of which contracts say what tpm_journal says; what may stand at a path
+//! command, executes the others' new entries, and then its own command. [`playing`] plays a script
+//! on it, and [`serving`] serves it on a connection. Its parts are a device with its journal in
+//! memory ([`device`]), for which contracts say what tpm_journal says; what may stand at a path
 //! ([`standing`]); and the folder, its lock and the journal's file ([`folder`], [`lock`],
-//! [`journal_file`], [`beginning`]). What a file has no contract can say.
+//! [`journal_file`], [`beginning`]). No contract can say what a file holds.
 
 mod beginning;
 pub mod device;

@@ -1,12 +1,12 @@
-//! The lock of a kept device, which a process has while it executes a command.
+//! The lock of a kept device, which a process holds while it executes a command.
 
 use crate::fault::{KeptFault, Place, Said};
 use crate::folder::{Folder, OpenedFile, fault_of, identity_of};
 
-/// How often the file is opened anew where another one stands at its path.
+/// How often the lock's file is opened anew, where another file has taken its path.
 const TRIES: u8 = 100;
 
-/// The file that is locked, where it is open.
+/// The lock's file, where it is open.
 #[derive(Drop)]
 pub struct Lock {
     opened: Option<OpenedFile>,
@@ -18,8 +18,8 @@ impl Lock {
         Lock { opened: None }
     }
 
-    /// Waits until no other process has the lock, and takes it. The file that is locked is the one
-    /// that stands at the path then.
+    /// Waits until no other process holds the lock, and takes it. The locked file is the one that
+    /// is at the path then.
     pub fn take(&mut self, rt: &HostRuntime, folder: &Folder) -> Result<(), KeptFault> {
         for _ in 0..TRIES {
             let opened = match self.opened.take() {
@@ -37,7 +37,7 @@ impl Lock {
         Err(Place::Lock.that(Said::IsReplaced))
     }
 
-    /// Gives the lock back. Where that fails the file is closed, and the system takes the lock back.
+    /// Gives the lock back. Where that fails, the file is closed, and the system releases the lock.
     pub fn give(&mut self) {
         if let Some(opened) = self.opened.take() {
             if opened.file.unlock().is_ok() {
@@ -47,7 +47,8 @@ impl Lock {
     }
 }
 
-/// Opens the file, and makes it where it is not there. Another process may make it at the same time.
+/// Opens the lock's file, and makes it where it is missing. Another process may make it at the same
+/// time.
 fn open(rt: &HostRuntime, folder: &Folder) -> Result<OpenedFile, KeptFault> {
     if folder.look(rt, Place::Lock)?.is_none() {
         let made = folder.make_file(rt, Place::Lock);
@@ -60,7 +61,7 @@ fn open(rt: &HostRuntime, folder: &Folder) -> Result<OpenedFile, KeptFault> {
     folder.open_file(rt, Place::Lock)
 }
 
-/// Whether the file that was opened stands at the lock's path.
+/// Whether the open file is the one at the lock's path.
 fn stands(rt: &HostRuntime, folder: &Folder, opened: &OpenedFile) -> Result<bool, KeptFault> {
     match folder.look(rt, Place::Lock)? {
         Some(metadata) => Ok(identity_of(&metadata) == opened.identity),

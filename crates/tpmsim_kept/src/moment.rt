@@ -1,19 +1,19 @@
-//! When a command comes.
+//! The moment at which a command comes.
 
 use crate::fault::{KeptFault, Place, Said};
 use std::time::{Clock, SystemTime};
 
-/// When a command comes.
+/// The moment at which a command comes.
 #[derive(Clone, Copy, Debug, PartialEq, Eq)]
 pub enum Moment {
     /// Now, by the host's clock.
     Now,
-    /// So many milliseconds behind the time to which the journal has come.
+    /// This many milliseconds after the time of the journal.
     Behind(u32),
 }
 
 impl Moment {
-    /// The moment in milliseconds of the host's clock, where a journal has come to this time.
+    /// The moment in milliseconds of the host's clock, where the journal has this time.
     pub fn clock_ms(self, clock: &impl Clock, time: u64) -> Result<u64, KeptFault> {
         match self {
             Moment::Now => clock_of(clock),

@@ -1,5 +1,5 @@
-//! A script that is played on a kept device. Its lines set what the device is given; between two of
-//! its commands other processes may have theirs.
+//! A script that is played on a kept device. Its lines set what the device is given; other
+//! processes may execute commands between two of the script's.
 
 ghost use Rattle.std.specs.Prelude.{◌≤◌, length};
 ghost use Rattle.tpmsim_kept.specs.Device.{IsAnswer};
@@ -20,18 +20,18 @@ use tpmsim_script::room::Room;
 use tpmsim_script::run::SCRIPT_LINES;
 use tpmsim_script::script::Script;
 
-/// A script on its way, and what was printed of it and not written yet.
+/// The player of a script, with the output that is not written yet.
 #[derive(Drop)]
 struct Player {
     traced: bool,
     script: Script,
-    /// The outcome of the command before, which the next is written over.
+    /// The outcome of the previous command, over which the next one is written.
     outcome: Outcome,
     answers: Answers,
 }
 
-/// Plays a script on a kept device, and writes its responses; where that is asked for, the trace of
-/// each event before them. The lines before a fault were played.
+/// Plays a script on a kept device, and writes its responses, each after the trace of its event
+/// where traces are asked for. The lines before a fault were played.
 pub fn play<R: Read, W: Write>(
     alloc: Global,
     kept: &mut Kept<'_>,
@@ -76,7 +76,7 @@ impl Player {
         Ok(())
     }
 
-    /// Goes to the next line, of this number, and tells whether there is one. What was printed is
+    /// Goes to the next line, which has this number, and tells whether there is one. The output is
     /// written before more of the script is read.
     fn next_line<R: Read, W: Write>(
         &mut self,
@@ -148,7 +148,7 @@ impl Player {
         }
     }
 
-    /// Prints the trace of a command with the outcome that was written last, where it is asked for.
+    /// Prints the trace of a command with the latest outcome, where traces are asked for.
     fn trace<W: Write>(&mut self, event: &Event, writer: &mut Tap<W>) -> Result<(), Stop>
         requires { IsAnswer self.old.outcome }
     {
@@ -159,7 +159,7 @@ impl Player {
         self.put_text(writer, text.as_str().as_bytes())
     }
 
-    /// Cycles the device's power, and prints the trace of that where it is asked for.
+    /// Cycles the device's power, and prints the trace of that where traces are asked for.
     fn cycle_power<W: Write>(
         &mut self,
         kept: &mut Kept<'_>,
@@ -181,7 +181,7 @@ impl Player {
         }
     }
 
-    /// Writes all lines so far.
+    /// Writes all output so far.
     fn flush<W: Write>(&mut self, writer: &mut Tap<W>) -> Result<(), PlayFault> {
         match self.answers.flush(writer) {
             Ok(()) => Ok(()),

@@ -1,5 +1,5 @@
-//! A kept device that is served on a connection. Between two of its commands other processes may have
-//! theirs.
+//! A kept device that is served on a connection. Other processes may execute commands between two
+//! of its own.
 
 use crate::fault::KeptFault;
 use crate::kept::Kept;
@@ -17,22 +17,22 @@ const READS: u32 = 1_048_576;
 /// Why a connection was not served to its end.
 #[derive(Clone, Copy, Debug, PartialEq, Eq)]
 pub enum ServeFault {
-    /// The client did not read or write any more.
+    /// The client could not be read from or written to.
     Client,
-    /// There are no random bytes for a command, which has not been executed.
+    /// There were no random bytes for a command, which was not executed.
     Random,
     /// The device did not do what was asked for.
     Kept(KeptFault),
 }
 
-/// What gives each command its random bytes.
+/// The source of each command's random bytes.
 pub trait RandomBytes {
-    /// The next 256 random bytes; none where there are none.
+    /// The next 256 random bytes; None where there are no more.
     fn next(&mut self) -> Option<[u8; 256]>;
 }
 
 /// Serves a connection: executes the buffers that it gives, each by the host's clock, from this
-/// locality and with random bytes of its own, and writes their responses.
+/// locality and with its own random bytes, and writes their responses.
 pub fn serve<R: Read, W: Write, B: RandomBytes>(
     kept: &mut Kept<'_>,
     locality: Locality,
@@ -65,8 +65,8 @@ pub fn serve<R: Read, W: Write, B: RandomBytes>(
     Err(ServeFault::Client)
 }
 
-/// Executes the buffers that a connection holds whole, of which it has no more than bytes, and writes
-/// their responses.
+/// Executes the whole buffers that a connection holds, at most one for each byte, and writes their
+/// responses.
 fn answer_whole<W: Write, B: RandomBytes>(
     kept: &mut Kept<'_>,
     locality: Locality,

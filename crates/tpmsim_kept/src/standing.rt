@@ -1,4 +1,4 @@
-//! What stands at a path, and whether a kept device may use it.
+//! The kinds of files at a path, and whether a kept device may use them.
 
 ghost use Rattle.std.specs.Prelude.{◌≡◌};
 ghost use Rattle.std.specs.Fs.{file_type};
@@ -7,7 +7,7 @@ ghost use Rattle.tpmsim_kept.specs.Standing.{IsOfKind, file_fault, folder_fault,
 use crate::fault::Said;
 use std::fs::Metadata;
 
-/// What stands at a path.
+/// The kind of file at a path.
 #[derive(Clone, Copy, Debug, PartialEq, Eq)]
 pub enum Kind {
     Link,
@@ -16,7 +16,7 @@ pub enum Kind {
     Other,
 }
 
-/// The kind of what has this metadata, which is its own and not that of what a link leads to.
+/// The kind of the file with this metadata, which is that of a link itself and not of its target.
 pub fn kind_of(metadata: &Metadata) -> Kind
     ensures { IsOfKind result (file_type metadata.now) }
 {
@@ -32,7 +32,7 @@ pub fn kind_of(metadata: &Metadata) -> Kind
     }
 }
 
-/// Why what stands at a path is no file of this user, if it is none.
+/// Why a file at a path is not a regular file of this user, if it is not.
 pub fn file_fault(kind: Kind, owner: u32, user: u32) -> Option<Said>
     ensures { result ≡ file_fault kind owner user }
 {
@@ -43,7 +43,7 @@ pub fn file_fault(kind: Kind, owner: u32, user: u32) -> Option<Said>
     }
 }
 
-/// Why what stands at a path is no folder of this user, if it is none.
+/// Why a file at a path is not a folder of this user, if it is not.
 pub fn folder_fault(kind: Kind, owner: u32, user: u32) -> Option<Said>
     ensures { result ≡ folder_fault kind owner user }
 {
@@ -54,7 +54,7 @@ pub fn folder_fault(kind: Kind, owner: u32, user: u32) -> Option<Said>
     }
 }
 
-/// Whose it is.
+/// What a fault says where the owner is not the user.
 fn owner_fault(owner: u32, user: u32) -> Option<Said>
     ensures { result ≡ owner_fault owner user }
 {

@@ -20,9 +20,9 @@ pub enum PlayFault {
 pub enum Stop {
     /// The line is not one that a script may have.
     Bad,
-    /// What it prints could not be written.
+    /// The output of the line could not be written.
     Write,
-    /// The device did not do what it asks for.
+    /// The device did not do what the line asks for.
     Kept(KeptFault),
 }
 

@@ -1,8 +1,8 @@
 #![tactic(auto)]
 
 //! libtpmsim: the calls of tpm_library under the names that C links. Each export calls the function
-//! of its name and states its clauses again. An allocator has no bytes, so C passes nothing for it.
-//! `library/tpmsim.h` declares them for C, and says what a caller owes.
+//! of its name and repeats its contract. An allocator has no bytes, so C passes nothing for it.
+//! `library/tpmsim.h` declares the exports for C, and says what a caller owes.
 
 ghost use Rattle.std.specs.Prelude.{◌≡◌, ◌≢◌, ◌<◌, ◌==◌, ◌∷◌, [], drop, false, length, not, true};
 ghost use Rattle.std.specs.Option.{MatchOption};
@@ -39,7 +39,7 @@ ghost use Rattle.tpm_library.specs.declared.device.Device.{Device};
 use std::alloc::Global;
 use tpm_library::{Answered, Holder};
 
-/// The version, with 256 times the number behind the first point, and 65,536 times that before it.
+/// The version, with 256 times the number after the first point, and 65,536 times that before it.
 #[unsafe(no_mangle)]
 pub extern "C" fn tpmsim_version() -> u32
     ensures { result ≡ version_number 0 1 0 }
@@ -103,7 +103,7 @@ pub extern "C" fn tpmsim_power_cycle(alloc: Global, holder: &mut Holder) -> u8
     tpm_library::power_cycle(alloc, holder)
 }
 
-/// Writes the image of the device to a room, if that has as many bytes.
+/// Writes the image of the device to a room, if the image fits.
 #[unsafe(no_mangle)]
 pub extern "C" fn tpmsim_save(alloc: Global, holder: &mut Holder, room: &mut [u8]) -> usize
     ensures saved { MatchOption holder.old.device ((result ≡ 0) × (room.new ≡ room.old))
@@ -146,8 +146,7 @@ pub extern "C" fn tpmsim_free(alloc: Global, holder: &mut Holder)
     tpm_library::free(alloc, holder);
 }
 
-/// Cycles power, and writes the head of the device's new journal to a room, if that has as many
-/// bytes.
+/// Cycles power, and writes the head of the device's new journal to a room, if the head fits.
 #[unsafe(no_mangle)]
 pub extern "C" fn tpmsim_journal_begin(
     alloc: Global,
@@ -182,7 +181,7 @@ pub extern "C" fn tpmsim_journal_open(
     tpm_library::journal::open(alloc, holder, text, taken)
 }
 
-/// Executes the entries of a text that was added behind what the device executed.
+/// Executes the entries of a text that follows what the device executed.
 #[unsafe(no_mangle)]
 pub extern "C" fn tpmsim_journal_follow(
     alloc: Global,

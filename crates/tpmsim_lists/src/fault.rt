@@ -38,7 +38,7 @@ impl Fault {
         }
     }
 
-    /// The exit status: 3 where memory was refused, and else 1.
+    /// The exit status: 3 where memory was refused, and otherwise 1.
     pub fn status(self) -> u8 {
         match self {
             Fault::Memory => 3,

@@ -1,5 +1,5 @@
--- Why a line is not one that a script may have. A column is counted in what stands behind the line's
--- word and its space.
+-- Why a line is not one that a script may have. A column is counted in what follows the line's word
+-- and its space.
 use Rattle.std.specs.Prelude.{List, ℕ, is_some, if◌then◌else◌}
 use Rattle.tpm_text.specs.Number.{numeral}
 use Rattle.tpm_text.specs.declared.fault.AsmFault.{AsmFault}
@@ -8,11 +8,11 @@ use Rattle.tpmsim_script.specs.declared.bad_line.BadLine.{BadLine}
 use Rattle.tpmsim_script.specs.declared.bad_line.Wanted.{Wanted}
 use Rattle.tpmsim_script.specs.declared.bad_line.Wanted.TheVariants as wanted
 
--- a line whose word is none of a script's
+-- a line that begins with no word of a script
 abbrev pub unknown_word : BadLine
 unknown_word = record { fault = fault.BadName; wanted = wanted.Word }
 
--- a word that stands alone, behind which this is wanted
+-- a word that stands alone, after which this is wanted
 abbrev pub missing : Wanted → BadLine
 missing wanted = record { fault = fault.Missing; wanted = wanted }
 
@@ -24,7 +24,7 @@ misplaced wanted = record { fault = fault.BadField 1; wanted = wanted }
 abbrev pub too_large : Wanted → BadLine
 too_large wanted = record { fault = fault.Range 1; wanted = wanted }
 
--- an argument that is no number that is wanted: one that is too large, or none
+-- an argument that is not the number that is wanted: it is too large, or no number
 abbrev pub number_fault : List ℕ → Wanted → BadLine
 number_fault argument wanted =
     if is_some (numeral 10 argument) then too_large wanted else misplaced wanted

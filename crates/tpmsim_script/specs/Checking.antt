@@ -50,8 +50,8 @@ line_check waited line = do
   said ← line_reading line
   check waited said
 
--- A line was checked: it is good, and this is told of the next command (new); or it is bad, and
--- does nothing.
+-- A line was checked: it is good, and sets this for the next command (new); or it is bad, and does
+-- nothing.
 abbrev pub Checks : Result ℕ BadLine → (old : ℕ) → Result (Unit {0}) BadLine → (new : ℕ) → Type 0
 Checks defined old (Ok done) new = defined ≡ Ok new
 Checks defined old (Err bad) new = (defined ≡ Err bad) × (new ≡ old)
@@ -67,7 +67,7 @@ abbrev pub fault_at : Result ℕ BadLine → (number : ℕ) → (line : List ℕ
 fault_at (Ok next) number line = []
 fault_at (Err bad) number line = record { number = number; line = line; bad = bad } ∷ []
 
--- the milliseconds that are told behind a line that was checked; one that is bad adds none
+-- the milliseconds that are told after a line that was checked; one that is bad adds none
 abbrev pub waited_behind : Result ℕ BadLine → (waited : ℕ) → ℕ
 waited_behind (Ok next) waited = next
 waited_behind (Err bad) waited = waited

@@ -46,13 +46,13 @@ reading_alone word =
     else if is_word (codes "entropy") word then Err (missing wanted.Entropy)
     else Err unknown_word
 
--- what stands behind loc and a space
+-- what follows loc and a space
 abbrev pub locality_reading : List ℕ → Result Meaning BadLine
 locality_reading argument =
     ok_or (option_map SetsLocality (option_and_then locality_of (decimal_of argument)))
     (number_fault argument wanted.Locality)
 
--- what stands behind wait and a space
+-- what follows wait and a space
 abbrev pub wait_reading : List ℕ → Result Meaning BadLine
 wait_reading argument = ok_or (option_map Waits (decimal_of argument))
     (number_fault argument wanted.Milliseconds)

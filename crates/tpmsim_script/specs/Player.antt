@@ -10,7 +10,7 @@ use Rattle.tpmsim_script.specs.declared.line_fault.LineFault.{LineFault}
 use Rattle.tpmsim_script.specs.declared.line_fault.LineFault.TheVariants.{Bad, Write, Save}
 use Rattle.tpmsim_script.specs.declared.player.Player.{Player}
 
--- the script that a player is playing, by a function that gives the record of its device's keep
+-- the script that a player is playing, by a function that gives the record of its device's state
 abbrev pub playing_of : {K S O P N : Type 0} → (K → Record) → Player K S O P N → Playing
 playing_of record_of player =
     playing player.traced player.script (state_of record_of player.machine)

@@ -15,12 +15,12 @@ Ran P (Ok done) = P None
 Ran P (Err (fault.Line number)) = P (Some number)
 Ran P (Err other) = Unit {0}
 
--- This holds where the reader failed.
+-- A property holds where the reader failed.
 abbrev pub OnUnread : {X : Type 0} → Result X ScriptFault → Type 0 → Type 0
 OnUnread (Err fault.Read) fact = fact
 OnUnread other fact = Unit {0}
 
--- This holds where the writer failed.
+-- A property holds where the writer failed.
 abbrev pub OnUnwritten : {X : Type 0} → Result X ScriptFault → Type 0 → Type 0
 OnUnwritten (Err fault.Write) fact = fact
 OnUnwritten other fact = Unit {0}
@@ -30,12 +30,12 @@ abbrev pub is_unsaved : Result (Unit {0}) ScriptFault → Bool
 is_unsaved (Err fault.Save) = true
 is_unsaved other = false
 
--- This holds where there were too many lines.
+-- A property holds where there were too many lines.
 abbrev pub OnTooMany : {X : Type 0} → Result X ScriptFault → Type 0 → Type 0
 OnTooMany (Err fault.TooManyLines) fact = fact
 OnTooMany other fact = Unit {0}
 
--- This holds where there was no memory.
+-- A property holds where there was no memory.
 abbrev pub OnNoMemory : {X : Type 0} → Result X ScriptFault → Type 0 → Type 0
 OnNoMemory (Err fault.NoMemory) fact = fact
 OnNoMemory other fact = Unit {0}
@@ -86,7 +86,7 @@ NextFound number old (Err fault.Read) line new = Unit {0}
 NextFound number old (Err fault.Write) line new = Unit {0}
 NextFound number old (Err other) line new = ⊥
 
--- This holds where a run ended well, at a bad line, or since the reader failed.
+-- A property holds where a run ended well, at a bad line, or because the reader failed.
 abbrev pub UnlessFailed : {X : Type 0} → Result X ScriptFault → Type 0 → Type 0
 UnlessFailed (Ok x) fact = fact
 UnlessFailed (Err (fault.Line number)) fact = fact

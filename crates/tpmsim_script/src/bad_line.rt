@@ -2,8 +2,8 @@
 
 use tpm_text::AsmFault;
 
-/// Why a line is not one that a script may have. A column is counted in what stands behind the
-/// line's word and its space, from 1.
+/// Why a line is not one that a script may have. A column is counted in what follows the line's
+/// word and its space, from 1.
 #[derive(Clone, Copy, Debug, PartialEq, Eq)]
 pub struct BadLine {
     pub fault: AsmFault,

@@ -12,8 +12,8 @@ use crate::script::Script;
 use std::alloc::{AllocError, Global};
 use tpm_text::AsmFault;
 
-/// A checker of lines, one after another. Beside what a line itself says, it has what the lines
-/// before it tell the next command.
+/// A checker of lines, one after another, which knows what the earlier lines set for the next
+/// command.
 #[derive(Drop)]
 pub struct Checker {
     script: Script,
@@ -32,7 +32,7 @@ impl Checker {
         })
     }
 
-    /// Checks the next line, given without its 0a. A bad line tells the next command nothing.
+    /// Checks the next line, given without its 0a. A bad line sets nothing for the next command.
     #[tactic(auto, unfolding(crate::specs::Checking::line_check))]
     pub fn check(&mut self, line: &[u8]) -> Result<(), BadLine>
         ensures { Checks (line_check (waited_of self.old) line.now) (waited_of self.old) result

@@ -1,4 +1,4 @@
-//! The laws that a script is checked as it is run.
+//! The laws that the check of a script finds the bad line that a run of it finds.
 
 ghost use Rattle.std.specs.Prelude.{◌≡◌, ℕ, List, option_map};
 ghost use Rattle.std.specs.Result.{result_ok};

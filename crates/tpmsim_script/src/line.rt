@@ -33,8 +33,8 @@ pub enum Line<'a> {
     Nothing,
 }
 
-/// The fault that what a line says cannot be performed: its hex is none, or its words spell no
-/// command, or it has too many bytes or milliseconds.
+/// The fault that a line cannot be performed: its hex is not valid, its words spell no command, or
+/// it has too many bytes or milliseconds.
 #[derive(Clone, Copy, Debug, PartialEq, Eq)]
 pub struct Unfit;
 
@@ -112,7 +112,7 @@ impl<'a> Line<'a> {
         }
     }
 
-    /// Reads what stands behind `loc `.
+    /// Reads what follows `loc `.
     fn of_locality(argument: &[u8]) -> Result<Line<'a>, BadLine>
         ensures { Gives meaning_of (locality_reading argument.now) result }
     {
@@ -122,7 +122,7 @@ impl<'a> Line<'a> {
         }
     }
 
-    /// Reads what stands behind `wait `.
+    /// Reads what follows `wait `.
     fn of_wait(argument: &[u8]) -> Result<Line<'a>, BadLine>
         ensures { Gives meaning_of (wait_reading argument.now) result }
     {
@@ -133,13 +133,13 @@ impl<'a> Line<'a> {
     }
 }
 
-/// The fault of a line whose word is none of a script's.
+/// The fault of a line that begins with no word of a script.
 const UNKNOWN_WORD: BadLine = BadLine {
     fault: AsmFault::BadName,
     wanted: Wanted::Word,
 };
 
-/// The fault of a word that stands alone, behind which this is wanted.
+/// The fault of a word that stands alone, after which this is wanted.
 fn missing(wanted: Wanted) -> BadLine
     ensures { result ≡ missing wanted }
 {
@@ -169,7 +169,7 @@ pub fn too_large(wanted: Wanted) -> BadLine
     }
 }
 
-/// The fault of an argument that is no number that is wanted: one that is too large, or none.
+/// The fault of an argument that is not the number that is wanted: it is too large, or no number.
 fn number_fault(argument: &[u8], wanted: Wanted) -> BadLine
     ensures { result ≡ number_fault argument.now wanted }
 {

@@ -15,7 +15,7 @@ pub const LINE_LIMIT: usize = 65_536;
 /// How many bytes are read at once.
 const CAPACITY: usize = 65_536;
 
-/// What comes next among the bytes that were read.
+/// What comes next in the bytes that were read.
 #[derive(Clone, Copy, Debug, PartialEq, Eq)]
 pub enum Next {
     /// A whole line, which [`Lines::line`] gives.
@@ -24,7 +24,7 @@ pub enum Next {
     TooLong,
     /// The start of a line, or nothing: more bytes have to be read.
     Incomplete,
-    /// The end: nothing, and no bytes follow.
+    /// The end of the text: no line is left.
     End,
 }
 

@@ -69,7 +69,7 @@ impl<K: Keep> Player<K> {
 
     /// Does what a line says, and prints the response to a command, and traces where they are asked
     /// for. What is written in hex or in words goes to `room`. Where memory can be refused, the
-    /// contract says no effect.
+    /// contract does not say the effect.
     #[tactic(auto, using(crate::proofs::Doing::unsaid_done))]
     pub fn line<W: Write, S: Saver>(
         &mut self,

@@ -1,4 +1,5 @@
--- The calls between the box of a device and the pointer to it: what each asks for, and what it gives.
+-- The calls between the box of a device and the pointer to it: what each requires, and what it
+-- gives.
 use mathlib.Core.List.{List, [], ◌∷◌}
 use mathlib.Core.Path.{◌≡◌, refl, ap, ◌∙◌}
 use mir.Syntax.{Args, Dict, Dicts, a_type, impl, tnil, tcons, dnil, dcons}
@@ -49,7 +50,7 @@ use Rattle.tpm_library.specs.Held.{held}
 use Rattle.tpm_library.specs.contracts.device.Device as device
 use Rattle.tpm_library.specs.declared.device.Device.{Device}
 
--- what drops a type that has nothing to free
+-- the drop of a type that has nothing to free
 abbrev pub plain_drop : RattleType → Dict
 plain_drop R = impl ("tpm_library::Destruct++none::drop" ∷ []) (tcons (layout R) tnil) dnil
 
@@ -64,7 +65,7 @@ BoxRow = box.the_row device.the_row global.the_row ghosts
 module _ {M : Type 1} {𝓤 : Ura M} (𝓛 : Logic 𝓤) where
   open 𝓛 use {H, A}
 
-  -- the two types of a call outlive 'static, which is alive for nothing
+  -- the two types of a call outlive 'static
   abbrev Alive : SProp 𝓤
   Alive = sep 𝓤 (A.lft [] full_share) (sep 𝓤 (A.lft [] full_share) (emp 𝓤))
 
@@ -140,7 +141,7 @@ pub record Linked (γ : Env) : Type 0 where
   pub drop : Wired γ drops.code
 
 module _ {M : Type 1} {𝓤 : Ura M} (𝓛 : Logic 𝓤) (𝓜 : Model 𝓤 𝓛.H) (𝓡 : Running 𝓤 𝓛.H 𝓜) (linked : Linked 𝓡.env) where
-  -- both calls meet their contracts, of std's allocator and where a drop frees nothing by itself
+  -- both calls meet their contracts, for std's allocator and types whose drop frees nothing
   pub apart_met : Wired 𝓡.env into_raw_symbol.code
       → Triple 𝓤 ((tables 𝓤 𝓛.H 𝓜 𝓡 𝓡.env).C (into_raw_symbol.name (types_of (dcons dict (dcons (plain_drop Heap) (dcons (plain_drop Content) dnil)))))) (Apart 𝓛 𝓜.mem 𝓡.returns)
   apart_met call = into_raw_met.met 𝓤 𝓛 𝓜 𝓡 call Content Heap content_laws heap_laws ghosts dict (plain_drop Heap) (plain_drop Content)

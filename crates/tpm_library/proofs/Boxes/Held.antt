@@ -1,4 +1,5 @@
--- What a holder owns: nothing at null, or the box of its device. Walks over holders open and make them by these.
+-- A holder owns nothing at null, or else the box of its device. Walks over holders open and make
+-- them by these lemmas.
 use mathlib.Core.List.{List, [], ◌∷◌}
 use mathlib.Core.Path.{◌≡◌, refl}
 use Prim.Native.Nat.{ℕ}
@@ -29,7 +30,7 @@ abbrev pub HolderRow : RattleType
 HolderRow = holder.the_row
 
 module _ {M : Type 1} {𝓤 : Ura M} (𝓛 : Logic 𝓤) where
-  -- its fields own nothing
+  -- the fields of a holder own nothing
   pub holder_opened : (h : Holder) (words : List Val) → ent 𝓤 (sem 𝓛 (HolderRow.own_val h words)) (sem 𝓛 (held device.the_row h.alloc h.at h.device))
   holder_opened h words = qed 𝓛 (‵ (HolderRow.own_val h words) ∷ []) ∵ fsplit ! $ drop ! $ done !
 
@@ -51,7 +52,8 @@ module _ {M : Type 1} {𝓤 : Ura M} (𝓛 : Logic 𝓤) where
     boxed_testable = fact_use 𝓤 (Testable at) (qed 𝓛 (‵ (held device.the_row alloc at (Some value)) ∷ []) ∵ fsplit ! $ drop ! $
         by ! (dealloc_token-Testable 𝓛 alloc (bare (layout device.the_row)) at)) (guard_i 𝓤 (Testable at) Boxed)
 
--- Either there is no device, and the pointer is null; or there is one, in a box, and its pointer may be compared with null.
+-- Either there is no device, and the pointer is null; or there is one, in a box, and its pointer
+-- may be compared with null.
 module _ {M : Type 1} {𝓤 : Ura M} {𝓛 : Logic 𝓤} {K : Type 0} {Γ : List (Item 𝓤)} {G : Goal 𝓤 𝓛.H} where
   pub by_device : K → (alloc : Global) (at : Ptr) (held_device : Option Device)
       → (held_device ≡ None → at ≡ null_ptr → Seq K 𝓛 Γ G)

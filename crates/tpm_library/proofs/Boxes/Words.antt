@@ -1,5 +1,6 @@
--- A pointer beside an allocator. A box, a holder and a pair have these two fields, so one word of the machine stands for
--- each of them. An allocator owns nothing, and neither does a pointer: what these fields own is had for nothing.
+-- A pointer beside an allocator. A box, a holder and a pair have these two fields, so one word of
+-- the machine stands for each of them. Neither an allocator nor a pointer owns anything, so these
+-- fields own nothing.
 use mathlib.Core.List.{List, [], ◌∷◌}
 use mathlib.Core.Path.{◌≡◌, refl}
 use lib.Dec.{T, lit<}
@@ -63,7 +64,7 @@ pub word_typed : (at : Ptr) (alloc : Global) → T (has_ty (ty_struct [] (tcons 
 word_typed (block_ptr b o) alloc = (tt, (tt, ((heap_typed alloc).1, tt)))
 word_typed null_ptr alloc = (tt, (record { fits = lit< tt }, ((heap_typed alloc).1, tt)))
 
--- the two fields, as of a struct with no name
+-- the two fields in the form of a struct without a name
 abbrev pub Fields : Shape
 Fields = record { name = []; args = []; types = []; fields = RawPtr ∷ Heap ∷ [] }
 

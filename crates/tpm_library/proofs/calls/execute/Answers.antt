@@ -8,7 +8,7 @@ use Rattle.tpm_step.specs.Step.{Stepped}
 use Rattle.tpm_library.specs.State.{command_seen, record_of}
 use Rattle.tpm_library.proofs.calls.execute.Goals as goal
 
--- the event is that of the command from the locality of this number
+-- the event is that of the command, from the locality of this number
 pub returns-clause-executes : goal.returns-clause-executes
 returns-clause-executes c =
     let before = c.deref_mut.result.now in

@@ -2,7 +2,8 @@ use Rattle.std.proofs.Common.{sym, ap, ◌∙◌, ◌≡◌}
 use Rattle.std.specs.declared.option.Option.TheVariants.{Some}
 use Rattle.tpm_library.proofs.journal.begin.Goals as goal
 
--- the device that is put back is the one that was taken, with its journal begun where there was room
+-- the device that is put back is the one that was taken, with its journal begun where there was
+-- room
 pub returns-clause-begins : goal.returns-clause-begins
 returns-clause-begins c =
     let before = c.deref_mut.result.now in

@@ -19,7 +19,7 @@ use Rattle.tpm_library.specs.contracts.device.Device as device
 use Rattle.tpm_library.proofs.device.Device.TheSendSync.{the_send as device_sends}
 use Rattle.tpm_library.specs.contracts.holder.Holder.{the_row, the_type}
 
--- what stays of it in the thread that it leaves: nothing
+-- nothing of a holder stays in the thread that it leaves
 quiet : {D X : Type 0} (to : D → X) (e : Exit X) → Quiet e → Quiet (hidden (under to e))
 quiet to unchanged q = λ x w. tt
 quiet to (leaves L l S s r₀) q = λ d. q (to d)

@@ -1,4 +1,5 @@
--- `into_box` tests the pointer, and makes a box of what the holder owned where that is not null.
+-- `into_box` tests the pointer, and makes a box of what the holder owned where the pointer is not
+-- null.
 use mathlib.Core.List.{[], ◌∷◌}
 use mathlib.Core.Path.{◌≡◌, ◌∙◌, refl, sym, ap, subst}
 use lib.Dec.{T, lit<}
