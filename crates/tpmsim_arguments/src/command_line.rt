@@ -183,58 +183,39 @@ fn serve_without_options<'a>(alloc: Global) -> Command<'a>
         )
 }
 
+const SOCKET: &str = "The socket, which is made; one that was left there is replaced";
+
+const IMAGE: &str =
+    "What the device keeps without power; a new device where there is no such file. This or \
+     --state has to be given";
+
+const LOG: &str =
+    "Writes each command that was answered there, as a script that plays the device again";
+
+const STATE: &str =
+    "The device's state, in place of --image; a new device where there is no such folder";
+
+const ENTROPY: &str = "The random bytes, 256 for each command";
+
+const LOCALITY: &str = "The locality of all commands, 0 to 4";
+
+const CONNECTIONS: &str = "How many connections are served, one after another";
+
+const SAVE_EACH: &str =
+    "Saves before each response that tells of a change, not after a connection alone";
+
 fn serve_command<'a>(alloc: Global) -> Result<Command<'a>, AllocError>
     ensures { IfOk result (λ command. shape_of command ≡ serve_command) }
 {
     serve_without_options(alloc)
-        .arg(setting(
-            alloc,
-            "socket",
-            "PATH",
-            "The socket, which is made; one that was left there is replaced",
-        ))?
-        .arg(choice(
-            alloc,
-            "image",
-            "FILE",
-            "What the device keeps without power; a new device where there is no such file. This or \
-             --state has to be given",
-        ))?
-        .arg(choice(
-            alloc,
-            "log",
-            "FILE",
-            "Writes each command that was answered there, as a script that plays the device again",
-        ))?
-        .arg(choice(
-            alloc,
-            "state",
-            "DIR",
-            "The device's state, in place of --image; a new device where there is no such folder",
-        ))?
-        .arg(setting(
-            alloc,
-            "entropy",
-            "FILE",
-            "The random bytes, 256 for each command",
-        ))?
-        .arg(setting(
-            alloc,
-            "locality",
-            "NUMBER",
-            "The locality of all commands, 0 to 4",
-        ))?
-        .arg(setting(
-            alloc,
-            "connections",
-            "NUMBER",
-            "How many connections are served, one after another",
-        ))?
-        .arg(flag(
-            alloc,
-            "save-each",
-            "Saves before each response that tells of a change, not after a connection alone",
-        ))
+        .arg(setting(alloc, "socket", "PATH", SOCKET))?
+        .arg(choice(alloc, "image", "FILE", IMAGE))?
+        .arg(choice(alloc, "log", "FILE", LOG))?
+        .arg(choice(alloc, "state", "DIR", STATE))?
+        .arg(setting(alloc, "entropy", "FILE", ENTROPY))?
+        .arg(setting(alloc, "locality", "NUMBER", LOCALITY))?
+        .arg(setting(alloc, "connections", "NUMBER", CONNECTIONS))?
+        .arg(flag(alloc, "save-each", SAVE_EACH))
 }
 
 /// An option that has a value, and has to be given.
