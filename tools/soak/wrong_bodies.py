@@ -5,16 +5,16 @@ tries; these are run whole before a piece of work is called done (docs/GATE.md s
 
     tools/soak/wrong_bodies.py                       all of them
     tools/soak/wrong_bodies.py tpm_pcr               those of one crate, or of several
-    tools/soak/wrong_bodies.py --room FOLDER tpm_pcr the same, in a folder that is kept: what was proved
-                                                there is not proved again
 
-First `rt` proves the crates and those below them, in a copy without wrong bodies; then those of each
-crate are tried in a copy of that, as many crates at a time as there are processors, or JOBS says.
+First `rt ci` proves the crates and those below them, in a copy without wrong bodies, where it did not
+on this machine before; then those of each crate are tried, as many crates at a time as there are
+processors, or JOBS says.
 
 The prover checks each function against the contracts of those that it calls, and says which
 functions have goals of their own that fail. So wrong bodies of different functions share one check:
 each is refused where a function that it turns has such a goal. A wrong body is tried alone where
-that does not tell, and where it turns a constant or a definition.
+that does not tell, and where it turns a constant or a definition. Each check goes on from one of the
+crate as it stands, which is made once where there are several.
 
 It prints a line for each, and at last `N of M wrong bodies refused`. The status is 0 where all are,
 and 1 where one is not, or is bad: it cannot be applied, compiled or read. It needs rt.
@@ -25,8 +25,8 @@ from __future__ import annotations
 import argparse
 import collections
 import concurrent.futures
-import contextlib
 import dataclasses
+import functools
 import os
 import pathlib
 import re
@@ -47,10 +47,10 @@ COMPILER_ERROR = re.compile(r"\berror\[[\w-]+\]")
 LIMIT = re.compile(r"ran out of|outgrew the memory limit|stopped at the step limit")
 
 
-def rt(folder: pathlib.Path, *words: str) -> subprocess.CompletedProcess[str]:
-    """Runs `rt` in a folder; what it prints is kept, as one text."""
+def said_by(folder: pathlib.Path, *words: str) -> subprocess.CompletedProcess[str]:
+    """Runs a command in a folder; what it prints is kept, as one text."""
     return subprocess.run(
-        ["rt", *words],
+        words,
         cwd=folder,
         text=True,
         errors="replace",
@@ -59,6 +59,12 @@ def rt(folder: pathlib.Path, *words: str) -> subprocess.CompletedProcess[str]:
         stderr=subprocess.STDOUT,
         check=False,
     )
+
+
+@functools.cache
+def kit() -> pathlib.Path:
+    """The folder of the toolchain: the page that `rt doc` names stands there."""
+    return pathlib.Path(said_by(TOP, "rt", "doc").stdout.strip()).parent
 
 
 class BadEdit(Exception):
@@ -150,13 +156,41 @@ def turns_in(text: str) -> tuple[Turn, ...]:
 
 
 class Crate:
-    """A crate in a copy of the repository, and what a check of it as it stands proved."""
+    """A crate over the libraries that were proved in a copy of the repository, in a folder of its own."""
 
-    def __init__(self, room: pathlib.Path, name: str) -> None:
-        self.name = name
-        self.folder = room / "crates" / name
-        self.kept = room / "kept"
-        (self.folder / "out").rename(self.kept)
+    def __init__(self, proved: pathlib.Path, name: str, room: pathlib.Path) -> None:
+        self.name, self.proved, self.room = name, proved, room / name
+        self.folder = proved / "crates" / name
+        self.kept: pathlib.Path | None = None
+        self.room.mkdir()
+
+    def keep(self) -> None:
+        """Checks the crate as it stands; the checks of turned ones go on from there."""
+        kept = self.room / "kept"
+        status, said = self._checked_in(self.folder, kept)
+        if status:
+            print("\n".join(said))
+            raise SystemExit(f"{self.name} is not proved as it stands.")
+        self.kept = kept
+
+    def _words(self) -> list[str]:
+        """The command that checks the crate."""
+        below = [it for it in with_below([self.name]) if it != self.name]
+        rlibs = {it: self.proved / "crates" / it / "out" / "rlib" for it in below}
+        is_program = (self.folder / "src" / "main.rt").exists()
+        root = "src/main.rt" if is_program else "src/lib.rt"
+        words = [str(kit() / "bin" / "rattle"), "check", "--crate-name", self.name, root]
+        for it in ["std", *uses()[self.name]]:
+            words += ["--extern", f"{it}={rlibs.get(it, kit() / 'rlibs') / it}.rlib"]
+        for folder in [kit() / "rlibs", *rlibs.values()]:
+            words += ["-L", f"dependency={folder}"]
+        words += ["--antt-project", str(kit() / "rattle" / "logic" / "antt-project.json")]
+        return [*words, "--logic-built", str(kit() / "logic_built"), "--jobs", "1"]
+
+    def _checked_in(self, folder: pathlib.Path, kept: pathlib.Path) -> tuple[int, list[str]]:
+        """Checks the text of the crate that a folder has: the status, and the lines that were said."""
+        ran = said_by(folder, *self._words(), "--incremental", str(kept))
+        return ran.returncode, ran.stdout.split("\n")
 
     def wrong_body(self, edit: pathlib.Path) -> WrongBody:
         turns = turns_in(edit.read_text(encoding="utf-8"))
@@ -171,19 +205,16 @@ class Crate:
         return WrongBody(edit.stem, turns, frozenset(functions))
 
     def check(self, turns: list[Turn]) -> tuple[int, list[str]]:
-        """Checks the crate with these turns: the status, and the lines that were said."""
+        """Checks a copy of the crate with these turns: the status, and the lines that were said."""
         texts = self._turned(turns)
-        was = {file: (self.folder / file).read_bytes() for file in texts}
-        out = self.folder / "out"
-        shutil.rmtree(out, ignore_errors=True)
-        shutil.copytree(self.kept, out)
-        try:
+        with tempfile.TemporaryDirectory(dir=self.room) as place:
+            folder, kept = pathlib.Path(place) / "turned", pathlib.Path(place) / "kept"
+            copy_parts(self.folder, folder)
             for file, text in texts.items():
-                (self.folder / file).write_text(text, encoding="utf-8")
-            return self._check()
-        finally:
-            for file, content in was.items():
-                (self.folder / file).write_bytes(content)
+                (folder / file).write_text(text, encoding="utf-8")
+            if self.kept:
+                shutil.copytree(self.kept, kept, copy_function=linked)
+            return self._checked_in(folder, kept)
 
     def _turned(self, turns: list[Turn]) -> dict[str, str]:
         texts: dict[str, str] = {}
@@ -196,9 +227,23 @@ class Crate:
             raise BadEdit("it has no pair of old: and new:")
         return texts
 
-    def _check(self) -> tuple[int, list[str]]:
-        ran = rt(self.folder, "check", "--jobs", "1")
-        return ran.returncode, ran.stdout.split("\n")
+
+def copy_parts(start: pathlib.Path, folder: pathlib.Path) -> None:
+    """Copies the text of a crate, and what a program is run with."""
+    folder.mkdir(parents=True)
+    for it in start.iterdir():
+        if it.name in SOURCES:
+            shutil.copytree(it, folder / it.name)
+        elif it.is_file():
+            shutil.copy(it, folder)
+
+
+def linked(one: str, other: str) -> None:
+    """Copies a file of what a check kept: what was proved by a link, as a check replaces such a file."""
+    if one.endswith(".oantt"):
+        os.link(one, other)
+    else:
+        shutil.copy2(one, other)
 
 
 def unread_in(said: list[str]) -> str | None:
@@ -222,12 +267,13 @@ def groups_of(bodies: list[WrongBody]) -> list[list[WrongBody]]:
     """The same in groups: no two of one turn the same function."""
     groups: list[tuple[set[Function], list[WrongBody]]] = []
     for body in bodies:
-        free = (it for it in groups if it[0] and not it[0] & body.functions)
-        functions, group = next(free, (set(), [])) if body.functions else (set(), [])
-        if not group:
-            groups.append((functions, group))
-        functions.update(body.functions)
-        group.append(body)
+        open_to_it = (it for it in groups if it[0] and not it[0] & body.functions)
+        group = next(open_to_it, None) if body.functions else None
+        if group is None:
+            group = (set(), [])
+            groups.append(group)
+        group[0].update(body.functions)
+        group[1].append(body)
     return [group for _, group in groups]
 
 
@@ -281,11 +327,16 @@ def try_alone(crate: Crate, body: WrongBody) -> int:
     return 1
 
 
+def name_in(line: str) -> str:
+    """The crate of a line of crates.txt, or an empty word."""
+    return "" if line.startswith("#") else line.partition(":")[0].partition(" ")[0]
+
+
+@functools.cache
 def uses() -> dict[str, list[str]]:
     """The crates of this repository, each with the libraries that it names."""
     lines = (TOP / "crates.txt").read_text(encoding="utf-8").split("\n")
-    named = (line.partition(":") for line in lines if line and not line.startswith("#"))
-    return {name: libraries.split() for name, _, libraries in named}
+    return {name_in(line): line.partition(":")[2].split() for line in lines if name_in(line)}
 
 
 def with_below(names: list[str]) -> list[str]:
@@ -299,38 +350,24 @@ def with_below(names: list[str]) -> list[str]:
     return [name for name in known if name in found]
 
 
-def lay(start: pathlib.Path, room: pathlib.Path, names: list[str], parts: list[str]) -> None:
-    """Makes a repository of these crates in a folder, of these parts of each."""
-    room.mkdir(parents=True, exist_ok=True)
+def lay(room: pathlib.Path, names: list[str]) -> None:
+    """Makes a repository of these crates in a folder, without tests and wrong bodies."""
+    (room / "crates").mkdir(parents=True)
     shutil.copy(TOP / "HANDLES", room)
     lines = (TOP / "crates.txt").read_text(encoding="utf-8").split("\n")
-    mine = [line for line in lines if line.partition(":")[0] in names]
+    mine = [line for line in lines if name_in(line) in names]
     (room / "crates.txt").write_text("\n".join([*mine, ""]), encoding="utf-8")
     subprocess.run(["git", "init", "--quiet"], cwd=room, check=True)
     for name in names:
-        for part in parts:
-            old, new = start / "crates" / name / part, room / "crates" / name / part
-            shutil.rmtree(new, ignore_errors=True)
-            if old.is_dir():
-                shutil.copytree(old, new)
+        copy_parts(TOP / "crates" / name, room / "crates" / name)
 
 
-def prove(room: pathlib.Path, jobs: int) -> None:
-    """Proves all crates of a repository, and keeps that for the checks of turned ones."""
-    ran = rt(room / "crates", "all", "check", "--jobs", str(jobs))
+def prove(room: pathlib.Path) -> None:
+    """Proves all crates of a repository. What `rt ci` proved on this machine before is taken from there."""
+    ran = said_by(room, "rt", "ci")
     if ran.returncode:
         print(ran.stdout)
         raise SystemExit("A crate is not proved as it stands, so no wrong body says anything.")
-
-
-def try_crate(proved: pathlib.Path, name: str) -> int:
-    """Tries the wrong bodies of a crate, and tells how many were refused."""
-    with tempfile.TemporaryDirectory() as folder:
-        room = pathlib.Path(folder) / "turned"
-        lay(proved, room, with_below([name]), [*SOURCES, "out"])
-        crate = Crate(room, name)
-        bodies = [crate.wrong_body(it) for it in edits_of(name)]
-        return sum(try_group(crate, group) for group in groups_of(bodies))
 
 
 def edits_of(name: str) -> list[pathlib.Path]:
@@ -339,22 +376,36 @@ def edits_of(name: str) -> list[pathlib.Path]:
 
 def parsed() -> argparse.Namespace:
     parser = argparse.ArgumentParser(description="Tries the wrong bodies under wrong/.")
-    parser.add_argument("--room", type=pathlib.Path, help="a folder in which proofs are kept")
     parser.add_argument("crates", nargs="*", metavar="CRATE")
     return parser.parse_args()
+
+
+def tried(folder: pathlib.Path, names: list[str], jobs: int) -> int:
+    """Tries the wrong bodies of these crates, and tells how many were refused."""
+    proved = folder / "proved"
+    lay(proved, with_below(names))
+    prove(proved)
+    groups = {
+        crate: groups_of([crate.wrong_body(it) for it in edits_of(crate.name)])
+        for crate in (Crate(proved, name, folder) for name in names)
+    }
+    with concurrent.futures.ThreadPoolExecutor(jobs) as pool:
+        several = [crate for crate, found in groups.items() if len(found) > 1]
+        list(pool.map(Crate.keep, several))
+        trials = [
+            pool.submit(try_group, crate, group)
+            for crate, found in groups.items()
+            for group in found
+        ]
+        return sum(trial.result() for trial in trials)
 
 
 def main() -> int:
     words = parsed()
     jobs = int(os.environ.get("JOBS") or os.cpu_count() or 1)
     names = words.crates or [name for name in uses() if edits_of(name)]
-    with contextlib.ExitStack() as stack:
-        folder = words.room or pathlib.Path(stack.enter_context(tempfile.TemporaryDirectory()))
-        proved = folder.resolve() / "proved"
-        lay(TOP, proved, with_below(names), SOURCES)
-        prove(proved, jobs)
-        with concurrent.futures.ThreadPoolExecutor(jobs) as pool:
-            refused = sum(pool.map(lambda name: try_crate(proved, name), names))
+    with tempfile.TemporaryDirectory() as folder:
+        refused = tried(pathlib.Path(folder), names, jobs)
     wanted = sum(len(edits_of(name)) for name in names)
     print(f"{refused} of {wanted} wrong bodies refused")
     return 0 if refused == wanted else 1
