@@ -1,5 +1,5 @@
 #!/usr/bin/env python3
-"""Makes the list of crates in docs/MAP.md of the first sentence of each crate's root file.
+"""Makes the list of crates in docs/MAP.md of the first clause of each crate's root file.
 
 `tools/map.py` compares the list that stands there with the made one, and its status is 1 where they
 differ; `tools/map.py --write` writes it.
@@ -14,8 +14,9 @@ PAGE = TOP / "docs" / "MAP.md"
 BEGIN, END = "<!-- crates -->\n", "<!-- end of crates -->\n"
 
 
-def first_sentence(crate: Path) -> str:
-    """The first sentence of the comment at the head of a crate's root file."""
+def first_clause(crate: Path) -> str:
+    """The first sentence of the comment at the head of a crate's root file, or what stands before
+    its colon where that has three words."""
     root = crate / "src" / "lib.rt"
     text = (root if root.exists() else crate / "src" / "main.rt").read_text()
     lines = re.search(r"(?m)^(?://!.*\n)+", text)
@@ -24,20 +25,23 @@ def first_sentence(crate: Path) -> str:
     paragraph = "\n".join(line[3:].strip() for line in lines[0].splitlines()).split("\n\n")[0]
     sentence = re.split(r"(?<=\.) +(?=[A-Z])", paragraph.replace("\n", " "))[0]
     plain = re.sub(r" \((?:TPM 2\.0|TCG|FIPS|SP)[^)]*\)", "", sentence)
-    return re.sub(r"\[`(?:\w+::)*(\w+)`\]", r"`\1`", plain).strip()
+    named = re.sub(r"\[`(?:\w+::)*(\w+)`\]", r"`\1`", plain).strip().removesuffix(".")
+    clause = re.split(r":|;|,? for what ", named)[0]
+    return clause if len(clause.split()) >= 3 else named
 
 
 def in_order(names: list[str]) -> list[str]:
     """The names of crates from the bottom up, as crates.txt builds them."""
     order = re.findall(r"(?m)^(\w+)", (TOP / "crates.txt").read_text())
-    return sorted(names, key=lambda name: (order.index(name) if name in order else len(order), name))
+    return sorted(
+        names, key=lambda name: (order.index(name) if name in order else len(order), name)
+    )
 
 
-def table() -> str:
-    """The table of all crates."""
+def listed() -> str:
+    """The list of all crates."""
     crates = {path.name: path for path in (TOP / "crates").iterdir() if (path / "src").is_dir()}
-    rows = [f"| {name} | {first_sentence(crates[name])} |" for name in in_order(list(crates))]
-    return "\n".join(["| crate | what it is |", "|---|---|", *rows, ""])
+    return "".join(f"- {name}: {first_clause(crates[name])}\n" for name in in_order(list(crates)))
 
 
 def main() -> int:
@@ -45,7 +49,7 @@ def main() -> int:
     page = PAGE.read_text()
     before, rest = page.split(BEGIN)
     after = rest.split(END)[1]
-    made = before + BEGIN + table() + END + after
+    made = before + BEGIN + listed() + END + after
     if sys.argv[1:] == ["--write"]:
         PAGE.write_text(made)
     elif page != made:

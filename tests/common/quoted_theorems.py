@@ -50,7 +50,7 @@ def main(document: str, folder: str) -> int:
             print(f"DIFFERS: {name}: {quote.strip().splitlines()[0] if quote.strip() else ''}")
         elif stands(changed(quote), source):
             missed += 1
-    print("at least 40 statements" if len(blocks) >= 40 else "few statements", f"{faults} differ")
+    print("at least 30 statements" if len(blocks) >= 30 else "few statements", f"{faults} differ")
     print(f"a changed letter was missed in {missed}")
     return 1 if faults or missed else 0
 
