@@ -2,8 +2,9 @@
 """Runs the gate and writes what it took into docs/gate.json.
 
 `tools/measure.py` runs .ci/run at the top of the repository, prints what that prints, and adds up the
-processor seconds of every process of the toolchain by crate and kind; `tools/measure.py WORDS..` runs
-another command in its place, and writes nothing. Linux alone.
+processor seconds of every process of the toolchain by crate and kind; `tools/measure.py --proofs` does
+so with `rt ci` alone, and `tools/measure.py WORDS..` with another command, of which it prints the figures
+and writes nothing. Linux alone.
 
 `tools/measure.py --wrong REFUSED TRIED` writes how many wrong bodies outside the gate were refused.
 """
@@ -141,12 +142,14 @@ def main(words: list[str]) -> int:
         told = {"date": date.today().isoformat(), "commit": output_of("git", "rev-parse", "HEAD")}
         write("wrong_bodies", {**told, "refused": int(words[1]), "tried": int(words[2])})
         return 0
-    lines, status, minutes, uses = run(words or ["sh", ".ci/run"])
+    kept = {(): ("gate", ["sh", ".ci/run"]), ("--proofs",): ("proofs", ["rt", "ci"])}
+    key, command = kept.get(tuple(words), ("", words))
+    lines, status, minutes, uses = run(command)
     told = figures(lines, minutes, uses)
-    if words:
-        print(json.dumps(told, indent=1))
+    if key:
+        write(key, told)
     else:
-        write("gate", told)
+        print(json.dumps(told, indent=1))
     return status
 
 
