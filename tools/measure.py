@@ -16,7 +16,8 @@ import subprocess
 import sys
 import threading
 import time
-from collections import Counter
+from collections import defaultdict
+from collections.abc import Mapping
 from datetime import date
 from pathlib import Path
 
@@ -108,7 +109,7 @@ def machine() -> str:
 
 def figures(lines: list[str], minutes: float, uses: dict[Process, Use]) -> dict[str, object]:
     """What is said of a run of the gate: minutes of the clock and processor minutes."""
-    seconds: Counter[tuple[str, str]] = Counter()
+    seconds: defaultdict[tuple[str, str], float] = defaultdict(float)
     for crate, kind, used in uses.values():
         seconds[crate, kind] += used
     by_kind = {kind: sum(s for (_, k), s in seconds.items() if k == kind) for kind in KINDS}
@@ -129,7 +130,7 @@ def figures(lines: list[str], minutes: float, uses: dict[Process, Use]) -> dict[
     }
 
 
-def write(key: str, told: dict[str, object]) -> None:
+def write(key: str, told: Mapping[str, object]) -> None:
     """Writes one part of docs/gate.json, and leaves the others."""
     known = json.loads(FIGURES.read_text()) if FIGURES.exists() else {}
     known[key] = told
@@ -139,9 +140,10 @@ def write(key: str, told: dict[str, object]) -> None:
 def main(words: list[str]) -> int:
     """Runs the gate, or what is asked for."""
     if words[:1] == ["--wrong"]:
-        told = {"date": date.today().isoformat(), "commit": output_of("git", "rev-parse", "HEAD")}
-        write("wrong_bodies", {**told, "refused": int(words[1]), "tried": int(words[2])})
+        where = {"date": date.today().isoformat(), "commit": output_of("git", "rev-parse", "HEAD")}
+        write("wrong_bodies", {**where, "refused": int(words[1]), "tried": int(words[2])})
         return 0
+    kept: dict[tuple[str, ...], tuple[str, list[str]]]
     kept = {(): ("gate", ["sh", ".ci/run"]), ("--proofs",): ("proofs", ["rt", "ci"])}
     key, command = kept.get(tuple(words), ("", words))
     lines, status, minutes, uses = run(command)
