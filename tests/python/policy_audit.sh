@@ -198,13 +198,11 @@ trace written_policies
 echo 'A LOG WITH ITS POLICIES:'
 audit_by written_policies disk update version hash once unseal
 
-# docs/USING.md shows that policy, and lines of that report.
+# docs/USING.md shows that policy.
 using=$tests/../docs/USING.md
 echo 'WHAT docs/USING.md SHOWS:'
 sed -n '/^# The key of a disk/,/^```/p' "$using" | sed '$d' >shown
 cmp shown policies/written_policies/disk && echo 'the same policy'
-sed -n '/^  80000000, sealed/,/^```/p' "$using" | sed '$d' >shown
-echo "$(wc -l <shown) lines, $(grep -vcxFf report shown) of them not in the report"
 echo 'A POLICY THAT NOTHING HAS, by one digit:'
 sed 's/6469736b/6469736c/' policies/written_policies/disk >policies/written_policies/other
 audit_by written_policies other
