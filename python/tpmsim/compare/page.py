@@ -11,29 +11,27 @@ from tpmsim.model.player import BadLine
 
 HEAD = """# Other TPMs
 
-The table says what another TPM answers otherwise than the device here, and so what a program that
-passes here has left to try elsewhere. The other one is {version}.
-
-`tpmsim-compare` plays a script on both, with sessions computed for each, and compares response codes,
-answered fields, HMACs, and what can be read of the state at the end:
+The table says what another TPM, {version}, answers otherwise: what a program that passes
+here has left to try elsewhere. `tpmsim-compare` plays a script on both, with sessions computed for each,
+and compares response codes, answered fields, HMACs, and what can be read of the state at the end:
 
 ```sh
 PYTHONPATH=python python3 -m tpmsim.compare.main tests/pcrs/pcr_read.tpm --with swtpm
 ```
 
 The other one may be `swtpm:path=..`, `swtpm:host=..,port=..`, `mssim:host=..,port=..` or
-`device:/dev/tpmrm0` too. This makes the page:
+`device:/dev/tpmrm0` too. The page is made by
 
 ```sh
 PYTHONPATH=python python3 -m tpmsim.compare.page tests/*/*.tpm examples/*.tpm > docs/OTHER_TPMS.md
 ```
 
 Of {commands} commands in {scripts} scripts {own} are answered otherwise, and {follow} more only as an
-earlier one was. Not comparable are {missing}: most by a size that a stream cannot carry, the others as
-a session or an object is not there.
+earlier one was. {missing} are not comparable: most by a size that a stream cannot carry, the others for
+want of a session or an object.
 
-| what differs | how often | for example | here | there | section | our decision |
-|---|---|---|---|---|---|---|"""
+| what differs | times | example | here | there | our decision |
+|---|---|---|---|---|---|"""
 
 
 def swtpm_version() -> str:
@@ -48,11 +46,12 @@ def short(value: str) -> str:
 def row(cause: Cause, found: list[tuple[pathlib.Path, Difference]]) -> str:
     accepted = [each for each in found if "success" in (each[1].here, each[1].there)]
     path, it = (accepted or found)[0]
-    example = f"[{path.stem}](../{path.parent.name}/{path.name}), line {it.line}: {it.command}"
+    example = f"[{path.stem}:{it.line}](../{path}) {it.command}"
     if it.what != "code":
-        example += f", {it.what}"
-    cells = cause.words, str(len(found)), example, short(it.here), short(it.there)
-    return f"| {' | '.join((*cells, cause.section, cause.decision))} |"
+        example += f" {it.what}"
+    what = f"{cause.words} ({cause.section})" if cause.section else cause.words
+    cells = what, str(len(found)), example, short(it.here), short(it.there), cause.decision
+    return f"| {' | '.join(cells)} |"
 
 
 def page(scripts: list[pathlib.Path]) -> str:
