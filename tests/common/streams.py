@@ -46,8 +46,10 @@ def without_times(buffer: bytes, response: bytes) -> bytes:
 
 def without_clock(device: Model) -> bytes:
     """An image as it is compared."""
-    device.clock = 0
-    return image(device)
+    clock, device.clock = device.clock, 0
+    text = image(device)
+    device.clock = clock
+    return text
 
 
 class Connection:
@@ -83,6 +85,11 @@ def image_told(text: bytes | None) -> str:
         return f"image {text[:6].hex()}: {without_clock(open_image(text)).hex()}"
     except Fault as fault:
         return f"image {fault}"
+
+
+def device_told(device: Model) -> str:
+    """The same of the image of a device."""
+    return image_told(image(device))
 
 
 class Run:
