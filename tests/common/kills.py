@@ -13,6 +13,7 @@ itself. An image has to be the device after the last connection of which that is
 client had closed the next one before the kill, after that one.
 """
 
+import collections
 import hashlib
 import pathlib
 import random
@@ -21,9 +22,8 @@ import socket
 import subprocess
 import sys
 import threading
-import time
 
-from client import connected, responses
+from client import answer, connected
 
 LONGEST_LIVES = [0.005, 0.05]
 DIGEST_SIZE = 32
@@ -68,13 +68,9 @@ class Device:
 
     def answer(self, client, buffer):
         client.sendall(buffer)
-        text = b""
-        while len(text) < 6 or len(text) < int.from_bytes(text[2:6], "big"):
-            piece = client.recv(4096)
-            if not piece:
-                raise Ended
-            text += piece
-        [response] = responses(text)
+        response = answer(client)
+        if response is None:
+            raise Ended
         return response
 
     def succeeds(self, response):
@@ -124,9 +120,27 @@ def manufactured(device):
     ends_well(process)
 
 
+def serve(device, process, known):
+    """Serves connections as long as the process is there: after each step of one the last number that
+    is known to have been saved, and whether one more may have been.
+    """
+    may_be_saved = False
+    while client := connected("socket", process):
+        device.answered(client, "startup")
+        # The connection is answered: the one before it has ended.
+        known, may_be_saved = known + may_be_saved, False
+        yield known, may_be_saved
+        number = device.number(client)
+        if number != known:
+            raise Wrong(f"{number} connections, and not {known}, in a run that goes on")
+        device.more(client, number)
+        may_be_saved = True
+        yield known, may_be_saved
+        closed(client)
+
+
 def until_killed(device, known, life):
-    """Serves connections until the program is killed: the last number that is known to have been
-    saved, and whether one more may have been."""
+    """Serves until the program is killed: the same at last, and whether a connection was answered."""
     process = device.served(4294967295)
     killed = threading.Event()
 
@@ -136,27 +150,10 @@ def until_killed(device, known, life):
 
     timer = threading.Timer(life, kill)
     timer.start()
-    started, may_be_saved = False, False
+    may_be_saved, started = False, False
     try:
-        while True:
-            client = socket.socket(socket.AF_UNIX, socket.SOCK_STREAM)
-            try:
-                client.connect("socket")
-            except (FileNotFoundError, ConnectionRefusedError):
-                if killed.is_set() or process.poll() is not None:
-                    break
-                time.sleep(0.0005)
-                continue
-            device.answered(client, "startup")
-            # The connection is answered: the one before it has ended.
-            known, may_be_saved = known + may_be_saved, False
+        for known, may_be_saved in serve(device, process, known):
             started = True
-            number = device.number(client)
-            if number != known:
-                raise Wrong(f"{number} connections, and not {known}, in a run that goes on")
-            device.more(client, number)
-            may_be_saved = True
-            closed(client)
     except (Ended, ConnectionResetError, BrokenPipeError):
         if not killed.is_set():
             raise Wrong("a connection failed that was not killed") from None
@@ -198,7 +195,7 @@ def main():
     lives = random.Random(int(seed))
     manufactured(device)
     known = 1
-    counts = dict.fromkeys(["connections", "unserved", "saved", "lost", "image.new", "folder"], 0)
+    counts = collections.Counter()
     for kill in range(1, int(count) + 1):
         first = known
         try:

@@ -8,6 +8,7 @@ the log: over sessions, indices, a lockout and starts anew, where the log is cut
 many kills; or where the log is in a folder on a disk that gets full.
 """
 
+import contextlib
 import pathlib
 import random
 import shutil
@@ -20,6 +21,7 @@ from tpmsim.device import DeviceEnded, ServedDevice
 from tpmsim.standard import AES, RH_OWNER
 from tpmsim.standard.objects import Attribute
 from client import connected
+from shims import fail
 
 SERVE = "serve --socket socket --image image --entropy /dev/urandom --locality 0".split()
 MOST_CONNECTIONS = 4294967295
@@ -28,10 +30,6 @@ CUTS, SECONDS = 12, 60
 LEAST = 20
 LIVES = 0.005, 0.05
 INDEX, COUNTER = 0x0100_0001, 0x0100_0002
-
-
-def fail(words):
-    sys.exit(f"WRONG: {words}")
 
 
 class Run:
@@ -63,10 +61,6 @@ class Run:
             fail(f"{self.log} is played otherwise than it was answered")
         if self.log.stat().st_mode & 0o7777 != 0o600:
             fail(f"{self.log} is not its owner's alone")
-
-
-def responses_of(device):
-    return [event.response for event in device.events]
 
 
 def refused(code, tpm, prepared):
@@ -111,6 +105,16 @@ def draw(tpm):
     tpm.call("GetRandom", bytesRequested=20)
 
 
+def count_on(tpm, *others):
+    """Starts, and increments, behind other uses each time, until the device has ended."""
+    with contextlib.suppress(DeviceEnded):
+        tpm.start_up()
+        while True:
+            for use in others:
+                use(tpm)
+            tpm.send(tpm.incrementing(COUNTER))
+
+
 def answered(*parts):
     """What was answered over as many connections, one after another."""
     responses = []
@@ -118,7 +122,7 @@ def answered(*parts):
         connected("socket").close()
         with ServedDevice("socket") as device:
             part(Caller(device))
-            responses += responses_of(device)
+            responses += [event.response for event in device.events]
     return responses
 
 
@@ -154,43 +158,23 @@ def check_cut(run, responses, chance):
 def check_killed(program, number, chance):
     """Behind a kill each command that was answered is in the log, and at most one more."""
     run = Run(program, f"killed_{number}", MOST_CONNECTIONS)
-    connected("socket").close()
     timer = threading.Timer(chance.uniform(*LIVES), run.process.kill)
-    with ServedDevice("socket") as device:
+
+    def until_killed(tpm):
         timer.start()
-        try:
-            tpm = Caller(device)
-            tpm.start_up()
-            while True:
-                tpm.call("GetRandom", bytesRequested=9)
-                tpm.send(tpm.incrementing(COUNTER))
-        except DeviceEnded:
-            timer.join()
+        count_on(tpm, draw)
+
+    responses = answered(until_killed)
     run.process.communicate(timeout=SECONDS)
-    responses = responses_of(device)
     played = run.played(run.log)
     if played[: len(responses)] != responses or len(played) > len(responses) + 1:
         fail(f"{run.log}, whose device was killed, has not what was answered")
 
 
-def increments():
-    """What is answered to a start and to as many increments as the device answers."""
-    connected("socket").close()
-    with ServedDevice("socket") as device:
-        try:
-            tpm = Caller(device)
-            tpm.start_up()
-            while True:
-                tpm.send(tpm.incrementing(COUNTER))
-        except DeviceEnded:
-            pass  # the log cannot be written
-    return responses_of(device)
-
-
 def check_full(program, folder, *options):
     """Where a disk gets full, the log has all that was answered, and the image too."""
     run = Run(program, "_".join(["full", *options]), 2, *options, folder=folder)
-    responses = increments()
+    responses = answered(count_on)
     run.check_end(3, b"tpmsim: file\n")
     if run.played(run.log)[: len(responses)] != responses or len(responses) < LEAST:
         fail(f"{run.log}, whose disk is full, has not what was answered")
