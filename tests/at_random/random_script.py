@@ -18,7 +18,7 @@ from tpmsim.standard import AES, ALG_NULL, CC, CONTINUE_SESSION, DECRYPT, ENCRYP
 from tpmsim.standard import frames, handle_kinds, HandleKind, KEYEDHASH, number, nv, policy, reading
 from tpmsim.standard import RH_NULL, RS_PW, sessions, SHA1, SHA256, Short, sized, SYMCIPHER, XOR
 from tpmsim.standard.objects import Attribute, Public
-from tests.common.outputs import Played, POWER, write_outputs
+from tests.common.outputs import Played, POWER, repeated, write_outputs
 from tests.common.script import line
 
 SELDOM = 0.04
@@ -36,7 +36,6 @@ NV_USES = (
 INDEX_NUMBERS = range(12)
 TYPES = *(nv.Type.ORDINARY,) * 2, *nv.Type
 ASKERS = frames.RH_OWNER, frames.RH_PLATFORM
-RANDOM_BYTES = 256
 
 # Milliseconds that pass, and the parameters of dictionary attack protection.
 WAITS = 1, 999, 1000, 999_999, 1_000_000, 1_000_001, 2**32 - 1
@@ -583,13 +582,12 @@ class Writer(random.Random):
         else:
             buffer = self.buffer()
         seed = self.randbytes(7)
-        drawn = (seed * RANDOM_BYTES)[:RANDOM_BYTES]
         elapsed = 0
         if self.happens(0.1) or self.device.lockout.is_closed and self.happens(0.2):
             elapsed = self.choice((*WAITS, self.randrange(2**32)))
             self.events.append(f"wait {elapsed}")
         self.events += [f"entropy {seed.hex()}", buffer]
-        outcome = self.device.execute(buffer, self.locality, drawn, elapsed)
+        outcome = self.device.execute(buffer, self.locality, repeated(seed), elapsed)
         self.played.append(Played(outcome, self.locality, elapsed))
         self.note(buffer, outcome.response, outcome.refused)
         return outcome.refused

@@ -4,6 +4,7 @@ It starts the device, and asks for its time again and again for a second, fifty 
 last answer has to be the whole milliseconds since the start, as far as the host can tell.
 """
 
+import socket
 import sys
 import time
 
@@ -20,12 +21,9 @@ def asked(client, commands, size):
     """What is answered, and the milliseconds of the host's clock before and after that."""
     before = time.monotonic() * 1000
     client.sendall(commands)
-    text = b""
-    while len(text) < size:
-        piece = client.recv(size - len(text))
-        if not piece:
-            sys.exit("the connection has ended")
-        text += piece
+    text = client.recv(size, socket.MSG_WAITALL)
+    if len(text) < size:
+        sys.exit("the connection has ended")
     return text, before, time.monotonic() * 1000
 
 

@@ -8,6 +8,14 @@ from tpmsim.model.machine import Outcome
 from tpmsim.standard import lines
 
 
+RANDOM_BYTES = 256
+
+
+def repeated(random: bytes) -> bytes:
+    """The random bytes of a command, of those that an `entropy` line has."""
+    return (random * RANDOM_BYTES)[:RANDOM_BYTES]
+
+
 class Printed(Protocol):
     """What is printed of an event, and what is traced of it."""
 

@@ -9,10 +9,9 @@ import textwrap
 from tpmsim.device.base import line, line_in_bytes
 from tpmsim.model.machine import Model, Outcome
 from tpmsim.standard import CC, frames
-from tests.common.outputs import Played, POWER, Printed, write_outputs
+from tests.common.outputs import Played, POWER, Printed, RANDOM_BYTES, repeated, write_outputs
 
 COLUMNS = 100
-RANDOM_BYTES = 256
 
 # So many bytes of each command's `entropy` line that no two nonces of a command are the same.
 SEED_BYTES = 7
@@ -81,7 +80,7 @@ class Script:
         self.lines.append(f"wait {milliseconds}")
 
     def entropy(self, seed: bytes) -> None:
-        self.random = (seed * RANDOM_BYTES)[:RANDOM_BYTES]
+        self.random = repeated(seed)
         self.lines.append(f"entropy {seed.hex()}")
 
     def fresh(self) -> None:

@@ -15,18 +15,13 @@ from typing import Iterable, Iterator
 from tpmsim.model.image import Fault, image, open_image
 from tpmsim.model.machine import Model, Outcome
 from tpmsim.standard import CC, COMMAND_BYTES, frames, HEADER_BYTES
-
-RANDOM_BYTES = 256
+from tests.common.outputs import RANDOM_BYTES, repeated
 
 # Where commandSize ends.
 SIZE_END = 6
 
 # TPM2_ReadClock answers the host's time, which is left out of what is compared.
 CLOCK_ANSWER_BYTES, TIMES = 35, slice(10, 26)
-
-
-def repeated(random: bytes) -> bytes:
-    return (random * RANDOM_BYTES)[:RANDOM_BYTES]
 
 
 def random_of(buffer: bytes) -> bytes:

@@ -15,7 +15,7 @@ from tests.images import image_bodies
 from tpmsim.model.image import fault_of, image, open_image
 from tpmsim.model.machine import Model
 from tpmsim.standard import number
-from tests.common.expected import played_by
+from tests.common.expected import device_behind
 
 
 def checked(device):
@@ -52,9 +52,7 @@ def main(names):
             print(f"{name}: {words}: {text.hex()}")
         return
     for name in names:
-        device = Model()
-        for _ in played_by(pathlib.Path(name).read_text("ascii"), device):
-            pass
+        device = device_behind(pathlib.Path(name).read_text("ascii"))
         print(f"{name}: {checked(device).hex()}")
     if not names:
         text = checked(Model())

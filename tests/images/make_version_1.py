@@ -14,46 +14,27 @@ import pathlib
 import subprocess
 import sys
 import tempfile
-from dataclasses import dataclass
 
-from tests.common import expected
-from tests.at_random import served_runs as serving
-from tests.common import places
+from tests.common import client, expected, places
 from tests.images import version_1
 from tpmsim.model.machine import MANUFACTURED, Model
 
-RANDOM_BYTES = 256
 FIRST_SECOND = 1_000_000
-
-
-@dataclass(frozen=True)
-class Event:
-    """A command, of these random bytes, and the milliseconds since the one before."""
-
-    buffer: bytes
-    random: bytes
-    elapsed: int
+SECONDS = 60
 
 
 def runs_of(script):
     """The commands of each run."""
-    runs, random, elapsed = [[]], bytes(RANDOM_BYTES), 0
-    for line in script.splitlines():
-        word, _, argument = line.partition(" ")
-        buffer = expected.buffer_of(line)
-        if buffer is not None:
-            runs[-1].append(Event(buffer, random, elapsed))
-            elapsed = 0
-        elif word == "power":
+    runs = [[]]
+    for event in expected.events_of(script):
+        if event is None:
             runs.append([])
-        elif word == "entropy":
-            random = (bytes.fromhex(argument) * RANDOM_BYTES)[:RANDOM_BYTES]
-        elif word == "wait":
-            elapsed += int(argument)
-        elif word and not word.startswith("#"):
-            sys.exit(f"a line that is not played here: {line}")
+        else:
+            runs[-1].append(event)
     if any(run and run[0].elapsed for run in runs):
         sys.exit("a run's first command comes at once")
+    if any(it.locality for run in runs for it in run):
+        sys.exit("all commands come from locality 0")
     return runs
 
 
@@ -102,14 +83,14 @@ class Served:
         self.is_now(time)
         process = self.began()
         try:
-            with serving.connected(str(self.path / "socket"), process) as client:
+            with client.connected(self.path / "socket", process) as connection:
                 answers = []
                 for event in run:
                     time += event.elapsed
                     self.is_now(time)
-                    client.sendall(event.buffer)
-                    answers.append(client.recv(4096))
-            if process.wait(serving.SECONDS):
+                    connection.sendall(event.buffer)
+                    answers.append(connection.recv(4096))
+            if process.wait(SECONDS):
                 sys.exit("the program failed")
             return answers
         finally:
