@@ -44,11 +44,13 @@ class Teller(ScriptCaller):
     anything. tests/anew.py writes it.
     """
 
+    written_by = ".tpm"
+
     def __init__(self, name: str, told: str, tries: bool = False, starts: bool = True) -> None:
         if name == "__main__":
             sys.exit("a program of a script is run by tests/anew.py")
         head = " ".join(told.split("\n\n")[0].partition(".tpm. ")[2].split())
-        super().__init__(Script(name.replace(".", "/") + ".tpm", head))
+        super().__init__(Script(name.replace(".", "/") + self.written_by, head))
         if starts:
             self.startup()
         if tries:
@@ -110,6 +112,15 @@ class Teller(ScriptCaller):
 
     def wait(self, milliseconds: int) -> None:
         self.script.wait(milliseconds)
+
+
+class Example(Teller):
+    """The same for a script of examples/, which tells itself when it starts."""
+
+    written_by = ".py"
+
+    def __init__(self, name: str, told: str) -> None:
+        super().__init__(name, told, starts=False)
 
 
 class Said:
