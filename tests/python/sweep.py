@@ -15,12 +15,11 @@ import sys
 import tempfile
 
 from tpmsim.audit import start
-from tpmsim.audit.auditor import Auditor
-from tpmsim.audit.log import Disagreement, Log
 from tpmsim.audit.report import report
 from tpmsim.model.image import image
 from tpmsim.model.player import Player
 from tests.common import places
+from tests.python.cases import audited
 from tests.at_random.bent_script import bent_script
 from tests.at_random.random_script import Writer
 
@@ -64,11 +63,7 @@ class Sweep:
 
     def judge(self, path, begin, script, output, wanted=None):
         """Whether a log agrees, or is at fault as it is to be."""
-        auditor, fault = Auditor(begin, Log(output)), None
-        try:
-            auditor.read(script)
-        except Disagreement as found:
-            fault = str(found)
+        auditor, fault = audited(script, output, begin=begin)
         list(report(auditor))
         self.events += auditor.counts.events
         self.agree += fault == wanted
