@@ -15,9 +15,11 @@ import re
 import sys
 from dataclasses import dataclass
 
+from tpmsim.model import player
 from tpmsim.model.machine import Model
 from tpmsim.standard import frames, lines
 from tests.common import places
+from tests.common.shims import Ending
 from tests.common.outputs import Played, POWER, RANDOM_BYTES, repeated, write_outputs
 
 WANTED = re.compile(r": (SUCCESS|[A-Z][A-Z0-9_]+(?:/[hps][1-9])?)(?: \(([0-9A-F]{3})\))?[.,;]")
@@ -110,6 +112,34 @@ def device_behind(script):
     for _ in played_by(script, device):
         pass
     return device
+
+
+# What must come of `tpmsim`.
+
+
+def fault_of(line):
+    """The fault of a line, with its column; nothing where it is good."""
+    try:
+        lines.assemble(line)
+        return ""
+    except lines.Fault as fault:
+        return str(fault)
+
+
+def assembled(line):
+    """How `tpmsim asm` ends with a line."""
+    fault = fault_of(line)
+    if fault:
+        return Ending(2, error=f"tpmsim: asm {fault}\n".encode("ascii"))
+    return Ending(0, lines.assemble(line).hex().encode("ascii") + b"\n")
+
+
+def traced(script):
+    """How `tpmsim run --trace` ends with a script, whose lines may be anything."""
+    printed, error = player.played(script)
+    status = {"": 0, "tpmsim: file": 3}.get(error, 2)
+    output = "".join(f"{line}\n" for _, line in printed).encode("ascii")
+    return Ending(status, output, error.encode("ascii") + b"\n" if error else b"")
 
 
 def main(names):

@@ -3,7 +3,7 @@
 import pathlib
 
 from tpmsim.model.image import image, open_image
-from shims import fail
+from tests.common.shims import fail
 
 IMAGE, BESIDE = pathlib.Path("image"), pathlib.Path("image.new")
 

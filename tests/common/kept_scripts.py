@@ -13,8 +13,8 @@ from tpmsim.model.image import image, open_image
 from tpmsim.model.machine import Model
 from tests.common import places
 from tests.common.streams import image_told, device_told
-from kept_image import BESIDE, IMAGE, check_image, check_save, identity, opened
-from shims import FILE, WELL, begun, ended, fail
+from tests.common.kept_image import BESIDE, IMAGE, check_image, check_save, identity, opened
+from tests.common.shims import FILE, WELL, begun, ended, fail
 
 PROGRAM = sys.argv[1]
 RUN = [PROGRAM, "run", "--trace", "--image", IMAGE]

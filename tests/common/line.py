@@ -9,15 +9,15 @@ ten; and as the commands of bent scripts are many, for each twentieth `cmd` line
 """
 
 import collections
-import subprocess
 import sys
 
 from tpmsim.standard import lines
 
-import places
+from tests.common import places
+from tests.common.expected import fault_of
+from tests.common.shims import Ending, ran
 
 PROGRAM = sys.argv[1]
-NO_LINE = 2, b"", b"tpmsim: line NoLine\n"
 EACH = 20
 FIRST, STEP = 25, 10
 
@@ -33,28 +33,17 @@ def arguments(word):
     return list(found)
 
 
-def is_line(argument):
-    try:
-        lines.assemble(argument)
-    except lines.Fault:
-        return False
-    return True
-
-
-def given(digits):
-    """What `tpmsim line` gives."""
-    done = subprocess.run([PROGRAM, "line", digits], capture_output=True, timeout=60)
-    return done.returncode, done.stdout, done.stderr
-
-
 def wanted(buffer):
+    """How `tpmsim line` ends with a buffer."""
     line = lines.line_of(buffer)
-    return NO_LINE if line is None else (0, line.encode() + b"\n", b"")
+    if line is None:
+        return Ending(2, error=b"tpmsim: line NoLine\n")
+    return Ending(0, line.encode() + b"\n")
 
 
 def check(buffer):
     """Whether the line is right; of another one it is said which it should be."""
-    told = given(buffer.hex())
+    told = ran(PROGRAM, "line", buffer.hex())
     if told == wanted(buffer):
         return True
     print(f"FAILED: {buffer.hex()}: {told}, and not {wanted(buffer)}")
@@ -71,7 +60,7 @@ def some(buffers):
         seen[code] += 1
 
 
-spelled = {lines.assemble(it): None for it in arguments(b"do") if is_line(it)}
+spelled = {lines.assemble(it): None for it in arguments(b"do") if not fault_of(it)}
 if all([lines.line_of(it) is not None for it in spelled]):
     print("each do line comes back as a line")
 if all([check(it) for it in some(spelled)]):

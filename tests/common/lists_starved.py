@@ -15,7 +15,7 @@ import sys
 from tpmsim.model import image, machine
 from tpmsim.model.player import Player
 from tpmsim.standard import CC, lines
-from shims import HERE, Ending, Refusals, fail
+from tests.common.shims import HERE, Ending, Refusals, fail
 
 MEMORY = Ending(3, error=b"tpmsim_lists: memory\n")
 STARVED, SUCCESS = machine.STARVED.hex(), bytes(4).hex()

@@ -21,7 +21,7 @@ from tpmsim.device import DeviceEnded, ServedDevice
 from tpmsim.standard import AES, RH_OWNER
 from tpmsim.standard.objects import Attribute
 from client import connected
-from shims import fail
+from tests.common.shims import fail
 
 SERVE = "serve --socket socket --image image --entropy /dev/urandom --locality 0".split()
 MOST_CONNECTIONS = 4294967295

@@ -14,8 +14,8 @@ from tpmsim.model.machine import Model
 from tpmsim.standard import lines
 from tests.common.streams import device_told, image_told
 from client import answer, connected
-from kept_image import BESIDE, IMAGE, check_image, check_save, identity, opened
-from shims import FILE, WELL, Ending, begun, ended, fail
+from tests.common.kept_image import BESIDE, IMAGE, check_image, check_save, identity, opened
+from tests.common.shims import FILE, WELL, Ending, begun, ended, fail
 
 SERVE = "serve --socket socket --image image --entropy /dev/zero --locality 0 --connections".split()
 OPTION = "--save-each"

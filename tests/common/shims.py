@@ -58,6 +58,11 @@ def ended(process, stdin=b""):
     return Ending(process.returncode, output, error)
 
 
+def ran(*words, stdin=b""):
+    """A run to its end."""
+    return ended(begun(words), stdin)
+
+
 class Room:
     """A folder in which a run finds its image, if any, and its random bytes."""
 

@@ -13,7 +13,7 @@ import sys
 from dataclasses import dataclass
 
 from client import connected, received
-from shims import FILE, HERE, SERVE, WELL, Ending, Refusals, Room, ended, fail
+from tests.common.shims import FILE, HERE, SERVE, WELL, Ending, Refusals, Room, ended, fail
 from tests.common.streams import image_told
 
 TOP = HERE.parent.parent

@@ -17,7 +17,19 @@ from dataclasses import dataclass, replace
 
 import torn_rivals
 from client import answer, connected
-from shims import ENTROPY, FILE, HERE, SERVE, SOCKET, WELL, Ending, Room, Tears, ended, fail
+from tests.common.shims import (
+    ENTROPY,
+    FILE,
+    HERE,
+    SERVE,
+    SOCKET,
+    WELL,
+    Ending,
+    Room,
+    Tears,
+    ended,
+    fail,
+)
 from tpmsim.model import machine
 from tpmsim.model.image import image, open_image
 from tpmsim.standard import lines

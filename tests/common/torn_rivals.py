@@ -5,7 +5,7 @@ share the other: one goes on, wherever the first one is meanwhile.
 import socket
 import time
 
-from shims import AT_MOST, FILE, SERVE, SOCKET, Room, Tears, ended, fail
+from tests.common.shims import AT_MOST, FILE, SERVE, SOCKET, Room, Tears, ended, fail
 
 ROOM = Room("torn")
 RANDOM = bytes(512)

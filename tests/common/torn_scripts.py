@@ -15,7 +15,7 @@ from dataclasses import dataclass
 from tpmsim.model import machine, player
 from tpmsim.model.image import image, open_image
 from tests.common.streams import device_told, image_told
-from shims import ENTROPY, FILE, WELL, Ending, Room, Tears, ended, fail
+from tests.common.shims import ENTROPY, FILE, WELL, Ending, Room, Tears, ended, fail
 
 ROOM = Room("torn")
 RUN = "run --image image --entropy entropy -".split()
