@@ -10,9 +10,8 @@ is described wrongly, a kind of fact after the other, and the program must tell 
 import concurrent.futures
 import functools
 import pathlib
-import subprocess
 import sys
-from collections.abc import Iterable, Iterator
+from collections.abc import Callable, Iterable, Iterator
 from dataclasses import dataclass, replace
 from unittest import mock
 
@@ -22,6 +21,8 @@ from tpmsim.standard import RH_LOCKOUT, RH_NULL, RH_OWNER, RH_PLATFORM, RS_PW, S
 from tpmsim.standard import handle_kinds, lines, number, reading
 from tpmsim.standard.nv import Attribute, Public
 from tpmsim.standard.objects import Attribute as ObjectAttribute
+from tests.common.expected import assembled, line_told
+from tests.common.shims import Ending, fail, ran
 
 TESTS = pathlib.Path(__file__).resolve().parent.parent
 AT_ONCE = 4
@@ -53,24 +54,16 @@ class Program:
 
     def run(self, script: Iterable[str], *options: str) -> list[str]:
         """What it prints of a script."""
-        done = subprocess.run(
-            [self.path, "run", *options, "-"],
-            input="".join(f"{it}\n" for it in script),
-            capture_output=True,
-            text=True,
-            timeout=60,
-        )
-        if done.returncode:
-            sys.exit(f"FAILED: {done.stderr}")
-        return done.stdout.splitlines()
+        text = "".join(f"{it}\n" for it in script).encode("ascii")
+        done = ran(self.path, "run", *options, "-", stdin=text)
+        if done.status:
+            fail(f"{done.error}")
+        return done.output.decode("ascii").splitlines()
 
     @functools.cache
-    def told(self, word: str, argument: str) -> str:
-        """What `asm` or `line` prints, on either stream."""
-        done = subprocess.run(
-            [self.path, word, argument], capture_output=True, text=True, timeout=60
-        )
-        return (done.stdout + done.stderr).strip()
+    def told(self, word: str, argument: str) -> Ending:
+        """How `asm` or `line` ends."""
+        return ran(self.path, word, argument)
 
 
 @dataclass(frozen=True)
@@ -188,13 +181,17 @@ def naming(code: int) -> bytes:
     return frames.command(CC.PolicyCommandCode, number(POLICY_SESSION, 4) + number(code, 4))
 
 
+def told(program: Program, word: str, said: list[str], wanted: Callable) -> Iterator[Asked]:
+    """How `asm` or `line` ends with each of these."""
+    with concurrent.futures.ThreadPoolExecutor(AT_ONCE) as pool:
+        for it, found in zip(said, pool.map(lambda it: program.told(word, it), said)):
+            yield Asked(f"{word} {it}", wanted(it), found)
+
+
 def parameters(program: Program, codes: list[CC]) -> Iterator[Asked]:
     """Names of commands, and the number and kinds of parameters, by `tpmsim asm`."""
     said = [line for code in codes for line in parameter_lines(code)]
-    with concurrent.futures.ThreadPoolExecutor(AT_ONCE) as pool:
-        told = pool.map(lambda line: program.told("asm", line), said)
-    for line, answer in zip(said, told):
-        yield Asked(f"asm {line}", assembled(line), answer)
+    return told(program, "asm", said, lambda it: assembled(it.encode()))
 
 
 def parameter_lines(code: CC) -> Iterator[str]:
@@ -222,21 +219,11 @@ def sample(parameter) -> str:
     raise ValueError(parameter)
 
 
-def assembled(line: str) -> str:
-    try:
-        return lines.assemble(line.encode()).hex()
-    except lines.Fault as fault:
-        return f"tpmsim: asm {fault}"
-
-
 def words(program: Program, codes: list[CC]) -> Iterator[Asked]:
     """How parameters are shown, in hex or not, by `tpmsim line`."""
-    said = [assembled(line) for code in codes for line in parameter_lines(code)]
-    buffers = list(dict.fromkeys(it for it in said if " " not in it))
-    with concurrent.futures.ThreadPoolExecutor(AT_ONCE) as pool:
-        told = pool.map(lambda buffer: program.told("line", buffer), buffers)
-    for buffer, answer in zip(buffers, told):
-        yield Asked(f"line {buffer}", lines.line_of(bytes.fromhex(buffer)), answer)
+    ended = [assembled(line.encode()) for code in codes for line in parameter_lines(code)]
+    buffers = list(dict.fromkeys(it.output.decode().strip() for it in ended if not it.status))
+    return told(program, "line", buffers, lambda it: line_told(bytes.fromhex(it)))
 
 
 def kinds_of_handles(program: Program, codes: list[CC]) -> Iterator[Asked]:

@@ -134,6 +134,14 @@ def assembled(line):
     return Ending(0, lines.assemble(line).hex().encode("ascii") + b"\n")
 
 
+def line_told(buffer):
+    """How `tpmsim line` ends with a buffer."""
+    line = lines.line_of(buffer)
+    if line is None:
+        return Ending(2, error=b"tpmsim: line NoLine\n")
+    return Ending(0, line.encode("ascii") + b"\n")
+
+
 def traced(script):
     """How `tpmsim run --trace` ends with a script, whose lines may be anything."""
     printed, error = player.played(script)

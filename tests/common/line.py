@@ -14,8 +14,8 @@ import sys
 from tpmsim.standard import lines
 
 from tests.common import places
-from tests.common.expected import fault_of
-from tests.common.shims import Ending, ran
+from tests.common.expected import fault_of, line_told
+from tests.common.shims import ran
 
 PROGRAM = sys.argv[1]
 EACH = 20
@@ -33,21 +33,12 @@ def arguments(word):
     return list(found)
 
 
-def wanted(buffer):
-    """How `tpmsim line` ends with a buffer."""
-    line = lines.line_of(buffer)
-    if line is None:
-        return Ending(2, error=b"tpmsim: line NoLine\n")
-    return Ending(0, line.encode() + b"\n")
-
-
 def check(buffer):
     """Whether the line is right; of another one it is said which it should be."""
-    told = ran(PROGRAM, "line", buffer.hex())
-    if told == wanted(buffer):
-        return True
-    print(f"FAILED: {buffer.hex()}: {told}, and not {wanted(buffer)}")
-    return False
+    told, wanted = ran(PROGRAM, "line", buffer.hex()), line_told(buffer)
+    if told != wanted:
+        print(f"FAILED: {buffer.hex()}: {told}, and not {wanted}")
+    return told == wanted
 
 
 def some(buffers):
