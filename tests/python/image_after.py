@@ -1,6 +1,8 @@
 """The image of the device behind a script, as `tpmsim serve --image` would leave it:
 
-    image_after.py SCRIPT IMAGE
+    tools/python.sh tests/python/image_after.py SCRIPT [IMAGE]
+
+It is written to the file IMAGE, or else printed as hex.
 """
 
 import pathlib
@@ -9,9 +11,12 @@ import sys
 from tpmsim.model.image import image
 from tpmsim.model.player import Player
 
-
-script, name = sys.argv[1:]
+script, *names = sys.argv[1:]
 player = Player()
 for line in pathlib.Path(script).read_bytes().splitlines():
     player.play(line)
-pathlib.Path(name).write_bytes(image(player.device))
+text = image(player.device)
+for name in names:
+    pathlib.Path(name).write_bytes(text)
+if not names:
+    print(text.hex())
