@@ -33,7 +33,7 @@ int main(int count, char **words) {
 }
 C
 cc -O2 -o "$folder/bare" "$folder/bare.c"
-"$top/tools/python.sh" "$top/tests/python/image_after.py" "$top/tests/general/full_device.tpm" \
+"$top/tools/python.sh" "$top/tests/images/images.py" "$top/tests/general/full_device.tpm" \
     "$folder/image"
 python3 "$top/bench/serving.py" "$program" "$folder/bare" "$folder/image"
 

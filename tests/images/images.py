@@ -1,6 +1,6 @@
 """The image of the device behind a script, as `tpmsim serve --image` would leave it:
 
-    tools/python.sh tests/python/image_after.py SCRIPT [IMAGE]
+    tools/python.sh tests/images/images.py SCRIPT [IMAGE]
 
 It is written to the file IMAGE, or else printed as hex.
 """
