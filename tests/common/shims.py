@@ -60,7 +60,8 @@ def ended(process, stdin=b""):
 
 def ran(*words, stdin=b""):
     """A run to its end."""
-    return ended(begun(words), stdin)
+    done = subprocess.run(words, input=stdin, capture_output=True, timeout=AT_MOST, check=False)
+    return Ending(done.returncode, done.stdout, done.stderr)
 
 
 class Room:

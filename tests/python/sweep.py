@@ -10,7 +10,6 @@ says which logs do not agree, leaves their scripts, and counts. The status is 1 
 
 import pathlib
 import random
-import subprocess
 import sys
 import tempfile
 
@@ -19,6 +18,7 @@ from tpmsim.audit.report import report
 from tpmsim.model.image import image
 from tpmsim.model.player import Player
 from tests.common import places
+from tests.common.shims import ran
 from tests.python.cases import audited
 from tests.at_random.bent_script import bent_script
 from tests.at_random.random_script import Writer
@@ -28,8 +28,8 @@ COMMANDS = 400
 
 def traced(program, path):
     """What the program prints of a script, and what it says on standard error."""
-    ran = subprocess.run([program, "run", "--trace", path], capture_output=True, timeout=60)
-    return ran.stdout, ran.stderr.decode("ascii", "replace").strip()
+    ended = ran(program, "run", "--trace", path)
+    return ended.output, ended.error.decode("ascii", "replace").strip()
 
 
 def wanted_of(error):
@@ -66,8 +66,7 @@ class Sweep:
         auditor, fault = audited(script, output, begin=begin)
         list(report(auditor))
         self.events += auditor.counts.events
-        self.agree += fault == wanted
-        self.differ += fault != wanted
+        self.agree, self.differ = self.agree + (fault == wanted), self.differ + (fault != wanted)
         if fault != wanted:
             print(f"DIFFERS: {path}, {begin.words}: {fault or 'all agrees'}", flush=True)
         return fault == wanted
