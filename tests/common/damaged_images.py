@@ -22,7 +22,7 @@ from tpmsim.model import image
 from tpmsim.model.machine import Model
 from tpmsim.standard import lines
 from tests.images import image_bodies
-from tests.images import image_versions
+from tests.images import image_cases
 from tests.images.bent_bodies import Bender
 
 STATUS_OF_FAULT, FAULT = 4, "tpmsim: image "
@@ -210,8 +210,8 @@ def in_the_gate(comparison):
     comparison.kind("it in version 1", [("whole", old)])
     comparison.series("its proper prefixes", prefixes(old))
     comparison.kind("its body in version 1, bent", bent(device, SEED, BENT, image.VERSION_1))
-    comparison.kind("version 2, a bit of its limits changed", image_versions.with_other_limits())
-    comparison.kind("version 2, of 42 to 73 bytes", image_versions.without_state())
+    comparison.kind("version 2, a bit of its limits changed", image_cases.with_other_limits())
+    comparison.kind("version 2, of 42 to 73 bytes", image_cases.without_state())
     told = []
     for case in image_bodies.cases():
         told.append(comparison.case(case))

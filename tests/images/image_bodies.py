@@ -20,9 +20,8 @@ from tpmsim.standard.nv import Attribute, of_type
 from tpmsim.standard.objects import Attribute as ObjectAttribute
 from tests.general import full_device
 from tests.images import image_fields
-from tests.images.image_cases import Case, areas, pair, pairs, plural, with_indices
+from tests.images.image_cases import Case, areas, pair, pairs, plural, version_cases, with_indices
 from tests.images.image_fields import image_of, indices_of, objects_of
-from tests.images.image_versions import version_cases
 
 WRITTEN = BY_OWNER | Attribute.WRITTEN
 FIRST = 0x8100_0000
