@@ -131,9 +131,7 @@ def first_lines():
 
 
 def bent(first, bend, begin=0, step=1):
-    """The lines, bent in a way at one of their tokens after the other, or at one in so many of all
-    tokens from a place on.
-    """
+    """The lines, bent at one in so many of all their tokens, from a place on."""
     places = (
         (tokens, at) for tokens in (it.split(b" ") for it in first) for at in range(len(tokens))
     )

@@ -15,9 +15,7 @@ SECONDS = 10
 
 
 def connected(path, process=None):
-    """A connection to the socket, which is to be there within ten seconds; nothing where the
-    process that is to serve there has ended.
-    """
+    """A connection to the socket, within ten seconds; nothing where its process has ended."""
     until = time.monotonic() + SECONDS
     while time.monotonic() < until:
         client = socket.socket(socket.AF_UNIX, socket.SOCK_STREAM)

@@ -157,9 +157,7 @@ def random_of(number):
 
 @dataclass(frozen=True)
 class Service:
-    """What came of a run: how it ended, what each connection was answered, the image, and what else
-    is in the folder.
-    """
+    """How a run ended, what each connection was answered, the image, and what else is left."""
 
     ending: Ending
     answers: list

@@ -54,9 +54,7 @@ class Model:
             self.images[len(self.answers)].append(device_told(self.player.device))
 
     def allows(self, told, saved):
-        """Whether an image may be there, where so many responses were told: it has what they tell,
-        and may have what the next line did.
-        """
+        """Whether an image has what so many responses tell, be it with what the next line did."""
         return saved in self.images[told] or saved in self.images[min(told + 1, len(self.answers))]
 
 

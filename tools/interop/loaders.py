@@ -158,8 +158,7 @@ def shared_part(command: bytes) -> str:
 
 
 def extends_of(log: str) -> list[tuple[str, str]]:
-    """The shared part of each PCR_Extend of a log of swtpm at level 20, with the code of its response, in
-    hex."""
+    """Of each PCR_Extend of a log at level 20 the shared part, and the response code, in hex."""
     form = r"SWTPM_IO_(Read|Write): length \d+\s*\n((?:\s*(?:[0-9A-F]{2} ?)+\s*\n)+)"
     extends, last = [], b""
     for kind, text in re.findall(form, log):
