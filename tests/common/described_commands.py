@@ -15,12 +15,13 @@ from collections.abc import Callable, Iterable, Iterator
 from dataclasses import dataclass, replace
 from unittest import mock
 
-from tpmsim.model.capability import COMMANDS, HANDLES, PCRS, TOTAL_COMMANDS, command_attributes
+from tpmsim.model.capability import COMMANDS, TOTAL_COMMANDS, command_attributes
 from tpmsim.standard import CC, Fact, Fields, Handle, HandleKind, KEYEDHASH, Kind, NUMBERED
 from tpmsim.standard import RH_LOCKOUT, RH_NULL, RH_OWNER, RH_PLATFORM, RS_PW, SHA256, frames
-from tpmsim.standard import handle_kinds, lines, number, reading
+from tpmsim.standard import handle_kinds, lines, number, Short
 from tpmsim.standard.nv import Attribute, Public
 from tpmsim.standard.objects import Attribute as ObjectAttribute
+from tpmsim.standard.values import read_all
 from tests.common.expected import assembled, line_told
 from tests.common.shims import Ending, fail, ran
 
@@ -359,34 +360,13 @@ def read_answer(code: CC, response: bytes | None) -> str:
     tag, _, _ = fields.number(2), fields.number(4), fields.number(4)
     try:
         handles = [fields.number(4) for _ in code.answered_handles]
-        body = Fields(fields.take(fields.number(4))) if tag == frames.SESSIONS else fields
-        for parameter in code.answered_parameters:
-            read_answered(parameter.kind, body)
-    except (reading.Short, lines.NoWords):
+        text = fields.take(fields.number(4)) if tag == frames.SESSIONS else fields.data
+        read_all(code.answered_parameters, text)
+    except Short:
         return "cut"
-    if not all(map(takes, code.answered_handles, handles)):
-        return "another handle"
-    return "more" if body.data else "read"
-
-
-def read_answered(kind: Kind, fields: Fields) -> None:
-    if kind == Kind.TICKET:
-        fields.take(6)
-        fields.sized()
-    elif kind == Kind.TIME:
-        fields.take(25)
-    elif kind == Kind.CAPABILITY:
-        read_capability(fields)
-    else:
-        lines.WORDS[kind].word(fields)
-
-
-def read_capability(fields: Fields) -> None:
-    kind = fields.number(4)
-    if kind == PCRS:
-        lines.WORDS[Kind.SELECTION].word(fields)
-    else:
-        fields.take(fields.number(4) * (4 if kind in (HANDLES, COMMANDS) else 8))
+    except ValueError:
+        return "more"
+    return "read" if all(map(takes, code.answered_handles, handles)) else "another handle"
 
 
 CHECKS = {
