@@ -17,6 +17,7 @@ import socket
 import sys
 
 from tests.common import client
+from tests.common.shims import begun, ended, Ending, SERVE, WELL
 
 from tpmsim.model import image
 from tpmsim.model.machine import Model
@@ -51,30 +52,20 @@ class Program:
         pathlib.Path("entropy").write_bytes(RANDOM * (len(LINES) + 1))
 
     def start(self, connections):
-        words = "serve --socket socket --image image --entropy entropy --locality 0"
-        arguments = [self.path, *words.split(), "--connections", str(connections)]
-        error, writing = os.pipe()
-        to_error = [(os.POSIX_SPAWN_DUP2, writing, 2)]
-        process = os.posix_spawn(self.path, arguments, {}, file_actions=to_error)
-        os.close(writing)
-        return process, error
+        return begun([self.path, *SERVE, str(connections)])
 
-    def end(self, process, error):
+    def end(self, process):
         """The fault of the image, or nothing where the program ended well."""
-        with os.fdopen(error) as reader:
-            told = reader.read()
-        _, status = os.waitpid(process, 0)
-        status = os.waitstatus_to_exitcode(status)
-        if (status, told) == (0, ""):
-            return None
-        if status == STATUS_OF_FAULT and told.startswith(FAULT) and told.endswith("\n"):
-            return told[len(FAULT) : -1]
-        return f"status {status}, {told!r}"
+        given = ended(process)
+        fault = given.error.decode("ascii", "replace").removeprefix(FAULT).removesuffix("\n")
+        if given == Ending(STATUS_OF_FAULT, error=f"{FAULT}{fault}\n".encode()):
+            return fault
+        return None if given == WELL else f"{given}"
 
     def fault_of(self, text):
         """What the program answers to an image; where it opens it, it saves nothing."""
         pathlib.Path("image").write_bytes(text)
-        return self.end(*self.start(0))
+        return self.end(self.start(0))
 
     def saved(self, commands):
         """What the program saves behind a connection with these commands."""
@@ -84,7 +75,7 @@ class Program:
         connection.shutdown(socket.SHUT_WR)
         client.received(connection)
         connection.close()
-        assert self.end(*started) is None
+        assert self.end(started) is None
         return pathlib.Path("image").read_bytes()
 
     def saved_again(self, text):
