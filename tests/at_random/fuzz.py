@@ -23,7 +23,7 @@ from tpmsim.model.general import Refusal
 from tpmsim.standard.reading import Short
 from tests.at_random import served_runs as serving
 from tests.at_random.bent_script import bent_script
-from tests.at_random.random_script import Writer
+from tests.at_random.random_script import written
 from tests.at_random.random_stream import random_stream
 from tests.common import streams
 from tests.common.shims import ran
@@ -140,9 +140,7 @@ class Fuzz:
         return sum(it.tried["differ"] for it in self.kinds)
 
     def round(self, seed):
-        writer = Writer(seed)
-        for _ in range(COMMANDS):
-            writer.step()
+        writer = written(seed, COMMANDS)
         lines = [it.encode("ascii") for it in writer.lines]
         self.compare(seed, self.scripts, lines, commands=COMMANDS)
 

@@ -12,6 +12,7 @@ import pathlib
 import random
 import sys
 from dataclasses import replace
+from functools import partial
 
 from tpmsim.model import general, nv_commands, persistent, state
 from tpmsim.model.machine import Model
@@ -468,12 +469,9 @@ class Writer(random.Random):
             _, entry, handle = found
             held = device.sessions[entry.handle]
             key = device.encryption_key(held, handle)
-            command.parameters = sessions.on_first_buffer(
-                lambda data: sessions.encrypted(
-                    *(held.cipher, held.algorithm, key, entry.nonce, held.nonce_tpm, data)
-                ),
-                command.parameters,
-            )
+            given = held.cipher, held.algorithm, key, entry.nonce, held.nonce_tpm
+            encrypt = partial(sessions.encrypted, *given)
+            command.parameters = sessions.on_first_buffer(encrypt, command.parameters)
         for place, entry, handle in command.places():
             entry.hmac = self.hmac_of(command, place, entry, handle)
             if self.happens(0.08 if device.touched(entry, handle) else 0.02):
@@ -491,16 +489,9 @@ class Writer(random.Random):
         key = device.key(entry, handle)
         if not key and self.happens(0.8):
             return b""
-        names = device.names(command)
-        return sessions.entry_hmac(
-            held.algorithm,
-            key,
-            sessions.command_hash(held.algorithm, command.code, names, command.parameters),
-            entry.nonce,
-            held.nonce_tpm,
-            device.nonces_of_others(command, place, handle),
-            entry.attributes,
-        )
+        given = held.algorithm, key, device.cp_hash(held, command), entry.nonce, held.nonce_tpm
+        others = device.nonces_of_others(command, place, handle)
+        return sessions.entry_hmac(*given, others, entry.attributes)
 
     # Sending.
 
@@ -564,7 +555,6 @@ class Writer(random.Random):
         outcome = self.device.execute(buffer, self.locality, repeated(seed), elapsed)
         self.played.append(Played(outcome, self.locality, elapsed))
         self.note(buffer, outcome.response, outcome.refused)
-        return outcome.refused
 
     def note(self, buffer, response, refused):
         """Keeps what TPM2_Create answered in plain, and the digests that policies have."""
@@ -578,13 +568,19 @@ class Writer(random.Random):
                 self.digests = [b"", *self.digests[-20:], held.policy.digest]
 
 
+def written(seed, count):
+    """The writer behind so many commands."""
+    writer = Writer(seed)
+    for _ in range(count):
+        writer.step()
+    return writer
+
+
 def main(seed, count, folder):
-    writer = Writer(int(seed))
-    outcomes = [writer.step() for _ in range(int(count))]
+    writer = written(int(seed), int(count))
     path = pathlib.Path(folder) / f"{seed}.tpm"
     path.write_text("\n".join(writer.lines) + "\n", "ascii")
     write_outputs(path, writer.played)
-    return outcomes
 
 
 if __name__ == "__main__":

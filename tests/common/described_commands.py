@@ -141,10 +141,9 @@ def right_handles(code: CC) -> list[int]:
 
 def buffer_of(code: CC, handles: list[int], *entries: bytes) -> bytes:
     """A command whose parameters are one byte, so that hardly one of them succeeds."""
-    text = b"".join(number(it, 4) for it in handles)
-    if not entries:
-        return frames.command(code, text + b"\0")
-    return frames.command(code, text + frames.area(*entries) + b"\0", frames.SESSIONS)
+    if entries:
+        return frames.on_handles(code, handles, b"\0", list(entries))
+    return frames.buffer_of(code, handles, [], b"\0")
 
 
 # Facts. Each function yields what was asked about some of the commands.

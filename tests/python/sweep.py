@@ -21,7 +21,7 @@ from tests.common import places
 from tests.common.shims import ran
 from tests.python.cases import audited
 from tests.at_random.bent_script import bent_script
-from tests.at_random.random_script import Writer
+from tests.at_random.random_script import written
 
 COMMANDS = 400
 
@@ -76,9 +76,7 @@ class Sweep:
         return self.judge(path, start.new(), path.read_bytes(), output, wanted_of(error))
 
     def judge_random(self, seed, folder):
-        writer = Writer(seed)
-        for _ in range(COMMANDS):
-            writer.step()
+        writer = written(seed, COMMANDS)
         path, bent = folder / f"{seed}.tpm", folder / f"{seed}.bent.tpm"
         path.write_text("\n".join(writer.lines) + "\n", "ascii")
         bent.write_bytes(bent_script(random.Random(f"{seed} bent"), writer.lines)[0])

@@ -16,12 +16,12 @@ from unittest import mock
 from tpmsim.audit import broken
 from tpmsim.policies import policy_texts, written
 from tpmsim.policies.policy_file import PolicyFile
-from tpmsim.standard import CC, SHA1, SHA256, digest, policy
+from tpmsim.standard import CC, SHA1, SHA256, digest, nv, policy
 from tests.python import cases
 
 # What TPM2_PolicyLocality of locality 0 is hashed by, behind the digest of a start.
 LOCALITY_0 = bytes.fromhex("0000016f01")
-AREA = "01000001 {:04x} 00080008 {:04x} {} 0008"
+ATTRIBUTES = nv.Attribute.POLICYREAD | nv.Attribute.POLICYWRITE
 
 # Two branches of a policy, by SHA-1, and the end of the first with the beginning of the next.
 UNSEAL = policy.after_command_code(SHA1, bytes(20), CC.Unseal)
@@ -37,7 +37,7 @@ WRITE = policy.after_command_code(SHA256, bytes(32), CC.NV_Write)
 
 def script(algorithm, auth_policy, *assertions):
     """An index that its policy alone authorizes, and a use of it behind assertions."""
-    area = AREA.format(algorithm, len(auth_policy), auth_policy.hex()).replace(" ", "")
+    area = nv.Public(0x0100_0001, algorithm, ATTRIBUTES, auth_policy, 8).text.hex()
     name = "sha1" if algorithm == SHA1 else "sha256"
     return [
         "do Startup 0",
