@@ -10,6 +10,7 @@ another on one image. What happens is said in lines:
 """
 
 import hashlib
+from dataclasses import dataclass, field
 from typing import Iterable, Iterator
 
 from tpmsim.model.image import Fault, image, open_image
@@ -87,6 +88,7 @@ def device_told(device: Model) -> str:
     return image_told(image(device))
 
 
+@dataclass
 class Run:
     """A run: the number of its line, its locality, its image, and whether that is given by a line
     and not by the run before; what is in its file of random bytes, its connections, what is said on
@@ -94,14 +96,15 @@ class Run:
     missing, or the image is none.
     """
 
-    def __init__(
-        self, number: int, locality: int, image_before: bytes | None, is_given: bool
-    ) -> None:
-        self.number, self.locality = number, locality
-        self.image_before, self.is_given = image_before, is_given
-        self.random, self.connections = b"", list[Connection]()
-        self.image_told: str | None = None
-        self.is_dry, self.error = False, ""
+    number: int
+    locality: int
+    image_before: bytes | None
+    is_given: bool
+    random: bytes = b""
+    connections: list[Connection] = field(default_factory=list)
+    image_told: str | None = None
+    is_dry: bool = False
+    error: str = ""
 
     @property
     def is_over(self) -> bool:

@@ -67,37 +67,22 @@ class End:
 
 
 # By the function and what it is about. The folder beside the socket is .0, and the socket in it s.
+UNSAVED = End(FILE, ("image.new",), OLD)
 ENDINGS = {
-    "statx image": End(FILE),
-    "open image.lock": End(FILE),
-    "flock image.lock": End(FILE),
-    "open image": End(FILE),
-    "read image": End(FILE),
-    "open entropy": End(ENTROPY),
-    "statx entropy": End(ENTROPY),
-    "read entropy": End(ENTROPY),
-    "clock_gettime": End(ENTROPY),
-    "mkdir .0": End(SOCKET),
-    "socket": End(SOCKET),
-    "bind": End(SOCKET),
-    "listen": End(SOCKET),
-    "chmod .0/s": End(SOCKET),
-    "statx .0/s": End(SOCKET),
-    "link socket": End(SOCKET),
-    "unlink .0/s": End(WELL, (".0",)),
-    "rmdir .0": End(WELL, (".0",)),
-    "accept4": End(SOCKET),
-    "recv connection": End(WELL, (), ALONE),
-    "send connection": End(WELL, (), ALONE),
-    "unlink image.new": End(FILE, (), OLD),
-    "open image.new": End(FILE, (), OLD),
-    "write image.new": End(FILE, ("image.new",), OLD),
-    "fsync image.new": End(FILE, ("image.new",), OLD),
-    "open .": End(FILE, ("image.new",), OLD),
-    "rename image.new": End(FILE, ("image.new",), OLD),
-    "fsync torn": End(FILE, (), NEW),
-    "statx socket": End(WELL, ("socket",)),
-    "unlink socket": End(WELL, ("socket",)),
+    call: end
+    for end, calls in (
+        (End(FILE), "statx image, open image.lock, flock image.lock, open image, read image"),
+        (End(ENTROPY), "open entropy, statx entropy, read entropy, clock_gettime"),
+        (End(SOCKET), "mkdir .0, socket, bind, listen, chmod .0/s, statx .0/s, link socket"),
+        (End(WELL, (".0",)), "unlink .0/s, rmdir .0"),
+        (End(SOCKET), "accept4"),
+        (End(WELL, (), ALONE), "recv connection, send connection"),
+        (End(FILE, (), OLD), "unlink image.new, open image.new"),
+        (UNSAVED, "write image.new, fsync image.new, open ., rename image.new"),
+        (End(FILE, (), NEW), "fsync torn"),
+        (End(WELL, ("socket",)), "statx socket, unlink socket"),
+    )
+    for call in calls.split(", ")
 }
 
 # With what error a call fails, where it is not EIO.

@@ -180,8 +180,7 @@ class Comparison:
 
     def run(self, text, buffers, connections=1):
         """What the program answers in a run on an image, what it says, and what it saves."""
-        run = streams.Run(0, 0, text, True)
-        run.random = b"".join(map(streams.random_of, buffers))
+        run = streams.Run(0, 0, text, True, b"".join(map(streams.random_of, buffers)))
         run.connections = [streams.Connection(AT_ONCE) for _ in range(connections)]
         for connection in run.connections:
             connection.sent = b"".join(buffers)
