@@ -12,7 +12,6 @@ import contextlib
 import pathlib
 import random
 import shutil
-import subprocess
 import sys
 import threading
 
@@ -21,12 +20,12 @@ from tpmsim.device import DeviceEnded, ServedDevice
 from tpmsim.standard import AES, RH_OWNER
 from tpmsim.standard.objects import Attribute
 from client import connected
-from tests.common.shims import fail
+from tests.common.shims import begun, ended, fail, FILE, ran, WELL
 
 SERVE = "serve --socket socket --image image --entropy /dev/urandom --locality 0".split()
 MOST_CONNECTIONS = 4294967295
 LINES_OF_A_HEAD, LINES_OF_AN_ENTRY = 2, 5
-CUTS, SECONDS = 12, 60
+CUTS = 12
 LEAST = 20
 LIVES = 0.005, 0.05
 INDEX, COUNTER = 0x0100_0001, 0x0100_0002
@@ -40,20 +39,17 @@ class Run:
         self.start = pathlib.Path(f"{name}.start")
         shutil.copy("image", self.start)
         words = [*SERVE, "--connections", str(connections), "--log", str(self.log), *options]
-        self.process = subprocess.Popen(
-            [program, *words], stdout=subprocess.PIPE, stderr=subprocess.STDOUT
-        )
+        self.process = begun([program, *words])
 
-    def check_end(self, *wanted):
-        output = self.process.communicate(timeout=SECONDS)[0]
-        if (self.process.returncode, output) != (wanted or (0, b"")):
-            fail(f"{self.log}: the run ended with {self.process.returncode}, {output}")
+    def check_end(self, wanted=WELL):
+        given = ended(self.process)
+        if given != wanted:
+            fail(f"{self.log}: the run ended with {given}")
 
     def played(self, log):
         """The responses that `tpmsim run` prints on a copy of the image of the start."""
         shutil.copy(self.start, "played")
-        words = [self.program, "run", "--image", "played", str(log)]
-        printed = subprocess.run(words, capture_output=True, timeout=SECONDS).stdout
+        printed = ran(self.program, "run", "--image", "played", str(log)).output
         return [bytes.fromhex(line) for line in printed.decode("ascii").split()]
 
     def check(self, responses):
@@ -165,7 +161,7 @@ def check_killed(program, number, chance):
         count_on(tpm, draw)
 
     responses = answered(until_killed)
-    run.process.communicate(timeout=SECONDS)
+    ended(run.process)
     played = run.played(run.log)
     if played[: len(responses)] != responses or len(played) > len(responses) + 1:
         fail(f"{run.log}, whose device was killed, has not what was answered")
@@ -175,7 +171,7 @@ def check_full(program, folder, *options):
     """Where a disk gets full, the log has all that was answered, and the image too."""
     run = Run(program, "_".join(["full", *options]), 2, *options, folder=folder)
     responses = answered(count_on)
-    run.check_end(3, b"tpmsim: file\n")
+    run.check_end(FILE)
     if run.played(run.log)[: len(responses)] != responses or len(responses) < LEAST:
         fail(f"{run.log}, whose disk is full, has not what was answered")
     run.log.unlink()
@@ -191,7 +187,8 @@ def check_full(program, folder, *options):
 
 def main():
     program = sys.argv[1]
-    subprocess.run([program, "run", "--image", "image", "-"], input=b"", check=True)
+    if ran(program, "run", "--image", "image", "-") != WELL:
+        fail("no image is made")
     if sys.argv[2] == "--full":
         check_uses(program)
         shutil.copy("use_lockout.start", "image")

@@ -89,10 +89,10 @@ class Room:
 
 
 class Shim:
-    """A program behind a shim, which is built in the folder of this run."""
+    """A program behind a shim, which is built in a folder."""
 
-    def __init__(self, program, name):
-        self.program, self.library = program, pathlib.Path(f"{name}.so").resolve()
+    def __init__(self, program, name, folder="."):
+        self.program, self.library = program, pathlib.Path(folder, f"{name}.so").resolve()
         words = ["cc", "-O1", "-shared", "-fPIC", "-o", self.library, HERE / f"{name}.c"]
         subprocess.run(words, check=True)
 

@@ -11,11 +11,11 @@ written there; where there is one, they have to be those of it.
 
 import os
 import pathlib
-import subprocess
 import sys
 import tempfile
 
-from tests.common import client, expected, places
+from tests.common import client, expected
+from tests.common.shims import SERVE, Shim
 from tests.images import version_1
 from tpmsim.model.machine import MANUFACTURED, Model
 
@@ -55,12 +55,8 @@ class Served:
     milliseconds since the first command of a run.
     """
 
-    WORDS = "serve --socket socket --image image --entropy entropy --locality 0 --connections 1"
-
     def __init__(self, program, path):
-        self.program, self.path = os.path.abspath(program), pathlib.Path(path)
-        self.shim, source = self.path / "clock.so", places.TESTS / "common/clock.c"
-        subprocess.run(["cc", "-O1", "-shared", "-fPIC", "-o", self.shim, source], check=True)
+        self.path, self.program = pathlib.Path(path), Shim(os.path.abspath(program), "clock", path)
 
     def is_now(self, time):
         """The host's clock stands there until it is told another time."""
@@ -69,19 +65,13 @@ class Served:
         (self.path / "clock.new").write_text(told, "ascii")
         (self.path / "clock.new").replace(self.path / "clock")
 
-    def began(self):
-        told = {"LD_PRELOAD": str(self.shim), "CLOCK": str(self.path / "clock")}
-        return subprocess.Popen(
-            [self.program, *self.WORDS.split()], cwd=self.path, env={**os.environ, **told}
-        )
-
     def serve(self, run):
         """The responses in a run, one connection of it."""
         random = b"" if (self.path / "image").exists() else MANUFACTURED
         (self.path / "entropy").write_bytes(random + b"".join(it.random for it in run))
         time = 0
         self.is_now(time)
-        process = self.began()
+        process = self.program.begun([*SERVE, "1"], self.path, CLOCK=self.path / "clock")
         try:
             with client.connected(self.path / "socket", process) as connection:
                 answers = []
