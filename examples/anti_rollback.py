@@ -41,10 +41,6 @@ def policy_of(version):
     return hashlib.sha256(assertion).digest()
 
 
-def says(what, prepared):
-    tpm.says(f"{what}: SUCCESS", prepared)
-
-
 def start(version):
     """What the firmware and the boot loader do at each start."""
     tpm.power_cycle()
@@ -69,7 +65,7 @@ def compared(session, version):
 
 
 def asserted(session, version):
-    says("TPM2_PolicyPCR of PCR 11", tpm.pcrs(session, CHOSEN))
+    tpm("TPM2_PolicyPCR of PCR 11").pcrs(session, CHOSEN)
     said = tpm(f"TPM2_PolicyNV: the counter is less than or equal to {version}")
     said.does(compared(session, version))
 
@@ -93,7 +89,7 @@ def unlock(token, version):
     session = tpm.policy("TPM2_StartAuthSession of a policy session")
     asserted(session, version)
     tpm.unseal("TPM2_Unseal: the disk's key", handle, DISK_KEY, session)
-    says("The session is flushed", tpm.flush(session))
+    tpm("The session is flushed").flush(session)
     tpm.flush_objects("And the object", handle)
 
 
@@ -116,7 +112,7 @@ tpm.read("TPM2_NV_Read by the index's empty value: the lowest version is 1", MIN
 tpm.is_now("TPM2_NV_ReadPublic: the Name of now", MINIMUM)
 
 tpm.chapter("ENROLMENT of image 1, which is running.")
-tpm.does("It was measured into PCR 11", tpm.event(IMAGES[1], b"", pcr=11))
+tpm("It was measured into PCR 11").event(IMAGES[1], b"", pcr=11)
 hand_over()
 parent = storage_root("TPM2_CreatePrimary: the storage root key")
 trial = tpm.trial("A trial session computes the policy")
@@ -125,7 +121,7 @@ tpm(
     "TPM2_PolicyGetDigest. The version, the operation 0009 (unsigned, less or equal), and the Name "
     "of the index are hashed into it"
 ).digest_is(trial, policy_of(1))
-says("The trial session is flushed", tpm.flush(trial))
+tpm("The trial session is flushed").flush(trial)
 token_1 = seal(
     parent,
     1,
@@ -152,13 +148,11 @@ tpm.chapter(
 )
 parent = storage_root()
 trial = tpm.trial("A trial session")
-says(
-    "TPM2_PolicyPCR of PCR 11, with the digest of the value behind image 2",
-    tpm.pcrs(trial, CHOSEN, digest(SHA256, pcr_value(2))),
-)
+said = tpm("TPM2_PolicyPCR of PCR 11, with the digest of the value behind image 2")
+said.pcrs(trial, CHOSEN, digest(SHA256, pcr_value(2)))
 tpm.does("TPM2_PolicyNV: the counter is less than or equal to 2", compared(trial, 2))
 tpm.digest_is("TPM2_PolicyGetDigest", trial, policy_of(2))
-says("The trial session is flushed", tpm.flush(trial))
+tpm("The trial session is flushed").flush(trial)
 token_2 = seal(parent, 2, "TPM2_Create of the token of image 2")
 
 tpm.chapter("A START with image 2. The counter is still 1, so that image 1 can be returned to.")
@@ -185,7 +179,7 @@ start(1)
 parent = storage_root()
 handle = tpm.load("TPM2_Load of the token of image 1", parent, token_1)
 session = tpm.policy("TPM2_StartAuthSession")
-says("TPM2_PolicyPCR of PCR 11", tpm.pcrs(session, CHOSEN))
+tpm("TPM2_PolicyPCR of PCR 11").pcrs(session, CHOSEN)
 tpm.fails("TPM2_PolicyNV: 2 is not less than or equal to 1: POLICY", compared(session, 1))
 tpm.fails("TPM2_Unseal without it: POLICY_FAIL/s1", tpm.unsealing(handle, session))
 tpm.does("TPM2_PolicyNV with 2 as its version, which holds", compared(session, 2))
@@ -200,12 +194,12 @@ start(2)
 unlock(token_2, 2)
 
 tpm.chapter("Not even the platform brings the counter back.")
-tpm.does("TPM2_NV_UndefineSpace by the platform", tpm.undefining(MINIMUM, by=RH_PLATFORM))
+tpm("TPM2_NV_UndefineSpace by the platform").undefining(MINIMUM, by=RH_PLATFORM)
 tpm.define("TPM2_NV_DefineSpace of the same", public, by=RH_PLATFORM)
 said = tpm("TPM2_NV_Increment: a new counter begins behind the largest that there ever was")
 said.does(tpm.incrementing(MINIMUM, by=RH_PLATFORM))
 said = tpm("TPM2_NV_Read: it is 3, and no image can be started but a newer one")
 said.read(MINIMUM, number(3, 8))
 session = tpm.policy("TPM2_StartAuthSession")
-says("TPM2_PolicyPCR of PCR 11", tpm.pcrs(session, CHOSEN))
+tpm("TPM2_PolicyPCR of PCR 11").pcrs(session, CHOSEN)
 tpm.fails("TPM2_PolicyNV: 3 is not less than or equal to 2: POLICY", compared(session, 2))

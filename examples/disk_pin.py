@@ -6,8 +6,8 @@ protection. `wait MS` lets so many milliseconds pass before the next command.
 
 import hashlib
 
-from tpmsim.caller import HERE, sealed, storage_key
-from tpmsim.standard import RH_LOCKOUT, RH_OWNER
+from tpmsim.caller import HERE, sealed
+from tpmsim.standard import RH_LOCKOUT
 from tpmsim.standard.objects import Attribute
 from tests.common.teller import Example
 
@@ -19,10 +19,6 @@ TEN_MINUTES = 600
 tpm = Example(__name__, __doc__)
 
 
-def storage_root(what):
-    return tpm.create_primary(what, RH_OWNER, storage_key())
-
-
 def guess(words, *pins):
     tpm.says(words, *(tpm.unsealing(disk, it) for it in pins))
 
@@ -30,7 +26,7 @@ def guess(words, *pins):
 def start_computer():
     """The handle of the disk's key, which has to be loaded after each power cycle."""
     tpm.power_cycle()
-    parent = storage_root("TPM2_CreatePrimary of the storage root key: 80000000")
+    parent = tpm.storage_root("TPM2_CreatePrimary of the storage root key: 80000000")
     return tpm.load("TPM2_Load of the disk's key: 80000001", parent, token)
 
 
@@ -54,7 +50,7 @@ tpm.chapter(
     "are fixedTPM, fixedParent and userWithAuth (00000052). noDA is clear: that asks for the "
     "protection. The storage key above it has noDA, as everybody may use it."
 )
-parent = storage_root("TPM2_CreatePrimary of the storage root key, 80000000")
+parent = tpm.storage_root("TPM2_CreatePrimary of the storage root key, 80000000")
 token = tpm("TPM2_Create: the two areas that are answered are written to the disk").create(
     parent, sealed(attributes=HERE | Attribute.USER_WITH_AUTH), user_auth=PIN, data=DISK_KEY
 )
@@ -75,8 +71,8 @@ tpm.chapter("Switching it off and on does not help, as tries are kept without po
 disk = start_computer()
 guess("Still: LOCKOUT", PIN)
 tpm.chapter("Nor does guessing lockoutAuth, of which there is one try a day.")
-tpm.says("TPM2_DictionaryAttackLockReset with a guess: AUTH_FAIL/s1", tpm.lock_reset(b"password"))
-tpm.says("With the next one: LOCKOUT", tpm.lock_reset(b"letmein"))
+tpm("TPM2_DictionaryAttackLockReset with a guess: AUTH_FAIL/s1").lock_reset(b"password")
+tpm("With the next one: LOCKOUT").lock_reset(b"letmein")
 tpm.chapter(
     "Waiting does. Ten minutes buy one guess: all 10,000 would take 69 days, and a PIN of six "
     "digits 19 years."

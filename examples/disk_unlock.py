@@ -6,8 +6,8 @@ storage key is an ECC or RSA key; here it is an AES key, and the steps are the s
 import hashlib
 from dataclasses import replace
 
-from tpmsim.caller import flipped, HERE, sealed, storage_key
-from tpmsim.standard import digest, policy, RH_OWNER, selection, SHA256
+from tpmsim.caller import flipped, HERE, sealed
+from tpmsim.standard import digest, policy, selection, SHA256
 from tpmsim.standard.objects import Attribute
 from tests.common.teller import Example
 
@@ -42,24 +42,15 @@ def policy_of(measurements):
     return policy.after_pcr(SHA256, bytes(32), selection(*CHOSEN), values_digest)
 
 
-def measure(*measurements):
-    for pcr, what, data in measurements:
-        tpm.accepted(what, tpm.event(data, b"", pcr=pcr))
-
-
-def storage_root(what):
-    return tpm.create_primary(what, RH_OWNER, storage_key())
-
-
 def start(measurements):
     tpm.power_cycle()
     tpm.chapter("The start is measured, here by TPM2_PCR_Event.")
-    measure(*measurements)
+    tpm.measure(*measurements)
 
 
 tpm.chapter("ENROLMENT, once, on the running system. It was started in this way.")
 tpm.startup()
-measure(*BOOT)
+tpm.measure(*BOOT)
 
 tpm.chapter(
     "The storage root key. TPM2_CreatePrimary in the owner hierarchy: type SYMCIPHER (0025), "
@@ -67,17 +58,17 @@ tpm.chapter(
     "restricted and decrypt (00030472), AES-128 in mode CFB. It is not stored anywhere: the same "
     "template gives the same key again."
 )
-parent = storage_root("The key is 80000000; the last answered buffer is its Name")
+parent = tpm.storage_root("The key is 80000000; the last answered buffer is its Name")
 name_at_enrolment = tpm.names[parent]
 
 tpm.chapter(
     "The policy: a trial session tells what digest TPM2_PolicyPCR makes of PCR 7 and 11 of now."
 )
 trial = tpm.trial("TPM2_StartAuthSession of type 03, TPM_SE_TRIAL: 03000000")
-tpm.says("TPM2_PolicyPCR of PCR 7 and 11 of the SHA-256 bank: SUCCESS", tpm.pcrs(trial, CHOSEN))
+tpm("TPM2_PolicyPCR of PCR 7 and 11 of the SHA-256 bank").pcrs(trial, CHOSEN)
 AUTH_POLICY = policy_of(BOOT)
 tpm.digest_is("TPM2_PolicyGetDigest: the authPolicy", trial, AUTH_POLICY)
-tpm.says("TPM2_FlushContext of the trial session: SUCCESS", tpm.flush(trial))
+tpm("TPM2_FlushContext of the trial session").flush(trial)
 
 tpm.chapter(
     "The disk's key, 32 bytes, is added to the disk as one that unlocks it (a LUKS key slot), and "
@@ -99,7 +90,7 @@ tpm.flush_objects("TPM2_FlushContext of the storage root key. The TPM keeps noth
 tpm.chapter("THE NEXT START. All transient objects, sessions and PCR values are gone.")
 start(BOOT)
 tpm.chapter("In the initrd the unlocker reads the token, and makes the storage root key again.")
-parent = storage_root("TPM2_CreatePrimary with the same template: the same Name as before")
+parent = tpm.storage_root("TPM2_CreatePrimary with the same template: the same Name as before")
 assert tpm.names[parent] == name_at_enrolment
 handle = tpm.load("TPM2_Load of the token's two areas: 80000001", parent, token)
 tpm.flush_objects("The storage root key is not needed any more", parent)
@@ -116,12 +107,12 @@ tpm.unseal("TPM2_Unseal: the disk's key, and the disk is unlocked", handle, DISK
 tpm.chapter(
     "What runs later must not get the key. Before the system proper is started, PCR 11 moves on."
 )
-tpm.says("Somebody has prepared a session by then: SUCCESS", tpm.pcrs(session, CHOSEN))
-measure(LEAVE)
+tpm("Somebody has prepared a session by then").pcrs(session, CHOSEN)
+tpm.measure(LEAVE)
 said = tpm("TPM2_Unseal by it: a PCR has changed since TPM2_PolicyPCR: PCR_CHANGED")
 said.refused(tpm.unsealing(handle, session))
-tpm.says("TPM2_PolicyRestart: SUCCESS", tpm.restart(session))
-tpm.says("TPM2_PolicyPCR, of the values of now: SUCCESS", tpm.pcrs(session, CHOSEN))
+tpm("TPM2_PolicyRestart").restart(session)
+tpm("TPM2_PolicyPCR, of the values of now").pcrs(session, CHOSEN)
 said = tpm("TPM2_Unseal: the digest is not the authPolicy: POLICY_FAIL/s1")
 said.refused(tpm.unsealing(handle, session))
 
@@ -129,11 +120,11 @@ tpm.chapter("ANOTHER START, with secure boot switched off. The disk stays locked
 INSECURE = (7, "That secure boot is off, PCR 7", b"secure boot off")
 start(INSECURE if it is SECURE_BOOT else it for it in BOOT)
 tpm.forget(handle)
-parent = storage_root("TPM2_CreatePrimary: the storage root key does not depend on PCRs")
+parent = tpm.storage_root("TPM2_CreatePrimary: the storage root key does not depend on PCRs")
 assert tpm.names[parent] == name_at_enrolment
 handle = tpm.load("TPM2_Load does not, either", parent, token)
 session = tpm.policy("TPM2_StartAuthSession")
-tpm.says("TPM2_PolicyPCR: SUCCESS", tpm.pcrs(session, CHOSEN))
+tpm("TPM2_PolicyPCR").pcrs(session, CHOSEN)
 tpm.refused("TPM2_Unseal: POLICY_FAIL/s1", tpm.unsealing(handle, session))
 said = tpm("With another policy in the token's public area, the empty one: TPM2_Load: INTEGRITY/p1")
 said.says(tpm.loading(parent, replace(token, public=replace(token.public, auth_policy=b""))))

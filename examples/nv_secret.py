@@ -57,7 +57,7 @@ said = tpm("TPM2_NV_Write of a part, as WRITEALL asks for the whole: NV_RANGE")
 said.fails(tpm.writing(SECRET_INDEX, SECRET[:16], Use(owner, DECRYPTS), by=RH_OWNER))
 said = tpm("TPM2_NV_Read by the owner, who has no OWNERREAD: NV_AUTHORIZATION")
 said.fails(tpm.reading(SECRET_INDEX, len(SECRET), owner, by=RH_OWNER))
-tpm.says("TPM2_FlushContext of the session: SUCCESS", tpm.flush(owner))
+tpm("TPM2_FlushContext of the session").flush(owner)
 
 tpm.chapter("THE NEXT START. The boot loader asks for the password.")
 start()
@@ -74,7 +74,7 @@ tpm(
     "TPM2_NV_Read: the hmac is wrong. As the index has no NO_DA, it is protected from guessing: "
     "AUTH_FAIL/s1"
 ).fails(tpm.reading(SECRET_INDEX, len(SECRET), Use(session, ENCRYPTS)))
-tpm.says("TPM2_FlushContext of the session: SUCCESS", tpm.flush(session))
+tpm("TPM2_FlushContext of the session").flush(session)
 tpm.auth_values[SECRET_INDEX] = PASSWORD
 session = bound_session(
     "With the right password. TPM2_StartAuthSession of a session that is bound to the index, with "

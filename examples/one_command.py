@@ -25,7 +25,7 @@ tpm(
     "(0204000A). Its policy is that of TPM2_PolicySecret of TPM_RH_OWNER: SHA-256 of SHA-256 of 32 "
     "zeros, 00000151 and 40000001. Whoever shows ownerAuth may say what is written"
 ).define(public, OWNER_AUTH)
-tpm.does("TPM2_NV_Write of the first value", tpm.writing(FIRST, OLD, OWNER_AUTH, by=RH_OWNER))
+tpm("TPM2_NV_Write of the first value").writing(FIRST, OLD, OWNER_AUTH, by=RH_OWNER)
 
 tpm.chapter("THE TECHNICIAN STARTS A SESSION, and tells the administrator what is to be done.")
 session = tpm.policy("A policy session: 03000000")
@@ -68,12 +68,12 @@ said = tpm("The next approval, of the first value")
 said.accepted(tpm.secret(session, OWNER_AUTH, of=RH_OWNER, cp_hash=hash_of(write(OLD))))
 before = tpm.cp_hash_told(session, approved)
 tpm.says("TPM2_PolicyCpHash of what was approved before: CPHASH", before)
-tpm.says("Of what is approved now: SUCCESS", tpm.cp_hash_told(session, hash_of(write(OLD))))
+tpm("Of what is approved now").cp_hash_told(session, hash_of(write(OLD)))
 tpm(
     "The cpHash holds, and the digest is another now. No authPolicy of the index can be that one: "
     "it is in the index's Name, and the Name is in cpHash. TPM2_NV_Write: POLICY_FAIL/s1"
 ).fails(write(OLD))
-tpm.says("TPM2_PolicyRestart takes both assertions back: SUCCESS", tpm.restart(session))
+tpm("TPM2_PolicyRestart takes both assertions back").restart(session)
 said = tpm("Approved once more, by TPM2_PolicySecret alone")
 said.accepted(tpm.secret(session, OWNER_AUTH, of=RH_OWNER, cp_hash=hash_of(write(OLD))))
 tpm.does("TPM2_NV_Write of the first value", write(OLD))

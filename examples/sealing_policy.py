@@ -34,16 +34,12 @@ def start_of(measurements):
         tpm.accepted(f"{what}, into PCR {pcr}", tpm.event(data, b"", pcr=pcr))
 
 
-def says(what, prepared):
-    tpm.says(f"{what}: SUCCESS", prepared)
-
-
 def for_every_branch(session, words):
     """What is asked whatever the software is: the locality, the command and the PIN."""
     locality, code, value = words
-    says(f"TPM2_PolicyLocality{locality}", tpm.locality(session, 1))
-    says(f"TPM2_PolicyCommandCode{code}", tpm.command_code(session, CC.Unseal))
-    says(f"TPM2_PolicyAuthValue{value}", tpm.auth_value_told(session))
+    tpm(f"TPM2_PolicyLocality{locality}").locality(session, 1)
+    tpm(f"TPM2_PolicyCommandCode{code}").command_code(session, CC.Unseal)
+    tpm(f"TPM2_PolicyAuthValue{value}").auth_value_told(session)
 
 
 def after_all_of_it(digest_before):
@@ -64,11 +60,10 @@ trial = tpm.trial("The session is 03000000")
 tpm.digest_is("Its digest is zeros", trial, zeros(trial))
 
 tpm.chapter("The policy, assertion by assertion. Each changes the session's digest.")
-says(
+tpm(
     "TPM2_PolicyPCR: PCR 0, 4, 7 and 8 of the SHA-256 bank have the values of now. pcrDigest is "
-    "left out, and the device takes that of its PCRs",
-    tpm.pcrs(trial, CHOSEN),
-)
+    "left out, and the device takes that of its PCRs"
+).pcrs(trial, CHOSEN)
 for_every_branch(
     trial,
     (
@@ -92,28 +87,27 @@ for what, measurements, given in (
     ("TPM2_PolicyPCR with the values of now", MEASURED, b""),
     ("TPM2_PolicyPCR with those of the update", UPDATED, measured_by(UPDATED)),
 ):
-    says("TPM2_PolicyRestart, which makes the digest zeros", tpm.restart(trial))
-    says(what, tpm.pcrs(trial, CHOSEN, given))
+    tpm("TPM2_PolicyRestart, which makes the digest zeros").restart(trial)
+    tpm(what).pcrs(trial, CHOSEN, given)
     branches.append(after_pcrs(measured_by(measurements)))
     tpm.digest_is("TPM2_PolicyGetDigest: a branch", trial, branches[-1])
-says(
+tpm(
     "TPM2_PolicyOR of the two branches. The digest is of them alone, and no more of what was said "
-    "before: what is asked of both is said behind it",
-    tpm.branches(trial, *branches),
-)
+    "before: what is asked of both is said behind it"
+).branches(trial, *branches)
 for_every_branch(trial, ("", "", ""))
 wanted = after_all_of_it(policy.after_or(SHA256, branches))
 tpm.digest_is("TPM2_PolicyGetDigest: the policy with which the key is sealed", trial, wanted)
 tpm.refused("A trial session authorizes nothing: ATTRIBUTES/s1", tpm.reset(trial))
-says("It has done its work (TPM2_FlushContext)", tpm.flush(trial))
+tpm("It has done its work (TPM2_FlushContext)").flush(trial)
 
 tpm.chapter("The computer is started with the next boot loader.")
 tpm.power_cycle()
 start_of(UPDATED)
 tpm.chapter("TPM2_StartAuthSession of type 01, TPM_SE_POLICY. What is said to it has to be so.")
 session = tpm.policy("The session is 03000000")
-says("TPM2_PolicyPCR", tpm.pcrs(session, CHOSEN))
-says("TPM2_PolicyOR, of which the digest is the second", tpm.branches(session, *branches))
+tpm("TPM2_PolicyPCR").pcrs(session, CHOSEN)
+tpm("TPM2_PolicyOR, of which the digest is the second").branches(session, *branches)
 for_every_branch(session, ("", "", ""))
 said = tpm("TPM2_PolicyGetDigest: the policy of the key, which TPM2_Unseal would be given out by")
 said.digest_is(session, wanted)
@@ -122,7 +116,7 @@ tpm.chapter("Another time secure boot is off.")
 tpm.power_cycle()
 start_of((7, "That secure boot is off", b"secure boot off") if it[0] == 7 else it for it in UPDATED)
 session = tpm.policy("TPM2_StartAuthSession")
-says("TPM2_PolicyPCR, which makes another digest", tpm.pcrs(session, CHOSEN))
+tpm("TPM2_PolicyPCR, which makes another digest").pcrs(session, CHOSEN)
 tpm("TPM2_PolicyOR, as the digest is neither of the two: VALUE/p1").branches(session, *branches)
 said = tpm("TPM2_PolicyPCR with the digest of the values of the update: VALUE/p1")
 said.says(tpm.pcrs(session, CHOSEN, measured_by(UPDATED)))

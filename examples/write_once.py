@@ -28,7 +28,7 @@ once = policy.after_nv_written(SHA256, bytes(32), False)
 tpm(
     "TPM2_PolicyGetDigest: SHA-256 of 32 zeros, 0000018F and 00, which is the authPolicy below"
 ).digest_is(trial, once)
-tpm.says("TPM2_FlushContext of the trial session: SUCCESS", tpm.flush(trial))
+tpm("TPM2_FlushContext of the trial session").flush(trial)
 
 tpm.chapter("THE FACTORY.")
 attributes = Attribute.PLATFORMCREATE | Attribute.POLICYWRITE | Attribute.AUTHREAD | Attribute.NO_DA
@@ -40,18 +40,18 @@ tpm(
     "it (42040008)"
 ).define(public, by=RH_PLATFORM)
 session = tpm.policy("A policy session: 03000000")
-tpm.says("TPM2_PolicyNvWritten of 0 in it: SUCCESS", tpm.written_told(session, False))
-tpm.does("TPM2_NV_Write of the record", tpm.writing(FIRST, RECORD, session))
+tpm("TPM2_PolicyNvWritten of 0 in it").written_told(session, False)
+tpm("TPM2_NV_Write of the record").writing(FIRST, RECORD, session)
 tpm.is_now("TPM2_NV_ReadPublic: the index has WRITTEN (20000000) now, and another Name", FIRST)
 
 tpm.chapter("NOBODY WRITES IT AGAIN. The same assertion still makes the policy's digest ...")
-tpm.says("TPM2_PolicyNvWritten of 0: SUCCESS", tpm.written_told(session, False))
+tpm("TPM2_PolicyNvWritten of 0").written_told(session, False)
 tpm.digest_is("TPM2_PolicyGetDigest: the digest is the authPolicy", session, once)
 tpm(
     "... but the index is looked at when the session authorizes, and it is written: TPM2_NV_Write: "
     "POLICY_FAIL/s1"
 ).fails(tpm.writing(FIRST, bytes(32), session))
-tpm.says("TPM2_PolicyRestart: SUCCESS", tpm.restart(session))
+tpm("TPM2_PolicyRestart").restart(session)
 said = tpm("TPM2_PolicyNvWritten of 1, which holds, makes another digest: SUCCESS")
 said.says(tpm.written_told(session, True))
 tpm.fails("TPM2_NV_Write: POLICY_FAIL/s1", tpm.writing(FIRST, bytes(32), session))
@@ -66,5 +66,5 @@ tpm.chapter("AT EACH START it is what the factory wrote.")
 tpm.power_cycle()
 tpm.read("TPM2_NV_Read by the empty value", FIRST, RECORD)
 session = tpm.policy("A policy session: 03000000")
-tpm.says("TPM2_PolicyNvWritten of 0: SUCCESS", tpm.written_told(session, False))
+tpm("TPM2_PolicyNvWritten of 0").written_told(session, False)
 tpm.fails("TPM2_NV_Write: POLICY_FAIL/s1", tpm.writing(FIRST, bytes(32), session))

@@ -15,9 +15,9 @@ import inspect
 import sys
 from typing import Any, Callable
 
-from tpmsim.caller import flipped, Prepared, Session
+from tpmsim.caller import flipped, Prepared, Session, storage_key
 from tpmsim.model.machine import Outcome
-from tpmsim.standard import frames
+from tpmsim.standard import frames, RH_OWNER
 from tests.common.script import OUTCOME, Script, SUCCESS
 from tests.common.script_caller import ScriptCaller
 
@@ -121,6 +121,14 @@ class Example(Teller):
 
     def __init__(self, name: str, told: str) -> None:
         super().__init__(name, told, starts=False)
+
+    def storage_root(self, what: str) -> int:
+        return self.create_primary(what, RH_OWNER, storage_key())
+
+    def measure(self, *measurements: tuple[int, str, bytes]) -> None:
+        """Into PCRs, each with its words."""
+        for pcr, what, data in measurements:
+            self.accepted(what, self.event(data, b"", pcr=pcr))
 
 
 class Said:
