@@ -33,7 +33,6 @@ SUCCESS = bytes(4)
 RANDOM = bytes(range(256))
 SEED, BENT = 1, 300
 DEFAULTS = [1, 10_000]
-XORS = 0x01, 0x80
 MOST_LEFT = 100
 
 # Of the long series the program is given the first texts, and then one in so many, which divides no
@@ -152,14 +151,13 @@ def changed(text, places, changes):
             yield f"{at} is {value:02x}", text[:at] + bytes([value]) + text[at + 1 :]
 
 
-def in_all_ways():
-    return [lambda byte, added=added: byte + added & 0xFF for added in range(1, 256)]
+ALL_WAYS = [lambda byte, added=added: byte + added & 0xFF for added in range(1, 256)]
 
-
-def in_some_ways():
-    """The lowest bit, the highest one, and by one in the direction that is not the lowest bit's."""
-    xors = [lambda byte, bits=bits: byte ^ bits for bits in XORS]
-    return [*xors, lambda byte: byte + (1 if byte & 1 else -1) & 0xFF]
+# The lowest bit, the highest one, and by one in the direction that is not the lowest bit's.
+THREE_WAYS = (
+    *(lambda byte: byte ^ 0x01, lambda byte: byte ^ 0x80),
+    lambda byte: byte + (1 if byte & 1 else -1) & 0xFF,
+)
 
 
 def bent(device, seed, count, version=image.VERSION_2):
@@ -173,8 +171,8 @@ def damage(comparison, text):
     comparison.kind("the image", [("whole", text)])
     comparison.series("its proper prefixes", prefixes(text))
     head, rest = range(image.HEAD_BYTES), range(image.HEAD_BYTES, len(text))
-    comparison.series("a byte of its head, in all ways", changed(text, head, in_all_ways()))
-    comparison.series("a byte behind, in three ways", changed(text, rest, in_some_ways()))
+    comparison.series("a byte of its head, in all ways", changed(text, head, ALL_WAYS))
+    comparison.series("a byte behind, in three ways", changed(text, rest, THREE_WAYS))
     longer = ((f"of {count} bytes", text + bytes(count)) for count in (1, 32, 1 << 16, 1 << 20))
     comparison.kind("it with bytes behind it", longer)
 

@@ -14,7 +14,7 @@ from tpmsim.model.machine import Model
 from tests.common import places
 from tests.common.streams import image_told, device_told
 from tests.common.kept_image import BESIDE, IMAGE, check_image, check_save, identity, opened
-from tests.common.shims import FILE, WELL, begun, ended, fail
+from tests.common.shims import FILE, begun, end, ended, fail
 
 PROGRAM = sys.argv[1]
 RUN = [PROGRAM, "run", "--trace", "--image", IMAGE]
@@ -69,13 +69,8 @@ class Run:
 
     def end(self):
         """Ends the script. The clock of its last command is saved too."""
-        self.close(WELL)
+        end(self.process)
         check_image("the end", self.player.device)
-
-    def close(self, wanted):
-        given = ended(self.process)
-        if given != wanted:
-            fail(f"ended with {given}, and not {wanted}")
 
     def kill(self):
         """Kills the program, and gives the device that has to be in the image."""
@@ -147,7 +142,7 @@ def check_unsaved():
     run = Run()
     (BESIDE / "file").touch()
     run.write(b"do GetRandom 4")
-    run.close(FILE)
+    end(run.process, FILE)
     if IMAGE.exists():
         fail("there is an image")
     (BESIDE / "file").unlink()
@@ -160,7 +155,7 @@ def check_unsaved():
     run.write(b"do GetRandom 4")
     run.read(b"do GetRandom 4")
     run.write(INCREMENT, b"do GetRandom 4")
-    run.close(FILE)
+    end(run.process, FILE)
     if IMAGE.read_bytes() != kept:
         fail("the image is another one")
     BESIDE.rmdir()

@@ -20,7 +20,7 @@ from tpmsim.device import DeviceEnded, ServedDevice
 from tpmsim.standard import AES, RH_OWNER
 from tpmsim.standard.objects import Attribute
 from client import connected
-from tests.common.shims import begun, ended, fail, FILE, ran, WELL
+from tests.common.shims import begun, end, ended, fail, FILE, ran, WELL
 
 SERVE = "serve --socket socket --image image --entropy /dev/urandom --locality 0".split()
 MOST_CONNECTIONS = 4294967295
@@ -40,11 +40,6 @@ class Run:
         shutil.copy("image", self.start)
         words = [*SERVE, "--connections", str(connections), "--log", str(self.log), *options]
         self.process = begun([program, *words])
-
-    def check_end(self, wanted=WELL):
-        given = ended(self.process)
-        if given != wanted:
-            fail(f"{self.log}: the run ended with {given}")
 
     def played(self, log):
         """The responses that `tpmsim run` prints on a copy of the image of the start."""
@@ -127,7 +122,7 @@ def check_uses(program, *options):
     for use in (use_sessions, use_indices, use_lockout):
         run = Run(program, "_".join([use.__name__, *options]), 4, *options)
         responses = answered(use, draw)
-        run.check_end()
+        end(run.process)
         run.check(responses)
         pathlib.Path("socket").unlink(missing_ok=True)
     return run, responses
@@ -171,13 +166,13 @@ def check_full(program, folder, *options):
     """Where a disk gets full, the log has all that was answered, and the image too."""
     run = Run(program, "_".join(["full", *options]), 2, *options, folder=folder)
     responses = answered(count_on)
-    run.check_end(FILE)
+    end(run.process, FILE)
     if run.played(run.log)[: len(responses)] != responses or len(responses) < LEAST:
         fail(f"{run.log}, whose disk is full, has not what was answered")
     run.log.unlink()
     again = Run(program, "_".join(["again", *options]), 2, folder=folder)
     [*_, number] = answered(lambda tpm: (tpm.start_up(), tpm.send(tpm.reading(COUNTER, 8))))
-    again.check_end()
+    end(again.process)
     again.log.unlink()
     # The start is one of the responses, and five increments were made before.
     more = int.from_bytes(number[16:24], "big") - 5 - (len(responses) - 1)

@@ -15,7 +15,7 @@ from tpmsim.standard import lines
 from tests.common.streams import device_told, image_told
 from client import answer, connected
 from tests.common.kept_image import BESIDE, IMAGE, check_image, check_save, identity, opened
-from tests.common.shims import FILE, WELL, Ending, begun, ended, fail
+from tests.common.shims import FILE, Ending, begun, end, fail
 
 SERVE = "serve --socket socket --image image --entropy /dev/zero --locality 0 --connections".split()
 OPTION = "--save-each"
@@ -88,12 +88,7 @@ class Run:
     def kill(self):
         self.process.kill()
         self.client.close()
-        self.check_end(KILLED)
-
-    def check_end(self, wanted):
-        given = ended(self.process)
-        if given != wanted:
-            fail(f"it ended with {given}")
+        end(self.process, KILLED)
 
 
 def check_each(program):
@@ -106,7 +101,7 @@ def check_each(program):
     if old == identity():
         fail("the clock is not saved behind a connection")
     run.close()
-    run.check_end(WELL)
+    end(run.process)
     run.check_image("the end")
     print(f"{len(LINES)} commands, and {first} saves; then {len(LINES) - 2}, and {second}")
 
@@ -152,7 +147,7 @@ def check_unsaved(program):
     run.client.sendall(buffer_of(INCREMENT) + buffer_of("GetRandom 4"))
     if answer(run.client) is not None:
         fail("a change that was not saved is answered")
-    run.check_end(FILE)
+    end(run.process, FILE)
     if (IMAGE.read_bytes(), identity()) != (kept, old):
         fail("the image is another one, though nothing could be saved")
     if os.path.lexists("socket"):

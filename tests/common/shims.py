@@ -58,6 +58,13 @@ def ended(process, stdin=b""):
     return Ending(process.returncode, output, error)
 
 
+def end(process, wanted=WELL, label="a run"):
+    """Makes sure that a run ends so."""
+    given = ended(process)
+    if given != wanted:
+        fail(f"{label} ended with {given}, and not {wanted}")
+
+
 def ran(*words, stdin=b""):
     """A run to its end."""
     done = subprocess.run(words, input=stdin, capture_output=True, timeout=AT_MOST, check=False)

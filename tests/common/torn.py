@@ -255,12 +255,6 @@ class Tear:
         return Service(self.end.ending, answers, saved, self.end.left)
 
 
-def all_well(text):
-    model = Model(text)
-    answers = [model.answers(buffers) for buffers in SENT]
-    return Service(WELL, answers, model.image, ())
-
-
 def check_next(program, label, torn):
     """The next run goes on from the image that a torn one left, and tidies up what else it left."""
     process = program.begun([*SERVE, "1"], ROOM.path)
@@ -287,9 +281,9 @@ def check_torn(program, label, text, calls, at):
 
 def check_service(program, label, text):
     """Tears each call of the runs from an image, or from none."""
-    whole = served(program, text).told
+    model, whole = Model(text), served(program, text).told
     calls = program.noted()
-    if whole != all_well(text):
+    if whole != Service(WELL, [model.answers(it) for it in SENT], model.image, ()):
         fail(f"{label}, nothing torn: {whole}")
     halves = set()
     for at, call in enumerate(calls, 1):

@@ -301,11 +301,12 @@ def not_looked_at():
     device.indices[0x0100_0001] = index
     by_sha1, key_by_sha1 = area(algorithm=SHA1), hmac_key(SHA1)
     st_clear = HERE | ObjectAttribute.ST_CLEAR
+    every = area(attributes=sum(Attribute) & ~Attribute.WRITTEN)
     for words, text in (
         ("an index's policy of 5 bytes", one_index(replace(area(), auth_policy=b"12345"))),
         ("an index's value longer than its digest", one_index(by_sha1, b"", b"a" * 32)),
         ("an index that nobody reads or writes", one_index(area(attributes=0))),
-        ("an index with all attributes but WRITTEN", one_index(every_attribute())),
+        ("an index with all attributes but WRITTEN", one_index(every)),
         ("an index that no definition takes", one_index(area(attributes=BY_OWNER | locked))),
         ("an object's policy of 5 bytes", one_object(hmac_key(auth_policy=b"12345"))),
         ("an object's value longer than a digest", one_object(key_by_sha1, auth_value=b"a" * 32)),
@@ -319,10 +320,6 @@ def not_looked_at():
         ("a counter above the largest value", image(device)),
     ):
         yield Case(words, text, True)
-
-
-def every_attribute():
-    return area(attributes=sum(Attribute) & ~Attribute.WRITTEN)
 
 
 def cases():

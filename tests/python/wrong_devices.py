@@ -100,10 +100,6 @@ def in_policies(refused):
     return in_policy(unless(refused))
 
 
-def in_lockout(name, method):
-    return mock.patch.object(Lockout, name, method)
-
-
 def always(*_):
     return True
 
@@ -138,7 +134,7 @@ WRONG = (
     ("a session begins with a digest", "policy_sessions", BEGINS),
     ("PCR 16 is saved too", "startup_state", in_device("restore_pcrs", restores_16_too)),
     ("a counter begins at 1", "nv_counters", in_rows(CC.NV_Increment, counts_from_1)),
-    ("guesses are not counted", "lockout", in_lockout("count", nothing)),
+    ("guesses are not counted", "lockout", mock.patch.object(Lockout, "count", nothing)),
     ("guesses are no guesses", "lockout", in_device("touched", nothing)),
 )
 
