@@ -14,6 +14,8 @@ A client, or two, send these commands. By KIND:
     unread     the same, beside one that sends TPM2_GetRandom until nothing more is taken
     removed    two clients, whose socket's path is removed before they send
     folder     the same, with a folder put in its place
+    clock      starts the device, and asks for its time for a second, fifty commands at once. The last
+               answer has to be the whole milliseconds since the start, as far as the host can tell
 
     python3 clients.py during SOCKET HEX LINE
                                              does the shell's LINE once the first command is answered,
@@ -32,10 +34,13 @@ import socket
 import subprocess
 import sys
 import threading
+import time
 
 from client import answer, connected, received, responses, tell
 
 GET_RANDOM = bytes.fromhex("80010000000c0000017b0004")
+STARTUP, STARTED_SIZE = bytes.fromhex("80010000000c000001440000"), 10
+READ_CLOCK, CLOCK_SIZE, AT_ONCE = bytes.fromhex("80010000000a00000181"), 35, 50
 A_WHILE = 0.5
 
 
@@ -85,6 +90,30 @@ def replaced(path, text, replace):
         tell(client, number)
 
 
+def asked(client, commands, size):
+    """What is answered, and the milliseconds of the host's clock before and after that."""
+    before = time.monotonic() * 1000
+    client.sendall(commands)
+    text = client.recv(size, socket.MSG_WAITALL)
+    if len(text) < size:
+        sys.exit("the connection has ended")
+    return text, before, time.monotonic() * 1000
+
+
+def compare_clock(path, _):
+    client = connected(path)
+    _, before_start, after_start = asked(client, STARTUP, STARTED_SIZE)
+    commands, before = 0, after_start
+    while commands < 1000 or before < after_start + 1000:
+        text, before, after = asked(client, READ_CLOCK * AT_ONCE, CLOCK_SIZE * AT_ONCE)
+        commands += AT_ONCE
+    told = int.from_bytes(text[-CLOCK_SIZE:][10:18], "big")
+    if before - after_start - 1 <= told <= after - before_start:
+        print("the device's time is the host's")
+    else:
+        print(f"{commands} commands, {told} milliseconds of {after - before_start:.0f}")
+
+
 def during(path, text, line):
     client = connected(path)
     client.sendall(bytes.fromhex(text))
@@ -124,6 +153,7 @@ KINDS = {
     "unread": (beside, fill),
     "removed": (replaced, nothing),
     "folder": (replaced, pathlib.Path.mkdir),
+    "clock": (compare_clock,),
 }
 
 
