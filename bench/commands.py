@@ -1,21 +1,17 @@
 """Prints a script that one of the measurements beside it plays: what comes first, and then a command
 so many times.
 
-    tools/python.sh bench/commands.py plain NAME COUNT           by no session; a session that is
-                                                                 started is flushed again
-    tools/python.sh bench/commands.py object NAME COUNT          of objects: TPM2_CreatePrimary and
-                                                                 TPM2_Load, each with a
-                                                                 TPM2_FlushContext, TPM2_Create,
-                                                                 TPM2_Unseal and TPM2_HMAC
-    tools/python.sh bench/commands.py session NAME BINDING COUNT by an HMAC session that is bound to
-                                                                 none, owner or index: reset or extend
-                                                                 of a PCR, write or read of an index
-                                                                 by its own authorization value
-    tools/python.sh bench/commands.py nv NAME SIZE INDICES COUNT read, write or increment of the first
-                                                                 of so many indices, of SIZE bytes
+    bench/commands.py plain NAME COUNT            by no session
+    bench/commands.py object NAME COUNT           of objects
+    bench/commands.py session NAME BINDING COUNT  reset or extend of a PCR, write or read of an index
+                                                  by its own value, in an HMAC session that is bound
+                                                  to none, owner or index
+    bench/commands.py nv NAME SIZE INDICES COUNT  read, write or increment of the first of so many
+                                                  indices, of SIZE bytes
 
-Others are by a password. For sessions the random bytes are the same for each command, so that the
-device draws the same nonce again, and one prepared buffer is accepted as often as it is sent.
+tools/python.sh runs it. Commands are by a password, but for those by a session. What takes a place is
+flushed again. For sessions the random bytes are the same for each command, so that the device draws
+the same nonce again, and one prepared buffer is accepted as often as it is sent.
 """
 
 import sys

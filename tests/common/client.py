@@ -11,11 +11,11 @@ import sys
 import time
 
 HEADER_BYTES = 10
-SECONDS = 10
+SECONDS = 60
 
 
 def connected(path, process=None):
-    """A connection to the socket, within ten seconds; nothing where its process has ended."""
+    """A connection to the socket, within a minute; nothing where its process has ended."""
     until = time.monotonic() + SECONDS
     while time.monotonic() < until:
         client = socket.socket(socket.AF_UNIX, socket.SOCK_STREAM)

@@ -17,13 +17,9 @@ A client, or two, send these commands. By KIND:
     clock      starts the device, and asks for its time for a second, fifty commands at once. The last
                answer has to be the whole milliseconds since the start, as far as the host can tell
 
-    python3 clients.py during SOCKET HEX LINE
-                                             does the shell's LINE once the first command is answered,
-                                             before it closes
-    python3 clients.py long SOCKET MILLIONS WRITE
-                                             sends this TPM2_NV_Write, and TPM2_GetRandom, in turn
-                                             until there were so many million bytes, while it reads
-                                             the responses, and says what they were
+`clients.py during SOCKET HEX LINE` does the shell's LINE once the first command is answered, before
+it closes. `clients.py long SOCKET MILLIONS WRITE` sends this TPM2_NV_Write, and TPM2_GetRandom, in
+turn until there were so many million bytes, while it reads the responses, and says what they were.
 """
 
 import collections
