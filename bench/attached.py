@@ -14,8 +14,10 @@ import subprocess
 import sys
 import tempfile
 import time
+from collections.abc import Callable
 from contextlib import ExitStack
 from dataclasses import dataclass
+from functools import partial
 from pathlib import Path
 
 ROUNDS = 15
@@ -68,51 +70,45 @@ def run(words: list[str], transport: str) -> None:
     subprocess.run(words, env=environment, check=True, stdout=nowhere, stderr=nowhere)
 
 
-def tool_time(tools: list[list[str]], transport: str) -> float:
+def tool_time(tools: list[list[str]], transport: str) -> list[float]:
+    """The milliseconds of tools, each a process of its own."""
     before = time.perf_counter()
     for words in tools:
         run(words, transport)
-    return (time.perf_counter() - before) * 1e3
+    return [(time.perf_counter() - before) * 1e3]
 
 
-def asked(client: str, transport: str, command: str, count: int) -> list[float]:
+def asked(client: str, command: str, count: int, transport: str) -> list[float]:
     """The least and the median microseconds of a command in one process."""
     words = [client, transport, command, str(count)]
     output = subprocess.run(words, check=True, capture_output=True, text=True).stdout
     return [float(figure) for figure in output.split()]
 
 
-def tell(label: str, rows: dict[str, list[float]]) -> None:
-    """Prints the figures of each way."""
-    told = [f"{min(it):.2f} ({statistics.median(it):.2f})" for it in rows.values()]
-    print(f"| {label} | " + " | ".join(told) + " |", flush=True)
-
-
-def head(label: str, ways: dict[str, str]) -> None:
+def measure_each(
+    label: str, ways: dict[str, str], rounds: int, tasks: dict[str, Callable[[str], list[float]]]
+) -> None:
+    """A table of what each task takes each way."""
     print(f"\n| {label} | " + " | ".join(ways) + " |")
     print("|---" * (len(ways) + 1) + "|")
+    for name, task in tasks.items():
+        rows: dict[str, list[float]] = {way: [] for way in ways}
+        for way, transport in list(ways.items()) * rounds:
+            rows[way] += task(transport)
+        told = [f"{min(it):.2f} ({statistics.median(it):.2f})" for it in rows.values()]
+        print(f"| {name} | " + " | ".join(told) + " |", flush=True)
 
 
 def measure_tools(ways: dict[str, str], rounds: int) -> None:
-    """Tools, each a process of its own, in milliseconds."""
-    head("milliseconds of a tool, start to end", ways)
     for way in ways.values():
         run(["tpm2_startup", "-c"], way)
-    for label, tools in TOOLS.items():
-        rows: dict[str, list[float]] = {way: [] for way in ways}
-        for way, transport in list(ways.items()) * rounds:
-            rows[way].append(tool_time(tools, transport))
-        tell(label, rows)
+    tasks = {label: partial(tool_time, tools) for label, tools in TOOLS.items()}
+    measure_each("milliseconds of a tool, start to end", ways, rounds, tasks)
 
 
 def measure_commands(client: str, ways: dict[str, str], rounds: int) -> None:
-    """Commands in a process that stays, in microseconds."""
-    head("microseconds of a command in a process that stays", ways)
-    for command in COMMANDS:
-        rows: dict[str, list[float]] = {way: [] for way in ways}
-        for way, transport in list(ways.items()) * rounds:
-            rows[way] += asked(client, transport, command, COUNT)
-        tell(command, rows)
+    tasks = {it: partial(asked, client, it, COUNT) for it in COMMANDS}
+    measure_each("microseconds of a command in a process that stays", ways, rounds, tasks)
 
 
 def measure_replay(client: str, module: str, folder: Path) -> None:
@@ -121,8 +117,8 @@ def measure_replay(client: str, module: str, folder: Path) -> None:
     transport = f"{module}:state={state},force=never"
     print()
     for command in "getrandom", "extend":
-        asked(client, transport, command, REPLAYED // 2)
-    least, median = asked(client, transport, "open", 10)
+        asked(client, command, REPLAYED // 2, transport)
+    least, median = asked(client, "open", 10, transport)
     size = (state / "journal").stat().st_size
     figures = f"{least / 1e3:.2f} ms ({median / 1e3:.2f})"
     print(f"opening {REPLAYED:,} commands, {size:,} bytes: {figures}")

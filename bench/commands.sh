@@ -20,9 +20,9 @@ limits=glibc.cpu.x86_rep_stosb_threshold=1000000:glibc.cpu.x86_rep_movsb_thresho
 # script COMMAND COUNT: prints the script.
 script() {
     case $1 in
-    PCR_Reset) "$top/tools/python.sh" "$top/bench/session_script.py" "$2" ;;
-    Create | Load | Unseal | HMAC) "$top/tools/python.sh" "$top/bench/object_script.py" "$1" "$2" ;;
-    *) "$top/tools/python.sh" "$top/bench/command_script.py" "$1" "$2" ;;
+    PCR_Reset) "$top/tools/python.sh" "$top/bench/commands.py" session reset owner "$2" ;;
+    Create | Load | Unseal | HMAC) "$top/tools/python.sh" "$top/bench/commands.py" object "$1" "$2" ;;
+    *) "$top/tools/python.sh" "$top/bench/commands.py" plain "$1" "$2" ;;
     esac
 }
 

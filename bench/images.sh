@@ -94,8 +94,8 @@ PROGRAM
     exit 1
 }
 measured=$folder/crates/measured/out/measured
-"$top/tools/python.sh" "$top/tests/images/images.py" "$top/tests/general/full_device.tpm" |
-    sed 's/.*: //' >"$folder/image"
+"$top/tools/python.sh" "$top/tests/images/images.py" "$top/tests/general/full_device.tpm" \
+    >"$folder/image"
 bytes=$((($(wc -c <"$folder/image") - 1) / 2))
 
 # input WORD LINES: what the program is to do.

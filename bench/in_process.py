@@ -10,17 +10,19 @@ import itertools
 import statistics
 import subprocess
 import sys
-from dataclasses import dataclass, field
+from dataclasses import dataclass, field, replace
 
-from tpmsim.standard import lines
+from tpmsim.caller import hmac_key, Made, sealed, storage_key
+from tpmsim.caller.prepared_commands import PreparedCommands
+from tpmsim.standard import Fields, lines
+from tpmsim.standard.objects import Public
 
 ROUNDS = 15
 TARGETS = "tpms", "sim", "still"
 SUCCESS = "00000000"
 
-STORAGE_KEY = "0025000b0003047200000006008000430000"
-HMAC_KEY = "0008000b0004005200000005000b0000"
-SEALED = "0008000b00000052000000100000"
+HMAC_KEY = replace(hmac_key(), attributes=0x0004_0052)
+SEALED = sealed(attributes=0x0000_0052)
 SECRET, DATA, LARGE = "5a" * 32, "22" * 64, "33" * 1024
 SESSION = f"StartAuthSession NULL NULL {'00' * 16} - {{}} null sha256"
 BY_SESSION = "PCR_Reset by an HMAC session"
@@ -34,13 +36,17 @@ PREPARED = [
     "Startup 0",
     "NV_DefineSpace OWNER pw:- - 01000000000b0002000200000040",
     f"NV_Write OWNER 01000000 pw:- {DATA} 0",
-    f"CreatePrimary OWNER pw:- 00000000 {STORAGE_KEY} - -",
+    f"CreatePrimary OWNER pw:- 00000000 {storage_key().text.hex()} - -",
 ]
-CREATE = f"Create {PARENT} pw:- 00000020{SECRET} {{}} - -"
+PREPARING = PreparedCommands()
 
 
 def hex_of(words: str) -> str:
     return lines.assemble(words.encode("ascii")).hex()
+
+
+def create(public: Public) -> str:
+    return PREPARING.child(int(PARENT, 16), public, data=bytes.fromhex(SECRET)).buffer().hex()
 
 
 class Program:
@@ -67,18 +73,11 @@ class Program:
             sys.exit(f"{buffer[:100]} is answered {response[:20]}")
         return response
 
-    def created(self, public: str) -> str:
-        """The areas of a new object, as TPM2_Load wants them."""
-        response = self.command(hex_of(CREATE.format(public)))[28:]
-        end = 4
-        for _ in range(2):
-            end += 2 * int(response[end - 4 : end], 16) + 4
-        return response[: end - 4]
-
-    def load(self, areas: str) -> str:
-        """A command that loads an object under the storage key."""
-        size = 10 + 4 + 4 + 9 + len(areas) // 2
-        return f"8002{size:08x}00000157{PARENT}00000009400000090000000000{areas}"
+    def load(self, public: Public) -> str:
+        """A command that loads a new object under the storage key."""
+        fields = Fields(bytes.fromhex(self.command(create(public)))[14:])
+        made = Made(fields.sized(), Public.read(fields.sized()), b"")
+        return PREPARING.loading(int(PARENT, 16), made).buffer().hex()
 
 
 @dataclass
@@ -118,10 +117,10 @@ def prepare(program: Program, target: str) -> str:
     program.tell(f"use {target}")
     for words in PREPARED:
         program.command(hex_of(words))
-    program.command(program.load(program.created(HMAC_KEY)))
-    load = program.load(program.created(SEALED))
+    program.command(program.load(HMAC_KEY))
+    load = program.load(SEALED)
     flush, unseal = hex_of(f"FlushContext 0x{LOADED}"), hex_of(f"Unseal {LOADED} pw:-")
-    return f"time {hex_of(CREATE.format(SEALED))} {load} {unseal} {flush}"
+    return f"time {create(SEALED)} {load} {unseal} {flush}"
 
 
 def rows(seals: dict[str, str]) -> list[Row]:

@@ -19,7 +19,7 @@ limits=glibc.cpu.x86_rep_stosb_threshold=1000000:glibc.cpu.x86_rep_movsb_thresho
 # counts COMMAND SIZE INDICES LINES: the instructions of such a script: all, and those of
 # `Machine::execute_into` with what it calls.
 counts() {
-    python3 "$top/bench/nv_script.py" "$@" >"$folder/script"
+    "$top/tools/python.sh" "$top/bench/commands.py" nv "$@" >"$folder/script"
     GLIBC_TUNABLES=$limits valgrind --tool=callgrind --callgrind-out-file="$folder/calls" \
         "$program" run "$folder/script" >"$folder/answers" 2>"$folder/log" || {
         cat "$folder/log" >&2

@@ -16,7 +16,7 @@ limits=glibc.cpu.x86_rep_stosb_threshold=1000000:glibc.cpu.x86_rep_movsb_thresho
 
 # counts COMMAND BINDING COUNT: the device's instructions, and of these those of hashing.
 counts() {
-    "$top/tools/python.sh" "$top/bench/nv_session_script.py" "$@" >"$folder/script"
+    "$top/tools/python.sh" "$top/bench/commands.py" session "$@" >"$folder/script"
     GLIBC_TUNABLES=$limits valgrind --tool=callgrind --callgrind-out-file="$folder/calls" \
         --toggle-collect='*Machine::execute_into*' \
         "$program" run "$folder/script" >"$folder/answers" 2>"$folder/log" || {

@@ -19,8 +19,8 @@ least() {
 for measured in CreatePrimary:20000 Create:2000 Load:2000 Unseal:100000 HMAC:10000; do
     command=${measured%:*}
     count=${measured#*:}
-    "$top/tools/python.sh" "$top/bench/object_script.py" "$command" 0 >"$folder/before"
-    "$top/tools/python.sh" "$top/bench/object_script.py" "$command" "$count" >"$folder/script"
+    "$top/tools/python.sh" "$top/bench/commands.py" object "$command" 0 >"$folder/before"
+    "$top/tools/python.sh" "$top/bench/commands.py" object "$command" "$count" >"$folder/script"
     before=$(least "$folder/before")
     time=$(least "$folder/script")
     if grep '^80010000000a' "$folder/answers" | grep -qv '^80010000000a00000000$'; then

@@ -6,6 +6,7 @@ PROGRAM is tpmsim, BARE a program that answers each twelve bytes on a socket wit
 TPM2_GetRandom of 32 bytes is answered with, and does nothing else, and IMAGE the image of a device.
 """
 
+import contextlib
 import os
 import pathlib
 import shutil
@@ -46,23 +47,31 @@ def round_trip(client):
     return min(took)
 
 
-def serving(program, image, connections):
-    words = ["serve", "--socket", "socket", "--image", image, "--entropy", "/dev/zero"]
-    words += ["--locality", "0", "--connections", str(connections)]
-    return subprocess.Popen([program, *words])
+@contextlib.contextmanager
+def served(words, path):
+    """A program that serves a connection at a path, and the connection."""
+    server = subprocess.Popen(words)
+    with connected(path) as client:
+        yield server, client
+    server.wait()
+
+
+def serving(program):
+    words = "serve --socket socket --image image --entropy /dev/zero --locality 0 --connections 1"
+    return served([program, *words.split()], "socket")
+
+
+def start(client):
+    client.sendall(STARTUP)
+    received(client, 10)
 
 
 def first_answer(program):
     """The milliseconds from the start of the program to its first answer."""
-    start = time.perf_counter()
-    server = serving(program, "image", 1)
-    client = connected("socket")
-    client.sendall(STARTUP)
-    received(client, 10)
-    took = (time.perf_counter() - start) * 1e3
-    client.close()
-    server.wait()
-    return took
+    began = time.perf_counter()
+    with serving(program) as (_, client):
+        start(client)
+        return (time.perf_counter() - began) * 1e3
 
 
 def memory_of(process):
@@ -72,29 +81,19 @@ def memory_of(process):
 
 def main():
     program, bare, image = map(os.path.abspath, sys.argv[1:])
-    folder = tempfile.mkdtemp()
-    try:
+    with tempfile.TemporaryDirectory() as folder:
         os.chdir(folder)
         shutil.copy(image, "image")
         started = min(first_answer(program) for _ in range(20))
         print(f"start to first answer, with an image: {started:.1f} ms")
-        server = serving(program, "image", 1)
-        client = connected("socket")
-        client.sendall(STARTUP)
-        received(client, 10)
-        device = round_trip(client)
-        print(f"resident: {memory_of(server)} kB")
-        client.close()
-        server.wait()
-        server = subprocess.Popen([bare, "bare"])
-        client = connected("bare")
-        loop = round_trip(client)
-        client.close()
-        server.wait()
+        with serving(program) as (server, client):
+            start(client)
+            device = round_trip(client)
+            print(f"resident: {memory_of(server)} kB")
+        with served([bare, "bare"], "bare") as (_, client):
+            loop = round_trip(client)
         print(f"round trip of GetRandom: {device:.2f} us; of a bare loop: {loop:.2f} us")
         print(f"ratio: {device / loop:.3f}")
-    finally:
-        shutil.rmtree(folder)
 
 
 main()

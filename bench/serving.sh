@@ -33,8 +33,8 @@ int main(int count, char **words) {
 }
 C
 cc -O2 -o "$folder/bare" "$folder/bare.c"
-"$top/tools/python.sh" "$top/tests/images/images.py" "$top/tests/general/full_device.tpm" | sed 's/.*: //' |
-    python3 -c 'import sys; sys.stdout.buffer.write(bytes.fromhex(sys.stdin.read()))' >"$folder/image"
+"$top/tools/python.sh" "$top/tests/images/images.py" "$top/tests/general/full_device.tpm" \
+    "$folder/image"
 python3 "$top/bench/serving.py" "$program" "$folder/bare" "$folder/image"
 
 cd "$folder"

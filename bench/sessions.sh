@@ -8,7 +8,7 @@ program=$(cd "$top" && . tools/lib/program.sh) || exit 1
 folder=$(mktemp -d)
 trap 'rm -rf "$folder"' EXIT
 
-"$top/tools/python.sh" "$top/bench/session_script.py" 100000 >"$folder/script"
+"$top/tools/python.sh" "$top/bench/commands.py" session reset owner 100000 >"$folder/script"
 for _ in 1 2 3 4 5 6 7 8 9 10; do
     /usr/bin/time -f '%e' -o "$folder/time" "$program" run "$folder/script" >"$folder/answers"
     cat "$folder/time"

@@ -1,4 +1,8 @@
-"""Writes anti_rollback.tpm: a disk's key that no old image gets any more."""
+"""Writes anti_rollback.tpm. A boot loader keeps the lowest version that may be started in a
+counter, which never goes back. The key of the disk is sealed for each image: it is given out while
+the image is the measured one and its version is not below the counter. So an old image with a known
+fault cannot be brought back, though it is authentic and its sealed key is still on the disk.
+"""
 
 import hashlib
 
@@ -6,8 +10,7 @@ from tpmsim.caller import counter, HERE, sealed, storage_key
 from tpmsim.standard import CC, digest, number, policy, RH_OWNER, RH_PLATFORM, selection, SHA256
 from tpmsim.standard.nv import Attribute
 from tpmsim.standard.objects import Attribute as ObjectAttribute
-from tests.common.script import Script
-from tests.common.script_caller import ScriptCaller
+from tests.common.teller import Example
 
 MINIMUM = 0x0140_0001
 LESS_OR_EQUAL = 9
@@ -15,14 +18,7 @@ CHOSEN = [(SHA256, [11])]
 IMAGES = {1: b"image, version 1", 2: b"image, version 2"}
 DISK_KEY = hashlib.sha256(b"the volume key of a disk").digest()
 
-script = Script(
-    __file__,
-    "A boot loader keeps the lowest version that may be started in a counter, which never goes "
-    "back. The key of the disk is sealed for each image: it is given out while the image is the "
-    "measured one and its version is not below the counter. So an old image with a known fault "
-    "cannot be brought back, though it is authentic and its sealed key is still on the disk.",
-)
-tpm = ScriptCaller(script)
+tpm = Example(__name__, __doc__)
 platform_auths = 0
 
 
@@ -45,18 +41,11 @@ def policy_of(version):
     return hashlib.sha256(assertion).digest()
 
 
-def says(what, prepared):
-    tpm.says(f"{what}: SUCCESS", prepared)
-
-
 def start(version):
     """What the firmware and the boot loader do at each start."""
-    script.power()
-    script.startup()
-    tpm.does(
-        f"The boot loader measures image {version} into PCR 11 and starts it",
-        tpm.event(IMAGES[version], b"", pcr=11),
-    )
+    tpm.power_cycle()
+    said = tpm(f"The boot loader measures image {version} into PCR 11 and starts it")
+    said.does(tpm.event(IMAGES[version], b"", pcr=11))
 
 
 def hand_over():
@@ -64,11 +53,10 @@ def hand_over():
     global platform_auths
     platform_auths += 1
     value = hashlib.sha256(b"platform %d" % platform_auths).digest()
-    tpm.does(
+    tpm(
         "Before the boot loader hands over, it sets platformAuth to random bytes that it keeps "
-        "nowhere (TPM2_HierarchyChangeAuth): what runs later cannot act as the platform",
-        tpm.change_auth(RH_PLATFORM, value, b""),
-    )
+        "nowhere (TPM2_HierarchyChangeAuth): what runs later cannot act as the platform"
+    ).does(tpm.change_auth(RH_PLATFORM, value, b""))
     del tpm.auth_values[RH_PLATFORM]
 
 
@@ -77,10 +65,9 @@ def compared(session, version):
 
 
 def asserted(session, version):
-    says("TPM2_PolicyPCR of PCR 11", tpm.pcrs(session, CHOSEN))
-    tpm.does(
-        f"TPM2_PolicyNV: the counter is less than or equal to {version}", compared(session, version)
-    )
+    tpm("TPM2_PolicyPCR of PCR 11").pcrs(session, CHOSEN)
+    said = tpm(f"TPM2_PolicyNV: the counter is less than or equal to {version}")
+    said.does(compared(session, version))
 
 
 def storage_root(what="TPM2_CreatePrimary: the storage root key, the same at each start"):
@@ -88,8 +75,7 @@ def storage_root(what="TPM2_CreatePrimary: the storage root key, the same at eac
 
 
 def seal(parent, version, what):
-    return tpm.create(
-        what,
+    return tpm(what).create(
         parent,
         sealed(attributes=HERE | ObjectAttribute.NO_DA, auth_policy=policy_of(version)),
         data=DISK_KEY,
@@ -103,44 +89,39 @@ def unlock(token, version):
     session = tpm.policy("TPM2_StartAuthSession of a policy session")
     asserted(session, version)
     tpm.unseal("TPM2_Unseal: the disk's key", handle, DISK_KEY, session)
-    says("The session is flushed", tpm.flush(session))
+    tpm("The session is flushed").flush(session)
     tpm.flush_objects("And the object", handle)
 
 
-script.chapter("PROVISIONING, once, by the boot loader of a new computer.")
-script.startup()
+tpm.chapter("PROVISIONING, once, by the boot loader of a new computer.")
+tpm.startup()
 public = counter(
     MINIMUM, Attribute.PPWRITE | Attribute.AUTHREAD | Attribute.NO_DA | Attribute.PLATFORMCREATE
 )
 assert public.attributes == 0x4204_0011
-tpm.define(
+tpm(
     "TPM2_NV_DefineSpace of 01400001 by the platform, whose value is empty: a counter, with "
     "PPWRITE, AUTHREAD, NO_DA and PLATFORMCREATE (attributes 42040011). Only the platform "
-    "increments it or takes it away; everybody can read it, as its own value is empty",
-    public,
-    by=RH_PLATFORM,
-)
-tpm.does(
+    "increments it or takes it away; everybody can read it, as its own value is empty"
+).define(public, by=RH_PLATFORM)
+tpm(
     "TPM2_NV_Increment by the platform. From this first write on the index has WRITTEN in its "
-    "attributes, and so the Name that will be in policies",
-    tpm.incrementing(MINIMUM, by=RH_PLATFORM),
-)
+    "attributes, and so the Name that will be in policies"
+).does(tpm.incrementing(MINIMUM, by=RH_PLATFORM))
 tpm.read("TPM2_NV_Read by the index's empty value: the lowest version is 1", MINIMUM, number(1, 8))
 tpm.is_now("TPM2_NV_ReadPublic: the Name of now", MINIMUM)
 
-script.chapter("ENROLMENT of image 1, which is running.")
-tpm.does("It was measured into PCR 11", tpm.event(IMAGES[1], b"", pcr=11))
+tpm.chapter("ENROLMENT of image 1, which is running.")
+tpm("It was measured into PCR 11").event(IMAGES[1], b"", pcr=11)
 hand_over()
 parent = storage_root("TPM2_CreatePrimary: the storage root key")
 trial = tpm.trial("A trial session computes the policy")
 asserted(trial, 1)
-tpm.digest_is(
+tpm(
     "TPM2_PolicyGetDigest. The version, the operation 0009 (unsigned, less or equal), and the Name "
-    "of the index are hashed into it",
-    trial,
-    policy_of(1),
-)
-says("The trial session is flushed", tpm.flush(trial))
+    "of the index are hashed into it"
+).digest_is(trial, policy_of(1))
+tpm("The trial session is flushed").flush(trial)
 token_1 = seal(
     parent,
     1,
@@ -149,93 +130,76 @@ token_1 = seal(
 )
 tpm.flush_objects("The storage root key is flushed", parent)
 
-script.chapter("What runs behind the boot loader cannot touch the counter.")
-tpm.fails(
-    "TPM2_NV_Increment as the platform, by the empty value of before: BAD_AUTH/s1",
-    tpm.incrementing(MINIMUM, by=RH_PLATFORM),
-)
-tpm.fails(
-    "By the owner, as there is no OWNERWRITE: NV_AUTHORIZATION",
-    tpm.incrementing(MINIMUM, by=RH_OWNER),
-)
-tpm.fails(
-    "By the index itself, as there is no AUTHWRITE: AUTH_UNAVAILABLE", tpm.incrementing(MINIMUM)
-)
+tpm.chapter("What runs behind the boot loader cannot touch the counter.")
+said = tpm("TPM2_NV_Increment as the platform, by the empty value of before: BAD_AUTH/s1")
+said.fails(tpm.incrementing(MINIMUM, by=RH_PLATFORM))
+tpm("By the owner, as there is no OWNERWRITE: NV_AUTHORIZATION").incrementing(MINIMUM, by=RH_OWNER)
+tpm("By the index itself, as there is no AUTHWRITE: AUTH_UNAVAILABLE").incrementing(MINIMUM)
 tpm.fails("TPM2_NV_UndefineSpace by the owner: NV_AUTHORIZATION", tpm.undefining(MINIMUM))
 
-script.chapter("A START with image 1. The disk is unlocked.")
+tpm.chapter("A START with image 1. The disk is unlocked.")
 start(1)
 unlock(token_1, 1)
 hand_over()
 
-script.chapter(
+tpm.chapter(
     "THE UPDATE. Image 1 runs, and installs image 2. Its token is sealed before it ever ran: the "
     "value that PCR 11 will have is known, and a trial session takes it as it is given."
 )
 parent = storage_root()
 trial = tpm.trial("A trial session")
-says(
-    "TPM2_PolicyPCR of PCR 11, with the digest of the value behind image 2",
-    tpm.pcrs(trial, CHOSEN, digest(SHA256, pcr_value(2))),
-)
+said = tpm("TPM2_PolicyPCR of PCR 11, with the digest of the value behind image 2")
+said.pcrs(trial, CHOSEN, digest(SHA256, pcr_value(2)))
 tpm.does("TPM2_PolicyNV: the counter is less than or equal to 2", compared(trial, 2))
 tpm.digest_is("TPM2_PolicyGetDigest", trial, policy_of(2))
-says("The trial session is flushed", tpm.flush(trial))
+tpm("The trial session is flushed").flush(trial)
 token_2 = seal(parent, 2, "TPM2_Create of the token of image 2")
 
-script.chapter("A START with image 2. The counter is still 1, so that image 1 can be returned to.")
+tpm.chapter("A START with image 2. The counter is still 1, so that image 1 can be returned to.")
 start(2)
 unlock(token_2, 2)
 hand_over()
-script.chapter("It did not work out, say: a START with image 1 again.")
+tpm.chapter("It did not work out, say: a START with image 1 again.")
 start(1)
 unlock(token_1, 1)
 hand_over()
 
-script.chapter("A START with image 2, which is good. It has marked that, and the boot loader acts.")
+tpm.chapter("A START with image 2, which is good. It has marked that, and the boot loader acts.")
 start(2)
 unlock(token_2, 2)
-tpm.does(
-    "TPM2_NV_Increment by the platform, as long as the counter is below the version",
-    tpm.incrementing(MINIMUM, by=RH_PLATFORM),
-)
+said = tpm("TPM2_NV_Increment by the platform, as long as the counter is below the version")
+said.does(tpm.incrementing(MINIMUM, by=RH_PLATFORM))
 tpm.read("TPM2_NV_Read: the lowest version is 2", MINIMUM, number(2, 8))
 hand_over()
 
-script.chapter(
+tpm.chapter(
     "ROLLBACK. Somebody puts image 1 back, for a fault that image 2 has repaired, with its token."
 )
 start(1)
 parent = storage_root()
 handle = tpm.load("TPM2_Load of the token of image 1", parent, token_1)
 session = tpm.policy("TPM2_StartAuthSession")
-says("TPM2_PolicyPCR of PCR 11", tpm.pcrs(session, CHOSEN))
+tpm("TPM2_PolicyPCR of PCR 11").pcrs(session, CHOSEN)
 tpm.fails("TPM2_PolicyNV: 2 is not less than or equal to 1: POLICY", compared(session, 1))
 tpm.fails("TPM2_Unseal without it: POLICY_FAIL/s1", tpm.unsealing(handle, session))
 tpm.does("TPM2_PolicyNV with 2 as its version, which holds", compared(session, 2))
-tpm.fails(
-    "TPM2_Unseal: but the version is in the digest: POLICY_FAIL/s1", tpm.unsealing(handle, session)
-)
+tpm("TPM2_Unseal: but the version is in the digest: POLICY_FAIL/s1").unsealing(handle, session)
 other = tpm.load("TPM2_Load of the token of image 2", parent, token_2)
 tpm.fails("TPM2_Unseal: PCR 11 has measured image 1: POLICY_FAIL/s1", tpm.unsealing(other, session))
 hand_over()
 
-script.chapter("A START with image 2. It is unlocked as before.")
+tpm.chapter("A START with image 2. It is unlocked as before.")
 tpm.forget(parent, handle, other)
 start(2)
 unlock(token_2, 2)
 
-script.chapter("Not even the platform brings the counter back.")
-tpm.does("TPM2_NV_UndefineSpace by the platform", tpm.undefining(MINIMUM, by=RH_PLATFORM))
+tpm.chapter("Not even the platform brings the counter back.")
+tpm("TPM2_NV_UndefineSpace by the platform").undefining(MINIMUM, by=RH_PLATFORM)
 tpm.define("TPM2_NV_DefineSpace of the same", public, by=RH_PLATFORM)
-tpm.does(
-    "TPM2_NV_Increment: a new counter begins behind the largest that there ever was",
-    tpm.incrementing(MINIMUM, by=RH_PLATFORM),
-)
-tpm.read(
-    "TPM2_NV_Read: it is 3, and no image can be started but a newer one", MINIMUM, number(3, 8)
-)
+said = tpm("TPM2_NV_Increment: a new counter begins behind the largest that there ever was")
+said.does(tpm.incrementing(MINIMUM, by=RH_PLATFORM))
+said = tpm("TPM2_NV_Read: it is 3, and no image can be started but a newer one")
+said.read(MINIMUM, number(3, 8))
 session = tpm.policy("TPM2_StartAuthSession")
-says("TPM2_PolicyPCR of PCR 11", tpm.pcrs(session, CHOSEN))
+tpm("TPM2_PolicyPCR of PCR 11").pcrs(session, CHOSEN)
 tpm.fails("TPM2_PolicyNV: 3 is not less than or equal to 2: POLICY", compared(session, 2))
-script.write()

@@ -1,13 +1,15 @@
-"""Writes disk_unlock.tpm: a disk's key, sealed at enrolment and unsealed at each start."""
+"""Writes disk_unlock.tpm. An encrypted disk is unlocked by the TPM where the computer was started
+by the software that it was enrolled with, as systemd-cryptenroll and clevis do for LUKS. Their
+storage key is an ECC or RSA key; here it is an AES key, and the steps are the same.
+"""
 
 import hashlib
 from dataclasses import replace
 
-from tpmsim.caller import flipped, HERE, sealed, storage_key
-from tpmsim.standard import digest, policy, RH_OWNER, selection, SHA256
+from tpmsim.caller import flipped, HERE, sealed
+from tpmsim.standard import digest, policy, selection, SHA256
 from tpmsim.standard.objects import Attribute
-from tests.common.script import Script
-from tests.common.script_caller import ScriptCaller
+from tests.common.teller import Example
 
 # Each piece of software is measured into its PCR before it runs, as the boot loader and the stub of
 # a unified kernel image do. PCR 7 and 11 are chosen, as by `--tpm2-pcrs=7+11`.
@@ -22,13 +24,7 @@ CHOSEN = [(SHA256, [7, 11])]
 
 DISK_KEY = hashlib.sha256(b"the volume key of a disk").digest()
 
-script = Script(
-    __file__,
-    "An encrypted disk is unlocked by the TPM where the computer was started by the software that "
-    "it was enrolled with, as systemd-cryptenroll and clevis do for LUKS. Their storage key is an "
-    "ECC or RSA key; here it is an AES key, and the steps are the same.",
-)
-tpm = ScriptCaller(script)
+tpm = Example(__name__, __doc__)
 
 
 def value_behind(pcr, measurements):
@@ -46,45 +42,35 @@ def policy_of(measurements):
     return policy.after_pcr(SHA256, bytes(32), selection(*CHOSEN), values_digest)
 
 
-def measure(*measurements):
-    for pcr, what, data in measurements:
-        tpm.accepted(what, tpm.event(data, b"", pcr=pcr))
-
-
-def storage_root(what):
-    return tpm.create_primary(what, RH_OWNER, storage_key())
-
-
 def start(measurements):
-    script.power()
-    script.startup()
-    script.chapter("The start is measured, here by TPM2_PCR_Event.")
-    measure(*measurements)
+    tpm.power_cycle()
+    tpm.chapter("The start is measured, here by TPM2_PCR_Event.")
+    tpm.measure(*measurements)
 
 
-script.chapter("ENROLMENT, once, on the running system. It was started in this way.")
-script.startup()
-measure(*BOOT)
+tpm.chapter("ENROLMENT, once, on the running system. It was started in this way.")
+tpm.startup()
+tpm.measure(*BOOT)
 
-script.chapter(
+tpm.chapter(
     "The storage root key. TPM2_CreatePrimary in the owner hierarchy: type SYMCIPHER (0025), "
     "SHA-256 (000B), attributes fixedTPM, fixedParent, sensitiveDataOrigin, userWithAuth, noDA, "
     "restricted and decrypt (00030472), AES-128 in mode CFB. It is not stored anywhere: the same "
     "template gives the same key again."
 )
-parent = storage_root("The key is 80000000; the last answered buffer is its Name")
+parent = tpm.storage_root("The key is 80000000; the last answered buffer is its Name")
 name_at_enrolment = tpm.names[parent]
 
-script.chapter(
+tpm.chapter(
     "The policy: a trial session tells what digest TPM2_PolicyPCR makes of PCR 7 and 11 of now."
 )
 trial = tpm.trial("TPM2_StartAuthSession of type 03, TPM_SE_TRIAL: 03000000")
-tpm.says("TPM2_PolicyPCR of PCR 7 and 11 of the SHA-256 bank: SUCCESS", tpm.pcrs(trial, CHOSEN))
+tpm("TPM2_PolicyPCR of PCR 7 and 11 of the SHA-256 bank").pcrs(trial, CHOSEN)
 AUTH_POLICY = policy_of(BOOT)
 tpm.digest_is("TPM2_PolicyGetDigest: the authPolicy", trial, AUTH_POLICY)
-tpm.says("TPM2_FlushContext of the trial session: SUCCESS", tpm.flush(trial))
+tpm("TPM2_FlushContext of the trial session").flush(trial)
 
-script.chapter(
+tpm.chapter(
     "The disk's key, 32 bytes, is added to the disk as one that unlocks it (a LUKS key slot), and "
     "is sealed under the storage root key. TPM2_Create: inSensitive has no userAuth, and the 32 "
     "bytes as its data; inPublic is of type KEYEDHASH (0008) with SHA-256 (000B), attributes "
@@ -101,58 +87,46 @@ token = tpm.create(
 )
 tpm.flush_objects("TPM2_FlushContext of the storage root key. The TPM keeps nothing", parent)
 
-script.chapter("THE NEXT START. All transient objects, sessions and PCR values are gone.")
+tpm.chapter("THE NEXT START. All transient objects, sessions and PCR values are gone.")
 start(BOOT)
-script.chapter("In the initrd the unlocker reads the token, and makes the storage root key again.")
-parent = storage_root("TPM2_CreatePrimary with the same template: the same Name as before")
+tpm.chapter("In the initrd the unlocker reads the token, and makes the storage root key again.")
+parent = tpm.storage_root("TPM2_CreatePrimary with the same template: the same Name as before")
 assert tpm.names[parent] == name_at_enrolment
 handle = tpm.load("TPM2_Load of the token's two areas: 80000001", parent, token)
 tpm.flush_objects("The storage root key is not needed any more", parent)
-tpm.says(
-    "A password does not unseal, as userWithAuth is clear: AUTH_UNAVAILABLE", tpm.unsealing(handle)
-)
+tpm("A password does not unseal, as userWithAuth is clear: AUTH_UNAVAILABLE").unsealing(handle)
 session = tpm.policy(
     "TPM2_StartAuthSession of type 01, TPM_SE_POLICY: 03000000. It is bound to nothing, so that "
     "hmacs are empty, and not salted, which needs an asymmetric key: who listens between processor "
     "and TPM reads what is unsealed"
 )
-tpm.says(
-    "TPM2_PolicyPCR: the digest of the session becomes the authPolicy: SUCCESS",
-    tpm.pcrs(session, CHOSEN),
-)
+said = tpm("TPM2_PolicyPCR: the digest of the session becomes the authPolicy: SUCCESS")
+said.says(tpm.pcrs(session, CHOSEN))
 tpm.unseal("TPM2_Unseal: the disk's key, and the disk is unlocked", handle, DISK_KEY, session)
 
-script.chapter(
+tpm.chapter(
     "What runs later must not get the key. Before the system proper is started, PCR 11 moves on."
 )
-tpm.says("Somebody has prepared a session by then: SUCCESS", tpm.pcrs(session, CHOSEN))
-measure(LEAVE)
-tpm.refused(
-    "TPM2_Unseal by it: a PCR has changed since TPM2_PolicyPCR: PCR_CHANGED",
-    tpm.unsealing(handle, session),
-)
-tpm.says("TPM2_PolicyRestart: SUCCESS", tpm.restart(session))
-tpm.says("TPM2_PolicyPCR, of the values of now: SUCCESS", tpm.pcrs(session, CHOSEN))
-tpm.refused(
-    "TPM2_Unseal: the digest is not the authPolicy: POLICY_FAIL/s1", tpm.unsealing(handle, session)
-)
+tpm("Somebody has prepared a session by then").pcrs(session, CHOSEN)
+tpm.measure(LEAVE)
+said = tpm("TPM2_Unseal by it: a PCR has changed since TPM2_PolicyPCR: PCR_CHANGED")
+said.refused(tpm.unsealing(handle, session))
+tpm("TPM2_PolicyRestart").restart(session)
+tpm("TPM2_PolicyPCR, of the values of now").pcrs(session, CHOSEN)
+said = tpm("TPM2_Unseal: the digest is not the authPolicy: POLICY_FAIL/s1")
+said.refused(tpm.unsealing(handle, session))
 
-script.chapter("ANOTHER START, with secure boot switched off. The disk stays locked.")
+tpm.chapter("ANOTHER START, with secure boot switched off. The disk stays locked.")
 INSECURE = (7, "That secure boot is off, PCR 7", b"secure boot off")
 start(INSECURE if it is SECURE_BOOT else it for it in BOOT)
 tpm.forget(handle)
-parent = storage_root("TPM2_CreatePrimary: the storage root key does not depend on PCRs")
+parent = tpm.storage_root("TPM2_CreatePrimary: the storage root key does not depend on PCRs")
 assert tpm.names[parent] == name_at_enrolment
 handle = tpm.load("TPM2_Load does not, either", parent, token)
 session = tpm.policy("TPM2_StartAuthSession")
-tpm.says("TPM2_PolicyPCR: SUCCESS", tpm.pcrs(session, CHOSEN))
+tpm("TPM2_PolicyPCR").pcrs(session, CHOSEN)
 tpm.refused("TPM2_Unseal: POLICY_FAIL/s1", tpm.unsealing(handle, session))
-tpm.says(
-    "With another policy in the token's public area, the empty one: TPM2_Load: INTEGRITY/p1",
-    tpm.loading(parent, replace(token, public=replace(token.public, auth_policy=b""))),
-)
-tpm.says(
-    "With a bit of its private area changed: INTEGRITY/p1",
-    tpm.loading(parent, replace(token, private=flipped(token.private))),
-)
-script.write()
+said = tpm("With another policy in the token's public area, the empty one: TPM2_Load: INTEGRITY/p1")
+said.says(tpm.loading(parent, replace(token, public=replace(token.public, auth_policy=b""))))
+said = tpm("With a bit of its private area changed: INTEGRITY/p1")
+said.says(tpm.loading(parent, replace(token, private=flipped(token.private))))

@@ -1,8 +1,12 @@
-"""Writes sealing_policy.tpm: the policy of a disk's key, made in a trial session."""
+"""Writes sealing_policy.tpm. The key of an encrypted disk is to be sealed: the device gives it out
+again where the computer was started by the same software, to the operating system alone, and to who
+knows a PIN. This is what an unlocker does beforehand: it makes the policy, a digest of 32 bytes,
+with which the key is then sealed. Nothing is authorized by it yet, and so a trial session does.
+"""
 
 from tpmsim.standard import CC, digest, policy, selection, SHA256
-from tests.common.script import Script
-from tests.common.script_caller import ScriptCaller, zeros
+from tests.common.script_caller import zeros
+from tests.common.teller import Example
 
 # Each piece of software is measured into its PCR before it runs. These PCRs are chosen.
 MEASURED = (
@@ -14,15 +18,7 @@ MEASURED = (
 CHOSEN = [(SHA256, [0, 4, 7, 8])]
 NEXT_LOADER = (4, "The next boot loader", b"boot loader 2")
 
-script = Script(
-    __file__,
-    "The key of an encrypted disk is to be sealed: the device gives it out again where the "
-    "computer was started by the same software, to the operating system alone, and to who knows a "
-    "PIN. This is what an unlocker does beforehand: it makes the policy, a digest of 32 bytes, "
-    "with which the key is then sealed. Nothing is authorized by it yet, and so a trial session "
-    "does.",
-)
-tpm = ScriptCaller(script)
+tpm = Example(__name__, __doc__)
 
 
 def measured_by(measurements):
@@ -38,16 +34,12 @@ def start_of(measurements):
         tpm.accepted(f"{what}, into PCR {pcr}", tpm.event(data, b"", pcr=pcr))
 
 
-def says(what, prepared):
-    tpm.says(f"{what}: SUCCESS", prepared)
-
-
 def for_every_branch(session, words):
     """What is asked whatever the software is: the locality, the command and the PIN."""
     locality, code, value = words
-    says(f"TPM2_PolicyLocality{locality}", tpm.locality(session, 1))
-    says(f"TPM2_PolicyCommandCode{code}", tpm.command_code(session, CC.Unseal))
-    says(f"TPM2_PolicyAuthValue{value}", tpm.auth_value_told(session))
+    tpm(f"TPM2_PolicyLocality{locality}").locality(session, 1)
+    tpm(f"TPM2_PolicyCommandCode{code}").command_code(session, CC.Unseal)
+    tpm(f"TPM2_PolicyAuthValue{value}").auth_value_told(session)
 
 
 def after_all_of_it(digest_before):
@@ -59,20 +51,19 @@ def after_pcrs(values_digest):
     return policy.after_pcr(SHA256, bytes(32), selection(*CHOSEN), values_digest)
 
 
-script.startup()
-script.chapter("The computer is started, which is measured, here by TPM2_PCR_Event.")
+tpm.startup()
+tpm.chapter("The computer is started, which is measured, here by TPM2_PCR_Event.")
 start_of(MEASURED)
 
-script.chapter("TPM2_StartAuthSession of type 03, TPM_SE_TRIAL, with SHA-256.")
+tpm.chapter("TPM2_StartAuthSession of type 03, TPM_SE_TRIAL, with SHA-256.")
 trial = tpm.trial("The session is 03000000")
 tpm.digest_is("Its digest is zeros", trial, zeros(trial))
 
-script.chapter("The policy, assertion by assertion. Each changes the session's digest.")
-says(
+tpm.chapter("The policy, assertion by assertion. Each changes the session's digest.")
+tpm(
     "TPM2_PolicyPCR: PCR 0, 4, 7 and 8 of the SHA-256 bank have the values of now. pcrDigest is "
-    "left out, and the device takes that of its PCRs",
-    tpm.pcrs(trial, CHOSEN),
-)
+    "left out, and the device takes that of its PCRs"
+).pcrs(trial, CHOSEN)
 for_every_branch(
     trial,
     (
@@ -81,13 +72,10 @@ for_every_branch(
         ": its hmac has the PIN in its key, which is the authorization value of what is sealed",
     ),
 )
-tpm.digest_is(
-    "TPM2_PolicyGetDigest: with this digest as its policy (authPolicy) the key is sealed",
-    trial,
-    after_all_of_it(after_pcrs(measured_by(MEASURED))),
-)
+said = tpm("TPM2_PolicyGetDigest: with this digest as its policy (authPolicy) the key is sealed")
+said.digest_is(trial, after_all_of_it(after_pcrs(measured_by(MEASURED))))
 
-script.chapter(
+tpm.chapter(
     "An update is to come, of the boot loader. A key with the policy above would be lost with it, "
     "and so it is sealed by another policy: either the PCRs of now or those of the update. The "
     "unlocker computes what the values will be, and gives their digest as pcrDigest, which a trial "
@@ -99,47 +87,36 @@ for what, measurements, given in (
     ("TPM2_PolicyPCR with the values of now", MEASURED, b""),
     ("TPM2_PolicyPCR with those of the update", UPDATED, measured_by(UPDATED)),
 ):
-    says("TPM2_PolicyRestart, which makes the digest zeros", tpm.restart(trial))
-    says(what, tpm.pcrs(trial, CHOSEN, given))
+    tpm("TPM2_PolicyRestart, which makes the digest zeros").restart(trial)
+    tpm(what).pcrs(trial, CHOSEN, given)
     branches.append(after_pcrs(measured_by(measurements)))
     tpm.digest_is("TPM2_PolicyGetDigest: a branch", trial, branches[-1])
-says(
+tpm(
     "TPM2_PolicyOR of the two branches. The digest is of them alone, and no more of what was said "
-    "before: what is asked of both is said behind it",
-    tpm.branches(trial, *branches),
-)
+    "before: what is asked of both is said behind it"
+).branches(trial, *branches)
 for_every_branch(trial, ("", "", ""))
 wanted = after_all_of_it(policy.after_or(SHA256, branches))
 tpm.digest_is("TPM2_PolicyGetDigest: the policy with which the key is sealed", trial, wanted)
 tpm.refused("A trial session authorizes nothing: ATTRIBUTES/s1", tpm.reset(trial))
-says("It has done its work (TPM2_FlushContext)", tpm.flush(trial))
+tpm("It has done its work (TPM2_FlushContext)").flush(trial)
 
-script.chapter("The computer is started with the next boot loader.")
-script.power()
-script.startup()
+tpm.chapter("The computer is started with the next boot loader.")
+tpm.power_cycle()
 start_of(UPDATED)
-script.chapter("TPM2_StartAuthSession of type 01, TPM_SE_POLICY. What is said to it has to be so.")
+tpm.chapter("TPM2_StartAuthSession of type 01, TPM_SE_POLICY. What is said to it has to be so.")
 session = tpm.policy("The session is 03000000")
-says("TPM2_PolicyPCR", tpm.pcrs(session, CHOSEN))
-says("TPM2_PolicyOR, of which the digest is the second", tpm.branches(session, *branches))
+tpm("TPM2_PolicyPCR").pcrs(session, CHOSEN)
+tpm("TPM2_PolicyOR, of which the digest is the second").branches(session, *branches)
 for_every_branch(session, ("", "", ""))
-tpm.digest_is(
-    "TPM2_PolicyGetDigest: the policy of the key, which TPM2_Unseal would be given out by",
-    session,
-    wanted,
-)
+said = tpm("TPM2_PolicyGetDigest: the policy of the key, which TPM2_Unseal would be given out by")
+said.digest_is(session, wanted)
 
-script.chapter("Another time secure boot is off.")
-script.power()
-script.startup()
+tpm.chapter("Another time secure boot is off.")
+tpm.power_cycle()
 start_of((7, "That secure boot is off", b"secure boot off") if it[0] == 7 else it for it in UPDATED)
 session = tpm.policy("TPM2_StartAuthSession")
-says("TPM2_PolicyPCR, which makes another digest", tpm.pcrs(session, CHOSEN))
-tpm.says(
-    "TPM2_PolicyOR, as the digest is neither of the two: VALUE/p1", tpm.branches(session, *branches)
-)
-tpm.says(
-    "TPM2_PolicyPCR with the digest of the values of the update: VALUE/p1",
-    tpm.pcrs(session, CHOSEN, measured_by(UPDATED)),
-)
-script.write()
+tpm("TPM2_PolicyPCR, which makes another digest").pcrs(session, CHOSEN)
+tpm("TPM2_PolicyOR, as the digest is neither of the two: VALUE/p1").branches(session, *branches)
+said = tpm("TPM2_PolicyPCR with the digest of the values of the update: VALUE/p1")
+said.says(tpm.pcrs(session, CHOSEN, measured_by(UPDATED)))

@@ -1,12 +1,15 @@
-"""Writes suspend_resume.tpm: a laptop sleeps, and its TPM loses power and comes back."""
+"""Writes suspend_resume.tpm. A laptop sleeps (ACPI state S3): the memory keeps its content, and the
+TPM loses its power, and with it the PCRs. The software in memory goes on where it was; it was
+measured when it started, and is not measured again. So the operating system asks the TPM to save
+the PCRs before it sleeps, and the firmware asks for them back.
+"""
 
 import hashlib
 
-from tpmsim.caller import CLEAR, HERE, sealed, STATE, storage_key
-from tpmsim.standard import RH_OWNER, SHA256
+from tpmsim.caller import CLEAR, HERE, sealed, STATE
+from tpmsim.standard import SHA256
 from tpmsim.standard.objects import Attribute
-from tests.common.script import Script
-from tests.common.script_caller import ScriptCaller
+from tests.common.teller import Example
 
 KEY = hashlib.sha256(b"the key of a user's home directory").digest()
 BOOT = (
@@ -16,29 +19,17 @@ BOOT = (
 )
 CHOSEN = [(SHA256, [0, 4, 11])]
 
-script = Script(
-    __file__,
-    "A laptop sleeps (ACPI state S3): the memory keeps its content, and the TPM loses its power, "
-    "and with it the PCRs. The software in memory goes on where it was; it was measured when it "
-    "started, and is not measured again. So the operating system asks the TPM to save the PCRs "
-    "before it sleeps, and the firmware asks for them back.",
-)
-tpm = ScriptCaller(script)
-
-
-def measure(*measurements):
-    for pcr, what, data in measurements:
-        tpm.accepted(what, tpm.event(data, b"", pcr=pcr))
+tpm = Example(__name__, __doc__)
 
 
 def boot():
-    script.chapter("The start is measured, here by TPM2_PCR_Event.")
-    measure(*BOOT)
+    tpm.chapter("The start is measured, here by TPM2_PCR_Event.")
+    tpm.measure(*BOOT)
 
 
 def load_key():
     """The home directory's key, which is sealed to the measurements of the start."""
-    parent = tpm.create_primary("TPM2_CreatePrimary of the storage key", RH_OWNER, storage_key())
+    parent = tpm.storage_root("TPM2_CreatePrimary of the storage key")
     handle = tpm.load("TPM2_Load of the sealed key", parent, token)
     tpm.flush_objects("TPM2_FlushContext of the storage key", parent)
     return handle
@@ -47,7 +38,7 @@ def load_key():
 def unlock(outcome, handle):
     """By a policy session, which has to find the PCRs of the enrolment."""
     session = tpm.policy("TPM2_StartAuthSession of a policy session")
-    tpm.says("TPM2_PolicyPCR of PCR 0, 4 and 11: SUCCESS", tpm.pcrs(session, CHOSEN))
+    tpm("TPM2_PolicyPCR of PCR 0, 4 and 11").pcrs(session, CHOSEN)
     if outcome == "SUCCESS":
         tpm.unseal("TPM2_Unseal: the key", handle, KEY, session)
     else:
@@ -57,70 +48,65 @@ def unlock(outcome, handle):
 def sealed_key():
     """What TPM2_Create answers, for the PCRs of now."""
     trial = tpm.trial("A trial session, for the policy")
-    tpm.says("TPM2_PolicyPCR of PCR 0, 4 and 11: SUCCESS", tpm.pcrs(trial, CHOSEN))
+    tpm("TPM2_PolicyPCR of PCR 0, 4 and 11").pcrs(trial, CHOSEN)
     answer = tpm.does("TPM2_PolicyGetDigest", tpm.get_digest(trial))
-    tpm.says("TPM2_FlushContext: SUCCESS", tpm.flush(trial))
-    parent = tpm.create_primary("TPM2_CreatePrimary of the storage key", RH_OWNER, storage_key())
-    made = tpm.create(
-        "TPM2_Create of the sealed key, with this policy",
-        parent,
-        sealed(attributes=HERE | Attribute.NO_DA, auth_policy=answer[2:]),
-        data=KEY,
+    tpm("TPM2_FlushContext").flush(trial)
+    parent = tpm.storage_root("TPM2_CreatePrimary of the storage key")
+    made = tpm("TPM2_Create of the sealed key, with this policy").create(
+        parent, sealed(attributes=HERE | Attribute.NO_DA, auth_policy=answer[2:]), data=KEY
     )
     tpm.flush_objects("TPM2_FlushContext of the storage key", parent)
     return made
 
 
-script.chapter("THE LAPTOP IS STARTED.")
+tpm.chapter("THE LAPTOP IS STARTED.")
 tpm.start_up("TPM2_Startup(CLEAR), by the firmware")
 boot()
-script.chapter("A key for the user's home directory is sealed to these measurements.")
+tpm.chapter("A key for the user's home directory is sealed to these measurements.")
 token = sealed_key()
 key = load_key()
 unlock("SUCCESS", key)
 
-script.chapter("IT GOES TO SLEEP. The operating system's last command is TPM2_Shutdown(STATE).")
-tpm.does("TPM2_Shutdown of STATE (0001): PCR 0 to 15 are saved", tpm.shutting_down(STATE))
-script.chapter("The power of the TPM goes and comes.")
-script.power()
-script.chapter("IT WAKES UP. The firmware knows from the mainboard that this is no new start.")
+tpm.chapter("IT GOES TO SLEEP. The operating system's last command is TPM2_Shutdown(STATE).")
+tpm("TPM2_Shutdown of STATE (0001): PCR 0 to 15 are saved").shutting_down(STATE)
+tpm.chapter("The power of the TPM goes and comes.")
+tpm.power()
+tpm.chapter("IT WAKES UP. The firmware knows from the mainboard that this is no new start.")
 tpm.start_up("TPM2_Startup of STATE (0001): the PCRs are as they were", STATE)
-tpm.does("TPM2_PCR_Read of PCR 11", tpm.read_pcr(11))
-tpm.does(
+tpm("TPM2_PCR_Read of PCR 11").read_pcr(11)
+tpm(
     "TPM2_ReadClock answers two times in milliseconds, and then resetCount, which is 1, as this "
-    "was no reset, and restartCount, which is 1",
-    tpm.clock(),
-)
-script.chapter("Sessions and objects do not survive; the operating system loads what it needs.")
+    "was no reset, and restartCount, which is 1"
+).does(tpm.clock())
+tpm.chapter("Sessions and objects do not survive; the operating system loads what it needs.")
 tpm.fails("The key's old handle: REFERENCE_H0", tpm.public(key))
 key = load_key()
 unlock("SUCCESS", key)
 
-script.chapter(
+tpm.chapter(
     "WHAT IF SOMETHING HAPPENS IN BETWEEN? Whatever changes the TPM cancels the saved state, so "
     "that nobody can bring back PCRs that are not those of now."
 )
-tpm.does("TPM2_Shutdown(STATE)", tpm.shutting_down(STATE))
-measure((11, "Something is measured after it, into PCR 11", b"late"))
-script.power()
+tpm("TPM2_Shutdown(STATE)").shutting_down(STATE)
+tpm.measure((11, "Something is measured after it, into PCR 11", b"late"))
+tpm.power()
 tpm.fails("TPM2_Startup(STATE): VALUE/p1", tpm.starting(STATE))
-script.chapter("The firmware can then but start the laptop anew, as if it had been switched off.")
+tpm.chapter("The firmware can then but start the laptop anew, as if it had been switched off.")
 tpm.start_up("TPM2_Startup(CLEAR)", CLEAR)
 boot()
 key = load_key()
 unlock("SUCCESS", key)
 
-script.chapter(
+tpm.chapter(
     "AND IF A THIEF WAKES IT UP WITH ANOTHER SYSTEM? The firmware that starts from the beginning "
     "says TPM2_Startup(CLEAR), and all PCRs are zeros, whatever was saved."
 )
-tpm.does("TPM2_Shutdown(STATE), as it goes to sleep", tpm.shutting_down(STATE))
-script.power()
+tpm("TPM2_Shutdown(STATE), as it goes to sleep").shutting_down(STATE)
+tpm.power()
 tpm.start_up("TPM2_Startup(CLEAR)", CLEAR)
-measure((0, "The firmware, PCR 0", b"firmware 1.0"), (4, "Another loader", b"evil loader"))
+tpm.measure((0, "The firmware, PCR 0", b"firmware 1.0"), (4, "Another loader", b"evil loader"))
 key = load_key()
 unlock("POLICY_FAIL/s1", key)
-script.chapter("Nor is the saved state there for later.")
-script.power()
+tpm.chapter("Nor is the saved state there for later.")
+tpm.power()
 tpm.fails("TPM2_Startup(STATE): VALUE/p1", tpm.starting(STATE))
-script.write()

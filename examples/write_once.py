@@ -1,89 +1,70 @@
-"""Writes write_once.tpm: an NV index that is written once, and never again."""
+"""Writes write_once.tpm. A factory writes the record of a board into its TPM: once, at the end of
+the line. From then on nobody writes it, whatever passwords they know, and everybody can read it.
+TPM2_PolicyNvWritten makes the policy for that: a writer has to find the index unwritten. The
+platform alone, whose value the firmware sets at each start, can still remove the index.
+"""
 
 import hashlib
 
 from tpmsim.caller import area
 from tpmsim.standard import policy, RH_OWNER, RH_PLATFORM, SHA256
 from tpmsim.standard.nv import Attribute
-from tests.common.script import Script
-from tests.common.script_caller import FIRST, ScriptCaller
+from tests.common.script_caller import FIRST
+from tests.common.teller import Example
 
 # What the factory writes: the serial number of a board, and the digest of its certificate.
 RECORD = b"board 004711 " + hashlib.sha256(b"a certificate").digest()[:19]
 
-script = Script(
-    __file__,
-    "A factory writes the record of a board into its TPM: once, at the end of the line. From then "
-    "on nobody writes it, whatever passwords they know, and everybody can read it. "
-    "TPM2_PolicyNvWritten makes the policy for that: a writer has to find the index unwritten. The "
-    "platform alone, whose value the firmware sets at each start, can still remove the index.",
-)
-tpm = ScriptCaller(script)
+tpm = Example(__name__, __doc__)
 
-script.chapter("THE POLICY, computed once, on any device.")
-script.startup()
+tpm.chapter("THE POLICY, computed once, on any device.")
+tpm.startup()
 trial = tpm.trial("A trial session: 03000000")
-tpm.says(
+tpm(
     "TPM2_PolicyNvWritten of 0: the index must not be written yet when this policy authorizes: "
-    "SUCCESS",
-    tpm.written_told(trial, False),
-)
+    "SUCCESS"
+).says(tpm.written_told(trial, False))
 once = policy.after_nv_written(SHA256, bytes(32), False)
-tpm.digest_is(
-    "TPM2_PolicyGetDigest: SHA-256 of 32 zeros, 0000018F and 00, which is the authPolicy below",
-    trial,
-    once,
-)
-tpm.says("TPM2_FlushContext of the trial session: SUCCESS", tpm.flush(trial))
+tpm(
+    "TPM2_PolicyGetDigest: SHA-256 of 32 zeros, 0000018F and 00, which is the authPolicy below"
+).digest_is(trial, once)
+tpm("TPM2_FlushContext of the trial session").flush(trial)
 
-script.chapter("THE FACTORY.")
+tpm.chapter("THE FACTORY.")
 attributes = Attribute.PLATFORMCREATE | Attribute.POLICYWRITE | Attribute.AUTHREAD | Attribute.NO_DA
 public = area(FIRST, attributes, size=len(RECORD), auth_policy=once)
-tpm.define(
+tpm(
     "TPM2_NV_DefineSpace by TPM_RH_PLATFORM: index 01000001 of 32 bytes, with that policy. Its "
     "attributes are POLICYWRITE, so that the policy alone can write it; AUTHREAD with an empty "
     "value, so that everybody reads it; NO_DA; and PLATFORMCREATE, so that the owner cannot remove "
-    "it (42040008)",
-    public,
-    by=RH_PLATFORM,
-)
+    "it (42040008)"
+).define(public, by=RH_PLATFORM)
 session = tpm.policy("A policy session: 03000000")
-tpm.says("TPM2_PolicyNvWritten of 0 in it: SUCCESS", tpm.written_told(session, False))
-tpm.does("TPM2_NV_Write of the record", tpm.writing(FIRST, RECORD, session))
+tpm("TPM2_PolicyNvWritten of 0 in it").written_told(session, False)
+tpm("TPM2_NV_Write of the record").writing(FIRST, RECORD, session)
 tpm.is_now("TPM2_NV_ReadPublic: the index has WRITTEN (20000000) now, and another Name", FIRST)
 
-script.chapter("NOBODY WRITES IT AGAIN. The same assertion still makes the policy's digest ...")
-tpm.says("TPM2_PolicyNvWritten of 0: SUCCESS", tpm.written_told(session, False))
+tpm.chapter("NOBODY WRITES IT AGAIN. The same assertion still makes the policy's digest ...")
+tpm("TPM2_PolicyNvWritten of 0").written_told(session, False)
 tpm.digest_is("TPM2_PolicyGetDigest: the digest is the authPolicy", session, once)
-tpm.fails(
+tpm(
     "... but the index is looked at when the session authorizes, and it is written: TPM2_NV_Write: "
-    "POLICY_FAIL/s1",
-    tpm.writing(FIRST, bytes(32), session),
-)
-tpm.says("TPM2_PolicyRestart: SUCCESS", tpm.restart(session))
-tpm.says(
-    "TPM2_PolicyNvWritten of 1, which holds, makes another digest: SUCCESS",
-    tpm.written_told(session, True),
-)
+    "POLICY_FAIL/s1"
+).fails(tpm.writing(FIRST, bytes(32), session))
+tpm("TPM2_PolicyRestart").restart(session)
+said = tpm("TPM2_PolicyNvWritten of 1, which holds, makes another digest: SUCCESS")
+said.says(tpm.written_told(session, True))
 tpm.fails("TPM2_NV_Write: POLICY_FAIL/s1", tpm.writing(FIRST, bytes(32), session))
-tpm.fails(
-    "By its empty value: it has no AUTHWRITE: AUTH_UNAVAILABLE", tpm.writing(FIRST, bytes(32))
-)
+tpm("By its empty value: it has no AUTHWRITE: AUTH_UNAVAILABLE").writing(FIRST, bytes(32))
 for by, name in ((RH_OWNER, "the owner"), (RH_PLATFORM, "the platform")):
-    tpm.fails(
-        f"By {name}: it has neither OWNERWRITE nor PPWRITE: NV_AUTHORIZATION",
-        tpm.writing(FIRST, bytes(32), by=by),
-    )
-tpm.fails(
-    "The owner cannot remove it, to define another in its place: NV_AUTHORIZATION",
-    tpm.undefining(FIRST, by=RH_OWNER),
-)
+    said = tpm(f"By {name}: it has neither OWNERWRITE nor PPWRITE: NV_AUTHORIZATION")
+    said.fails(tpm.writing(FIRST, bytes(32), by=by))
+said = tpm("The owner cannot remove it, to define another in its place: NV_AUTHORIZATION")
+said.fails(tpm.undefining(FIRST, by=RH_OWNER))
 
-script.chapter("AT EACH START it is what the factory wrote.")
-script.power()
-script.startup()
+tpm.chapter("AT EACH START it is what the factory wrote.")
+tpm.power_cycle()
 tpm.read("TPM2_NV_Read by the empty value", FIRST, RECORD)
 session = tpm.policy("A policy session: 03000000")
-tpm.says("TPM2_PolicyNvWritten of 0: SUCCESS", tpm.written_told(session, False))
+tpm("TPM2_PolicyNvWritten of 0").written_told(session, False)
 tpm.fails("TPM2_NV_Write: POLICY_FAIL/s1", tpm.writing(FIRST, bytes(32), session))
-script.write()

@@ -34,8 +34,7 @@ grep -lE '^"""Writes [a-z_0-9]+[.](tpm|out)' tests/*/*.py examples/*.py >program
 while read -r program; do
     rm -f "${program%.py}.tpm" "${program%.py}.out"
 done <programs
-grep '^tests/' programs | xargs -P "$jobs" -n 6 tools/python.sh tests/anew.py >said || failed=1
-grep '^examples/' programs | xargs -P "$jobs" -n 1 tools/python.sh >said || failed=1
+xargs -P "$jobs" -n 6 tools/python.sh tests/anew.py <programs >said || failed=1
 tools/python.sh tests/common/expected.py || failed=1
 
 # files: those that may be written.

@@ -32,10 +32,9 @@ def first_clause(crate: Path) -> str:
 
 def in_order(names: list[str]) -> list[str]:
     """The names of crates from the bottom up, as crates.txt builds them."""
-    order = re.findall(r"(?m)^(\w+)", (TOP / "crates.txt").read_text())
-    return sorted(
-        names, key=lambda name: (order.index(name) if name in order else len(order), name)
-    )
+    built = re.findall(r"(?m)^(\w+)", (TOP / "crates.txt").read_text())
+    order = {name: at for at, name in enumerate(built)}
+    return sorted(names, key=lambda name: (order.get(name, len(built)), name))
 
 
 def listed() -> str:

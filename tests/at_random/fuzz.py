@@ -8,9 +8,9 @@ A round has a random script, a bent one, and a stream, which is connections to a
 runs one after another, some of them on a bent image. It hangs on its seed alone.
 """
 
+import contextlib
 import pathlib
 import random
-import subprocess
 import sys
 import tempfile
 import time
@@ -23,9 +23,10 @@ from tpmsim.model.general import Refusal
 from tpmsim.standard.reading import Short
 from tests.at_random import served_runs as serving
 from tests.at_random.bent_script import bent_script
-from tests.at_random.random_script import Writer
+from tests.at_random.random_script import written
 from tests.at_random.random_stream import random_stream
 from tests.common import streams
+from tests.common.shims import ran
 
 COMMANDS, RUNS = 400, 8
 SHRINKING_SECONDS = 60
@@ -35,38 +36,33 @@ SHOWN = 200
 # Scripts.
 
 
-def run_script(program, text):
-    """What the program prints, and what it says on standard error."""
-    with tempfile.NamedTemporaryFile() as script:
-        script.write(text)
-        script.flush()
-        ran = subprocess.run(
-            [program, "run", "--trace", script.name], capture_output=True, timeout=60
-        )
-    error = ran.stderr.decode("utf-8", "replace").strip()
-    return ran.stdout.decode("utf-8", "replace").splitlines(), f"status {ran.returncode} {error}"
+def bytes_text(lines):
+    return b"\n".join(lines) + b"\n"
 
 
-def script_difference(program, text):
+def script_difference(program, lines):
     """The number of the script's line, what is wanted, and what is given; or None."""
-    printed, error = player.played(text)
-    given, ended = run_script(program, text)
+    printed, error = player.played(bytes_text(lines))
+    with tempfile.NamedTemporaryFile() as script:
+        script.write(bytes_text(lines))
+        script.flush()
+        ended = ran(program, "run", "--trace", script.name)
     number = 0
-    for wanted, line in zip_longest(printed, given, fillvalue=None):
+    for wanted, line in zip_longest(printed, ended.output.decode("utf-8", "replace").splitlines()):
         number, shown = wanted or (number, "no more")
         if shown != line:
             return number, shown, line or "no more"
-    status = {"": 0, "tpmsim: file": 3}.get(error, 2)
-    wanted = f"status {status} {error}"
-    return None if wanted == ended else (number, wanted, ended)
+    wanted = f"status {({'': 0, 'tpmsim: file': 3}).get(error, 2)} {error}"
+    given = f"status {ended.status} {ended.error.decode('utf-8', 'replace').strip()}"
+    return None if wanted == given else (number, wanted, given)
+
+
+def stream_difference(program, lines):
+    return serving.first_difference(program, [it.decode("ascii") for it in lines])
 
 
 def bytes_lines(text):
     return text.removesuffix(b"\n").split(b"\n")
-
-
-def bytes_text(lines):
-    return b"\n".join(lines) + b"\n"
 
 
 # What is compared. A difference in the device in Python is one too: it must not fail.
@@ -96,21 +92,10 @@ class Kind:
             return 0, "a device in Python that does not fail", repr(fault)
 
     def told(self):
-        agree, differ = self.tried["texts"] - self.tried["differ"], self.tried["differ"]
-        within = ", ".join(
-            f"{count} {name.replace('_', ' ')}"
-            for name, count in self.tried.items()
-            if name not in ("texts", "differ")
-        )
-        return f"{self.name}: {self.tried['texts']} of {within}: {agree} agree, {differ} differ"
-
-
-def of_script(program, lines):
-    return script_difference(program, bytes_text(lines))
-
-
-def of_stream(program, lines):
-    return serving.first_difference(program, [it.decode("ascii") for it in lines])
+        within = dict(self.tried)
+        texts, differ = within.pop("texts", 0), within.pop("differ", 0)
+        counts = ", ".join(f"{count} {name.replace('_', ' ')}" for name, count in within.items())
+        return f"{self.name}: {texts} of {counts}: {texts - differ} agree, {differ} differ"
 
 
 def shrunken(lines, differs):
@@ -145,22 +130,17 @@ class Fuzz:
 
     def __init__(self, program):
         self.program, self.folder = program, None
-        self.scripts = Kind("random scripts", "tpm", of_script)
-        self.bent = Kind("bent scripts", "tpm", of_script)
-        self.streams = Kind("streams", "stream", of_stream)
-
-    @property
-    def kinds(self):
-        return self.scripts, self.bent, self.streams
+        self.scripts = Kind("random scripts", "tpm", script_difference)
+        self.bent = Kind("bent scripts", "tpm", script_difference)
+        self.streams = Kind("streams", "stream", stream_difference)
+        self.kinds = self.scripts, self.bent, self.streams
 
     @property
     def differ(self):
         return sum(it.tried["differ"] for it in self.kinds)
 
     def round(self, seed):
-        writer = Writer(seed)
-        for _ in range(COMMANDS):
-            writer.step()
+        writer = written(seed, COMMANDS)
         lines = [it.encode("ascii") for it in writer.lines]
         self.compare(seed, self.scripts, lines, commands=COMMANDS)
 
@@ -203,10 +183,6 @@ class Fuzz:
         path.write_bytes(bytes_text(lines))
         show(path, *found)
 
-    def tell(self):
-        for kind in self.kinds:
-            print(kind.told())
-
 
 def show(path, number, wanted, given):
     wanted, given = shown(wanted, given)
@@ -219,7 +195,7 @@ def replay(program, name):
     """Whether what was left still differs."""
     path = pathlib.Path(name)
     lines = bytes_lines(path.read_bytes())
-    found = (of_stream if path.suffix == ".stream" else of_script)(program, lines)
+    found = (stream_difference if path.suffix == ".stream" else script_difference)(program, lines)
     if found:
         show(path, *found)
     print("it differs" if found else "it agrees")
@@ -227,28 +203,24 @@ def replay(program, name):
 
 
 def main(program, *words):
-    fuzz, began = Fuzz(program), time.monotonic()
-    if words[0] == "--replay":
-        return replay(program, words[1])
-    if words[0] == "--rounds":
-        first, seconds = int(words[2]), float("inf")
-        last = first + int(words[1])
-    else:
-        first = int(words[1]) if len(words) > 1 else int(time.time())
-        seconds, last = float(words[0]), float("inf")
+    seconds, last = float("inf"), float("inf")
+    match words:
+        case "--replay", name:
+            return replay(program, name)
+        case "--rounds", count, seed:
+            first, last = int(seed), int(seed) + int(count)
+        case _:
+            seconds, first = float(words[0]), int(words[1] if len(words) > 1 else time.time())
+    fuzz, seed, until = Fuzz(program), first, time.monotonic() + seconds
     print(f"from seed {first} on", flush=True)
-    seed = first
-    while seed < last and time.monotonic() - began < seconds:
-        is_done = False
-        try:
+    while seed < last and time.monotonic() < until:
+        with contextlib.ExitStack() as failing:
+            failing.callback(print, f"FAILS: seed {seed}", flush=True)
             fuzz.round(seed)
-            is_done = True
-        finally:
-            if not is_done:
-                print(f"FAILS: seed {seed}", flush=True)
+            failing.pop_all()
         seed += 1
     print(f"{seed - first} rounds")
-    fuzz.tell()
+    print(*(kind.told() for kind in fuzz.kinds), sep="\n")
     return 1 if fuzz.differ else 0
 
 

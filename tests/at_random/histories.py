@@ -8,6 +8,7 @@ events, with the next seed. It prints how many events were compared and how many
 accepted; the first difference ends it, with status 1.
 """
 
+import itertools
 import sys
 
 from tpmsim.model.history import History
@@ -16,28 +17,21 @@ from tests.at_random.random_script import Writer
 EVENTS_OF_ONE = 1000
 
 
-class Listener:
-    """The history of a device, and how many events it has."""
-
-    def __init__(self, device):
-        self.history, self.accepted = History(), 0
-        device.tell = self.add
-
-    def add(self, event):
-        self.history.add(event)
-        self.accepted += 1
-
-
 def compare(events, seed):
     """Plays so many events of one device; how many were accepted, and the first difference."""
-    writer = Writer(seed)
-    listener = Listener(writer.device)
+    writer, history, accepted = Writer(seed), History(), itertools.count()
+
+    def add(event):
+        history.add(event)
+        next(accepted)
+
+    writer.device.tell = add
     for number in range(1, events + 1):
         writer.step()
-        differences = list(listener.history.differences(writer.device))
+        differences = list(history.differences(writer.device))
         if differences:
-            return listener.accepted, f"seed {seed}, event {number}: {', '.join(differences)}"
-    return listener.accepted, None
+            return next(accepted), f"seed {seed}, event {number}: {', '.join(differences)}"
+    return next(accepted), None
 
 
 def main(events, seed="1"):

@@ -7,18 +7,21 @@ may succeed; in some a field is wrong, and in some the bytes. tools/soak/random_
 program's answers with them.
 """
 
+import contextlib
 import pathlib
 import random
 import sys
 from dataclasses import replace
+from functools import partial
 
 from tpmsim.model import general, nv_commands, persistent, state
 from tpmsim.model.machine import Model
 from tpmsim.standard import AES, ALG_NULL, CC, CONTINUE_SESSION, DECRYPT, ENCRYPT, Entry, Fact
 from tpmsim.standard import frames, handle_kinds, HandleKind, KEYEDHASH, number, nv, policy, reading
 from tpmsim.standard import RH_NULL, RS_PW, sessions, SHA1, SHA256, Short, sized, SYMCIPHER, XOR
+from tpmsim.standard.handle_kinds import HIERARCHIES
 from tpmsim.standard.objects import Attribute, Public
-from tests.common.outputs import Played, POWER, write_outputs
+from tests.common.outputs import Played, POWER, repeated, write_outputs
 from tests.common.script import line
 
 SELDOM = 0.04
@@ -36,12 +39,15 @@ NV_USES = (
 INDEX_NUMBERS = range(12)
 TYPES = *(nv.Type.ORDINARY,) * 2, *nv.Type
 ASKERS = frames.RH_OWNER, frames.RH_PLATFORM
-RANDOM_BYTES = 256
 
 # Milliseconds that pass, and the parameters of dictionary attack protection.
 WAITS = 1, 999, 1000, 999_999, 1_000_000, 1_000_001, 2**32 - 1
 MOST_TRIES = 3, 3, 3, 10, 1, 0
 RECOVERIES = 1000, 1000, 1, 0, 2**32 - 1
+
+
+def size_of(algorithm):
+    return 20 if algorithm == SHA1 else 32
 
 
 class Writer(random.Random):
@@ -66,6 +72,10 @@ class Writer(random.Random):
         at = self.randrange(len(data))
         return data[:at] + bytes([data[at] ^ 1 << self.randrange(8)]) + data[at + 1 :]
 
+    def fitting(self, digest, algorithm):
+        """A digest, if it is one by this hash; else mostly none."""
+        return digest if len(digest) in (0, size_of(algorithm)) or self.happens(0.1) else b""
+
     def hash(self):
         return 0x000C if self.happens(0.01) else self.choice((SHA1, SHA256, SHA256))
 
@@ -86,13 +96,8 @@ class Writer(random.Random):
         return self.choice(fitting) if fitting else 0x03000000 + self.randrange(17)
 
     def entity(self):
-        return self.choice(
-            (
-                *handle_kinds.HIERARCHIES,
-                *(self.choice(PCR_NUMBERS), self.object(), self.object()),
-                *(self.index(), self.index()),
-            )
-        )
+        held = self.choice(PCR_NUMBERS), self.object(), self.object(), self.index(), self.index()
+        return self.choice((*HIERARCHIES, *held))
 
     def index(self, test=lambda it: True):
         """The handle of an index that is defined, if any; seldom of one that is not."""
@@ -118,17 +123,11 @@ class Writer(random.Random):
         return usual | extra
 
     def public(self):
-        usual, kind, scheme = self.choice(
-            (
-                (STORES, SYMCIPHER, ALG_NULL),
-                (OPEN, KEYEDHASH, ALG_NULL),
-                (OPEN, KEYEDHASH, ALG_NULL),
-                (OPEN | Attribute.SIGN, KEYEDHASH, self.choice((ALG_NULL, SHA1, SHA256))),
-            )
-        )
+        signs = OPEN | Attribute.SIGN, KEYEDHASH, self.choice((ALG_NULL, SHA1, SHA256))
+        seals = OPEN, KEYEDHASH, ALG_NULL
+        usual, kind, scheme = self.choice(((STORES, SYMCIPHER, ALG_NULL), seals, seals, signs))
         digest, algorithm = self.choice(self.digests), self.hash()
-        if len(digest) not in (0, 20 if algorithm == SHA1 else 32) and not self.happens(0.1):
-            digest = b""
+        digest = self.fitting(digest, algorithm)
         unique = self.some_bytes(32)
         return Public(kind, algorithm, self.attributes(usual), digest, scheme, unique)
 
@@ -138,8 +137,7 @@ class Writer(random.Random):
         given = public.kind == KEYEDHASH and (seals or self.happens(0.5))
         data = self.some_bytes(128) if given != self.happens() else b""
         if public.has(Attribute.SIGN) and not given:
-            attributes = public.attributes | Attribute.SENSITIVE_DATA_ORIGIN
-            public = replace(public, attributes=attributes)
+            public = replace(public, attributes=public.attributes | Attribute.SENSITIVE_DATA_ORIGIN)
         user_auth = self.choice(AUTH_VALUES) + bytes(self.randrange(2))
         sensitive = frames.sensitive_create(user_auth, data)
         return frames.creation(sensitive, sized(public.text), self.some_bytes(34), self.selection())
@@ -164,7 +162,7 @@ class Writer(random.Random):
             return self.randrange(2050)
         if kind == nv.Type.ORDINARY:
             return self.choice((0, 1, 8, 16, 32, 64, self.randrange(100), 1200, 2048))
-        return (20 if algorithm == SHA1 else 32) if kind == nv.Type.EXTEND else nv.NUMBER_BYTES
+        return size_of(algorithm) if kind == nv.Type.EXTEND else nv.NUMBER_BYTES
 
     def nv_policy(self, algorithm):
         """A digest that a session has now, one that a session will have, or one of before."""
@@ -178,9 +176,7 @@ class Writer(random.Random):
             if self.happens(0.4):
                 return policy.after_nv_written(algorithm, zeros, self.happens(0.5))
             return policy.after_command_code(algorithm, zeros, CC.NV_ChangeAuth)
-        digest = self.choice(self.digests)
-        fits = len(digest) in (0, 20 if algorithm == SHA1 else 32)
-        return digest if fits or self.happens(0.1) else b""
+        return self.fitting(self.choice(self.digests), algorithm)
 
     def nv_define(self):
         hierarchy, algorithm = self.choice(ASKERS), self.hash()
@@ -233,6 +229,9 @@ class Writer(random.Random):
         handle = self.index(lambda it: it.auth_policy in digests)
         return [handle], sized(self.choice(AUTH_VALUES) + bytes(self.randrange(33)))
 
+    def nv_extend(self):
+        return self.asked(nv.Type.EXTEND), sized(self.some_bytes(self.choice((4, 64, 1024))))
+
     def policy_nv(self):
         handles = self.asked(reads=True)
         held = self.device.indices.get(handles[1])
@@ -252,13 +251,10 @@ class Writer(random.Random):
         algorithm = self.hash()
         nonce = self.randbytes(self.choice((16, 20, 20)) - self.happens())
         bind = self.choice((RH_NULL, RH_NULL, self.entity()))
-        cipher, kind = self.choice((ALG_NULL, AES, XOR)), self.choice(KINDS)
-        xor = None
+        cipher, kind, xor = self.choice((ALG_NULL, AES, XOR)), self.choice(KINDS), None
         if cipher == XOR:
             xor = self.hash() if self.happens(0.1) else algorithm
-        return frames.start_auth_session(
-            *(nonce, bind, algorithm, cipher == AES), kind=kind, xor=xor
-        )
+        return frames.start_auth_session(nonce, bind, algorithm, cipher == AES, kind=kind, xor=xor)
 
     def told(self, parameters=b""):
         return [self.session(frames.SE_POLICY, frames.SE_TRIAL)], parameters
@@ -277,21 +273,23 @@ class Writer(random.Random):
         (handle,), _ = self.told()
         held = self.device.sessions.get(handle)
         algorithm = held.algorithm if held else SHA256
-        code, used = self.choice(
-            (
-                (CC.Unseal, [self.keyed(signs=False)]),
-                (CC.NV_Increment, self.asked(nv.Type.COUNTER)),
-                (CC.NV_WriteLock, self.asked()),
-                (CC.NV_ReadLock, self.asked(reads=True)),
-            )
-        )
+        uses = {
+            CC.Unseal: [self.keyed(signs=False)],
+            CC.NV_Increment: self.asked(nv.Type.COUNTER),
+            CC.NV_WriteLock: self.asked(),
+            CC.NV_ReadLock: self.asked(reads=True),
+        }
+        code, used = self.choice(list(uses.items()))
         cp_hash = sessions.command_hash(algorithm, code, map(self.device.name, used), b"")
         if held and held.policy.cp_hash and self.happens(0.3):
             cp_hash = held.policy.cp_hash
         return [handle], sized(self.some_bytes(32) if self.happens(0.1) else cp_hash)
 
     def policy_nv_written(self):
-        return self.told(number(self.randrange(2) + 2 * self.happens(), 1))
+        return self.told(self.yes_or_no())
+
+    def policy_pcr(self):
+        return self.told(sized(self.happens() * b"given") + frames.selection(*self.selection()))
 
     def policy_or(self):
         (handle,), _ = self.told()
@@ -319,9 +317,8 @@ class Writer(random.Random):
     def keyed(self, signs):
         """A key of HMACs, or sealed data; seldom the other, or a storage key."""
         wanted = KEYEDHASH, signs
-        return self.object(
-            lambda it: (it.public.kind, it.public.has(Attribute.SIGN)) == wanted or self.happens()
-        )
+        is_one = lambda public: (public.kind, public.has(Attribute.SIGN)) == wanted
+        return self.object(lambda it: is_one(it.public) or self.happens())
 
     def flushed(self):
         held = [*self.device.objects, *self.device.sessions, 0x80000007, 0x02000000, RH_NULL]
@@ -360,6 +357,15 @@ class Writer(random.Random):
             wanted = handle
         return [asker, handle], number(wanted ^ self.happens() << 25, 4)
 
+    def yes_or_no(self):
+        return number(self.randrange(2) + 2 * self.happens(), 1)
+
+    def change_auth(self):
+        return [self.choice(HIERARCHIES)], sized(self.choice(AUTH_VALUES) + bytes(2))
+
+    def clearing(self):
+        return [self.choice((frames.RH_LOCKOUT, frames.RH_PLATFORM))]
+
     def pcr(self):
         return [self.choice((*PCR_NUMBERS, *PCR_NUMBERS, RH_NULL, 24))]
 
@@ -374,20 +380,11 @@ class Writer(random.Random):
         CC.PCR_Extend: (2, extension),
         CC.PCR_Event: (2, lambda w: (w.pcr(), sized(w.some_bytes(1024)))),
         CC.PCR_Reset: (2, lambda w: (w.pcr(), b"")),
-        CC.HierarchyChangeAuth: (
-            3,
-            lambda w: (
-                [w.choice(handle_kinds.HIERARCHIES)],
-                sized(w.choice(AUTH_VALUES) + bytes(2)),
-            ),
-        ),
+        CC.HierarchyChangeAuth: (3, change_auth),
         CC.FlushContext: (12, flushed),
         CC.StartAuthSession: (14, start),
         CC.PolicyRestart: (1, told),
-        CC.PolicyPCR: (
-            4,
-            lambda w: w.told(sized(w.happens() * b"given") + frames.selection(*w.selection())),
-        ),
+        CC.PolicyPCR: (4, policy_pcr),
         CC.PolicyOR: (3, policy_or),
         CC.PolicyAuthValue: (4, told),
         CC.PolicyPassword: (4, told),
@@ -409,10 +406,7 @@ class Writer(random.Random):
         CC.NV_Write: (14, nv_write),
         CC.NV_Increment: (6, lambda w: (w.asked(nv.Type.COUNTER), b"")),
         CC.NV_SetBits: (4, lambda w: (w.asked(nv.Type.BITS), number(1 << w.randrange(64), 8))),
-        CC.NV_Extend: (
-            4,
-            lambda w: (w.asked(nv.Type.EXTEND), sized(w.some_bytes(w.choice((4, 64, 1024))))),
-        ),
+        CC.NV_Extend: (4, nv_extend),
         CC.NV_Read: (12, nv_read),
         CC.NV_WriteLock: (2, lambda w: (w.asked(), b"")),
         CC.NV_ReadLock: (2, lambda w: (w.asked(reads=True), b"")),
@@ -421,18 +415,12 @@ class Writer(random.Random):
         CC.DictionaryAttackLockReset: (3, lambda w: ([frames.RH_LOCKOUT], b"")),
         CC.DictionaryAttackParameters: (2, parameters),
         CC.Shutdown: (1, lambda w: ([], number(w.choice((0, 1, 1)) + 2 * w.happens(), 2))),
-        CC.SelfTest: (1, lambda w: ([], number(w.randrange(2) + 2 * w.happens(), 1))),
+        CC.SelfTest: (1, lambda w: ([], w.yes_or_no())),
         CC.ReadClock: (3, lambda w: ([], b"")),
         CC.GetCapability: (8, capability),
         CC.EvictControl: (10, evict),
-        CC.Clear: (0.5, lambda w: ([w.choice((frames.RH_LOCKOUT, frames.RH_PLATFORM))], b"")),
-        CC.ClearControl: (
-            0.5,
-            lambda w: (
-                [w.choice((frames.RH_LOCKOUT, frames.RH_PLATFORM))],
-                number(w.randrange(2) + 2 * w.happens(), 1),
-            ),
-        ),
+        CC.Clear: (0.5, lambda w: (w.clearing(), b"")),
+        CC.ClearControl: (0.5, lambda w: (w.clearing(), w.yes_or_no())),
     }
 
     assert COMMANDS.keys() == set(CC)
@@ -481,12 +469,9 @@ class Writer(random.Random):
             _, entry, handle = found
             held = device.sessions[entry.handle]
             key = device.encryption_key(held, handle)
-            command.parameters = sessions.on_first_buffer(
-                lambda data: sessions.encrypted(
-                    *(held.cipher, held.algorithm, key, entry.nonce, held.nonce_tpm, data)
-                ),
-                command.parameters,
-            )
+            given = held.cipher, held.algorithm, key, entry.nonce, held.nonce_tpm
+            encrypt = partial(sessions.encrypted, *given)
+            command.parameters = sessions.on_first_buffer(encrypt, command.parameters)
         for place, entry, handle in command.places():
             entry.hmac = self.hmac_of(command, place, entry, handle)
             if self.happens(0.08 if device.touched(entry, handle) else 0.02):
@@ -504,16 +489,9 @@ class Writer(random.Random):
         key = device.key(entry, handle)
         if not key and self.happens(0.8):
             return b""
-        names = device.names(command)
-        return sessions.entry_hmac(
-            held.algorithm,
-            key,
-            sessions.command_hash(held.algorithm, command.code, names, command.parameters),
-            entry.nonce,
-            held.nonce_tpm,
-            device.nonces_of_others(command, place, handle),
-            entry.attributes,
-        )
+        given = held.algorithm, key, device.cp_hash(held, command), entry.nonce, held.nonce_tpm
+        others = device.nonces_of_others(command, place, handle)
+        return sessions.entry_hmac(*given, others, entry.attributes)
 
     # Sending.
 
@@ -537,22 +515,9 @@ class Writer(random.Random):
             parameters = parameters[: self.randrange(len(parameters) + 1)] + self.some_bytes(2)
         entries = self.entries(code, handles)
         command = general.Command(code, handles, entries, parameters)
-        try:
+        with contextlib.suppress(Short, KeyError, IndexError):
             self.authenticated(command)
-        except (Short, KeyError, IndexError):
-            pass
-        return self.damaged(self.spelled(command))
-
-    @staticmethod
-    def spelled(command):
-        handles = b"".join(number(it, 4) for it in command.handles)
-        if not command.entries:
-            return frames.command(command.code, handles + command.parameters)
-        entries = [
-            frames.entry(it.handle, it.nonce, it.attributes, it.hmac) for it in command.entries
-        ]
-        body = handles + frames.area(*entries) + command.parameters
-        return frames.command(command.code, body, frames.SESSIONS)
+        return self.damaged(frames.buffer_of(code, handles, entries, command.parameters))
 
     def damaged(self, buffer):
         """Seldom with a bit changed, or cut, commandSize being right then."""
@@ -582,17 +547,14 @@ class Writer(random.Random):
             buffer = self.startup()
         else:
             buffer = self.buffer()
-        seed = self.randbytes(7)
-        drawn = (seed * RANDOM_BYTES)[:RANDOM_BYTES]
-        elapsed = 0
+        seed, elapsed = self.randbytes(7), 0
         if self.happens(0.1) or self.device.lockout.is_closed and self.happens(0.2):
             elapsed = self.choice((*WAITS, self.randrange(2**32)))
             self.events.append(f"wait {elapsed}")
         self.events += [f"entropy {seed.hex()}", buffer]
-        outcome = self.device.execute(buffer, self.locality, drawn, elapsed)
+        outcome = self.device.execute(buffer, self.locality, repeated(seed), elapsed)
         self.played.append(Played(outcome, self.locality, elapsed))
         self.note(buffer, outcome.response, outcome.refused)
-        return outcome.refused
 
     def note(self, buffer, response, refused):
         """Keeps what TPM2_Create answered in plain, and the digests that policies have."""
@@ -606,13 +568,19 @@ class Writer(random.Random):
                 self.digests = [b"", *self.digests[-20:], held.policy.digest]
 
 
+def written(seed, count):
+    """The writer behind so many commands."""
+    writer = Writer(seed)
+    for _ in range(count):
+        writer.step()
+    return writer
+
+
 def main(seed, count, folder):
-    writer = Writer(int(seed))
-    outcomes = [writer.step() for _ in range(int(count))]
+    writer = written(int(seed), int(count))
     path = pathlib.Path(folder) / f"{seed}.tpm"
     path.write_text("\n".join(writer.lines) + "\n", "ascii")
     write_outputs(path, writer.played)
-    return outcomes
 
 
 if __name__ == "__main__":

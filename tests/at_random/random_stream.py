@@ -57,18 +57,9 @@ class StreamWriter(Writer):
 
     def with_wrong_size(self, buffer):
         size = len(buffer)
-        wrong = (
-            0,
-            6,
-            9,
-            4097,
-            2**32 - 1,
-            max(0, size - 1),
-            size + 1,
-            2 * size,
-            self.randrange(4097),
-        )
-        return buffer[:2] + frames.number(self.choice(wrong), 4) + buffer[6:]
+        near = max(0, size - 1), size + 1, 2 * size, self.randrange(4097)
+        wrong = self.choice((0, 6, 9, 4097, 2**32 - 1, *near))
+        return buffer[:2] + frames.number(wrong, 4) + buffer[6:]
 
     def command(self):
         buffer = self.next_buffer()

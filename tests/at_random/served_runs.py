@@ -5,26 +5,12 @@ import select
 import socket
 import subprocess
 import tempfile
-import time
 from itertools import zip_longest
 
 from tests.common import streams
+from tests.common.client import connected, responses
 
 SECONDS = 60
-
-
-def connected(path, process):
-    """A connection, as soon as the socket is there, or None where the program has ended."""
-    until = time.monotonic() + SECONDS
-    while process.poll() is None and time.monotonic() < until:
-        client = socket.socket(socket.AF_UNIX, socket.SOCK_STREAM)
-        try:
-            client.connect(path)
-            return client
-        except (FileNotFoundError, ConnectionRefusedError):
-            client.close()
-            time.sleep(0.001)
-    return None
 
 
 def exchanged(client, connection):
@@ -51,14 +37,6 @@ def exchanged(client, connection):
         except ConnectionResetError:
             # The program closed it before it had read all of it.
             return answered
-
-
-def cut(answered):
-    """The responses in what came back."""
-    while answered:
-        size = max(int.from_bytes(answered[2:6], "big"), 1)
-        yield answered[:size]
-        answered = answered[size:]
 
 
 class Folder:
@@ -91,12 +69,12 @@ class Folder:
         process, answers = self.began(run), []
         try:
             for connection in run.connections:
-                client = connected(str(self.path / "socket"), process)
+                client = connected(self.path / "socket", process)
                 answered = b""
                 if client:
                     with client:
                         answered = exchanged(client, connection)
-                answers.append(list(cut(answered)))
+                answers.append(list(responses(answered)))
             _, error = process.communicate(timeout=SECONDS)
         except subprocess.TimeoutExpired:
             error = b"it does not end"

@@ -13,17 +13,17 @@ import concurrent.futures
 import functools
 import itertools
 import pathlib
-import subprocess
 import sys
 import tempfile
 
-from tpmsim.model import player
 from tpmsim.model.machine import Model
 from tpmsim.standard import lines
+from tests.common.expected import assembled, fault_of, traced
+from tests.common.shims import Ending, ran
 
 TESTS = pathlib.Path(__file__).resolve().parent.parent
 AT_ONCE = 4
-STARTUP, STARTED = b"do Startup 0\n", "80010000000a00000000\n"
+STARTUP, STARTED = b"do Startup 0\n", b"80010000000a00000000\n"
 
 # Each way bends one in so many tokens, beginning at the next one each time.
 EACH = 3
@@ -131,9 +131,7 @@ def first_lines():
 
 
 def bent(first, bend, begin=0, step=1):
-    """The lines, bent in a way at one of their tokens after the other, or at one in so many of all
-    tokens from a place on.
-    """
+    """The lines, bent at one in so many of all their tokens, from a place on."""
     places = (
         (tokens, at) for tokens in (it.split(b" ") for it in first) for at in range(len(tokens))
     )
@@ -154,18 +152,10 @@ def is_usage(line):
 
 
 def wanted(line):
-    """What is to come of a line: what it is called, and what is printed on the two streams."""
+    """What a line is called, and how `tpmsim asm` ends with it."""
     if is_usage(line):
-        return "usage", "", "tpmsim: usage\n"
-    try:
-        return "buffers", lines.assemble(line).hex() + "\n", ""
-    except lines.Fault as fault:
-        return str(fault).partition(" ")[0], "", f"tpmsim: asm {fault}\n"
-
-
-def given(program, *words, text=None):
-    ran = subprocess.run([program, *words], input=text, capture_output=True, timeout=60)
-    return ran.returncode, ran.stdout.decode("ascii"), ran.stderr.decode("ascii")
+        return "usage", Ending(2, error=b"tpmsim: usage\n")
+    return fault_of(line).partition(" ")[0] or "buffers", assembled(line)
 
 
 def shown(line):
@@ -189,34 +179,24 @@ def counted(outcomes):
 def try_bend(pool, program, name, bent_lines):
     """The lines that are bent in one way, by `tpmsim asm`."""
     want = [wanted(line) for line in bent_lines]
-    give = pool.map(lambda line: given(program, "asm", line), bent_lines)
+    give = pool.map(lambda line: ran(program, "asm", line), bent_lines)
     differ = compared(
-        (shown(line), (0 if kind == "buffers" else 2, output, error), it)
-        for line, (kind, output, error), it in zip(bent_lines, want, give)
+        (shown(it), end, given) for it, (_, end), given in zip(bent_lines, want, give)
     )
-    outcomes = collections.Counter(kind for kind, _, _ in want)
+    outcomes = collections.Counter(kind for kind, _ in want)
     print(f"{name}: {len(bent_lines)} lines: {counted(outcomes)}; {differ} differ")
 
 
 # Scripts.
 
 
-def is_line(line):
-    try:
-        lines.assemble(line)
-        return True
-    except lines.Fault:
-        return False
-
-
 def try_faults(pool, program, what, bad):
     """Scripts of three lines, of which the second is bad, and is told."""
 
     def run(line):
-        text = STARTUP + b"do " + line + b"\n" + STARTUP
-        return given(program, "run", "-", text=text)
+        return ran(program, "run", "-", stdin=STARTUP + b"do " + line + b"\n" + STARTUP)
 
-    want = 2, STARTED, "tpmsim: script line 2\n"
+    want = Ending(2, STARTED, b"tpmsim: script line 2\n")
     differ = compared((shown(b"do " + it), want, give) for it, give in zip(bad, pool.map(run, bad)))
     print(f"{what}: {len(bad)} scripts, each with one as its second line; {differ} differ")
 
@@ -224,15 +204,13 @@ def try_faults(pool, program, what, bad):
 def try_answers(program, good):
     """One script of all that are lines, as the device in Python answers it."""
     device, random = Model(), bytes(256)
-    text = b"".join(b"do " + line + b"\n" for line in good)
     want = [device.execute(lines.assemble(line), 0, random).response.hex() for line in good]
     with tempfile.NamedTemporaryFile() as script:
-        script.write(text)
+        script.write(b"".join(b"do " + line + b"\n" for line in good))
         script.flush()
-        status, output, error = given(program, "run", script.name)
-    give = output.splitlines()
-    differ = compared([("the script of all lines", (0, ""), (status, error))])
-    pairs = itertools.zip_longest(good, want, give)
+        given = ran(program, "run", script.name)
+    differ = compared([("the script of all lines", (0, b""), (given.status, given.error))])
+    pairs = itertools.zip_longest(good, want, given.output.decode("ascii").splitlines())
     differ += compared((shown(line or b""), it, answer) for line, it, answer in pairs)
     print(f"bent lines that are lines: one script, {len(good)} commands; {differ} differ")
 
@@ -246,18 +224,10 @@ def try_bytes(pool, program, what, put):
         for taken in (0, 1)
     ]
     texts = [STARTUP + line + b"\n" + STARTUP for line in bent_lines]
-    want = [player.played(text) for text in texts]
-    give = pool.map(lambda text: given(program, "run", "--trace", "-", text=text), texts)
-    differ = compared(
-        (
-            shown(line),
-            (2 if error else 0, [it for _, it in printed], error),
-            (status, output.splitlines(), said.strip()),
-        )
-        for line, (printed, error), (status, output, said) in zip(bent_lines, want, give)
-    )
-    bad = sum(bool(error) for _, error in want)
-    counts = f"{len(texts)} scripts, {bad} with a bad line"
+    want = [traced(text) for text in texts]
+    give = pool.map(lambda text: ran(program, "run", "--trace", "-", stdin=text), texts)
+    differ = compared(zip(map(shown, bent_lines), want, give))
+    counts = f"{len(texts)} scripts, {sum(it.status != 0 for it in want)} with a bad line"
     print(f"{what} in a script's line: {counts}; {differ} differ")
 
 
@@ -271,12 +241,12 @@ def main(program):
             try_bend(pool, program, name, bent_lines)
             tried += bent_lines
         once = list(dict.fromkeys(tried))
-        bad = [it for it in once if not is_line(it)]
+        bad = [it for it in once if fault_of(it)]
         try_faults(pool, program, "bent lines that are none", bad[::SAMPLED])
         # A NUL cannot stand in a word of a command line.
         nul = list(bent(first, functools.partial(replaced, b"\0")))
         try_faults(pool, program, "lines with a NUL in place of a token", nul)
-        try_answers(program, [it for it in once if is_line(it)])
+        try_answers(program, [it for it in once if not fault_of(it)])
         for name, put in BYTES.items():
             try_bytes(pool, program, name, put)
 

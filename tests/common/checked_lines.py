@@ -13,9 +13,10 @@ import itertools
 import sys
 import tempfile
 
-import bent_lines
-from tpmsim.standard import lines
-from tpmsim.standard.commands import CC
+from tpmsim.standard import CC, lines
+from tests.common import bent_lines
+from tests.common.expected import fault_of
+from tests.common.shims import ran
 
 # How many entries a line may have.
 MOST_ENTRIES = 3
@@ -53,15 +54,6 @@ def wanted_word(line: bytes, fault: str) -> str:
     return words[place] if place < len(words) else WANTED_END
 
 
-def fault_of(line: bytes) -> str:
-    """The fault of a line, with its column; empty where the line is good."""
-    try:
-        lines.assemble(line)
-        return ""
-    except lines.Fault as fault:
-        return str(fault)
-
-
 def all_lines() -> list[bytes]:
     first = bent_lines.first_lines()
     nul = functools.partial(bent_lines.replaced, b"\0")
@@ -74,7 +66,7 @@ def checked(program: str, script: bytes) -> dict[int, str]:
     with tempfile.NamedTemporaryFile() as file:
         file.write(script)
         file.flush()
-        _, output, _ = bent_lines.given(program, "check", file.name)
+        output = ran(program, "check", file.name).output.decode("ascii")
     told = {}
     for line in output.splitlines():
         number, _, fault = line.removeprefix("line ").partition(": ")
@@ -91,11 +83,10 @@ def main(program: str) -> None:
     for number, line in enumerate(bent, 1):
         fault = fault_of(line)
         want = f"{fault}: {wanted_word(line, fault)}" if fault else ""
-        name = fault.split(" ")[0] or "good"
+        give, name = told.get(number, ""), fault.split(" ")[0] or "good"
         counts[name] += 1
-        if told.get(number, "") != want:
+        if give != want:
             differ[name] += 1
-            give = told.get(number, "")
             print(f"DIFFERS: {bent_lines.shown(line)}: wanted {want}, given {give}")
     for name, count in sorted(counts.items()):
         print(f"{name}: {count} lines; {differ[name]} differ")

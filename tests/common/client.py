@@ -10,34 +10,53 @@ import socket
 import sys
 import time
 
+HEADER_BYTES = 10
+SECONDS = 60
 
-def connected(path):
-    """A connection to the socket, which is to be there within ten seconds."""
-    for _ in range(1000):
+
+def connected(path, process=None):
+    """A connection to the socket, within a minute; nothing where its process has ended."""
+    until = time.monotonic() + SECONDS
+    while time.monotonic() < until:
         client = socket.socket(socket.AF_UNIX, socket.SOCK_STREAM)
         try:
-            client.connect(path)
+            client.connect(str(path))
             return client
         except (FileNotFoundError, ConnectionRefusedError):
             client.close()
-            time.sleep(0.01)
+        if process and process.poll() is not None:
+            return None
+        time.sleep(0.001)
     sys.exit("nobody answers at the socket")
 
 
 def received(client):
     """All bytes up to the end of the stream."""
-    text = b""
-    while piece := client.recv(65536):
-        text += piece
-    return text
+    return b"".join(iter(lambda: client.recv(65536), b""))
 
 
 def responses(text):
     """The responses in a stream, each as long as its header says."""
-    while text:
-        size = int.from_bytes(text[2:6], "big")
-        yield text[:size]
-        text = text[max(size, 1) :]
+    at = 0
+    while at < len(text):
+        size = max(int.from_bytes(text[at + 2 : at + 6], "big"), 1)
+        yield text[at : at + size]
+        at += size
+
+
+def answer(client):
+    """A whole response, or nothing where the stream ends before."""
+    header = client.recv(HEADER_BYTES, socket.MSG_WAITALL)
+    size = max(int.from_bytes(header[2:6], "big"), HEADER_BYTES)
+    text = header + client.recv(size - HEADER_BYTES, socket.MSG_WAITALL)
+    return text if len(text) == size else None
+
+
+def tell(client, *label):
+    """Closes the sending side, and prints what comes back, each response behind a label."""
+    client.shutdown(socket.SHUT_WR)
+    for response in responses(received(client)):
+        print(*label, response.hex())
 
 
 def main():

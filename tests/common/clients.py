@@ -1,21 +1,25 @@
-"""Clients of `tpmsim serve` beside each other, clients that break off, and one that goes on for long:
+"""Clients of `tpmsim serve` that end in another way than client.py, and clients beside each other:
 
-    python3 clients.py close SOCKET HEX      sends these bytes and closes at once
-    python3 clients.py idle SOCKET HEX       has one client that sends nothing, and one beside it that
-                                             sends these commands. Says whether that one is answered
-                                             before and after the first one has closed
-    python3 clients.py unread SOCKET HEX     the same, where the first one sends TPM2_GetRandom until
-                                             nothing more is taken, and reads nothing
-    python3 clients.py removed SOCKET HEX    has two clients, removes the socket's path, then sends
-                                             these commands with each, and prints what is answered
-    python3 clients.py folder SOCKET HEX     the same, with a folder put in its place
-    python3 clients.py during SOCKET HEX LINE
-                                             sends these commands, and does the shell's LINE once the
-                                             first one is answered, before it closes
-    python3 clients.py long SOCKET MILLIONS WRITE
-                                             sends this TPM2_NV_Write, and TPM2_GetRandom, in turn
-                                             until there were so many million bytes, while it reads
-                                             the responses, and says what they were
+    python3 clients.py KIND SOCKET HEX..
+
+A client, or two, send these commands. By KIND:
+
+    close      closes at once
+    read       goes without reading the response that is there, so that the device's next read fails
+    write      sends TPM2_GetRandom behind them until nothing more is taken, since the device waits
+               with a response that nobody reads; and goes, so that this write fails
+    turns      two clients, whose bytes take turns. Prints what is answered to each
+    idle       stands beside a client that sends nothing. Says whether it is answered before that one
+               has closed, and prints what is answered
+    unread     the same, beside one that sends TPM2_GetRandom until nothing more is taken
+    removed    two clients, whose socket's path is removed before they send
+    folder     the same, with a folder put in its place
+    clock      starts the device, and asks for its time for a second, fifty commands at once. The last
+               answer has to be the whole milliseconds since the start, as far as the host can tell
+
+`clients.py during SOCKET HEX LINE` does the shell's LINE once the first command is answered, before
+it closes. `clients.py long SOCKET MILLIONS WRITE` sends this TPM2_NV_Write, and TPM2_GetRandom, in
+turn until there were so many million bytes, while it reads the responses, and says what they were.
 """
 
 import collections
@@ -26,31 +30,14 @@ import socket
 import subprocess
 import sys
 import threading
+import time
 
-from client import connected, received, responses
+from client import answer, connected, received, responses, tell
 
 GET_RANDOM = bytes.fromhex("80010000000c0000017b0004")
-A_WHILE = 0.3
-
-
-def close(path, text):
-    client = connected(path)
-    client.sendall(text)
-    client.close()
-
-
-def beside(path, text, occupy):
-    """A client that occupies the device, and one that waits for it."""
-    first = connected(path)
-    occupy(first)
-    second = connected(path)
-    second.sendall(text)
-    second.shutdown(socket.SHUT_WR)
-    answered = select.select([second], [], [], A_WHILE)[0]
-    print("the one beside it is answered" if answered else "the one beside it waits")
-    first.close()
-    for response in responses(received(second)):
-        print(response.hex())
+STARTUP, STARTED_SIZE = bytes.fromhex("80010000000c000001440000"), 10
+READ_CLOCK, CLOCK_SIZE, AT_ONCE = bytes.fromhex("80010000000a00000181"), 35, 50
+A_WHILE = 0.5
 
 
 def fill(client):
@@ -60,6 +47,35 @@ def fill(client):
         client.send(GET_RANDOM)
 
 
+def leave(path, text, before):
+    """A client that goes at once, or behind something."""
+    client = connected(path)
+    client.sendall(text)
+    before(client)
+    client.close()
+
+
+def take_turns(path, text):
+    clients = [connected(path), connected(path)]
+    for byte in text:
+        for client in clients:
+            client.sendall(bytes([byte]))
+    for number, client in enumerate(clients, 1):
+        tell(client, number)
+
+
+def beside(path, text, occupy):
+    """A client that occupies the device, and one that waits for it."""
+    first = connected(path)
+    occupy(first)
+    second = connected(path)
+    second.sendall(text)
+    answered = select.select([second], [], [], A_WHILE)[0]
+    print("the one beside it is answered" if answered else "the one beside it waits")
+    first.close()
+    tell(second)
+
+
 def replaced(path, text, replace):
     """Two clients, and their socket is removed, and its path may be taken."""
     clients = [connected(path), connected(path)]
@@ -67,25 +83,45 @@ def replaced(path, text, replace):
     replace(pathlib.Path(path))
     for number, client in enumerate(clients, 1):
         client.sendall(text)
-        client.shutdown(socket.SHUT_WR)
-        for response in responses(received(client)):
-            print(number, response.hex())
+        tell(client, number)
+
+
+def asked(client, commands, size):
+    """What is answered, and the milliseconds of the host's clock before and after that."""
+    before = time.monotonic() * 1000
+    client.sendall(commands)
+    text = client.recv(size, socket.MSG_WAITALL)
+    if len(text) < size:
+        sys.exit("the connection has ended")
+    return text, before, time.monotonic() * 1000
+
+
+def compare_clock(path, _):
+    client = connected(path)
+    _, before_start, after_start = asked(client, STARTUP, STARTED_SIZE)
+    commands, before = 0, after_start
+    while commands < 1000 or before < after_start + 1000:
+        text, before, after = asked(client, READ_CLOCK * AT_ONCE, CLOCK_SIZE * AT_ONCE)
+        commands += AT_ONCE
+    told = int.from_bytes(text[-CLOCK_SIZE:][10:18], "big")
+    if before - after_start - 1 <= told <= after - before_start:
+        print("the device's time is the host's")
+    else:
+        print(f"{commands} commands, {told} milliseconds of {after - before_start:.0f}")
 
 
 def during(path, text, line):
     client = connected(path)
-    client.sendall(text)
-    answer = client.recv(4096)
+    client.sendall(bytes.fromhex(text))
+    print(answer(client).hex())
     subprocess.run(line, shell=True, check=True)
-    client.shutdown(socket.SHUT_WR)
-    for response in responses(answer + received(client)):
-        print(response.hex())
+    tell(client)
 
 
-def go_on(path, text, millions):
+def go_on(path, millions, text):
     client = connected(path)
-    group = text + GET_RANDOM
-    groups = millions * 1000000 // len(group) + 1
+    group = bytes.fromhex(text) + GET_RANDOM
+    groups = int(millions) * 1000000 // len(group) + 1
 
     def send():
         for _ in range(groups):
@@ -94,36 +130,38 @@ def go_on(path, text, millions):
 
     sender = threading.Thread(target=send, daemon=True)
     sender.start()
-    got, rest = collections.Counter(), b""
-    while piece := client.recv(65536):
-        rest += piece
-        while len(rest) >= 6 and len(rest) >= (size := int.from_bytes(rest[2:6], "big")):
-            got[rest[:size].hex()] += 1
-            rest = rest[size:]
+    got = collections.Counter(response.hex() for response in responses(received(client)))
     sender.join()
     for response, times in sorted(got.items()):
         print("as many as were sent" if times == groups else f"{times} of {groups}", response)
-    if rest:
-        print("and half a response", rest.hex())
+
+
+def nothing(_):
+    pass
 
 
 KINDS = {
-    "close": close,
-    "idle": lambda path, text: beside(path, text, lambda client: None),
-    "unread": lambda path, text: beside(path, text, fill),
-    "removed": lambda path, text: replaced(path, text, lambda path: None),
-    "folder": lambda path, text: replaced(path, text, pathlib.Path.mkdir),
+    "close": (leave, nothing),
+    "read": (leave, lambda client: select.select([client], [], [], 10)),
+    "write": (leave, fill),
+    "turns": (take_turns,),
+    "idle": (beside, nothing),
+    "unread": (beside, fill),
+    "removed": (replaced, nothing),
+    "folder": (replaced, pathlib.Path.mkdir),
+    "clock": (compare_clock,),
 }
 
 
 def main():
     kind, path, *words = sys.argv[1:]
     if kind == "long":
-        go_on(path, bytes.fromhex(words[1]), int(words[0]))
+        go_on(path, *words)
     elif kind == "during":
-        during(path, bytes.fromhex(words[0]), words[1])
+        during(path, *words)
     else:
-        KINDS[kind](path, bytes.fromhex("".join(words)))
+        act, *choices = KINDS[kind]
+        act(path, bytes.fromhex("".join(words)), *choices)
 
 
 main()

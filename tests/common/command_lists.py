@@ -6,14 +6,13 @@ A line for each list says how many entries it has; each one that is missing, or 
 that begins with DIFFERS. Then documents are changed in one place each, and that has to be found.
 """
 
-import pathlib
 import re
-from collections.abc import Callable, Iterable
+from collections.abc import Callable
 from dataclasses import dataclass
 
 from tpmsim.standard import CC, Fact, HandleKind, lines
+from tests.common.places import TOP
 
-TOP = pathlib.Path(__file__).resolve().parent.parent.parent
 README, TABLE = "README.md", "docs/table"
 LIST, STATE = f"{TABLE}/README.md", f"{TABLE}/state.md"
 REFUSALS = f"{TABLE}/order_of_refusals.md"
@@ -39,14 +38,6 @@ def between(text: str, before: str, behind: str) -> str:
     return rest.partition(behind)[0] if found else ""
 
 
-def names(codes: Iterable[CC]) -> list[str]:
-    return [it.name for it in codes]
-
-
-def by_name() -> list[CC]:
-    return sorted(CC, key=lambda it: it.name.lower())
-
-
 @dataclass(frozen=True)
 class List:
     """A list of a document: what it has to have, and what it has; with `in_order` in this order."""
@@ -64,6 +55,9 @@ class List:
         return lacks + extra + twice + ([("the order", "is another one")] if is_turned else [])
 
 
+Check = Callable[[Documents], List]
+
+
 # The lists.
 
 
@@ -72,7 +66,7 @@ def the_list(texts: Documents) -> List:
     pages = pages_of(texts)
     wanted = [
         (it.name, pages.get(it.name), f"tpm2_{it.name}-{int(it):x}".lower(), f"{int(it):X}")
-        for it in by_name()
+        for it in sorted(CC, key=lambda it: it.name.lower())
     ]
     return List(wanted, ROW.findall(texts[LIST]), in_order=True)
 
@@ -96,35 +90,23 @@ def groups(texts: Documents) -> List:
     rows = re.findall(
         r"^\| .+ \| (.+) \|$", between(texts[README], "| commands |\n|---|", "\n## "), re.M
     )
-    return List(names(CC), [name for row in rows for name in row.split(", ")])
-
-
-def decrypted(texts: Documents) -> List:
-    text = between(texts[ENCRYPTION], "| decrypt:", " |\n")
-    return List(names(it for it in CC if it.takes_sized), NAME.findall(text))
-
-
-def encrypted(texts: Documents) -> List:
-    text = between(texts[ENCRYPTION], "| encrypt:", " |\n")
-    return List(names(it for it in CC if it.answers_sized), NAME.findall(text))
-
-
-def without_sessions(texts: Documents) -> List:
-    text = between(texts[REFUSALS], "entries (tag 8002), passwords too, on", "|")
-    return List(names(it for it in CC if it.has(Fact.NO_SESSIONS)), NAME.findall(text))
-
-
-def keeping(texts: Documents) -> List:
-    """TPM2_Shutdown stands in the sentence behind."""
-    text = between(texts[STATE], "but for those of these commands", ". ")
-    wanted = [it for it in CC if it.has(Fact.KEEPS_SAVED) and it != CC.Shutdown]
-    return List(names(wanted), NAME.findall(text))
+    return List([it.name for it in CC], [name for row in rows for name in row.split(", ")])
 
 
 def not_served(texts: Documents) -> List:
     """Those that are named as not served are none of these."""
     text = between(texts[REFUSALS], "## Commands that are not served", "\n## ")
     return List([], [it for it in NAME.findall(text) if it in CC.__members__])
+
+
+def named(document: str, before: str, behind: str, is_wanted: Callable[[CC], bool]) -> Check:
+    """The check that a document names these commands between two places."""
+
+    def check(texts: Documents) -> List:
+        wanted = [it.name for it in CC if is_wanted(it)]
+        return List(wanted, NAME.findall(between(texts[document], before, behind)))
+
+    return check
 
 
 # Counts of commands: the document, what stands before the count, what stands behind it, and how
@@ -161,15 +143,26 @@ def nv_access_of(code: CC) -> str:
     return "where it has AUTHREAD" if code.has(Fact.READS_NV) else "where it has AUTHWRITE"
 
 
-CHECKS: dict[str, Callable[[Documents], List]] = {
+UNSESSIONED = "entries (tag 8002), passwords too, on"
+KEEPING = "but for those of these commands"
+CHECKS: dict[str, Check] = {
     "docs/table/README.md, the list of commands": the_list,
     "docs/table, the sections and their lines": sections,
     "README.md, the groups": groups,
-    "parameter_encryption.md, decrypt": decrypted,
-    "parameter_encryption.md, encrypt": encrypted,
-    "order_of_refusals.md, commands without sessions": without_sessions,
+    "parameter_encryption.md, decrypt": named(
+        ENCRYPTION, "| decrypt:", " |\n", lambda it: it.takes_sized
+    ),
+    "parameter_encryption.md, encrypt": named(
+        ENCRYPTION, "| encrypt:", " |\n", lambda it: it.answers_sized
+    ),
+    "order_of_refusals.md, commands without sessions": named(
+        REFUSALS, UNSESSIONED, "|", lambda it: it.has(Fact.NO_SESSIONS)
+    ),
     "order_of_refusals.md, commands that are not served": not_served,
-    "state.md, commands that keep what was saved": keeping,
+    # TPM2_Shutdown stands in the sentence behind.
+    "state.md, commands that keep what was saved": named(
+        STATE, KEEPING, ". ", lambda it: it.has(Fact.KEEPS_SAVED) and it != CC.Shutdown
+    ),
     "nv.md, what commands ask of an index": nv_access,
     "counts of commands": counts,
 }

@@ -17,12 +17,13 @@ import socket
 import sys
 
 from tests.common import client
+from tests.common.shims import begun, ended, Ending, SERVE, WELL
 
 from tpmsim.model import image
 from tpmsim.model.machine import Model
 from tpmsim.standard import lines
 from tests.images import image_bodies
-from tests.images import image_versions
+from tests.images import image_cases
 from tests.images.bent_bodies import Bender
 
 STATUS_OF_FAULT, FAULT = 4, "tpmsim: image "
@@ -32,7 +33,6 @@ SUCCESS = bytes(4)
 RANDOM = bytes(range(256))
 SEED, BENT = 1, 300
 DEFAULTS = [1, 10_000]
-XORS = 0x01, 0x80
 MOST_LEFT = 100
 
 # Of the long series the program is given the first texts, and then one in so many, which divides no
@@ -51,30 +51,20 @@ class Program:
         pathlib.Path("entropy").write_bytes(RANDOM * (len(LINES) + 1))
 
     def start(self, connections):
-        words = "serve --socket socket --image image --entropy entropy --locality 0"
-        arguments = [self.path, *words.split(), "--connections", str(connections)]
-        error, writing = os.pipe()
-        to_error = [(os.POSIX_SPAWN_DUP2, writing, 2)]
-        process = os.posix_spawn(self.path, arguments, {}, file_actions=to_error)
-        os.close(writing)
-        return process, error
+        return begun([self.path, *SERVE, str(connections)])
 
-    def end(self, process, error):
+    def end(self, process):
         """The fault of the image, or nothing where the program ended well."""
-        with os.fdopen(error) as reader:
-            told = reader.read()
-        _, status = os.waitpid(process, 0)
-        status = os.waitstatus_to_exitcode(status)
-        if (status, told) == (0, ""):
-            return None
-        if status == STATUS_OF_FAULT and told.startswith(FAULT) and told.endswith("\n"):
-            return told[len(FAULT) : -1]
-        return f"status {status}, {told!r}"
+        given = ended(process)
+        fault = given.error.decode("ascii", "replace").removeprefix(FAULT).removesuffix("\n")
+        if given == Ending(STATUS_OF_FAULT, error=f"{FAULT}{fault}\n".encode()):
+            return fault
+        return None if given == WELL else f"{given}"
 
     def fault_of(self, text):
         """What the program answers to an image; where it opens it, it saves nothing."""
         pathlib.Path("image").write_bytes(text)
-        return self.end(*self.start(0))
+        return self.end(self.start(0))
 
     def saved(self, commands):
         """What the program saves behind a connection with these commands."""
@@ -84,7 +74,7 @@ class Program:
         connection.shutdown(socket.SHUT_WR)
         client.received(connection)
         connection.close()
-        assert self.end(*started) is None
+        assert self.end(started) is None
         return pathlib.Path("image").read_bytes()
 
     def saved_again(self, text):
@@ -161,14 +151,13 @@ def changed(text, places, changes):
             yield f"{at} is {value:02x}", text[:at] + bytes([value]) + text[at + 1 :]
 
 
-def in_all_ways():
-    return [lambda byte, added=added: byte + added & 0xFF for added in range(1, 256)]
+ALL_WAYS = [lambda byte, added=added: byte + added & 0xFF for added in range(1, 256)]
 
-
-def in_some_ways():
-    """The lowest bit, the highest one, and by one in the direction that is not the lowest bit's."""
-    xors = [lambda byte, bits=bits: byte ^ bits for bits in XORS]
-    return [*xors, lambda byte: byte + (1 if byte & 1 else -1) & 0xFF]
+# The lowest bit, the highest one, and by one in the direction that is not the lowest bit's.
+THREE_WAYS = (
+    *(lambda byte: byte ^ 0x01, lambda byte: byte ^ 0x80),
+    lambda byte: byte + (1 if byte & 1 else -1) & 0xFF,
+)
 
 
 def bent(device, seed, count, version=image.VERSION_2):
@@ -182,8 +171,8 @@ def damage(comparison, text):
     comparison.kind("the image", [("whole", text)])
     comparison.series("its proper prefixes", prefixes(text))
     head, rest = range(image.HEAD_BYTES), range(image.HEAD_BYTES, len(text))
-    comparison.series("a byte of its head, in all ways", changed(text, head, in_all_ways()))
-    comparison.series("a byte behind, in three ways", changed(text, rest, in_some_ways()))
+    comparison.series("a byte of its head, in all ways", changed(text, head, ALL_WAYS))
+    comparison.series("a byte behind, in three ways", changed(text, rest, THREE_WAYS))
     longer = ((f"of {count} bytes", text + bytes(count)) for count in (1, 32, 1 << 16, 1 << 20))
     comparison.kind("it with bytes behind it", longer)
 
@@ -210,8 +199,8 @@ def in_the_gate(comparison):
     comparison.kind("it in version 1", [("whole", old)])
     comparison.series("its proper prefixes", prefixes(old))
     comparison.kind("its body in version 1, bent", bent(device, SEED, BENT, image.VERSION_1))
-    comparison.kind("version 2, a bit of its limits changed", image_versions.with_other_limits())
-    comparison.kind("version 2, of 42 to 73 bytes", image_versions.without_state())
+    comparison.kind("version 2, a bit of its limits changed", image_cases.with_other_limits())
+    comparison.kind("version 2, of 42 to 73 bytes", image_cases.without_state())
     told = []
     for case in image_bodies.cases():
         told.append(comparison.case(case))

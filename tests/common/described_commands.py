@@ -10,18 +10,20 @@ is described wrongly, a kind of fact after the other, and the program must tell 
 import concurrent.futures
 import functools
 import pathlib
-import subprocess
 import sys
-from collections.abc import Iterable, Iterator
+from collections.abc import Callable, Iterable, Iterator
 from dataclasses import dataclass, replace
 from unittest import mock
 
-from tpmsim.model.capability import COMMANDS, HANDLES, PCRS, TOTAL_COMMANDS, command_attributes
+from tpmsim.model.capability import COMMANDS, TOTAL_COMMANDS, command_attributes
 from tpmsim.standard import CC, Fact, Fields, Handle, HandleKind, KEYEDHASH, Kind, NUMBERED
 from tpmsim.standard import RH_LOCKOUT, RH_NULL, RH_OWNER, RH_PLATFORM, RS_PW, SHA256, frames
-from tpmsim.standard import handle_kinds, lines, number, reading
+from tpmsim.standard import handle_kinds, lines, number, Short
 from tpmsim.standard.nv import Attribute, Public
 from tpmsim.standard.objects import Attribute as ObjectAttribute
+from tpmsim.standard.values import read_all
+from tests.common.expected import assembled, line_told
+from tests.common.shims import Ending, fail, ran
 
 TESTS = pathlib.Path(__file__).resolve().parent.parent
 AT_ONCE = 4
@@ -53,24 +55,16 @@ class Program:
 
     def run(self, script: Iterable[str], *options: str) -> list[str]:
         """What it prints of a script."""
-        done = subprocess.run(
-            [self.path, "run", *options, "-"],
-            input="".join(f"{it}\n" for it in script),
-            capture_output=True,
-            text=True,
-            timeout=60,
-        )
-        if done.returncode:
-            sys.exit(f"FAILED: {done.stderr}")
-        return done.stdout.splitlines()
+        text = "".join(f"{it}\n" for it in script).encode("ascii")
+        done = ran(self.path, "run", *options, "-", stdin=text)
+        if done.status:
+            fail(f"{done.error}")
+        return done.output.decode("ascii").splitlines()
 
     @functools.cache
-    def told(self, word: str, argument: str) -> str:
-        """What `asm` or `line` prints, on either stream."""
-        done = subprocess.run(
-            [self.path, word, argument], capture_output=True, text=True, timeout=60
-        )
-        return (done.stdout + done.stderr).strip()
+    def told(self, word: str, argument: str) -> Ending:
+        """How `asm` or `line` ends."""
+        return ran(self.path, word, argument)
 
 
 @dataclass(frozen=True)
@@ -147,10 +141,9 @@ def right_handles(code: CC) -> list[int]:
 
 def buffer_of(code: CC, handles: list[int], *entries: bytes) -> bytes:
     """A command whose parameters are one byte, so that hardly one of them succeeds."""
-    text = b"".join(number(it, 4) for it in handles)
-    if not entries:
-        return frames.command(code, text + b"\0")
-    return frames.command(code, text + frames.area(*entries) + b"\0", frames.SESSIONS)
+    if entries:
+        return frames.on_handles(code, handles, b"\0", list(entries))
+    return frames.buffer_of(code, handles, [], b"\0")
 
 
 # Facts. Each function yields what was asked about some of the commands.
@@ -188,13 +181,17 @@ def naming(code: int) -> bytes:
     return frames.command(CC.PolicyCommandCode, number(POLICY_SESSION, 4) + number(code, 4))
 
 
+def told(program: Program, word: str, said: list[str], wanted: Callable) -> Iterator[Asked]:
+    """How `asm` or `line` ends with each of these."""
+    with concurrent.futures.ThreadPoolExecutor(AT_ONCE) as pool:
+        for it, found in zip(said, pool.map(lambda it: program.told(word, it), said)):
+            yield Asked(f"{word} {it}", wanted(it), found)
+
+
 def parameters(program: Program, codes: list[CC]) -> Iterator[Asked]:
     """Names of commands, and the number and kinds of parameters, by `tpmsim asm`."""
     said = [line for code in codes for line in parameter_lines(code)]
-    with concurrent.futures.ThreadPoolExecutor(AT_ONCE) as pool:
-        told = pool.map(lambda line: program.told("asm", line), said)
-    for line, answer in zip(said, told):
-        yield Asked(f"asm {line}", assembled(line), answer)
+    return told(program, "asm", said, lambda it: assembled(it.encode()))
 
 
 def parameter_lines(code: CC) -> Iterator[str]:
@@ -222,21 +219,11 @@ def sample(parameter) -> str:
     raise ValueError(parameter)
 
 
-def assembled(line: str) -> str:
-    try:
-        return lines.assemble(line.encode()).hex()
-    except lines.Fault as fault:
-        return f"tpmsim: asm {fault}"
-
-
 def words(program: Program, codes: list[CC]) -> Iterator[Asked]:
     """How parameters are shown, in hex or not, by `tpmsim line`."""
-    said = [assembled(line) for code in codes for line in parameter_lines(code)]
-    buffers = list(dict.fromkeys(it for it in said if " " not in it))
-    with concurrent.futures.ThreadPoolExecutor(AT_ONCE) as pool:
-        told = pool.map(lambda buffer: program.told("line", buffer), buffers)
-    for buffer, answer in zip(buffers, told):
-        yield Asked(f"line {buffer}", lines.line_of(bytes.fromhex(buffer)), answer)
+    ended = [assembled(line.encode()) for code in codes for line in parameter_lines(code)]
+    buffers = list(dict.fromkeys(it.output.decode().strip() for it in ended if not it.status))
+    return told(program, "line", buffers, lambda it: line_told(bytes.fromhex(it)))
 
 
 def kinds_of_handles(program: Program, codes: list[CC]) -> Iterator[Asked]:
@@ -372,34 +359,13 @@ def read_answer(code: CC, response: bytes | None) -> str:
     tag, _, _ = fields.number(2), fields.number(4), fields.number(4)
     try:
         handles = [fields.number(4) for _ in code.answered_handles]
-        body = Fields(fields.take(fields.number(4))) if tag == frames.SESSIONS else fields
-        for parameter in code.answered_parameters:
-            read_answered(parameter.kind, body)
-    except (reading.Short, lines.NoWords):
+        text = fields.take(fields.number(4)) if tag == frames.SESSIONS else fields.data
+        read_all(code.answered_parameters, text)
+    except Short:
         return "cut"
-    if not all(map(takes, code.answered_handles, handles)):
-        return "another handle"
-    return "more" if body.data else "read"
-
-
-def read_answered(kind: Kind, fields: Fields) -> None:
-    if kind == Kind.TICKET:
-        fields.take(6)
-        fields.sized()
-    elif kind == Kind.TIME:
-        fields.take(25)
-    elif kind == Kind.CAPABILITY:
-        read_capability(fields)
-    else:
-        lines.WORDS[kind].word(fields)
-
-
-def read_capability(fields: Fields) -> None:
-    kind = fields.number(4)
-    if kind == PCRS:
-        lines.WORDS[Kind.SELECTION].word(fields)
-    else:
-        fields.take(fields.number(4) * (4 if kind in (HANDLES, COMMANDS) else 8))
+    except ValueError:
+        return "more"
+    return "read" if all(map(takes, code.answered_handles, handles)) else "another handle"
 
 
 CHECKS = {

@@ -13,15 +13,17 @@ fault, and nothing is written.
 import pathlib
 import re
 import sys
+from dataclasses import dataclass
 
+from tpmsim.model import player
 from tpmsim.model.machine import Model
 from tpmsim.standard import frames, lines
 from tests.common import places
-from tests.common.outputs import Played, POWER, write_outputs
+from tests.common.shims import Ending
+from tests.common.outputs import Played, POWER, RANDOM_BYTES, repeated, write_outputs
 
 WANTED = re.compile(r": (SUCCESS|[A-Z][A-Z0-9_]+(?:/[hps][1-9])?)(?: \(([0-9A-F]{3})\))?[.,;]")
 OUTCOMES = {"SUCCESS", *frames.CODES}
-RANDOM_BYTES = 256
 
 
 def wanted_of(comment):
@@ -46,8 +48,21 @@ def buffer_of(line):
     return bytes.fromhex(argument) if word == "cmd" else None
 
 
-def played_by(script, device):
-    """What comes of a script's events, up to its end or to a bad line."""
+@dataclass(frozen=True)
+class Command:
+    """A command of a script, from a locality, with random bytes, so many milliseconds after the one
+    before; and the comment that says what must come.
+    """
+
+    buffer: bytes
+    locality: int
+    random: bytes
+    elapsed: int
+    comment: str
+
+
+def events_of(script):
+    """The commands of a script, and None for a power cycle, up to its end or to a bad line."""
     locality, random = 0, bytes(RANDOM_BYTES)
     comment, in_comment, elapsed = "", False, 0
     for line in script.splitlines():
@@ -61,26 +76,78 @@ def played_by(script, device):
         elif word == "":
             comment = ""
         elif buffer is not None:
-            wanted = wanted_of(comment)
-            outcome = device.execute(buffer, locality, random, elapsed)
-            if outcome.refused != wanted:
-                named = outcome.refused or "a success"
-                raise ValueError(f"it is {named}, which is not said:{comment}")
-            yield Played(outcome, locality, elapsed)
+            yield Command(buffer, locality, random, elapsed, comment)
             elapsed = 0
         elif word == "loc":
             locality = int(argument)
         elif word == "entropy":
-            entropy = bytes.fromhex(argument)
-            random = (entropy * RANDOM_BYTES)[:RANDOM_BYTES]
+            random = repeated(bytes.fromhex(argument))
         elif word == "power":
-            device.power_cycle()
-            yield POWER
+            yield None
         elif word == "wait":
             elapsed += int(argument)
         else:
             return
         in_comment = line.startswith("#")
+
+
+def played_by(script, device):
+    """What comes of a script's events, which has to be what its comments say."""
+    for it in events_of(script):
+        if it is None:
+            device.power_cycle()
+            yield POWER
+            continue
+        wanted = wanted_of(it.comment)
+        outcome = device.execute(it.buffer, it.locality, it.random, it.elapsed)
+        if outcome.refused != wanted:
+            named = outcome.refused or "a success"
+            raise ValueError(f"it is {named}, which is not said:{it.comment}")
+        yield Played(outcome, it.locality, it.elapsed)
+
+
+def device_behind(script):
+    """The device that a script leaves."""
+    device = Model()
+    for _ in played_by(script, device):
+        pass
+    return device
+
+
+# What must come of `tpmsim`.
+
+
+def fault_of(line):
+    """The fault of a line, with its column; nothing where it is good."""
+    try:
+        lines.assemble(line)
+        return ""
+    except lines.Fault as fault:
+        return str(fault)
+
+
+def assembled(line):
+    """How `tpmsim asm` ends with a line."""
+    fault = fault_of(line)
+    if fault:
+        return Ending(2, error=f"tpmsim: asm {fault}\n".encode("ascii"))
+    return Ending(0, lines.assemble(line).hex().encode("ascii") + b"\n")
+
+
+def line_told(buffer):
+    """How `tpmsim line` ends with a buffer."""
+    line = lines.line_of(buffer)
+    if line is None:
+        return Ending(2, error=b"tpmsim: line NoLine\n")
+    return Ending(0, line.encode("ascii") + b"\n")
+
+
+def traced(script):
+    """How `tpmsim run --trace` ends with a script, whose lines may be anything."""
+    printed, error = player.played(script)
+    status = {"": 0, "tpmsim: file": 3}.get(error, 2)
+    output = "".join(f"{line}\n" for _, line in printed).encode("ascii")
+    return Ending(status, output, error.encode("ascii") + b"\n" if error else b"")
 
 
 def main(names):

@@ -5,20 +5,19 @@
 The device in Python plays the same lines, and says after each which image has to be in the file.
 """
 
-import os
 import pathlib
-import subprocess
 import sys
 
-from tpmsim.model import image, player
+from tpmsim.model import player
+from tpmsim.model.image import image, open_image
 from tpmsim.model.machine import Model
-from tests.common import streams
-
-import places
+from tests.common import places
+from tests.common.streams import image_told, device_told
+from tests.common.kept_image import BESIDE, IMAGE, check_image, check_save, identity, opened
+from tests.common.shims import FILE, begun, end, ended, fail
 
 PROGRAM = sys.argv[1]
-IMAGE = pathlib.Path("image")
-SECONDS = 20
+RUN = [PROGRAM, "run", "--trace", "--image", IMAGE]
 
 # Scripts whose devices change in all that is kept.
 SCRIPTS = [
@@ -35,97 +34,49 @@ DEFINE = b"do NV_DefineSpace OWNER pw:- - 01000002000b0002001200000008"
 INCREMENT = b"do NV_Increment OWNER 01000002 pw:-"
 
 
-def fail(words):
-    raise SystemExit(f"FAILED: {words}")
-
-
-def without_clock(device):
-    clock = device.clock
-    text = streams.without_clock(device)
-    device.clock = clock
-    return text
-
-
 class Run:
     """A run, and the same device in Python."""
 
     def __init__(self, device=None, *words):
-        self.player = player.Player()
-        self.is_saved = device is not None
-        if device is not None:
-            self.player.device = device
-        self.process = subprocess.Popen(
-            [PROGRAM, "run", "--trace", "--image", IMAGE, *words, "-"],
-            stdin=subprocess.PIPE,
-            stdout=subprocess.PIPE,
-            stderr=subprocess.PIPE,
-        )
+        self.player, self.is_saved = player.Player(device), device is not None
+        self.process = begun([*RUN, *words, "-"])
         self.commands = self.saves = 0
 
-    def told(self, line):
-        """Tells a line, and reads what comes of it."""
-        before = without_clock(self.player.device)
-        wanted = self.player.play(line)
-        self.process.stdin.write(line + b"\n")
+    def write(self, *lines):
+        self.process.stdin.write(b"".join(line + b"\n" for line in lines))
         self.process.stdin.flush()
+
+    def read(self, line):
+        """Reads what comes of a line."""
+        wanted = self.player.play(line)
         given = [self.process.stdout.readline().decode().rstrip("\n") for _ in wanted]
         if given != wanted:
             fail(f"{line}: {given}, and not {wanted}")
-        return bool(wanted), without_clock(self.player.device) != before or wanted == ["power"]
+        return wanted
 
     def tell(self, line):
         """Tells a line, and looks at the image behind it."""
-        old = identity()
-        is_event, changes = self.told(line)
-        if not is_event:
+        old, before = identity(), device_told(self.player.device)
+        self.write(line)
+        wanted = self.read(line)
+        if not wanted:
             return
+        changes = device_told(self.player.device) != before or wanted == ["power"]
+        check_save(line, self.player.device, changes or not self.is_saved, old)
         self.commands += 1
-        if changes or not self.is_saved:
-            self.is_saved = True
-            self.saves += 1
-            self.check_image(line)
-        elif identity() != old:
-            fail(f"{line}: the image is written, though nothing changed")
-
-    def check_image(self, label):
-        if IMAGE.read_bytes() != image.image(self.player.device):
-            fail(f"{label}: the image is another device's")
-        if pathlib.Path("image.new").exists():
-            fail(f"{label}: image.new is there")
+        self.saves += changes or not self.is_saved
+        self.is_saved = True
 
     def end(self):
         """Ends the script. The clock of its last command is saved too."""
-        self.close("status 0", b"")
-        self.check_image("the end")
-        return self.player.device
-
-    def close(self, status, error):
-        self.process.stdin.close()
-        self.process.wait(SECONDS)
-        given = f"status {self.process.returncode}", self.process.stderr.read()
-        if given != (status, error):
-            fail(f"ended with {given}, and not {(status, error)}")
-        if self.process.stdout.read():
-            fail("it printed more")
+        end(self.process)
+        check_image("the end", self.player.device)
 
     def kill(self):
         """Kills the program, and gives the device that has to be in the image."""
         self.process.kill()
-        self.process.wait(SECONDS)
-        return image.open_image(image.image(self.player.device))
-
-
-def identity():
-    """What is another after each save."""
-    try:
-        told = IMAGE.stat()
-    except FileNotFoundError:
-        return None
-    return told.st_ino, told.st_mtime_ns
-
-
-def opened():
-    return image.open_image(IMAGE.read_bytes())
+        ended(self.process)
+        return open_image(image(self.player.device))
 
 
 def watch(script):
@@ -160,8 +111,7 @@ def check_kills():
         for line in lines[:count]:
             run.tell(line)
         device = run.kill()
-        if without_clock(opened()) != without_clock(device):
-            fail(f"killed behind {lines[count - 1]}: the image is another device's")
+        check_image(f"killed behind {lines[count - 1]}", device, image_told)
         again = Run(opened())
         again.tell(b"do Startup 0")
         again.tell(b"do NV_Read OWNER 01000002 pw:- 8 0")
@@ -188,26 +138,27 @@ def check_entropy():
 
 def check_unsaved():
     """A response goes out behind the save of what it tells, and not where that fails."""
-    os.mkdir("image.new")
+    BESIDE.mkdir()
     run = Run()
-    pathlib.Path("image.new/file").write_bytes(b"")
-    run.process.stdin.write(b"do GetRandom 4\n")
-    run.close("status 3", b"tpmsim: file\n")
+    (BESIDE / "file").touch()
+    run.write(b"do GetRandom 4")
+    end(run.process, FILE)
     if IMAGE.exists():
         fail("there is an image")
-    os.unlink("image.new/file")
-    os.rmdir("image.new")
+    (BESIDE / "file").unlink()
+    BESIDE.rmdir()
     run = Run()
     run.tell(b"do Startup 0")
     run.tell(DEFINE)
     kept = IMAGE.read_bytes()
-    os.mkdir("image.new")
-    run.told(b"do GetRandom 4")
-    run.process.stdin.write(INCREMENT + b"\ndo GetRandom 4\n")
-    run.close("status 3", b"tpmsim: file\n")
+    BESIDE.mkdir()
+    run.write(b"do GetRandom 4")
+    run.read(b"do GetRandom 4")
+    run.write(INCREMENT, b"do GetRandom 4")
+    end(run.process, FILE)
     if IMAGE.read_bytes() != kept:
         fail("the image is another one")
-    os.rmdir("image.new")
+    BESIDE.rmdir()
     IMAGE.unlink()
     print("what is not saved is not told")
 
@@ -216,14 +167,10 @@ def check_pieces():
     """Responses that are still held are saved before they go out, with many commands at once."""
     run = Run()
     lines = [b"do Startup 0", DEFINE, *[INCREMENT] * 400, b"do NV_Read OWNER 01000002 pw:- 8 0"]
-    run.process.stdin.write(b"".join(line + b"\n" for line in lines))
-    run.process.stdin.flush()
+    run.write(*lines)
     for line in lines:
-        for wanted in run.player.play(line):
-            given = run.process.stdout.readline().decode().rstrip("\n")
-            if given != wanted:
-                fail(f"{line}: {given}, and not {wanted}")
-    run.check_image("many commands at once")
+        run.read(line)
+    check_image("many commands at once", run.player.device)
     run.end()
     IMAGE.unlink()
     print("many commands at once are saved")

@@ -13,121 +13,111 @@ itself. An image has to be the device after the last connection of which that is
 client had closed the next one before the kill, after that one.
 """
 
+import collections
 import hashlib
 import pathlib
 import random
 import shutil
 import socket
-import subprocess
 import sys
 import threading
 import time
 
-from client import connected, responses
+from tpmsim.caller import area, BY_OWNER, Caller, CLEAR, counter, Refused
+from tpmsim.device import DeviceEnded, ServedDevice
+from tpmsim.standard import RH_OWNER
+from tests.common.shims import begun, ended, Ending, WELL
 
+SERVE = "serve --socket socket --image image --entropy /dev/zero --locality 0 --connections".split()
 LONGEST_LIVES = [0.005, 0.05]
 DIGEST_SIZE = 32
-MARK = "1122334455667788"
-SUCCESS = bytes(4)
-LINES = {
-    "startup": "Startup 0",
-    "define counter": "NV_DefineSpace OWNER pw:- - 01000002000b0002001200000008",
-    "define number": "NV_DefineSpace OWNER pw:- - 01000003000b0002000200000008",
-    "increment": "NV_Increment OWNER 01000002 pw:-",
-    "write": f"NV_Write OWNER 01000003 pw:- {MARK} 0",
-    "read counter": "NV_Read OWNER 01000002 pw:- 8 0",
-    "read number": "NV_Read OWNER 01000003 pw:- 8 0",
-}
-
-
-class Ended(Exception):
-    """The stream has ended before all was answered."""
+COUNTER, NUMBER = 0x0100_0002, 0x0100_0003
 
 
 class Wrong(Exception):
     """What must not be."""
 
 
-class Device:
-    def __init__(self, program):
-        self.program = program
-        self.buffers = {
-            name: bytes.fromhex(subprocess.check_output([program, "asm", line], text=True))
-            for name, line in LINES.items()
-        }
+class Client(Caller):
+    """A caller in a connection of its own."""
 
-    def served(self, connections):
-        """The program, which serves so many connections in the background."""
-        words = "serve --socket socket --image image --entropy /dev/zero --locality 0 --connections"
-        words = [self.program, *words.split(), str(connections)]
-        return subprocess.Popen(words, stdout=subprocess.PIPE, stderr=subprocess.STDOUT)
+    def answers(self):
+        """Starts the device, unless it is started; DeviceEnded where the stream ends before."""
+        self.device.execute(self.starting(CLEAR).buffer())
 
-    def answered(self, client, *names):
-        """The responses to these commands, which are sent one by one."""
-        return [self.answer(client, self.buffers[name]) for name in names]
-
-    def answer(self, client, buffer):
-        client.sendall(buffer)
-        text = b""
-        while len(text) < 6 or len(text) < int.from_bytes(text[2:6], "big"):
-            piece = client.recv(4096)
-            if not piece:
-                raise Ended
-            text += piece
-        [response] = responses(text)
-        return response
-
-    def succeeds(self, response):
-        if response[6:10] != SUCCESS:
-            raise Wrong(f"a command was answered {response.hex()}")
-        return response
-
-    def number(self, client):
+    def number(self):
         """How many connections the device has behind it, by both of its indices."""
         counter, number = (
-            int.from_bytes(self.succeeds(response)[16:24], "big")
-            for response in self.answered(client, "read counter", "read number")
+            int.from_bytes(self.send(self.reading(it, 8, by=RH_OWNER))["data"], "big")
+            for it in (COUNTER, NUMBER)
         )
         if counter != number:
             raise Wrong(f"the counter is {counter}, and the number {number}")
         return counter
 
-    def more(self, client, number):
+    def more(self, number):
         """Adds one to both indices."""
-        self.succeeds(self.answer(client, self.buffers["increment"]))
-        marked = self.buffers["write"]
-        written = marked.replace(bytes.fromhex(MARK), (number + 1).to_bytes(8, "big"))
-        self.succeeds(self.answer(client, written))
+        self.send(self.incrementing(COUNTER, by=RH_OWNER))
+        self.send(self.writing(NUMBER, (number + 1).to_bytes(8, "big"), by=RH_OWNER))
+
+    def close(self):
+        client = self.device.data.socket
+        client.shutdown(socket.SHUT_WR)
+        if client.recv(1):
+            raise Wrong("there was more than the responses")
+        client.close()
 
 
-def closed(client):
-    client.shutdown(socket.SHUT_WR)
-    if client.recv(1):
-        raise Wrong("there was more than the responses")
-    client.close()
+def connected(process):
+    """A client, as soon as the socket is there; nothing where the program has ended."""
+    while process.poll() is None:
+        try:
+            return Client(ServedDevice("socket"))
+        except (FileNotFoundError, ConnectionRefusedError):
+            time.sleep(0.0005)
+    return None
 
 
-def ends_well(process):
-    output = process.communicate(timeout=60)[0]
-    if process.returncode != 0 or output:
-        raise Wrong(f"a run ended with status {process.returncode}, and said {output}")
+def ends_so(process, wanted):
+    given = ended(process)
+    if given != wanted:
+        raise Wrong(f"a run ended with {given}")
 
 
-def manufactured(device):
+def manufacture(program):
     """Makes the image of a device that has both indices, at 1."""
-    process = device.served(1)
-    client = connected("socket")
-    for response in device.answered(client, "startup", "define counter", "define number"):
-        device.succeeds(response)
-    device.more(client, 0)
-    closed(client)
-    ends_well(process)
+    process = begun([program, *SERVE, "1"])
+    client = connected(process)
+    client.start_up()
+    client.define(counter(COUNTER, BY_OWNER))
+    client.define(area(NUMBER, BY_OWNER))
+    client.more(0)
+    client.close()
+    ends_so(process, WELL)
 
 
-def until_killed(device, known, life):
-    """Serves connections until the program is killed: the last number that is known to have been
-    saved, and whether one more may have been."""
-    process = device.served(4294967295)
+def serve(process, known):
+    """Serves connections as long as the process is there: after each step of one the last number that
+    is known to have been saved, and whether one more may have been.
+    """
+    may_be_saved = False
+    while client := connected(process):
+        client.answers()
+        # The connection is answered: the one before it has ended.
+        known, may_be_saved = known + may_be_saved, False
+        yield known, may_be_saved
+        number = client.number()
+        if number != known:
+            raise Wrong(f"{number} connections, and not {known}, in a run that goes on")
+        client.more(number)
+        may_be_saved = True
+        yield known, may_be_saved
+        client.close()
+
+
+def until_killed(program, known, life):
+    """Serves until the program is killed: the same at last, and whether a connection was answered."""
+    process = begun([program, *SERVE, "4294967295"])
     killed = threading.Event()
 
     def kill():
@@ -136,50 +126,31 @@ def until_killed(device, known, life):
 
     timer = threading.Timer(life, kill)
     timer.start()
-    started, may_be_saved = False, False
+    may_be_saved, started = False, False
     try:
-        while True:
-            client = socket.socket(socket.AF_UNIX, socket.SOCK_STREAM)
-            try:
-                client.connect("socket")
-            except (FileNotFoundError, ConnectionRefusedError):
-                if killed.is_set() or process.poll() is not None:
-                    break
-                time.sleep(0.0005)
-                continue
-            device.answered(client, "startup")
-            # The connection is answered: the one before it has ended.
-            known, may_be_saved = known + may_be_saved, False
+        for known, may_be_saved in serve(process, known):
             started = True
-            number = device.number(client)
-            if number != known:
-                raise Wrong(f"{number} connections, and not {known}, in a run that goes on")
-            device.more(client, number)
-            may_be_saved = True
-            closed(client)
-    except (Ended, ConnectionResetError, BrokenPipeError):
+    except (DeviceEnded, ConnectionResetError, BrokenPipeError):
         if not killed.is_set():
             raise Wrong("a connection failed that was not killed") from None
     finally:
         timer.join()
-        output = process.communicate(timeout=60)[0]
-    if process.returncode != -9 or output:
-        raise Wrong(f"a killed run ended with status {process.returncode}, and said {output}")
+        ends_so(process, Ending(-9))
     return known, may_be_saved, started
 
 
-def looked_at(device):
+def looked_at(program):
     """The number in the image that a killed run left, once it is whole and opens."""
     image = pathlib.Path("image").read_bytes()
     if hashlib.sha256(image[:-DIGEST_SIZE]).digest() != image[-DIGEST_SIZE:]:
         raise Wrong("the image is not whole")
-    ends_well(device.served(0))
-    process = device.served(1)
-    client = connected("socket")
-    device.succeeds(device.answered(client, "startup")[0])
-    number = device.number(client)
-    closed(client)
-    ends_well(process)
+    ends_so(begun([program, *SERVE, "0"]), WELL)
+    process = begun([program, *SERVE, "1"])
+    client = connected(process)
+    client.start_up()
+    number = client.number()
+    client.close()
+    ends_so(process, WELL)
     return number
 
 
@@ -194,23 +165,22 @@ def tidy():
 
 def main():
     program, count, seed, *rest = sys.argv[1:]
-    device = Device(program)
     lives = random.Random(int(seed))
-    manufactured(device)
+    manufacture(program)
     known = 1
-    counts = dict.fromkeys(["connections", "unserved", "saved", "lost", "image.new", "folder"], 0)
+    counts = collections.Counter()
     for kill in range(1, int(count) + 1):
         first = known
         try:
             life = lives.uniform(0, lives.choice(LONGEST_LIVES))
-            known, may_be_saved, started = until_killed(device, known, life)
+            known, may_be_saved, started = until_killed(program, known, life)
             counts["unserved"] += not started
             counts["image.new"] += pathlib.Path("image.new").exists()
             counts["folder"] += tidy()
-            number = looked_at(device)
+            number = looked_at(program)
             if number not in range(known, known + may_be_saved + 1):
                 raise Wrong(f"{number} connections are in the image, and {known} had ended")
-        except Wrong as wrong:
+        except (Refused, Wrong) as wrong:
             sys.exit(f"kill {kill} of seed {seed}: {wrong}")
         counts["saved"] += number > known
         counts["lost"] += may_be_saved and number == known

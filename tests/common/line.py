@@ -1,64 +1,70 @@
-"""Finds the lines of buffers by `tpmsim line`:
+"""Checks the lines of all scripts, and finds the lines of their buffers by `tpmsim line`:
 
     python3 line.py PROGRAM
 
-For the buffer of a `do` line of tests/ and examples/ it must be a line of that buffer, the one that
-the device in Python finds, as it does for each of them; for a `cmd` line whose buffer has no line,
-there is none. The program is asked for the first lines of each command, and of the others for one in
-ten; and as the commands of bent scripts are many, for each twentieth `cmd` line.
+The buffer of each `do` line of tests/ and examples/, taken apart as the device takes it apart and
+put together again by frames.py, must be the same, and the line that the device in Python finds for
+it must assemble to it. In a script that a program wrote, a `cmd` line must be one that no words say,
+unless the script says that its commands stand as bytes. The program must find the same lines. It is
+asked for the first ones of each command, and of the others for one in ten; and as the commands of
+bent scripts are many, for each twentieth `cmd` line.
 """
 
 import collections
-import subprocess
 import sys
 
-from tpmsim.standard import lines
-
-import places
+from tpmsim.model import general
+from tpmsim.standard import Fields, frames, lines
+from tests.common import places
+from tests.common.expected import fault_of, line_told
+from tests.common.shims import ran
 
 PROGRAM = sys.argv[1]
-NO_LINE = 2, b"", b"tpmsim: line NoLine\n"
 EACH = 20
 FIRST, STEP = 25, 10
+AS_BYTES = "All commands stand as bytes"
+
+
+def put_together(buffer):
+    """A buffer once more, from its parts as the device reads them."""
+    fields = Fields(buffer)
+    tag, code = general.read_header(fields, len(buffer))
+    handles = [fields.number(4) for _ in code.handles]
+    entries = general.read_area(fields) if tag == frames.SESSIONS else []
+    return frames.buffer_of(code, handles, entries, fields.data)
+
+
+def is_right(line):
+    buffer = lines.assemble(line)
+    again = lines.line_of(buffer) or ""
+    return put_together(buffer) == buffer == lines.assemble(again.encode("ascii"))
+
+
+def faults(text):
+    """The numbers of the lines at which a script is not as it should be."""
+    is_written = "Written by" in text.replace("\n# ", " ") and AS_BYTES not in text
+    for number, line in enumerate(text.splitlines(), 1):
+        word, _, argument = line.partition(" ")
+        if word == "do" and not is_right(argument.encode("ascii")):
+            yield number
+        if word == "cmd" and is_written and lines.line_of(bytes.fromhex(argument)):
+            yield number
 
 
 def arguments(word):
     """What stands behind this word in the scripts, each once."""
-    found = {}
-    for script in places.scripts():
-        for line in script.read_bytes().splitlines():
-            front, _, behind = line.partition(b" ")
-            if front == word:
-                found[behind] = None
-    return list(found)
-
-
-def is_line(argument):
-    try:
-        lines.assemble(argument)
-    except lines.Fault:
-        return False
-    return True
-
-
-def given(digits):
-    """What `tpmsim line` gives."""
-    done = subprocess.run([PROGRAM, "line", digits], capture_output=True, timeout=60)
-    return done.returncode, done.stdout, done.stderr
-
-
-def wanted(buffer):
-    line = lines.line_of(buffer)
-    return NO_LINE if line is None else (0, line.encode() + b"\n", b"")
+    told = (
+        line.partition(b" ") for it in places.scripts() for line in it.read_bytes().splitlines()
+    )
+    return list(dict.fromkeys(behind for front, _, behind in told if front == word))
 
 
 def check(buffer):
     """Whether the line is right; of another one it is said which it should be."""
-    told = given(buffer.hex())
-    if told == wanted(buffer):
-        return True
-    print(f"FAILED: {buffer.hex()}: {told}, and not {wanted(buffer)}")
-    return False
+    told, wanted = ran(PROGRAM, "line", buffer.hex()), line_told(buffer)
+    if told != wanted:
+        print(f"FAILED: {buffer.hex()}: {told}, and not {wanted}")
+    return told == wanted
 
 
 def some(buffers):
@@ -71,9 +77,11 @@ def some(buffers):
         seen[code] += 1
 
 
-spelled = {lines.assemble(it): None for it in arguments(b"do") if is_line(it)}
-if all([lines.line_of(it) is not None for it in spelled]):
-    print("each do line comes back as a line")
+# One that does not end well may have a line that is none.
+ending_well = [it for it in places.scripts() if not it.with_suffix(".status").exists()]
+wrong = [f"{it}:{at}" for it in ending_well for at in faults(it.read_text("ascii"))]
+print("\n".join(f"FAILED: {it}" for it in wrong) or "each do line comes back as a line")
+spelled = dict.fromkeys(lines.assemble(it) for it in arguments(b"do") if not fault_of(it))
 if all([check(it) for it in some(spelled)]):
     print("as one of its buffer, where the program is asked")
 bent = [bytes.fromhex(it.decode()) for it in arguments(b"cmd") if it and len(it) % 2 == 0][::EACH]

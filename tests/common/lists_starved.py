@@ -15,8 +15,7 @@ import sys
 from tpmsim.model import image, machine
 from tpmsim.model.player import Player
 from tpmsim.standard import CC, lines
-from refusals import Refusals
-from shims import HERE, Ending, fail
+from tests.common.shims import HERE, Ending, Refusals, fail
 
 MEMORY = Ending(3, error=b"tpmsim_lists: memory\n")
 STARVED, SUCCESS = machine.STARVED.hex(), bytes(4).hex()
@@ -29,25 +28,11 @@ SCRIPT = (HERE / "growing.tpm").read_bytes()
 LINES = SCRIPT.splitlines()
 
 
-def command_lines():
-    """The script's lines that have a command."""
-    return [line for line in LINES if line.startswith(b"do ")]
-
-
-def code_of(line):
-    return int.from_bytes(lines.assemble(line[3:])[6:10], "big")
-
-
 def printed(starved=()):
     """What the script prints, by the device in Python, where these commands are starved."""
     player = Player(starved=starved)
     told = [player.play(line) for line in LINES]
     return [it[-1] for it in told if it and it[-1] != "power"]
-
-
-def starved_in(answers):
-    """The numbers of the commands, from 1, that were answered MEMORY."""
-    return [number for number, answer in enumerate(answers, 1) if answer == STARVED]
 
 
 class Script:
@@ -57,8 +42,9 @@ class Script:
 
     def __init__(self, program):
         self.program = program
-        self.commands = command_lines()
-        self.codes = [code_of(line) for line in self.commands]
+        self.commands = [line for line in LINES if line.startswith(b"do ")]
+        buffers = [lines.assemble(line[3:]) for line in self.commands]
+        self.codes = [int.from_bytes(buffer[6:10], "big") for buffer in buffers]
         self.whole = printed()
         self.refused = collections.Counter()
 
@@ -91,7 +77,7 @@ class Script:
         if ending == MEMORY:
             return []
         answers = self.answers(ending)
-        starved = starved_in(answers)
+        starved = [number for number, answer in enumerate(answers, 1) if answer == STARVED]
         others = {self.codes[number - 1] for number in starved} - GROWING
         if others:
             fail(f"allocation {turn} refused, MEMORY is answered by {sorted(others)}")

@@ -8,10 +8,10 @@ the log: over sessions, indices, a lockout and starts anew, where the log is cut
 many kills; or where the log is in a folder on a disk that gets full.
 """
 
+import contextlib
 import pathlib
 import random
 import shutil
-import subprocess
 import sys
 import threading
 
@@ -20,18 +20,15 @@ from tpmsim.device import DeviceEnded, ServedDevice
 from tpmsim.standard import AES, RH_OWNER
 from tpmsim.standard.objects import Attribute
 from client import connected
+from tests.common.shims import begun, end, ended, fail, FILE, ran, WELL
 
 SERVE = "serve --socket socket --image image --entropy /dev/urandom --locality 0".split()
 MOST_CONNECTIONS = 4294967295
 LINES_OF_A_HEAD, LINES_OF_AN_ENTRY = 2, 5
-CUTS, SECONDS = 12, 60
+CUTS = 12
 LEAST = 20
 LIVES = 0.005, 0.05
 INDEX, COUNTER = 0x0100_0001, 0x0100_0002
-
-
-def fail(words):
-    sys.exit(f"WRONG: {words}")
 
 
 class Run:
@@ -42,20 +39,12 @@ class Run:
         self.start = pathlib.Path(f"{name}.start")
         shutil.copy("image", self.start)
         words = [*SERVE, "--connections", str(connections), "--log", str(self.log), *options]
-        self.process = subprocess.Popen(
-            [program, *words], stdout=subprocess.PIPE, stderr=subprocess.STDOUT
-        )
-
-    def check_end(self, *wanted):
-        output = self.process.communicate(timeout=SECONDS)[0]
-        if (self.process.returncode, output) != (wanted or (0, b"")):
-            fail(f"{self.log}: the run ended with {self.process.returncode}, {output}")
+        self.process = begun([program, *words])
 
     def played(self, log):
         """The responses that `tpmsim run` prints on a copy of the image of the start."""
         shutil.copy(self.start, "played")
-        words = [self.program, "run", "--image", "played", str(log)]
-        printed = subprocess.run(words, capture_output=True, timeout=SECONDS).stdout
+        printed = ran(self.program, "run", "--image", "played", str(log)).output
         return [bytes.fromhex(line) for line in printed.decode("ascii").split()]
 
     def check(self, responses):
@@ -63,10 +52,6 @@ class Run:
             fail(f"{self.log} is played otherwise than it was answered")
         if self.log.stat().st_mode & 0o7777 != 0o600:
             fail(f"{self.log} is not its owner's alone")
-
-
-def responses_of(device):
-    return [event.response for event in device.events]
 
 
 def refused(code, tpm, prepared):
@@ -111,6 +96,16 @@ def draw(tpm):
     tpm.call("GetRandom", bytesRequested=20)
 
 
+def count_on(tpm, *others):
+    """Starts, and increments, behind other uses each time, until the device has ended."""
+    with contextlib.suppress(DeviceEnded):
+        tpm.start_up()
+        while True:
+            for use in others:
+                use(tpm)
+            tpm.send(tpm.incrementing(COUNTER))
+
+
 def answered(*parts):
     """What was answered over as many connections, one after another."""
     responses = []
@@ -118,7 +113,7 @@ def answered(*parts):
         connected("socket").close()
         with ServedDevice("socket") as device:
             part(Caller(device))
-            responses += responses_of(device)
+            responses += [event.response for event in device.events]
     return responses
 
 
@@ -127,7 +122,7 @@ def check_uses(program, *options):
     for use in (use_sessions, use_indices, use_lockout):
         run = Run(program, "_".join([use.__name__, *options]), 4, *options)
         responses = answered(use, draw)
-        run.check_end()
+        end(run.process)
         run.check(responses)
         pathlib.Path("socket").unlink(missing_ok=True)
     return run, responses
@@ -154,50 +149,30 @@ def check_cut(run, responses, chance):
 def check_killed(program, number, chance):
     """Behind a kill each command that was answered is in the log, and at most one more."""
     run = Run(program, f"killed_{number}", MOST_CONNECTIONS)
-    connected("socket").close()
     timer = threading.Timer(chance.uniform(*LIVES), run.process.kill)
-    with ServedDevice("socket") as device:
+
+    def until_killed(tpm):
         timer.start()
-        try:
-            tpm = Caller(device)
-            tpm.start_up()
-            while True:
-                tpm.call("GetRandom", bytesRequested=9)
-                tpm.send(tpm.incrementing(COUNTER))
-        except DeviceEnded:
-            timer.join()
-    run.process.communicate(timeout=SECONDS)
-    responses = responses_of(device)
+        count_on(tpm, draw)
+
+    responses = answered(until_killed)
+    ended(run.process)
     played = run.played(run.log)
     if played[: len(responses)] != responses or len(played) > len(responses) + 1:
         fail(f"{run.log}, whose device was killed, has not what was answered")
 
 
-def increments():
-    """What is answered to a start and to as many increments as the device answers."""
-    connected("socket").close()
-    with ServedDevice("socket") as device:
-        try:
-            tpm = Caller(device)
-            tpm.start_up()
-            while True:
-                tpm.send(tpm.incrementing(COUNTER))
-        except DeviceEnded:
-            pass  # the log cannot be written
-    return responses_of(device)
-
-
 def check_full(program, folder, *options):
     """Where a disk gets full, the log has all that was answered, and the image too."""
     run = Run(program, "_".join(["full", *options]), 2, *options, folder=folder)
-    responses = increments()
-    run.check_end(3, b"tpmsim: file\n")
+    responses = answered(count_on)
+    end(run.process, FILE)
     if run.played(run.log)[: len(responses)] != responses or len(responses) < LEAST:
         fail(f"{run.log}, whose disk is full, has not what was answered")
     run.log.unlink()
     again = Run(program, "_".join(["again", *options]), 2, folder=folder)
     [*_, number] = answered(lambda tpm: (tpm.start_up(), tpm.send(tpm.reading(COUNTER, 8))))
-    again.check_end()
+    end(again.process)
     again.log.unlink()
     # The start is one of the responses, and five increments were made before.
     more = int.from_bytes(number[16:24], "big") - 5 - (len(responses) - 1)
@@ -207,7 +182,8 @@ def check_full(program, folder, *options):
 
 def main():
     program = sys.argv[1]
-    subprocess.run([program, "run", "--image", "image", "-"], input=b"", check=True)
+    if ran(program, "run", "--image", "image", "-") != WELL:
+        fail("no image is made")
     if sys.argv[2] == "--full":
         check_uses(program)
         shutil.copy("use_lockout.start", "image")

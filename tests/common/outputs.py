@@ -2,53 +2,44 @@
 
 import pathlib
 from dataclasses import dataclass
-from typing import Protocol, Sequence
+from typing import Sequence
 
 from tpmsim.model.machine import Outcome
 from tpmsim.standard import lines
 
+RANDOM_BYTES = 256
 
-class Printed(Protocol):
-    """What is printed of an event, and what is traced of it."""
 
-    @property
-    def response(self) -> str:
-        ...
-
-    @property
-    def traced(self) -> str:
-        ...
+def repeated(random: bytes) -> bytes:
+    """The random bytes of a command, of those that an `entropy` line has."""
+    return (random * RANDOM_BYTES)[:RANDOM_BYTES]
 
 
 @dataclass(frozen=True)
 class Played:
-    """What came of a command, from its locality and so many milliseconds after the one before."""
+    """What came of a command, from its locality and so many milliseconds after the one before. A
+    power cycle has no outcome, and nothing is printed of it but what is traced.
+    """
 
-    outcome: Outcome
-    locality: int
-    elapsed: int
+    outcome: Outcome | None = None
+    locality: int = 0
+    elapsed: int = 0
 
     @property
     def response(self) -> str:
-        return self.outcome.response.hex() + "\n"
+        return self.outcome.response.hex() + "\n" if self.outcome else ""
 
     @property
     def traced(self) -> str:
+        if not self.outcome:
+            return "power\n"
         return lines.traced(self.outcome, self.locality, self.elapsed) + "\n" + self.response
 
 
-@dataclass(frozen=True)
-class Power:
-    """A power cycle, of which nothing is printed but what is traced."""
-
-    response: str = ""
-    traced: str = "power\n"
+POWER = Played()
 
 
-POWER = Power()
-
-
-def write_outputs(path: pathlib.Path, played: Sequence[Printed]) -> None:
+def write_outputs(path: pathlib.Path, played: Sequence[Played]) -> None:
     """Writes NAME.out beside a script NAME.tpm, and NAME.trace anew where that is there already."""
     path.with_suffix(".out").write_text("".join(it.response for it in played), "ascii")
     trace = path.with_suffix(".trace")

@@ -7,23 +7,21 @@ response. The device in Python executes the same commands, and says which image 
 """
 
 import os
-import pathlib
 import socket
-import subprocess
 import sys
 
-from tpmsim.model.image import open_image
 from tpmsim.model.machine import Model
 from tpmsim.standard import lines
-from tests.common.streams import without_clock
-from client import connected
+from tests.common.streams import device_told, image_told
+from client import answer, connected
+from tests.common.kept_image import BESIDE, IMAGE, check_image, check_save, identity, opened
+from tests.common.shims import FILE, Ending, begun, end, fail
 
-IMAGE = pathlib.Path("image")
 SERVE = "serve --socket socket --image image --entropy /dev/zero --locality 0 --connections".split()
 OPTION = "--save-each"
 RANDOM = bytes(256)
 MOST_CONNECTIONS = 4294967295
-SECONDS = 60
+KILLED = Ending(-9)
 
 INCREMENT = "NV_Increment OWNER 01000002 pw:-"
 LINES = [
@@ -41,85 +39,40 @@ LINES = [
 ]
 
 
-def fail(words):
-    sys.exit(f"WRONG: {words}")
-
-
 def buffer_of(line):
     return lines.assemble(line.encode("ascii"))
-
-
-def text_of(device):
-    """An image of a device as it is compared: without the clock, which the host tells."""
-    clock = device.clock
-    text = without_clock(device)
-    device.clock = clock
-    return text
-
-
-def identity():
-    """What is another after each save, or nothing where there is no image."""
-    try:
-        told = IMAGE.stat()
-    except FileNotFoundError:
-        return None
-    return told.st_ino, told.st_mtime_ns
 
 
 class Run:
     """A run of the program, a connection to it, and the same device in Python."""
 
     def __init__(self, program, connections=MOST_CONNECTIONS, options=(OPTION,)):
-        self.device = open_image(IMAGE.read_bytes()) if IMAGE.exists() else Model(RANDOM)
-        self.saved = text_of(self.device) if IMAGE.exists() else None
-        self.process = subprocess.Popen(
-            [program, *SERVE, str(connections), *options],
-            stdout=subprocess.PIPE,
-            stderr=subprocess.PIPE,
-        )
-        self.client, self.read = connected("socket"), b""
+        self.device = opened() if IMAGE.exists() else Model(RANDOM)
+        self.saved = device_told(self.device) if IMAGE.exists() else None
+        self.process = begun([program, *SERVE, str(connections), *options])
+        self.client = connected("socket")
 
     def wanted(self, line):
         """What the command is answered. The time of an answer is the host's."""
         return self.device.execute(buffer_of(line), 0, RANDOM).response
 
-    def answer(self):
-        """A whole response, or nothing where the stream ends before."""
-        while len(self.read) < max(6, int.from_bytes(self.read[2:6], "big")):
-            piece = self.client.recv(4096)
-            if not piece:
-                return None
-            self.read += piece
-        size = int.from_bytes(self.read[2:6], "big")
-        text, self.read = self.read[:size], self.read[size:]
-        return text
-
     def tell(self, line):
         """Tells a command, and compares its response."""
         self.client.sendall(buffer_of(line))
-        given, wanted = self.answer(), self.wanted(line)
+        given, wanted = answer(self.client), self.wanted(line)
         if given is None or (given != wanted and line != "ReadClock"):
             fail(f"{line}: {given}, and not {wanted}")
 
     def tell_and_look(self, line):
         """Tells a command, and looks at the image behind it: whether it was saved."""
-        old = identity()
+        old, saved = identity(), self.saved
         self.tell(line)
-        changes = text_of(self.device) != self.saved
-        self.saved = text_of(self.device)
-        if changes:
-            self.check_image(line)
-        elif identity() != old:
-            fail(f"{line}: the image is written, though nothing changed")
-        return changes
+        self.saved = device_told(self.device)
+        check_save(line, self.device, self.saved != saved, old, image_told)
+        return self.saved != saved
 
     def check_image(self, label):
-        if not IMAGE.exists():
-            fail(f"{label}: there is no image")
-        if text_of(open_image(IMAGE.read_bytes())) != text_of(self.device):
-            fail(f"{label}: the image is another device's")
-        if pathlib.Path("image.new").exists():
-            fail(f"{label}: image.new is there")
+        check_image(label, self.device, image_told)
 
     def connect(self):
         """Closes the connection, and makes another one."""
@@ -128,19 +81,14 @@ class Run:
 
     def close(self):
         self.client.shutdown(socket.SHUT_WR)
-        if self.read or self.client.recv(1):
+        if self.client.recv(1):
             fail("there is more than the responses")
         self.client.close()
 
     def kill(self):
         self.process.kill()
         self.client.close()
-        self.check_end(-9, b"")
-
-    def check_end(self, status, error):
-        output, given = self.process.communicate(timeout=SECONDS)
-        if (self.process.returncode, output, given) != (status, b"", error):
-            fail(f"it ended with {self.process.returncode}, {output}, {given}")
+        end(self.process, KILLED)
 
 
 def check_each(program):
@@ -153,7 +101,7 @@ def check_each(program):
     if old == identity():
         fail("the clock is not saved behind a connection")
     run.close()
-    run.check_end(0, b"")
+    end(run.process)
     run.check_image("the end")
     print(f"{len(LINES)} commands, and {first} saves; then {len(LINES) - 2}, and {second}")
 
@@ -175,15 +123,13 @@ def check_pieces(program):
     told = ["Startup 0", *[INCREMENT] * 100]
     run.client.sendall(b"".join(map(buffer_of, told)))
     for line in told[:-20]:
-        if run.answer() != run.wanted(line):
+        if answer(run.client) != run.wanted(line):
             fail(f"{line}, of many at once")
-    run.process.kill()
-    run.process.wait(SECONDS)
-    given = text_of(open_image(IMAGE.read_bytes()))
-    allowed = [text_of(run.device)]
+    run.kill()
+    given, allowed = image_told(IMAGE.read_bytes()), [device_told(run.device)]
     for line in told[-20:]:
         run.wanted(line)
-        allowed.append(text_of(run.device))
+        allowed.append(device_told(run.device))
     if given not in allowed:
         fail("the image has not all that was answered of many commands at once")
     print("many commands at once: the same")
@@ -195,18 +141,18 @@ def check_unsaved(program):
     run = Run(program)
     for line in LINES[:4]:
         run.tell(line)
-    os.mkdir("image.new")
+    BESIDE.mkdir()
     kept, old = IMAGE.read_bytes(), identity()
     run.tell("GetRandom 4")
     run.client.sendall(buffer_of(INCREMENT) + buffer_of("GetRandom 4"))
-    if run.answer() is not None:
+    if answer(run.client) is not None:
         fail("a change that was not saved is answered")
-    run.check_end(3, b"tpmsim: file\n")
+    end(run.process, FILE)
     if (IMAGE.read_bytes(), identity()) != (kept, old):
         fail("the image is another one, though nothing could be saved")
     if os.path.lexists("socket"):
         fail("the socket is still there")
-    os.rmdir("image.new")
+    BESIDE.rmdir()
     print("a change that cannot be saved is not answered, and ends the program: tpmsim: file")
 
 

@@ -9,10 +9,9 @@ import textwrap
 from tpmsim.device.base import line, line_in_bytes
 from tpmsim.model.machine import Model, Outcome
 from tpmsim.standard import CC, frames
-from tests.common.outputs import Played, POWER, Printed, write_outputs
+from tests.common.outputs import Played, POWER, RANDOM_BYTES, repeated, write_outputs
 
 COLUMNS = 100
-RANDOM_BYTES = 256
 
 # So many bytes of each command's `entropy` line that no two nonces of a command are the same.
 SEED_BYTES = 7
@@ -42,7 +41,7 @@ class Script:
         written_by = pathlib.Path(program)
         self.path = written_by.with_name(f"{name or written_by.stem}.tpm")
         self.lines: list[str] = []
-        self.played: list[Printed] = []
+        self.played: list[Played] = []
         self.device, self.locality, self.random = Model(), 0, bytes(RANDOM_BYTES)
         self.seeds, self.elapsed, self.pause = 0, 0, 0
         self.write_comment(f"{head} Written by {written_by.name} beside it.")
@@ -50,7 +49,7 @@ class Script:
     @property
     def last(self) -> Outcome:
         """What came of the last command."""
-        return next(it for it in reversed(self.played) if isinstance(it, Played)).outcome
+        return next(it.outcome for it in reversed(self.played) if it.outcome)
 
     def write_comment(self, text: str) -> None:
         self.lines += textwrap.wrap(
@@ -81,7 +80,7 @@ class Script:
         self.lines.append(f"wait {milliseconds}")
 
     def entropy(self, seed: bytes) -> None:
-        self.random = (seed * RANDOM_BYTES)[:RANDOM_BYTES]
+        self.random = repeated(seed)
         self.lines.append(f"entropy {seed.hex()}")
 
     def fresh(self) -> None:

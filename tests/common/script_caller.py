@@ -5,7 +5,7 @@ each response, and stops where one is not what it computes itself.
 import hashlib
 from typing import Any, Iterator, Sequence
 
-from tpmsim.caller import CLEAR, Made, Means, NONCE_BYTES, Prepared, Session, Use
+from tpmsim.caller import CLEAR, Made, Means, NONCE_BYTES, Prepared, Response, Session, Use
 from tpmsim.caller.prepared_commands import PreparedCommands
 from tpmsim.standard import AES, ALG_NULL, CC, digest, digest_bytes, Fields, frames, nv, RH_NULL
 from tpmsim.standard import RH_OWNER, SE_HMAC, SE_POLICY, SE_TRIAL, SHA1, SHA256, sized, trimmed
@@ -78,11 +78,9 @@ class ScriptCaller(PreparedCommands):
         """The same, with fresh random bytes where a session has an entry: the parameters."""
         return self.accepted(what, prepared, self.draws(prepared))[1]
 
-    def handle_of_new(self, what: str, prepared: Prepared) -> tuple[int, bytes]:
-        """The same of a command that answers a handle."""
-        handle, parameters = self.accepted(what, prepared)
-        assert handle is not None
-        return handle, parameters
+    def response(self, what: str, prepared: Prepared) -> Response:
+        """The same of a command whose answer is read field by field."""
+        return Response(prepared.code, *self.accepted(what, prepared))
 
     # Sessions.
 
@@ -126,26 +124,23 @@ class ScriptCaller(PreparedCommands):
 
     # Objects.
 
-    def creation_answer(self, fields: Fields) -> Public:
+    def creation_answer(self, response: Response) -> Public:
         """The public area that is answered. The hash of the creation data is the creation hash."""
-        public = Public.read(fields.sized())
-        data, data_hash = fields.sized(), fields.sized()
-        assert data_hash == digest(public.name_algorithm, data)
-        assert fields.number(2) == frames.ST_CREATION
-        self.ticket = fields.number(4), fields.sized()
-        self.creation_data = data
+        public, ticket = Public.read(response["outPublic"]), response["creationTicket"]
+        self.creation_data = response["creationData"]
+        assert response["creationHash"] == digest(public.name_algorithm, self.creation_data)
+        assert ticket.tag == frames.ST_CREATION
+        self.ticket = ticket.hierarchy, ticket.digest
         return public
 
     def create_primary(
         self, what: str, hierarchy: int, public: Public, *uses: Means, **more: Any
     ) -> int:
         """The handle of a primary object."""
-        prepared = self.primary(hierarchy, public, *uses, **more)
-        handle, parameters = self.handle_of_new(what, prepared)
-        fields = Fields(parameters)
-        name = self.creation_answer(fields).name
-        assert fields.sized() == name and not fields.data
-        return handle
+        response = self.response(what, self.primary(hierarchy, public, *uses, **more))
+        assert response["name"] == self.creation_answer(response).name
+        assert response.handle
+        return response.handle
 
     def create(
         self,
@@ -157,26 +152,22 @@ class ScriptCaller(PreparedCommands):
         **more: Any,
     ) -> Made:
         prepared = self.child(parent, public, *uses, user_auth=user_auth, **more)
-        _, parameters = self.accepted(what, prepared)
-        fields = Fields(parameters)
-        private, public = fields.sized(), self.creation_answer(fields)
-        assert not fields.data
-        return Made(private, public, trimmed(user_auth))
+        response = self.response(what, prepared)
+        return Made(response["outPrivate"], self.creation_answer(response), trimmed(user_auth))
 
     def load(self, what: str, parent: int, made: Made, *uses: Means) -> int:
         """The handle of an object that is loaded."""
-        handle, parameters = self.handle_of_new(what, self.loading(parent, made, *uses))
-        assert parameters == sized(made.public.name)
-        self.auth_values[handle] = made.auth_value
-        return handle
+        response = self.response(what, self.loading(parent, made, *uses))
+        assert response.handle and response["name"] == made.public.name
+        self.auth_values[response.handle] = made.auth_value
+        return response.handle
 
     def read_public(self, what: str, handle: int, *uses: Means) -> tuple[Public, bytes]:
-        """The public area, the Name and the qualified name, of which the caller knows the Name."""
-        _, parameters = self.accepted(what, self.public(handle, *uses))
-        fields = Fields(parameters)
-        public, name, qualified = Public.read(fields.sized()), fields.sized(), fields.sized()
-        assert name == public.name == self.names[handle] and not fields.data
-        return public, qualified
+        """The public area and the qualified name, of an object whose Name the caller knows."""
+        response = self.response(what, self.public(handle, *uses))
+        public = Public.read(response["outPublic"])
+        assert response["name"] == public.name == self.names[handle]
+        return public, response["qualifiedName"]
 
     def unseal(self, what: str, handle: int, data: bytes, *uses: Means) -> None:
         _, parameters = self.accepted(what, self.unsealing(handle, *uses))

@@ -1,9 +1,10 @@
-"""Runs of a program behind a shim: a library in C that stands before functions of the C library,
-and makes some of their calls fail.
+"""Runs of a program, and those of one behind a shim: a library in C that stands before functions of
+the C library, and makes some of their calls fail.
 """
 
 import os
 import pathlib
+import shutil
 import subprocess
 import sys
 from dataclasses import dataclass
@@ -11,6 +12,19 @@ from dataclasses import dataclass
 HERE = pathlib.Path(__file__).resolve().parent
 AT_MOST = 60
 SHOWN = 2000
+SERVE = "serve --socket socket --image image --entropy entropy --locality 0 --connections".split()
+
+# The files of a run that stay, whatever comes of it.
+OWN = {"image", "image.lock", "entropy"}
+
+# What gets memory beside the two functions that the shim refuse.c stands before.
+OTHERS = (
+    "aligned_alloc calloc memalign mmap mmap64 mremap posix_memalign pvalloc reallocarray"
+    " brk sbrk valloc".split()
+)
+
+FOREVER = 1_000_000_000
+REFUSED, CALLS = pathlib.Path("refused"), pathlib.Path("calls")
 
 
 @dataclass(frozen=True)
@@ -22,42 +36,159 @@ class Ending:
     error: bytes = b""
 
 
+WELL = Ending(0)
+FILE, SOCKET = Ending(3, error=b"tpmsim: file\n"), Ending(3, error=b"tpmsim: socket\n")
+ENTROPY = Ending(3, error=b"tpmsim: entropy\n")
+
+
 def fail(words):
     """Says what is wrong, as far as that is of use to read."""
     sys.exit(f"WRONG: {words[:SHOWN]}")
 
 
-def built(name):
-    """The library of a shim, which is built in the folder of this run."""
-    library = pathlib.Path(f"{name}.so").resolve()
-    words = ["cc", "-O1", "-shared", "-fPIC", "-o", library, HERE / f"{name}.c"]
-    subprocess.run(words, check=True)
-    return library
-
-
-def check_calls(program, others):
-    """Makes sure that a program calls none of the functions that do what those of a shim do."""
-    words = ["nm", "-D", "--undefined-only", program]
-    told = subprocess.run(words, check=True, capture_output=True, text=True).stdout
-    called = {line.split()[-1].partition("@")[0] for line in told.splitlines()}
-    if called & set(others):
-        fail(f"the program calls {', '.join(sorted(called & set(others)))} too")
-    return called
-
-
-def begun(library, words, folder=".", **environment):
-    """A run behind a shim in a folder, with these variables of its environment."""
+def begun(words, folder=".", **environment):
+    """A run in a folder, with these variables of its environment too."""
     told = {name: str(value) for name, value in environment.items()}
-    return subprocess.Popen(
-        words,
-        cwd=folder,
-        env={**os.environ, **told, "LD_PRELOAD": str(library)},
-        stdin=subprocess.PIPE,
-        stdout=subprocess.PIPE,
-        stderr=subprocess.PIPE,
-    )
+    pipes = dict.fromkeys(("stdin", "stdout", "stderr"), subprocess.PIPE)
+    return subprocess.Popen(words, cwd=folder, env={**os.environ, **told}, **pipes)
 
 
 def ended(process, stdin=b""):
     output, error = process.communicate(stdin, timeout=AT_MOST)
     return Ending(process.returncode, output, error)
+
+
+def end(process, wanted=WELL, label="a run"):
+    """Makes sure that a run ends so."""
+    given = ended(process)
+    if given != wanted:
+        fail(f"{label} ended with {given}, and not {wanted}")
+
+
+def ran(*words, stdin=b""):
+    """A run to its end."""
+    done = subprocess.run(words, input=stdin, capture_output=True, timeout=AT_MOST, check=False)
+    return Ending(done.returncode, done.stdout, done.stderr)
+
+
+class Room:
+    """A folder in which a run finds its image, if any, and its random bytes."""
+
+    def __init__(self, name):
+        self.path = pathlib.Path(name)
+
+    def furnish(self, image, entropy):
+        shutil.rmtree(self.path, ignore_errors=True)
+        self.path.mkdir()
+        if image is not None:
+            (self.path / "image").write_bytes(image)
+        (self.path / "entropy").write_bytes(entropy)
+
+    @property
+    def image(self):
+        path = self.path / "image"
+        return path.read_bytes() if path.exists() else None
+
+    @property
+    def left(self):
+        """What else a run has left."""
+        return tuple(sorted({path.name for path in self.path.iterdir()} - OWN))
+
+
+class Shim:
+    """A program behind a shim, which is built in a folder."""
+
+    def __init__(self, program, name, folder="."):
+        self.program, self.library = program, pathlib.Path(folder, f"{name}.so").resolve()
+        words = ["cc", "-O1", "-shared", "-fPIC", "-o", self.library, HERE / f"{name}.c"]
+        subprocess.run(words, check=True)
+
+    def check_calls(self, others):
+        """Makes sure that a program calls none of the functions that do what those of a shim do."""
+        words = ["nm", "-D", "--undefined-only", self.program]
+        told = subprocess.run(words, check=True, capture_output=True, text=True).stdout
+        called = {line.split()[-1].partition("@")[0] for line in told.splitlines()}
+        if called & set(others):
+            fail(f"the program calls {', '.join(sorted(called & set(others)))} too")
+        return called
+
+    def begun(self, words, folder=".", **told):
+        return begun([self.program, *words], folder, LD_PRELOAD=self.library, **told)
+
+
+class Tears(Shim):
+    """A program whose calls the shim tear.c notes, and of which it makes one fail."""
+
+    def __init__(self, program):
+        super().__init__(program, "tear")
+
+    def begun(self, words, folder=".", at=0, error=0, calls=CALLS, **told):
+        """A run of which the call of a number fails with an error, or moves a half where that is 0."""
+        calls.unlink(missing_ok=True)
+        told |= {"AT": at, "ERROR": error, "CALLS": calls.resolve()}
+        return super().begun(words, folder, **told)
+
+    @staticmethod
+    def noted(calls=CALLS):
+        """The calls so far, each with what it is about."""
+        return [call.strip() for call in calls.read_text("ascii").splitlines()]
+
+
+class Refusals(Shim):
+    """A program that is refused memory, by the shim refuse.c."""
+
+    def __init__(self, program):
+        super().__init__(program, "refuse")
+        if "malloc" not in self.check_calls(OTHERS):
+            fail("the program does not get its memory by malloc")
+
+    def begun(self, words, first, last, folder="."):
+        """A run to which the allocations from the first to the last are refused."""
+        REFUSED.unlink(missing_ok=True)
+        return super().begun(words, folder, FIRST=first, LAST=last, REFUSED=REFUSED.resolve())
+
+    def ended(self, words, first, last, stdin=b""):
+        return ended(self.begun(words, first, last), stdin)
+
+    def whole(self, words, stdin=b""):
+        """How it ends with nothing refused."""
+        return self.ended(words, 0, 0, stdin)
+
+    def each(self, run):
+        """Refuses each allocation in turn, alone and with all that follow. `run` makes a run of the
+        two numbers. Gives the number of each, with what came of the one run and of the other.
+        """
+        turn = 1
+        while True:
+            alone = run(turn, turn)
+            if not REFUSED.exists():
+                break
+            yield turn, alone, run(turn, FOREVER)
+            turn += 1
+        if turn == 1:
+            fail("nothing could be refused")
+
+    def compare(self, label, run, whole, starved, needed=FOREVER):
+        """Makes sure that a run comes to `starved` where memory is refused to it; or, where one
+        allocation alone is refused, as with nothing refused. After the first `needed` allocations
+        it always comes to the same as with nothing refused. Gives how many allocations there are.
+        """
+        for turn, alone, rest in self.each(run):
+            if alone not in ((whole, starved) if turn <= needed else (whole,)):
+                fail(f"{label}, allocation {turn} refused: {alone}")
+            if rest != (starved if turn <= needed else whole):
+                fail(f"{label}, refused all from allocation {turn}: {rest}")
+        return turn
+
+    def check(self, label, words, whole, memory, stdin=b"", needed=FOREVER):
+        """The same of how a run ends, which has to be so with nothing refused."""
+
+        def run(first, last):
+            return self.ended(words, first, last, stdin)
+
+        given = self.whole(words, stdin)
+        if given != whole:
+            fail(f"{label}, nothing refused: {given}")
+        turns = self.compare(label, run, whole, memory, needed)
+        print(f"{label}: {memory.error.decode().strip()}")
+        return turns

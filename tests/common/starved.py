@@ -8,21 +8,17 @@ else just as it does with nothing refused: some collections ask again, for less.
 """
 
 import pathlib
-import shutil
 import socket
 import sys
-import time
 from dataclasses import dataclass
 
-import refusals
-from client import received
-from shims import HERE, Ending, ended, fail
+from client import connected, received
+from tests.common.shims import FILE, HERE, SERVE, WELL, Ending, Refusals, Room, ended, fail
 from tests.common.streams import image_told
 
 TOP = HERE.parent.parent
 SCRIPT = TOP / "examples/measured_boot.tpm"
 MEMORY = Ending(3, error=b"tpmsim: memory\n")
-SERVE = "serve --socket socket --image image --entropy entropy --locality 0 --connections".split()
 
 # TPM2_Startup(CLEAR), TPM2_GetRandom of 4 bytes, and a new ownerAuth: what a connection sends.
 SENT = bytes.fromhex(
@@ -31,7 +27,7 @@ SENT = bytes.fromhex(
     "8002000000200000012940000001000000094000000900000100000003"
     "6f776e"
 )
-ROOM = pathlib.Path("served")
+ROOM = Room("served")
 
 
 def out_of(name):
@@ -46,7 +42,7 @@ def check_words(program):
     keep = ["run", "--image", "kept", "--entropy", "/dev/urandom"]
     played = Ending(0, out_of("examples/measured_boot.out"))
     traced = Ending(0, out_of("examples/measured_boot.trace"))
-    usage, file = Ending(2, error=b"tpmsim: usage\n"), Ending(3, error=b"tpmsim: file\n")
+    usage = Ending(2, error=b"tpmsim: usage\n")
     cases = [
         ("a script", ["run", script], played),
         ("its trace", ["run", "--trace", script], traced),
@@ -55,7 +51,7 @@ def check_words(program):
         ("a buffer without a line", ["line", "80"], Ending(2, error=b"tpmsim: line NoLine\n")),
         ("no buffer", ["line", "8"], usage),
         ("a device that is kept", [*keep, "startup"], Ending(0, b"80010000000a00000000\n")),
-        ("no script", ["run", "none"], file),
+        ("no script", ["run", "none"], FILE),
         ("a bad script", ["run", "bad"], Ending(2, error=b"tpmsim: script line 1\n")),
         ("a bad line", ["asm", "Startup"], Ending(2, error=b"tpmsim: asm Missing\n")),
         ("no words", [], usage),
@@ -84,22 +80,15 @@ class Service:
 
 def talked(process):
     """What a connection is answered, or nothing where the run ends before it."""
-    client = socket.socket(socket.AF_UNIX, socket.SOCK_STREAM)
-    while process.poll() is None:
-        try:
-            client.connect(str(ROOM / "socket"))
-            client.sendall(SENT)
-            client.shutdown(socket.SHUT_WR)
-            return received(client)
-        except (FileNotFoundError, ConnectionRefusedError):
-            time.sleep(0.001)
-        except (BrokenPipeError, ConnectionResetError):
-            break
-    return b""
-
-
-def text_of(path):
-    return path.read_bytes() if path.exists() else None
+    client = connected(ROOM.path / "socket", process)
+    if not client:
+        return b""
+    try:
+        client.sendall(SENT)
+        client.shutdown(socket.SHUT_WR)
+        return received(client)
+    except (BrokenPipeError, ConnectionResetError):
+        return b""
 
 
 def check_service(program, label, image, connections):
@@ -109,33 +98,20 @@ def check_service(program, label, image, connections):
     """
 
     def run(first, last):
-        shutil.rmtree(ROOM, ignore_errors=True)
-        ROOM.mkdir()
-        if image:
-            (ROOM / "image").write_bytes(image)
-        (ROOM / "entropy").write_bytes(bytes(1024))
-        process = program.begun([*SERVE, str(connections)], first, last, ROOM)
+        ROOM.furnish(image, bytes(1024))
+        process = program.begun([*SERVE, str(connections)], first, last, ROOM.path)
         answers = talked(process) if connections else b""
-        ending = ended(process)
-        names = {path.name for path in ROOM.iterdir()} - {"image", "image.lock", "entropy"}
-        told = image_told(text_of(ROOM / "image"))
-        return Service(ending, answers, told, tuple(sorted(names)))
+        return Service(ended(process), answers, image_told(ROOM.image), ROOM.left)
 
-    before = image_told(image)
     whole = run(0, 0)
-    if whole.ending != Ending(0) or whole.others or bool(whole.answers) != bool(connections):
+    if whole.ending != WELL or whole.others or bool(whole.answers) != bool(connections):
         fail(f"{label}, nothing refused: {whole}")
-    starved = Service(MEMORY, b"", before, ())
-    for turn, alone, rest in program.each(run):
-        if alone not in (whole, starved):
-            fail(f"{label}, allocation {turn} refused: {alone}")
-        if rest != starved:
-            fail(f"{label}, refused all from allocation {turn}: {rest}")
+    program.compare(label, run, whole, Service(MEMORY, b"", image_told(image), ()))
     print(f"{label}: {MEMORY.error.decode().strip()}")
-    return text_of(ROOM / "image")
+    return ROOM.image
 
 
-program = refusals.Refusals(sys.argv[1])
+program = Refusals(sys.argv[1])
 check_words(program)
 check_service(program, "no image and no connection", None, 0)
 image = check_service(program, "no image, and a connection", None, 1)

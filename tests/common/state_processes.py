@@ -12,28 +12,26 @@ import subprocess
 import sys
 import time
 
+from tests.common import shims
+
 DIGEST = "5a" * 32
 EXTEND = f"do PCR_Extend 00000010 pw:- sha256:{DIGEST}\n"
 READ = "do PCR_Read sha256:16\n"
 SUCCESS = "80020000001300000000000000000000010000"
 
 
-def begun(program: str, script: str) -> "subprocess.Popen[str]":
+def begun(program: str, script: str) -> "subprocess.Popen[bytes]":
     """A run that reads its script from a pipe, and is on its way."""
-    words = [program, "run", "--state", "state", "-"]
-    run = subprocess.Popen(words, text=True, stdin=subprocess.PIPE, stdout=subprocess.PIPE)
-    assert run.stdin is not None
-    run.stdin.write(script)
+    run = shims.begun([program, "run", "--state", "state", "-"])
+    run.stdin.write(script.encode("ascii"))
     run.stdin.close()
+    run.stdin = None
     return run
 
 
-def answers(run: "subprocess.Popen[str]") -> list[str]:
+def answers(run: "subprocess.Popen[bytes]") -> list[str]:
     """What a run answered, up to its end."""
-    assert run.stdout is not None
-    lines = run.stdout.read().splitlines()
-    run.wait()
-    return lines
+    return run.communicate()[0].decode("ascii").splitlines()
 
 
 def extends(program: str) -> int:

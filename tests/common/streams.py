@@ -10,23 +10,19 @@ another on one image. What happens is said in lines:
 """
 
 import hashlib
+from dataclasses import dataclass, field
 from typing import Iterable, Iterator
 
 from tpmsim.model.image import Fault, image, open_image
 from tpmsim.model.machine import Model, Outcome
 from tpmsim.standard import CC, COMMAND_BYTES, frames, HEADER_BYTES
-
-RANDOM_BYTES = 256
+from tests.common.outputs import RANDOM_BYTES, repeated
 
 # Where commandSize ends.
 SIZE_END = 6
 
 # TPM2_ReadClock answers the host's time, which is left out of what is compared.
 CLOCK_ANSWER_BYTES, TIMES = 35, slice(10, 26)
-
-
-def repeated(random: bytes) -> bytes:
-    return (random * RANDOM_BYTES)[:RANDOM_BYTES]
 
 
 def random_of(buffer: bytes) -> bytes:
@@ -46,8 +42,10 @@ def without_times(buffer: bytes, response: bytes) -> bytes:
 
 def without_clock(device: Model) -> bytes:
     """An image as it is compared."""
-    device.clock = 0
-    return image(device)
+    clock, device.clock = device.clock, 0
+    text = image(device)
+    device.clock = clock
+    return text
 
 
 class Connection:
@@ -85,6 +83,12 @@ def image_told(text: bytes | None) -> str:
         return f"image {fault}"
 
 
+def device_told(device: Model) -> str:
+    """The same of the image of a device."""
+    return image_told(image(device))
+
+
+@dataclass
 class Run:
     """A run: the number of its line, its locality, its image, and whether that is given by a line
     and not by the run before; what is in its file of random bytes, its connections, what is said on
@@ -92,14 +96,15 @@ class Run:
     missing, or the image is none.
     """
 
-    def __init__(
-        self, number: int, locality: int, image_before: bytes | None, is_given: bool
-    ) -> None:
-        self.number, self.locality = number, locality
-        self.image_before, self.is_given = image_before, is_given
-        self.random, self.connections = b"", list[Connection]()
-        self.image_told: str | None = None
-        self.is_dry, self.error = False, ""
+    number: int
+    locality: int
+    image_before: bytes | None
+    is_given: bool
+    random: bytes = b""
+    connections: list[Connection] = field(default_factory=list)
+    image_told: str | None = None
+    is_dry: bool = False
+    error: str = ""
 
     @property
     def is_over(self) -> bool:

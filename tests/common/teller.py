@@ -15,9 +15,9 @@ import inspect
 import sys
 from typing import Any, Callable
 
-from tpmsim.caller import flipped, Prepared, Session
+from tpmsim.caller import flipped, Prepared, Session, storage_key
 from tpmsim.model.machine import Outcome
-from tpmsim.standard import frames
+from tpmsim.standard import frames, RH_OWNER
 from tests.common.script import OUTCOME, Script, SUCCESS
 from tests.common.script_caller import ScriptCaller
 
@@ -44,11 +44,13 @@ class Teller(ScriptCaller):
     anything. tests/anew.py writes it.
     """
 
+    written_by = ".tpm"
+
     def __init__(self, name: str, told: str, tries: bool = False, starts: bool = True) -> None:
         if name == "__main__":
             sys.exit("a program of a script is run by tests/anew.py")
         head = " ".join(told.split("\n\n")[0].partition(".tpm. ")[2].split())
-        super().__init__(Script(name.replace(".", "/") + ".tpm", head))
+        super().__init__(Script(name.replace(".", "/") + self.written_by, head))
         if starts:
             self.startup()
         if tries:
@@ -110,6 +112,23 @@ class Teller(ScriptCaller):
 
     def wait(self, milliseconds: int) -> None:
         self.script.wait(milliseconds)
+
+
+class Example(Teller):
+    """The same for a script of examples/, which tells itself when it starts."""
+
+    written_by = ".py"
+
+    def __init__(self, name: str, told: str) -> None:
+        super().__init__(name, told, starts=False)
+
+    def storage_root(self, what: str) -> int:
+        return self.create_primary(what, RH_OWNER, storage_key())
+
+    def measure(self, *measurements: tuple[int, str, bytes]) -> None:
+        """Into PCRs, each with its words."""
+        for pcr, what, data in measurements:
+            self.accepted(what, self.event(data, b"", pcr=pcr))
 
 
 class Said:

@@ -11,28 +11,35 @@ image, the device in Python says.
 
 import collections
 import errno
-import pathlib
-import shutil
 import socket
 import sys
-import time
-from dataclasses import dataclass
+from dataclasses import dataclass, replace
 
+import torn_rivals
+from client import answer, connected
+from tests.common.shims import (
+    ENTROPY,
+    FILE,
+    HERE,
+    SERVE,
+    SOCKET,
+    WELL,
+    Ending,
+    Room,
+    Tears,
+    ended,
+    fail,
+)
 from tpmsim.model import machine
 from tpmsim.model.image import image, open_image
 from tpmsim.standard import lines
-from tests.common.streams import without_clock
-from shims import AT_MOST, HERE, Ending, begun, built, check_calls, ended, fail
+from tests.common.streams import device_told, image_told
 
 TOP = HERE.parent.parent
 SCRIPT = TOP / "examples/measured_boot.tpm"
-ROOM, CALLS = pathlib.Path("torn"), pathlib.Path("calls")
-SERVE = "serve --socket socket --image image --entropy entropy --locality 0 --connections".split()
+ROOM = Room("torn")
 RANDOM_BYTES = 256
 HALF = 0
-
-# How long a second run is given, which may have to wait for the first one.
-A_WHILE = 0.3
 
 # The calls that reach files, sockets and the clock in other ways than the shim knows.
 OTHERS = (
@@ -40,10 +47,6 @@ OTHERS = (
     " openat openat64 poll pread64 pwrite64 readv recvfrom recvmsg renameat renameat2"
     " sendfile sendmsg sendto shutdown splice stat sync unlinkat writev"
 ).split()
-
-WELL = Ending(0)
-FILE, SOCKET = Ending(3, error=b"tpmsim: file\n"), Ending(3, error=b"tpmsim: socket\n")
-ENTROPY = Ending(3, error=b"tpmsim: entropy\n")
 
 # What else is so after a call has failed.
 NONE, ALONE = "", ", that connection alone ends"
@@ -64,37 +67,22 @@ class End:
 
 
 # By the function and what it is about. The folder beside the socket is .0, and the socket in it s.
+UNSAVED = End(FILE, ("image.new",), OLD)
 ENDINGS = {
-    "statx image": End(FILE),
-    "open image.lock": End(FILE),
-    "flock image.lock": End(FILE),
-    "open image": End(FILE),
-    "read image": End(FILE),
-    "open entropy": End(ENTROPY),
-    "statx entropy": End(ENTROPY),
-    "read entropy": End(ENTROPY),
-    "clock_gettime": End(ENTROPY),
-    "mkdir .0": End(SOCKET),
-    "socket": End(SOCKET),
-    "bind": End(SOCKET),
-    "listen": End(SOCKET),
-    "chmod .0/s": End(SOCKET),
-    "statx .0/s": End(SOCKET),
-    "link socket": End(SOCKET),
-    "unlink .0/s": End(WELL, (".0",)),
-    "rmdir .0": End(WELL, (".0",)),
-    "accept4": End(SOCKET),
-    "recv connection": End(WELL, (), ALONE),
-    "send connection": End(WELL, (), ALONE),
-    "unlink image.new": End(FILE, (), OLD),
-    "open image.new": End(FILE, (), OLD),
-    "write image.new": End(FILE, ("image.new",), OLD),
-    "fsync image.new": End(FILE, ("image.new",), OLD),
-    "open .": End(FILE, ("image.new",), OLD),
-    "rename image.new": End(FILE, ("image.new",), OLD),
-    "fsync torn": End(FILE, (), NEW),
-    "statx socket": End(WELL, ("socket",)),
-    "unlink socket": End(WELL, ("socket",)),
+    call: end
+    for end, calls in (
+        (End(FILE), "statx image, open image.lock, flock image.lock, open image, read image"),
+        (End(ENTROPY), "open entropy, statx entropy, read entropy, clock_gettime"),
+        (End(SOCKET), "mkdir .0, socket, bind, listen, chmod .0/s, statx .0/s, link socket"),
+        (End(WELL, (".0",)), "unlink .0/s, rmdir .0"),
+        (End(SOCKET), "accept4"),
+        (End(WELL, (), ALONE), "recv connection, send connection"),
+        (End(FILE, (), OLD), "unlink image.new, open image.new"),
+        (UNSAVED, "write image.new, fsync image.new, open ., rename image.new"),
+        (End(FILE, (), NEW), "fsync torn"),
+        (End(WELL, ("socket",)), "statx socket, unlink socket"),
+    )
+    for call in calls.split(", ")
 }
 
 # With what error a call fails, where it is not EIO.
@@ -104,9 +92,6 @@ ERRORS = {
     "accept4": errno.EMFILE,
     "write image.new": errno.ENOSPC,
 }
-
-# The files of a run that stay, whatever comes of it.
-OWN = {"image", "image.lock", "entropy"}
 
 # What the connections send. A command in words, or bytes that are none: of another tag, with a byte
 # too few, and with a size that ends the connection.
@@ -157,43 +142,23 @@ def random_of(number):
 
 @dataclass(frozen=True)
 class Service:
-    """What came of a run: how it ended, what each connection was answered, the image, and what else
-    is in the folder.
-    """
+    """How a run ended, what each connection was answered, the image, and what else is left."""
 
     ending: Ending
-    answers: tuple
-    image: bytes
+    answers: list
+    image: bytes | str
     left: tuple
 
-
-def connected(process):
-    while process.poll() is None:
-        client = socket.socket(socket.AF_UNIX, socket.SOCK_STREAM)
-        try:
-            client.connect(str(ROOM / "socket"))
-            return client
-        except (FileNotFoundError, ConnectionRefusedError):
-            client.close()
-            time.sleep(0.001)
-    return None
-
-
-def answer(client):
-    """A whole response, or nothing where the stream ends before."""
-    text = b""
-    while len(text) < 6 or len(text) < int.from_bytes(text[2:6], "big"):
-        piece = client.recv(4096)
-        if not piece:
-            return None
-        text += piece
-    return text
+    @property
+    def told(self):
+        """The same with its image as it is compared."""
+        return replace(self, image=image_told(self.image))
 
 
 def talked(process, buffers):
     """What a connection is answered, command by command, until it ends."""
     answers = []
-    client = connected(process)
+    client = connected(ROOM.path / "socket", process)
     if not client:
         return answers
     try:
@@ -212,35 +177,12 @@ def talked(process, buffers):
     return answers
 
 
-def served(program, library, text, at=0, error=0):
+def served(program, text, at=0, error=0):
     """A run from an image, or from none, of which a call fails."""
-    shutil.rmtree(ROOM, ignore_errors=True)
-    CALLS.unlink(missing_ok=True)
-    ROOM.mkdir()
-    if text is not None:
-        (ROOM / "image").write_bytes(text)
-    first = 0 if text is None else 1
-    random = b"".join(random_of(it) for it in range(first, COMMANDS + 1))
-    (ROOM / "entropy").write_bytes(random)
-    words = [program, *SERVE, str(len(SENT))]
-    told = {"AT": at, "ERROR": error, "CALLS": CALLS.resolve()}
-    process = begun(library, words, ROOM, **told)
+    ROOM.furnish(text, b"".join(map(random_of, range(0 if text is None else 1, COMMANDS + 1))))
+    process = program.begun([*SERVE, str(len(SENT))], ROOM.path, at, error)
     answers = [talked(process, buffers) for buffers in SENT]
-    ending = ended(process)
-    held = {path.name: path for path in ROOM.iterdir()}
-    saved = held["image"].read_bytes() if "image" in held else None
-    others = sorted(set(held) - OWN)
-    return Service(ending, tuple(map(tuple, answers)), saved, tuple(others))
-
-
-def noted():
-    """The calls so far, each with what it is about."""
-    return CALLS.read_text("ascii").splitlines()
-
-
-def told_of(text):
-    """An image as it is compared, or that there is none."""
-    return None if text is None else without_clock(open_image(text))
+    return Service(ended(process), answers, ROOM.image, ROOM.left)
 
 
 class Model:
@@ -261,7 +203,7 @@ class Model:
 
     @property
     def image(self):
-        return without_clock(self.device)
+        return device_told(self.device)
 
 
 # The calls that fail within a connection.
@@ -305,57 +247,49 @@ class Tear:
 
     def wanted(self, text):
         """What has to come of the run from an image, or from none."""
-        model, saved, answers = Model(text), told_of(text), []
+        model, saved, answers = Model(text), image_told(text), []
         for number, buffers in enumerate(SENT, 1):
-            answers.append(tuple(self.answers(model, number, buffers)))
+            answers.append(self.answers(model, number, buffers))
             if self.is_saved(number):
                 saved = model.image
-        return Service(self.end.ending, tuple(answers), saved, self.end.left)
+        return Service(self.end.ending, answers, saved, self.end.left)
 
 
-def compared(service):
-    """What came of a run, with the image as it is compared."""
-    told = told_of(service.image)
-    return Service(service.ending, service.answers, told, service.left)
-
-
-def all_well(text):
-    model = Model(text)
-    answers = tuple(tuple(model.answers(buffers)) for buffers in SENT)
-    return Service(WELL, answers, model.image, ())
-
-
-def check_next(program, library, label, saved):
+def check_next(program, label, torn):
     """The next run goes on from the image that a torn one left, and tidies up what else it left."""
-    process = begun(library, [program, *SERVE, "1"], ROOM, AT=0, ERROR=0, CALLS=CALLS.resolve())
+    process = program.begun([*SERVE, "1"], ROOM.path)
     talked(process, [])
-    ending = ended(process)
-    text = (ROOM / "image").read_bytes()
-    left = {path.name for path in ROOM.iterdir()} - OWN - {".0"}
-    if ending != WELL or left or told_of(text) != (saved or Model(None).image):
-        fail(f"{label}, the next run: {ending}, {left}, {text.hex()}")
+    ending, left = ended(process), set(ROOM.left) - {".0"}
+    saved = Model(None).image if torn.image is None else torn.told.image
+    if ending != WELL or left or image_told(ROOM.image) != saved:
+        fail(f"{label}, the next run: {ending}, {left}, {ROOM.image.hex()}")
 
 
-def check_service(program, library, label, text):
+def check_torn(program, label, text, calls, at):
+    """A run of which the call of a number fails."""
+    call = calls[at - 1]
+    if call not in ENDINGS:
+        fail(f"{label}: {call} is no call that is known")
+    label = f"{label}, call {at}, {call}"
+    torn, tear = served(program, text, at, ERRORS.get(call, errno.EIO)), Tear.of(calls, at)
+    if torn.told != tear.wanted(text):
+        fail(f"{label}: {torn}, and not {tear.wanted(text)}")
+    if tear.accepted == 1 and tear.end.more == OLD and torn.image != text:
+        fail(f"{label}: the old image is there, but not byte for byte")
+    check_next(program, label, torn)
+
+
+def check_service(program, label, text):
     """Tears each call of the runs from an image, or from none."""
-    whole = served(program, library, text)
-    calls = [call.strip() for call in noted()]
-    if compared(whole) != all_well(text):
+    model, whole = Model(text), served(program, text).told
+    calls = program.noted()
+    if whole != Service(WELL, [model.answers(it) for it in SENT], model.image, ()):
         fail(f"{label}, nothing torn: {whole}")
-    moved = ("read ", "write ", "recv ", "send ")
     halves = set()
     for at, call in enumerate(calls, 1):
-        if call not in ENDINGS:
-            fail(f"{label}: {call} is no call that is known")
-        torn = served(program, library, text, at, ERRORS.get(call, errno.EIO))
-        tear = Tear.of(calls, at)
-        if compared(torn) != tear.wanted(text):
-            fail(f"{label}, call {at}, {call}: {torn}, and not {tear.wanted(text)}")
-        if tear.accepted == 1 and tear.end.more == OLD and torn.image != text:
-            fail(f"{label}, call {at}, {call}: the old image is there, but not byte for byte")
-        check_next(program, library, f"{label}, after call {at}, {call}", compared(torn).image)
-        if call.startswith(moved):
-            if compared(served(program, library, text, at, HALF)) != compared(whole):
+        check_torn(program, label, text, calls, at)
+        if call.startswith(("read ", "write ", "recv ", "send ")):
+            if served(program, text, at, HALF).told != whole:
                 fail(f"{label}, call {at}, {call} moves a half")
             halves.add(call)
     print(f"{label}:")
@@ -364,18 +298,16 @@ def check_service(program, library, label, text):
         print(f"    {call}, {count} in turn: {ENDINGS[call].words}{half}")
 
 
-def check_words(program, library, label, words, stdin=b""):
+def check_words(program, label, words, stdin=b""):
     """Tears each call of a run that reads and prints: it ends with `tpmsim: file`, and what it has
     printed is a beginning of what it prints.
     """
 
-    def run(at, error):
-        CALLS.unlink(missing_ok=True)
-        process = begun(library, [program, *words], AT=at, ERROR=error, CALLS=CALLS.resolve())
-        return ended(process, stdin)
+    def run(at=0, error=0):
+        return ended(program.begun(words, ".", at, error), stdin)
 
-    whole = run(0, 0)
-    calls = [call.strip() for call in noted()]
+    whole = run()
+    calls = program.noted()
     if whole.status != 0 or whole.error or not calls:
         fail(f"{label}, nothing torn: {whole}")
     for at, call in enumerate(calls, 1):
@@ -388,107 +320,13 @@ def check_words(program, library, label, words, stdin=b""):
     print(f"{label}: {FILE.error.decode().strip()}; half of the bytes moved: nothing is lost")
 
 
-class Rival:
-    """A run that serves many connections, whose call of a number waits for the file `go`. The file of
-    one word, `image` or `socket`, is its own."""
-
-    def __init__(self, program, library, name, own, at=0):
-        self.calls = ROOM / f"{name}.calls"
-        words = [f"{name}.{own}" if it == own else it for it in SERVE]
-        words = [program, *words, "1000"]
-        told = {"AT": at, "ERROR": 0, "CALLS": self.calls.resolve()}
-        told["WAIT_FOR"] = (ROOM / "go").resolve()
-        self.process = begun(library, words, ROOM, **told)
-
-    @property
-    def noted(self):
-        return self.calls.read_text("ascii").splitlines() if self.calls.exists() else []
-
-    @property
-    def serves(self):
-        return "accept4 " in self.noted
-
-    def is_settled(self):
-        return self.serves or self.process.poll() is not None
-
-    def end(self):
-        self.process.kill()
-        return ended(self.process)
-
-
-def await_that(is_so, seconds):
-    """Waits until something is so, for this long at most."""
-    end = time.monotonic() + seconds
-    while not is_so() and time.monotonic() < end:
-        time.sleep(0.001)
-
-
-def begin_anew():
-    """A folder with random bytes alone."""
-    shutil.rmtree(ROOM, ignore_errors=True)
-    ROOM.mkdir()
-    (ROOM / "entropy").write_bytes(bytes(2 * RANDOM_BYTES))
-
-
-def begin_beside_left():
-    """The same with a socket at which nobody answers."""
-    begin_anew()
-    left = socket.socket(socket.AF_UNIX, socket.SOCK_STREAM)
-    left.bind(str(ROOM / "socket"))
-    left.close()
-
-
-def check_rivals(program, library, begin, own, wanted, at_most):
-    """Of two runs of which each has its own image or its own socket, and which share the other, one
-    goes on, wherever the first one is meanwhile. The second is given this long, in seconds, before
-    the first goes on. Gives the numbers of the calls at which it needed the first.
-    """
-    begin()
-    alone = Rival(program, library, "first", own)
-    await_that(alone.is_settled, AT_MOST)
-    alone.end()
-    calls, waited = alone.noted, []
-    for at in range(1, calls.index("accept4 ") + 1):
-        begin()
-        first = Rival(program, library, "first", own, at)
-        await_that(lambda: len(first.noted) == at, AT_MOST)
-        second = Rival(program, library, "second", own)
-        await_that(second.is_settled, at_most)
-        if not second.is_settled():
-            waited.append(calls[at - 1])
-        (ROOM / "go").touch()
-        for rival in (first, second):
-            await_that(rival.is_settled, AT_MOST)
-        going = [rival for rival in (first, second) if rival.serves]
-        endings = [rival.end() for rival in (first, second) if not rival.serves]
-        for rival in going:
-            rival.end()
-        if len(going) != 1 or endings != [wanted]:
-            fail(f"a second run while the first one waits at {calls[at - 1]}: {len(going)} go on")
-    return waited
-
-
-def check_socket_rivals(program, library):
-    check_rivals(program, library, begin_beside_left, "image", SOCKET, A_WHILE)
-    print("two runs over a socket that was left: one goes on, the other ends with tpmsim: socket")
-
-
-def check_image_rivals(program, library):
-    waited = check_rivals(program, library, begin_anew, "socket", FILE, AT_MOST)
-    if waited:
-        fail(f"a second run on an image waits for the first one at {waited}")
-    print("two runs on one image: one goes on, the other ends with tpmsim: file at once")
-
-
-program = sys.argv[1]
-check_calls(program, OTHERS)
-library = built("tear")
-check_words(program, library, "a script", ["run", str(SCRIPT)])
-check_words(program, library, "a script on standard input", ["run", "-"], SCRIPT.read_bytes())
-check_words(program, library, "its trace", ["run", "--trace", str(SCRIPT)])
-check_words(program, library, "a line", ["asm", "Startup 0"])
-check_words(program, library, "a help", ["--help"])
-check_service(program, library, "a device that is made", None)
-check_service(program, library, "a device from an image", image(machine.Model(random_of(0))))
-check_socket_rivals(program, library)
-check_image_rivals(program, library)
+program = Tears(sys.argv[1])
+program.check_calls(OTHERS)
+check_words(program, "a script", ["run", str(SCRIPT)])
+check_words(program, "a script on standard input", ["run", "-"], SCRIPT.read_bytes())
+check_words(program, "its trace", ["run", "--trace", str(SCRIPT)])
+check_words(program, "a line", ["asm", "Startup 0"])
+check_words(program, "a help", ["--help"])
+check_service(program, "a device that is made", None)
+check_service(program, "a device from an image", image(machine.Model(random_of(0))))
+torn_rivals.check(program)

@@ -9,25 +9,18 @@ image, by the device in Python, and the run ends with the fault of that call.
 """
 
 import errno
-import pathlib
-import shutil
 import sys
 from dataclasses import dataclass
 
 from tpmsim.model import machine, player
 from tpmsim.model.image import image, open_image
-from tests.common.streams import without_clock
-from shims import Ending, begun, built, ended, fail
+from tests.common.streams import device_told, image_told
+from tests.common.shims import ENTROPY, FILE, WELL, Ending, Room, Tears, ended, fail
 
-ROOM, CALLS = pathlib.Path("torn"), pathlib.Path("calls")
+ROOM = Room("torn")
 RUN = "run --image image --entropy entropy -".split()
 RANDOM = bytes(range(255, -1, -1))
-WELL = Ending(0)
-FILE, ENTROPY = Ending(3, error=b"tpmsim: file\n"), Ending(3, error=b"tpmsim: entropy\n")
 HALF = 0
-
-# The files of a run that stay, whatever comes of it.
-OWN = {"image", "image.lock", "entropy"}
 
 LINES = [
     "do Startup 0",
@@ -53,51 +46,28 @@ class Model:
     def __init__(self, text):
         self.player = player.Player(machine.Model(RANDOM) if text is None else open_image(text))
         self.answers = []
-        self.images = [[told_of(text), without_clock_of(self.player.device)]]
+        self.images = [[image_told(text), device_told(self.player.device)]]
         for line in LINES:
             self.answers += self.player.play(line.encode())[1:]
             while len(self.images) <= len(self.answers):
                 self.images.append([])
-            self.images[len(self.answers)].append(without_clock_of(self.player.device))
+            self.images[len(self.answers)].append(device_told(self.player.device))
 
     def allows(self, told, saved):
-        """Whether an image may be there, where so many responses were told: it has what they tell,
-        and may have what the next line did.
-        """
+        """Whether an image has what so many responses tell, be it with what the next line did."""
         return saved in self.images[told] or saved in self.images[min(told + 1, len(self.answers))]
-
-
-def without_clock_of(device):
-    clock = device.clock
-    text = without_clock(device)
-    device.clock = clock
-    return text
-
-
-def told_of(text):
-    """An image as it is compared, or that there is none."""
-    return None if text is None else without_clock(open_image(text))
 
 
 @dataclass(frozen=True)
 class Result:
     ending: Ending
-    answers: tuple
+    answers: list
     image: bytes
     left: tuple
 
 
-def ran(program, library, text, at=0, error=0):
-    """A run on an image, or without one, of which a call fails."""
-    shutil.rmtree(ROOM, ignore_errors=True)
-    CALLS.unlink(missing_ok=True)
-    ROOM.mkdir()
-    if text is not None:
-        (ROOM / "image").write_bytes(text)
-    (ROOM / "entropy").write_bytes(RANDOM)
-    told = {"AT": at, "ERROR": error, "CALLS": CALLS.resolve()}
-    process = begun(library, [program, *RUN], ROOM, **told)
-    answers = []
+def answers_to(process):
+    """What is answered to the lines, until the run ends."""
     try:
         for line in LINES:
             process.stdin.write(f"{line}\n".encode())
@@ -106,43 +76,45 @@ def ran(program, library, text, at=0, error=0):
                 process.stdin.flush()
                 answer = process.stdout.readline()
                 if not answer.endswith(b"\n"):
-                    break
-                answers.append(answer.decode().strip())
+                    return
+                yield answer.decode().strip()
     except BrokenPipeError:
         pass
-    ending = ended(process)
-    held = {path.name: path for path in ROOM.iterdir()}
-    saved = held["image"].read_bytes() if "image" in held else None
-    return Result(ending, tuple(answers), saved, tuple(sorted(set(held) - OWN)))
+
+
+def ran(program, text, at=0, error=0):
+    """A run on an image, or without one, of which a call fails."""
+    ROOM.furnish(text, RANDOM)
+    process = program.begun(RUN, ROOM.path, at, error)
+    answers = list(answers_to(process))
+    return Result(ended(process), answers, ROOM.image, ROOM.left)
 
 
 def fault_of(call):
     return ENTROPY if call.endswith("entropy") else FILE
 
 
-def check(program, library, label, text):
+def check(program, label, text):
     """Tears each call of a run on an image, or without one."""
     model = Model(text)
-    whole = ran(program, library, text)
-    calls = [call.strip() for call in CALLS.read_text("ascii").splitlines()]
-    if (whole.ending, list(whole.answers), whole.left) != (WELL, model.answers, ()):
+    whole = ran(program, text)
+    calls = program.noted()
+    if whole != Result(WELL, model.answers, image(model.player.device), ()):
         fail(f"{label}, nothing torn: {whole}")
-    if whole.image != image(model.player.device):
-        fail(f"{label}, nothing torn: the image is another device's")
     for at, call in enumerate(calls, 1):
-        torn = ran(program, library, text, at, errno.EIO)
+        torn = ran(program, text, at, errno.EIO)
         told = len(torn.answers)
-        is_right = list(torn.answers) == model.answers[:told] and torn.ending == fault_of(call)
-        if not is_right or not model.allows(told, told_of(torn.image)):
+        is_right = torn.answers == model.answers[:told] and torn.ending == fault_of(call)
+        if not is_right or not model.allows(told, image_told(torn.image)):
             fail(f"{label}, call {at}, {call}: {torn}")
         if set(torn.left) - {"image.new"}:
             fail(f"{label}, call {at}, {call}: {torn.left} is left")
-        if call.startswith(("read ", "write ")) and ran(program, library, text, at, HALF) != whole:
+        if call.startswith(("read ", "write ")) and ran(program, text, at, HALF) != whole:
             fail(f"{label}, call {at}, {call} moves a half")
     print(f"{label}: what was told is in the image, whichever of its calls fails")
     return whole.image
 
 
-tear, shipped = built("tear"), sys.argv[1]
-made = check(shipped, tear, "a device that is made", None)
-check(shipped, tear, "a device from an image", image(open_image(made)))
+program = Tears(sys.argv[1])
+made = check(program, "a device that is made", None)
+check(program, "a device from an image", image(open_image(made)))

@@ -4,6 +4,7 @@ is not looked at.
 
 import copy
 from dataclasses import replace
+from functools import partial
 
 from tpmsim.caller import BY_OWNER, HERE, area, bits, counter, extended, hmac_key, sealed
 from tpmsim.caller import storage_key
@@ -19,9 +20,8 @@ from tpmsim.standard.nv import Attribute, of_type
 from tpmsim.standard.objects import Attribute as ObjectAttribute
 from tests.general import full_device
 from tests.images import image_fields
-from tests.images.image_cases import Case, areas, pair, pairs, plural, with_indices
+from tests.images.image_cases import Case, areas, pair, pairs, plural, version_cases, with_indices
 from tests.images.image_fields import image_of, indices_of, objects_of
-from tests.images.image_versions import version_cases
 
 WRITTEN = BY_OWNER | Attribute.WRITTEN
 FIRST = 0x8100_0000
@@ -94,29 +94,28 @@ def with_saved(value, banks=b""):
 # The cases.
 
 
+def of_bytes(of, words, *rows):
+    """A field's bytes that are wrong, and such that are right."""
+    for bad, good in rows:
+        ends = ", the last a zero" if bad.endswith(b"\0") else ""
+        wrong = f"{words} of {plural(len(bad))}{ends}", bad
+        yield from pairs(of, wrong, (f"of {plural(len(good))}", good))
+
+
+def of_handles(of, words, *rows):
+    for bad, good in rows:
+        yield from pairs(of, (f"{words} {bad:08x}", bad), (f"{good:08x}", good))
+
+
 def hierarchy_cases():
     names = "the owner", "endorsement", "the platform", "lockout"
     for handle, name in zip(WITH_VALUES, names):
-        whole = f"of {name} an authorization value"
-        for bad, good in ((b"\0", b""), (b"ab\0", b"ab"), (b"a" * 31 + b"\0", b"a" * 32)):
-            yield from pair(
-                f"{whole} of {plural(len(bad))}, the last a zero",
-                with_auth_value(handle, bad),
-                f"of {plural(len(good))}",
-                with_auth_value(handle, good),
-            )
-        yield from pair(
-            f"{whole} of 33 bytes",
-            with_auth_value(handle, b"a" * 33),
-            "of 32",
-            with_auth_value(handle, b"a" * 32),
-        )
-    yield from pair(
-        "of TPM_RH_NULL an authorization value of a byte",
-        with_auth_value(RH_NULL, b"a"),
-        "of no byte",
-        with_auth_value(RH_NULL, b""),
-    )
+        of, words = partial(with_auth_value, handle), f"of {name} an authorization value"
+        ends = (b"\0", b""), (b"ab\0", b"ab"), (b"a" * 31 + b"\0", b"a" * 32)
+        yield from of_bytes(of, words, *ends)
+        yield from pairs(of, (f"{words} of 33 bytes", b"a" * 33), ("of 32", b"a" * 32))
+    bad = "of TPM_RH_NULL an authorization value of a byte", b"a"
+    yield from pairs(partial(with_auth_value, RH_NULL), bad, ("of no byte", b""))
 
 
 def flag_cases():
@@ -124,36 +123,38 @@ def flag_cases():
         for value in (2, 0xFF):
             yield from pairs(with_byte, (f"{words} is {value}", at, value), ("1", at, 1))
     banks = bytes(SAVED_BANKS)
-    yield from pairs(with_saved, ("what was saved is 3", 3), ("1", 1))
-    yield from pairs(with_saved, ("what was saved is 3, with PCRs", 3, banks), ("2", 2, banks))
-    yield from pairs(with_saved, ("a saved state without PCRs", 2), ("with them", 2, banks))
-    yield from pairs(
-        with_saved, ("a saved state with a byte too few", 2, banks[1:]), ("with all", 2, banks)
-    )
-    yield from pairs(with_saved, ("PCRs without a saved state", 0, banks), ("none", 0))
+    for bad, good in (
+        (("what was saved is 3", 3), ("1", 1)),
+        (("what was saved is 3, with PCRs", 3, banks), ("2", 2, banks)),
+        (("a saved state without PCRs", 2), ("with them", 2, banks)),
+        (("a saved state with a byte too few", 2, banks[1:]), ("with all", 2, banks)),
+        (("PCRs without a saved state", 0, banks), ("none", 0)),
+    ):
+        yield from pairs(with_saved, bad, good)
+
+
+def changed_lists():
+    """Of a full device, whose objects or indices are changed, in words; and what the good one is."""
+    for words, find in (("objects", objects_of), ("indices", indices_of)):
+        for at in (0, 7, len(find(image_fields.body_of(FULL)).groups) - 2):
+            fields = image_fields.body_of(FULL)
+            groups = find(fields).groups
+            groups[at], groups[at + 1] = groups[at + 1], groups[at]
+            yield fields, f"{words} that do not ascend, at {at}", "that do"
+        fields = image_fields.body_of(FULL)
+        groups = find(fields).groups
+        groups[:2] = groups[:1] * 2
+        yield fields, f"two {words} of one handle", "of two"
+        for added in (-1, 1):
+            fields = image_fields.body_of(FULL)
+            count = find(fields).count = len(groups) + added
+            yield fields, f"{len(groups)} {words} with the count {count}", "right"
 
 
 def list_cases():
-    full = image_fields.body_of(FULL)
-    good = image_of(full)
-    for words, find in (("objects", objects_of), ("indices", indices_of)):
-        for at in (0, 7, len(find(full).groups) - 2):
-            turned = copy.deepcopy(full)
-            groups = find(turned).groups
-            groups[at], groups[at + 1] = groups[at + 1], groups[at]
-            text = image_of(turned)
-            yield from pair(f"{words} that do not ascend, at {at}", text, "that do", good)
-        twice = copy.deepcopy(full)
-        groups = find(twice).groups
-        del groups[1]
-        groups.insert(0, groups[0])
-        yield from pair(f"two {words} of one handle", image_of(twice), "of two", good)
-        for added in (-1, 1):
-            counted = copy.deepcopy(full)
-            count = find(counted).count = len(groups) + added
-            text = image_of(counted)
-            yield from pair(f"{len(groups)} {words} with the count {count}", text, "right", good)
-
+    good = image(FULL)
+    for fields, words, of_good in changed_lists():
+        yield from pair(words, image_of(fields), of_good, good)
     device = copy.deepcopy(FULL)
     device.indices[0x0100_00FF] = nv_commands.Index(area(0x0100_00FF, size=0), b"")
     yield from pair("65 indices", image(device), "64", good)
@@ -166,52 +167,32 @@ def list_cases():
 
 
 def object_cases():
-    for bad, good in ((0x8000_0001, FIRST), (0x80FF_FFFF, FIRST), (0x8200_0000, 0x81FF_FFFF)):
-        yield from pair(
-            f"an object of the handle {bad:08x}",
-            one_object(handle=bad),
-            f"{good:08x}",
-            one_object(handle=good),
-        )
-    for bad, good in (
-        (RH_NULL, RH_OWNER),
-        (RH_LOCKOUT, RH_ENDORSEMENT),
-        (0x4000_000D, RH_PLATFORM),
-        (0, RH_OWNER),
-        (FIRST, RH_OWNER),
-    ):
-        yield from pair(
-            f"an object of the hierarchy {bad:08x}",
-            one_object(hierarchy=bad),
-            f"{good:08x}",
-            one_object(hierarchy=good),
-        )
+    handles = (0x8000_0001, FIRST), (0x80FF_FFFF, FIRST), (0x8200_0000, 0x81FF_FFFF)
+    yield from of_handles(lambda it: one_object(handle=it), "an object of the handle", *handles)
+    hierarchies = (
+        *((RH_NULL, RH_OWNER), (RH_LOCKOUT, RH_ENDORSEMENT), (0x4000_000D, RH_PLATFORM)),
+        *((0, RH_OWNER), (FIRST, RH_OWNER)),
+    )
+    of = lambda it: one_object(hierarchy=it)
+    yield from of_handles(of, "an object of the hierarchy", *hierarchies)
     for public, other in ((hmac_key(), frames.SYMCIPHER), (storage_key(), frames.KEYEDHASH)):
-        yield from pair(
-            f"an object of type {public.kind:04x}, and its sensitive area of {other:04x}",
-            one_object(public, kind=other),
-            "of the same",
-            one_object(public),
-        )
+        words = f"an object of type {public.kind:04x}, and its sensitive area of {other:04x}"
+        bad, good = one_object(public, kind=other), one_object(public)
+        yield from pair(words, bad, "of the same", good)
     for name, bad, good in (
         ("auth_value", b"a\0", b"a"),
         ("auth_value", b"a" * 33, b"a" * 32),
         ("seed_value", b"a" * 33, b"a" * 32),
         ("data", b"a" * 129, b"a" * 128),
     ):
-        ends = ", the last a zero" if bad.endswith(b"\0") else ""
-        yield from pair(
-            f"an object's {name.replace('_', ' ')} of {len(bad)} bytes{ends}",
-            one_object(**{name: bad}),
-            f"of {plural(len(good))}",
-            one_object(**{name: good}),
-        )
+        words = f"an object's {name.replace('_', ' ')}"
+        yield from of_bytes(lambda it: one_object(**{name: it}), words, (bad, good))
     for of, words in (
         (lambda size: one_object(name=b"n" * size), "qualified name of 35 bytes"),
         (lambda size: one_object(hmac_key(auth_policy=b"p" * (size - 2))), "policy of 33 bytes"),
         (lambda size: one_object(hmac_key(unique=b"u" * (size - 2))), "unique buffer of 33 bytes"),
     ):
-        yield from pair(f"an object's {words}", of(35), "of one less", of(34))
+        yield from pairs(of, (f"an object's {words}", 35), ("of one less", 34))
     yield from public_cases()
 
 
@@ -226,10 +207,8 @@ def public_cases():
         ("the hash algorithm NULL", dict(name_algorithm=frames.ALG_NULL)),
         ("a scheme of the hash algorithm 000c", dict(scheme=0x000C)),
     ):
-        bad, good = replace(key, **change), key
-        yield from pair(
-            f"an object's public area with {words}", one_object(bad), "without", one_object(good)
-        )
+        bad = f"an object's public area with {words}", replace(key, **change)
+        yield from pairs(one_object, bad, ("without", key))
     for words, at, texts in (
         ("the cipher NULL", 0, (frames.number(frames.ALG_NULL, 2),)),
         ("keys of 256 bits", 1, (frames.number(256, 2),)),
@@ -246,18 +225,14 @@ def public_cases():
         yield from pair(f"a cipher key with {words}", image_of(fields), "AES-128 in CFB", good)
 
 
-def index_cases():
-    yield from pairs(
-        one_index,
-        ("8 bytes of data of an index without WRITTEN", area(), bytes(8)),
-        ("with it", area(attributes=WRITTEN), bytes(8)),
-    )
+def data_cases():
+    """Indices whose data, or the size of it, is not as their public area says."""
+    written = area(attributes=WRITTEN)
+    bad = "8 bytes of data of an index without WRITTEN", area(), bytes(8)
+    yield from pairs(one_index, bad, ("with it", written, bytes(8)))
     for size in (0, 7, 9):
-        yield from pairs(
-            one_index,
-            (f"{size} bytes of data of an index of 8", area(attributes=WRITTEN), bytes(size)),
-            ("8", area(attributes=WRITTEN), bytes(8)),
-        )
+        bad = f"{size} bytes of data of an index of 8", written, bytes(size)
+        yield from pairs(one_index, bad, ("8", written, bytes(8)))
     for words, bad, good in (
         ("a counter of 7 bytes", counter(size=7), counter()),
         ("a counter of 9 bytes", counter(size=9), counter()),
@@ -266,33 +241,28 @@ def index_cases():
         ("one of 32 by SHA-1", extended(algorithm=SHA1, size=32), extended(algorithm=SHA1)),
         ("an ordinary one of 2,049", area(size=2049), area(size=2048)),
     ):
-        words_good = f"of {good.data_size:,}"
-        yield from pairs(one_index, (words, bad), (words_good, good))
+        yield from pairs(one_index, (words, bad), (f"of {good.data_size:,}", good))
+
+
+def index_cases():
+    yield from data_cases()
     for kind in (3, 5, 8, 15):
-        bad = area(attributes=BY_OWNER | of_type(kind))
-        yield from pairs(one_index, (f"an index of type {kind}", bad), ("0", area()))
+        bad = f"an index of type {kind}", area(attributes=BY_OWNER | of_type(kind))
+        yield from pairs(one_index, bad, ("0", area()))
     for bit in (8, 9, 20, 21, 22, 23, 24):
-        bad = area(attributes=BY_OWNER | 1 << bit)
-        yield from pairs(one_index, (f"an index with the bit {bit}", bad), ("without", area()))
-    for handle, good in ((0x00FF_FFFF, 0x0100_0000), (0x0200_0000, 0x01FF_FFFF)):
-        yield from pairs(
-            one_index,
-            (f"an index of the handle {handle:08x}", area(handle)),
-            (f"{good:08x}", area(good)),
-        )
-    bad = replace(area(), name_algorithm=0x000C)
-    yield from pairs(one_index, ("an index by the hash algorithm 000c", bad), ("000b", area()))
-    for words, bad, good in (
-        ("2 bytes, the last a zero", b"a\0", b"a"),
-        ("33 bytes", b"a" * 33, b"a" * 32),
-    ):
-        yield from pairs(
-            one_index,
-            (f"of an index an authorization value of {words}", area(), b"", bad),
-            (f"of {plural(len(good))}", area(), b"", good),
-        )
-    bad, good = (replace(area(), auth_policy=b"p" * size) for size in (33, 32))
-    yield from pairs(one_index, ("of an index a policy of 33 bytes", bad), ("of 32", good))
+        bad = f"an index with the bit {bit}", area(attributes=BY_OWNER | 1 << bit)
+        yield from pairs(one_index, bad, ("without", area()))
+    of, handles = lambda it: one_index(area(it)), (
+        (0x00FF_FFFF, 0x0100_0000),
+        (0x0200_0000, 0x01FF_FFFF),
+    )
+    yield from of_handles(of, "an index of the handle", *handles)
+    bad = "an index by the hash algorithm 000c", replace(area(), name_algorithm=0x000C)
+    yield from pairs(one_index, bad, ("000b", area()))
+    of, words = partial(one_index, area(), b""), "of an index an authorization value"
+    yield from of_bytes(of, words, (b"a\0", b"a"), (b"a" * 33, b"a" * 32))
+    of = lambda size: one_index(replace(area(), auth_policy=b"p" * size))
+    yield from pairs(of, ("of an index a policy of 33 bytes", 33), ("of 32", 32))
 
 
 def size_cases():
@@ -331,11 +301,12 @@ def not_looked_at():
     device.indices[0x0100_0001] = index
     by_sha1, key_by_sha1 = area(algorithm=SHA1), hmac_key(SHA1)
     st_clear = HERE | ObjectAttribute.ST_CLEAR
+    every = area(attributes=sum(Attribute) & ~Attribute.WRITTEN)
     for words, text in (
         ("an index's policy of 5 bytes", one_index(replace(area(), auth_policy=b"12345"))),
         ("an index's value longer than its digest", one_index(by_sha1, b"", b"a" * 32)),
         ("an index that nobody reads or writes", one_index(area(attributes=0))),
-        ("an index with all attributes but WRITTEN", one_index(every_attribute())),
+        ("an index with all attributes but WRITTEN", one_index(every)),
         ("an index that no definition takes", one_index(area(attributes=BY_OWNER | locked))),
         ("an object's policy of 5 bytes", one_object(hmac_key(auth_policy=b"12345"))),
         ("an object's value longer than a digest", one_object(key_by_sha1, auth_value=b"a" * 32)),
@@ -349,10 +320,6 @@ def not_looked_at():
         ("a counter above the largest value", image(device)),
     ):
         yield Case(words, text, True)
-
-
-def every_attribute():
-    return area(attributes=sum(Attribute) & ~Attribute.WRITTEN)
 
 
 def cases():

@@ -11,49 +11,30 @@ written there; where there is one, they have to be those of it.
 
 import os
 import pathlib
-import subprocess
 import sys
 import tempfile
-from dataclasses import dataclass
 
-from tests.common import expected
-from tests.at_random import served_runs as serving
-from tests.common import places
+from tests.common import client, expected
+from tests.common.shims import SERVE, Shim
 from tests.images import version_1
 from tpmsim.model.machine import MANUFACTURED, Model
 
-RANDOM_BYTES = 256
 FIRST_SECOND = 1_000_000
-
-
-@dataclass(frozen=True)
-class Event:
-    """A command, of these random bytes, and the milliseconds since the one before."""
-
-    buffer: bytes
-    random: bytes
-    elapsed: int
+SECONDS = 60
 
 
 def runs_of(script):
     """The commands of each run."""
-    runs, random, elapsed = [[]], bytes(RANDOM_BYTES), 0
-    for line in script.splitlines():
-        word, _, argument = line.partition(" ")
-        buffer = expected.buffer_of(line)
-        if buffer is not None:
-            runs[-1].append(Event(buffer, random, elapsed))
-            elapsed = 0
-        elif word == "power":
+    runs = [[]]
+    for event in expected.events_of(script):
+        if event is None:
             runs.append([])
-        elif word == "entropy":
-            random = (bytes.fromhex(argument) * RANDOM_BYTES)[:RANDOM_BYTES]
-        elif word == "wait":
-            elapsed += int(argument)
-        elif word and not word.startswith("#"):
-            sys.exit(f"a line that is not played here: {line}")
+        else:
+            runs[-1].append(event)
     if any(run and run[0].elapsed for run in runs):
         sys.exit("a run's first command comes at once")
+    if any(it.locality for run in runs for it in run):
+        sys.exit("all commands come from locality 0")
     return runs
 
 
@@ -74,12 +55,8 @@ class Served:
     milliseconds since the first command of a run.
     """
 
-    WORDS = "serve --socket socket --image image --entropy entropy --locality 0 --connections 1"
-
     def __init__(self, program, path):
-        self.program, self.path = os.path.abspath(program), pathlib.Path(path)
-        self.shim, source = self.path / "clock.so", places.TESTS / "common/clock.c"
-        subprocess.run(["cc", "-O1", "-shared", "-fPIC", "-o", self.shim, source], check=True)
+        self.path, self.program = pathlib.Path(path), Shim(os.path.abspath(program), "clock", path)
 
     def is_now(self, time):
         """The host's clock stands there until it is told another time."""
@@ -88,28 +65,22 @@ class Served:
         (self.path / "clock.new").write_text(told, "ascii")
         (self.path / "clock.new").replace(self.path / "clock")
 
-    def began(self):
-        told = {"LD_PRELOAD": str(self.shim), "CLOCK": str(self.path / "clock")}
-        return subprocess.Popen(
-            [self.program, *self.WORDS.split()], cwd=self.path, env={**os.environ, **told}
-        )
-
     def serve(self, run):
         """The responses in a run, one connection of it."""
         random = b"" if (self.path / "image").exists() else MANUFACTURED
         (self.path / "entropy").write_bytes(random + b"".join(it.random for it in run))
         time = 0
         self.is_now(time)
-        process = self.began()
+        process = self.program.begun([*SERVE, "1"], self.path, CLOCK=self.path / "clock")
         try:
-            with serving.connected(str(self.path / "socket"), process) as client:
+            with client.connected(self.path / "socket", process) as connection:
                 answers = []
                 for event in run:
                     time += event.elapsed
                     self.is_now(time)
-                    client.sendall(event.buffer)
-                    answers.append(client.recv(4096))
-            if process.wait(serving.SECONDS):
+                    connection.sendall(event.buffer)
+                    answers.append(connection.recv(4096))
+            if process.wait(SECONDS):
                 sys.exit("the program failed")
             return answers
         finally:

@@ -6,8 +6,7 @@ anew.
 import pathlib
 
 from tpmsim.model import image
-from tpmsim.model.machine import Model
-from tests.common.expected import played_by
+from tests.common.expected import device_behind
 
 FOLDER = pathlib.Path(__file__).with_name("version_1")
 NAMES = "new", "saved", "changed", "locked", "full"
@@ -34,10 +33,7 @@ def spelled(text):
 
 def device_of(name):
     """The device behind the script, each of whose comments names what must come."""
-    device = Model()
-    for _ in played_by(script(name), device):
-        pass
-    return device
+    return device_behind(script(name))
 
 
 def image_of(device):

@@ -9,15 +9,17 @@ each image what was tried; the last line is `N agree, M differ`.
 
 import collections
 import hashlib
+import itertools
 import os
 import sys
 import tempfile
 
 from tpmsim.caller import area, BY_OWNER, CLEAR, counter, sealed, STATE, storage_key
+from tpmsim.caller.prepared_commands import PreparedCommands
 from tpmsim.model import image, nv_commands
 from tpmsim.model.capability import HANDLES, PROPERTIES
 from tpmsim.standard import ALG_NULL, CC, frames, lines, nv, NV, PERSISTENT, RH_ENDORSEMENT
-from tpmsim.standard import RH_LOCKOUT, RH_NULL, RH_OWNER, RH_PLATFORM, SHA256, SYMCIPHER, TRANSIENT
+from tpmsim.standard import RH_NULL, RH_OWNER, RH_PLATFORM, SHA1, SHA256, SYMCIPHER, TRANSIENT
 from tpmsim.standard.handle_kinds import first_byte
 from tpmsim.standard.objects import Attribute
 from tests.at_random import served_runs as serving
@@ -36,122 +38,93 @@ TIME, CLOCK = slice(10, 18), slice(18, 26)
 VERSION = 5
 
 
-# Commands, for a device as it is.
+class Commands(PreparedCommands):
+    """Commands for a device as it is, by the authorization values that it has."""
+
+    def __init__(self, device):
+        super().__init__()
+        self.device = device
+
+    def auth_value(self, handle):
+        return self.device.auth_value(handle)
+
+    def use(self, handle):
+        """A command that needs the sensitive area of an object: a child of it, a MAC, or its data."""
+        public = self.device.objects[handle].public
+        if public.kind == SYMCIPHER:
+            return self.child(handle, sealed(), user_auth=b"auth", data=b"data")
+        if public.has(Attribute.SIGN):
+            algorithm = SHA256 if public.scheme == ALG_NULL else public.scheme
+            return self.hmac(handle, b"data", algorithm)
+        return self.unsealing(handle)
+
+    def asker(self, index):
+        """Who reads an index and writes it."""
+        public = self.device.indices[index].public
+        if public.has(nv.Attribute.OWNERREAD):
+            return RH_OWNER
+        return RH_PLATFORM if public.has(nv.Attribute.PPREAD) else index
+
+    def persistent(self):
+        return sorted(it for it in self.device.objects if first_byte(it) == PERSISTENT)
 
 
-def line(*words):
-    return lines.assemble(" ".join(words).encode("ascii"))
-
-
-def handles(first):
-    return line("GetCapability", str(HANDLES), hex(first << 24), "64")
-
-
-def by(device, handle):
-    """The entry that gives a handle's authorization value."""
-    return [frames.entry(hmac=device.auth_value(handle))]
-
-
-def primary(device, hierarchy):
-    creation = frames.creation(frames.sensitive_create(), frames.sized(storage_key().text))
-    return frames.on_handle(CC.CreatePrimary, hierarchy, creation, by(device, hierarchy))
-
-
-def flush(handle):
-    return frames.command(CC.FlushContext, frames.number(handle, 4))
-
-
-def use(device, handle):
-    """A command that needs the sensitive area of an object: a child of it, a MAC, or its data."""
-    public, entries = device.objects[handle].public, by(device, handle)
-    if public.kind == SYMCIPHER:
-        sensitive = frames.sensitive_create(b"auth", b"data")
-        creation = frames.creation(sensitive, frames.sized(sealed().text))
-        return frames.on_handle(CC.Create, handle, creation, entries)
-    if public.has(Attribute.SIGN):
-        algorithm = SHA256 if public.scheme == ALG_NULL else public.scheme
-        parameters = frames.sized(b"data") + frames.number(algorithm, 2)
-        return frames.on_handle(CC.HMAC, handle, parameters, entries)
-    return frames.on_handle(CC.Unseal, handle, entries=entries)
-
-
-def asker(device, index):
-    """Who reads an index and writes it."""
-    public = device.indices[index].public
-    if public.has(nv.Attribute.OWNERREAD):
-        return RH_OWNER
-    return RH_PLATFORM if public.has(nv.Attribute.PPREAD) else index
-
-
-def on_index(device, code, index, parameters=b""):
-    who = asker(device, index)
-    return frames.on_handles(code, [who, index], parameters, by(device, who))
-
-
-def looks(device):
+def looks(tpm):
     """All that can be seen, a session that was lost, and a use of each secret."""
     for first in (NV, frames.HMAC_SESSION, TRANSIENT, PERSISTENT):
-        yield handles(first)
-    yield line("PolicyGetDigest", "03000000")
-    yield line("GetCapability", str(PROPERTIES), "0x100", "64")
-    for bank in ("sha1", "sha256"):
-        for pcrs in ("0,1,2,3,4,5,6,7", "8,9,10,11,12,13,14,15", "16,17,18,19,20,21,22,23"):
-            yield line("PCR_Read", f"{bank}:{pcrs}")
-    for handle in sorted(it for it in device.objects if first_byte(it) == PERSISTENT):
-        yield line("ReadPublic", f"{handle:08x}")
-        yield use(device, handle)
-    for index, held in sorted(device.indices.items()):
-        yield line("NV_ReadPublic", f"{index:08x}")
+        yield tpm.capability(HANDLES, first << 24, 64)
+    yield tpm.command("PolicyGetDigest", 0x0300_0000)
+    yield tpm.capability(PROPERTIES, 0x100, 64)
+    for bank, first in itertools.product((SHA1, SHA256), (0, 8, 16)):
+        yield tpm.asked(CC.PCR_Read, [], (), [(bank, range(first, first + 8))])
+    for handle in tpm.persistent():
+        yield tpm.public(handle)
+        yield tpm.use(handle)
+    for index, held in sorted(tpm.device.indices.items()):
+        yield tpm.index_public(index)
         size = held.public.data_size
         for offset in range(0, max(size, 1), AT_ONCE):
-            reading = frames.nv_read(min(AT_ONCE, size - offset), offset)
-            yield on_index(device, CC.NV_Read, index, reading)
+            at_once = min(AT_ONCE, size - offset)
+            yield tpm.reading(index, at_once, offset=offset, by=tpm.asker(index))
     for hierarchy in PRIMARY:
-        yield primary(device, hierarchy)
-        yield flush(FIRST_TRANSIENT)
+        yield tpm.primary(hierarchy, storage_key())
+        yield tpm.flush(FIRST_TRANSIENT)
 
 
-def changes(device):
+def changes(tpm):
     """What hangs on the largest value of a counter, and on authorization values; and wrong ones. An
     index more is defined, even if the image has as many as its version can have.
     """
-    for index, held in sorted(device.indices.items()):
+    for index, held in sorted(tpm.device.indices.items()):
         if held.public.kind == nv.Type.COUNTER:
-            yield on_index(device, CC.NV_Increment, index)
-            yield on_index(device, CC.NV_Read, index, frames.nv_read(nv.NUMBER_BYTES, 0))
-    define = frames.nv_define_space(counter(NEW_COUNTER, BY_OWNER).text)
-    yield frames.on_handle(CC.NV_DefineSpace, RH_OWNER, define, by(device, RH_OWNER))
-    used, reading = [RH_OWNER, NEW_COUNTER], frames.nv_read(nv.NUMBER_BYTES, 0)
-    yield frames.on_handles(CC.NV_Increment, used, entries=by(device, RH_OWNER))
-    yield frames.on_handles(CC.NV_Read, used, reading, by(device, RH_OWNER))
-    yield line("PCR_Event", "00000005", "pw:-", "6576656e74")
+            yield tpm.incrementing(index, by=tpm.asker(index))
+            yield tpm.reading(index, nv.NUMBER_BYTES, by=tpm.asker(index))
+    yield tpm.defining(counter(NEW_COUNTER, BY_OWNER))
+    yield tpm.incrementing(NEW_COUNTER, by=RH_OWNER)
+    yield tpm.reading(NEW_COUNTER, nv.NUMBER_BYTES, by=RH_OWNER)
+    yield tpm.event(b"event", b"", pcr=5)
     for hierarchy in WITH_VALUES:
-        entries = by(device, hierarchy)
-        yield frames.on_handle(CC.HierarchyChangeAuth, hierarchy, frames.sized(b"new"), entries)
-    for handle in sorted(it for it in device.objects if first_byte(it) == PERSISTENT):
-        yield line("Unseal", f"{handle:08x}", "pw:77726f6e67")
-    yield frames.on_handle(CC.DictionaryAttackLockReset, RH_LOCKOUT, entries=by(device, RH_LOCKOUT))
-    yield line("DictionaryAttackLockReset", "LOCKOUT", "pw:77726f6e67")
+        yield tpm.change_auth(hierarchy, b"new", tpm.auth_value(hierarchy))
+    for handle in tpm.persistent():
+        yield tpm.unsealing(handle, b"wrong")
+    yield tpm.lock_reset()
+    yield tpm.lock_reset(b"wrong")
 
 
-def starting(kind):
-    return line("Startup", str(kind))
-
-
-def resumed(device):
+def resumed(tpm):
     """A start by a saved state, or another where nothing is saved; and all of the above."""
-    yield starting(STATE)
-    yield starting(CLEAR)
-    yield from looks(device)
-    yield from changes(device)
-    yield line("Shutdown", str(STATE))
+    yield tpm.starting(STATE)
+    yield tpm.starting(CLEAR)
+    yield from looks(tpm)
+    yield from changes(tpm)
+    yield tpm.shutting_down(STATE)
 
 
-def restarted(device):
+def restarted(tpm):
     """A start that may be a restart; then what is the owner's goes, where nothing forbids it."""
-    yield starting(CLEAR)
-    yield frames.on_handle(CC.Clear, RH_PLATFORM, entries=by(device, RH_PLATFORM))
-    yield from looks(device)
+    yield tpm.starting(CLEAR)
+    yield tpm.clearing(RH_PLATFORM)
+    yield from looks(tpm)
 
 
 # Comparing.
@@ -160,7 +133,8 @@ def restarted(device):
 def taken(text, commands):
     """The commands, each for the device as it is behind those before."""
     device = image.open_image(text)
-    for buffer in commands(device):
+    for prepared in commands(Commands(device)):
+        buffer = prepared.buffer()
         yield buffer
         device.execute(buffer, 0, streams.random_of(buffer))
 
@@ -206,8 +180,7 @@ class Comparison:
 
     def run(self, text, buffers, connections=1):
         """What the program answers in a run on an image, what it says, and what it saves."""
-        run = streams.Run(0, 0, text, True)
-        run.random = b"".join(map(streams.random_of, buffers))
+        run = streams.Run(0, 0, text, True, b"".join(map(streams.random_of, buffers)))
         run.connections = [streams.Connection(AT_ONCE) for _ in range(connections)]
         for connection in run.connections:
             connection.sent = b"".join(buffers)
@@ -226,7 +199,7 @@ class Comparison:
 
     def opened(self, text, words, commands):
         """Commands, and TPM2_ReadClock behind them, to the device that an image is of."""
-        buffers = [*taken(text, commands), line("ReadClock")]
+        buffers = [*taken(text, commands), lines.assemble(b"ReadClock")]
         (answers,), error, saved = self.run(text, buffers)
         device = image.open_image(text)
         outcomes = executed(device, buffers, answers[-1] if answers else b"")

@@ -12,22 +12,18 @@ and no call may take more stack than tpmsim.h says.
 """
 
 import pathlib
-import subprocess
 import sys
 from collections.abc import Iterator
+from itertools import zip_longest
 
 from tpmsim.model.image import image, open_image
 from tpmsim.model.machine import Model, Outcome
 from tpmsim.model.player import Player
 from tests.common import places
+from tests.common.shims import fail, ran
 
-SECONDS = 60
 MEMORY, ACTIONS = 255, 20
 MOST_STACK = 64 * 1024
-
-
-def fail(words: str) -> None:
-    sys.exit(f"WRONG: {words}")
 
 
 def check_number(check: str) -> int:
@@ -112,20 +108,17 @@ class Script:
 
     def run(self, program: str) -> list[str]:
         """What a program prints of the script."""
-        ran = subprocess.run(
-            [program], input=self.plain, capture_output=True, text=True, timeout=SECONDS
-        )
-        if ran.returncode or ran.stderr:
-            self.fail(f"{program}: status {ran.returncode}: {ran.stderr[:2000]}")
-        return ran.stdout.splitlines()
+        given = ran(program, stdin=self.plain.encode("ascii"))
+        if given.status or given.error:
+            self.fail(f"{program}: {given}")
+        return given.output.decode("ascii").splitlines()
 
     def check(self, player: str) -> None:
         given = self.run(player)
-        for number, (one, other) in enumerate(zip(self.wanted, given), 1):
+        pairs = zip_longest(self.wanted, given, fillvalue="no more")
+        for number, (one, other) in enumerate(pairs, 1):
             if one != other:
-                self.fail(f"command {number}: wanted {one[:200]}, given {other[:200]}")
-        if len(given) != len(self.wanted):
-            self.fail(f"{len(self.wanted)} lines are wanted, and {len(given)} given")
+                self.fail(f"line {number}: wanted {one[:200]}, given {other[:200]}")
         self.check_files(given[:-2])
 
     def check_files(self, given: list[str]) -> None:

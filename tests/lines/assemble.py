@@ -7,7 +7,7 @@ A line stands in assemble.lines as printf takes it: a byte that is no ASCII is \
 import pathlib
 import re
 
-from tpmsim.standard import lines
+from tests.common.expected import assembled
 
 
 def spelled(written):
@@ -21,11 +21,9 @@ def spelled(written):
 
 
 def outcome(label, line):
-    try:
-        status, output, error = 0, lines.assemble(line).hex(), ""
-    except lines.Fault as fault:
-        status, output, error = 2, "", f"tpmsim: asm {fault}"
-    return f'{label}: status {status}, output "{output}", error "{error}"'
+    ended = assembled(line)
+    output, error = (it.decode("ascii").strip() for it in (ended.output, ended.error))
+    return f'{label}: status {ended.status}, output "{output}", error "{error}"'
 
 
 def long_lines():

@@ -113,7 +113,7 @@ do EvictControl OWNER 81000001 pw:- 0x81000001
 END
 { cat before.tpm && echo power && cat after.tpm; } >both.tpm
 trace both.tpm both
-python3 "$scripts/image_after.py" before.tpm image
+python3 "$tests/images/images.py" before.tpm image
 tail -n "$((2 * $(wc -l <after.tpm)))" both >after
 judge 'ANOTHER START:'
 judge 'two starts from a new device' both.tpm both

@@ -10,7 +10,25 @@ import contextlib
 import io
 import sys
 
-from tpmsim.audit import main as audit
+from tpmsim.audit import main as audit, start
+from tpmsim.audit.auditor import Auditor
+from tpmsim.audit.log import Disagreement, Log
+from tpmsim.model import player
+
+
+def printed(script):
+    """What a device as it is now prints of a script."""
+    return "".join(f"{it}\n" for _, it in player.played(script)[0]).encode()
+
+
+def audited(script, output, files=(), begin=None):
+    """The auditor of what is printed of a script, and what it finds at fault, if anything."""
+    auditor = Auditor(begin or start.new(), Log(output), files)
+    try:
+        auditor.read(script)
+    except Disagreement as fault:
+        return auditor, str(fault)
+    return auditor, None
 
 
 def run(label, *words):

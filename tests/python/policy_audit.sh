@@ -257,7 +257,7 @@ do NV_Write 01000001 01000001 s:03000000:00000000000000000000000000000000:01:- 0
 END
 { cat before.tpm && echo power && cat after.tpm; } >both.tpm
 "$program" run --trace both.tpm | tail -n 8 >after
-python3 "$scripts/image_after.py" before.tpm image
+python3 "$tests/images/images.py" before.tpm image
 echo 'PolicyCommandCode NV_Write' >policy
 echo 'FROM AN IMAGE:'
 python3 "$audit" after.tpm after --policy policy --image image | sed -n '/^Policy policy/,/^Each/p'

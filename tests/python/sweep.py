@@ -10,27 +10,26 @@ says which logs do not agree, leaves their scripts, and counts. The status is 1 
 
 import pathlib
 import random
-import subprocess
 import sys
 import tempfile
 
 from tpmsim.audit import start
-from tpmsim.audit.auditor import Auditor
-from tpmsim.audit.log import Disagreement, Log
 from tpmsim.audit.report import report
 from tpmsim.model.image import image
 from tpmsim.model.player import Player
 from tests.common import places
+from tests.common.shims import ran
+from tests.python.cases import audited
 from tests.at_random.bent_script import bent_script
-from tests.at_random.random_script import Writer
+from tests.at_random.random_script import written
 
 COMMANDS = 400
 
 
 def traced(program, path):
     """What the program prints of a script, and what it says on standard error."""
-    ran = subprocess.run([program, "run", "--trace", path], capture_output=True, timeout=60)
-    return ran.stdout, ran.stderr.decode("ascii", "replace").strip()
+    ended = ran(program, "run", "--trace", path)
+    return ended.output, ended.error.decode("ascii", "replace").strip()
 
 
 def wanted_of(error):
@@ -64,15 +63,10 @@ class Sweep:
 
     def judge(self, path, begin, script, output, wanted=None):
         """Whether a log agrees, or is at fault as it is to be."""
-        auditor, fault = Auditor(begin, Log(output)), None
-        try:
-            auditor.read(script)
-        except Disagreement as found:
-            fault = str(found)
+        auditor, fault = audited(script, output, begin=begin)
         list(report(auditor))
         self.events += auditor.counts.events
-        self.agree += fault == wanted
-        self.differ += fault != wanted
+        self.agree, self.differ = self.agree + (fault == wanted), self.differ + (fault != wanted)
         if fault != wanted:
             print(f"DIFFERS: {path}, {begin.words}: {fault or 'all agrees'}", flush=True)
         return fault == wanted
@@ -82,9 +76,7 @@ class Sweep:
         return self.judge(path, start.new(), path.read_bytes(), output, wanted_of(error))
 
     def judge_random(self, seed, folder):
-        writer = Writer(seed)
-        for _ in range(COMMANDS):
-            writer.step()
+        writer = written(seed, COMMANDS)
         path, bent = folder / f"{seed}.tpm", folder / f"{seed}.bent.tpm"
         path.write_text("\n".join(writer.lines) + "\n", "ascii")
         bent.write_bytes(bent_script(random.Random(f"{seed} bent"), writer.lines)[0])

@@ -8,39 +8,36 @@ It prints what is told by each policy, and how tools/audit.py ends, of files in 
 is 1 where a use that does not meet its policy is taken to meet it, or the other way round.
 """
 
-import hashlib
 import pathlib
 import sys
 from contextlib import ExitStack
 from unittest import mock
 
-from tpmsim.audit import broken, start
-from tpmsim.audit.auditor import Auditor
-from tpmsim.audit.log import Log
-from tpmsim.model import player
+from tpmsim.audit import broken
 from tpmsim.policies import policy_texts, written
 from tpmsim.policies.policy_file import PolicyFile
-from tpmsim.standard import SHA1, SHA256, digest, policy
+from tpmsim.standard import CC, SHA1, SHA256, digest, nv, policy
 from tests.python import cases
 
 # What TPM2_PolicyLocality of locality 0 is hashed by, behind the digest of a start.
 LOCALITY_0 = bytes.fromhex("0000016f01")
-AREA = "01000001 {:04x} 00080008 {:04x} {} 0008"
+ATTRIBUTES = nv.Attribute.POLICYREAD | nv.Attribute.POLICYWRITE
 
 # Two branches of a policy, by SHA-1, and the end of the first with the beginning of the next.
-UNSEAL = hashlib.sha1(bytes(20) + bytes.fromhex("0000016c0000015e")).digest()
-VALUE = hashlib.sha1(bytes(20) + bytes.fromhex("0000016b")).digest()
+UNSEAL = policy.after_command_code(SHA1, bytes(20), CC.Unseal)
+VALUE = policy.after_auth_value(SHA1, bytes(20))
 MIDDLE = UNSEAL[10:] + VALUE[:10]
 
 # By SHA-256: the owner's secret and that of another hierarchy, before policyRef; and a command.
 OWNER = bytes(32) + bytes.fromhex("0000015140000001")
 PLATFORM = bytes(32) + bytes.fromhex("000001514000000c")
-WRITE = hashlib.sha256(bytes(32) + bytes.fromhex("0000016c00000137")).digest()
+BY_OWNER = digest(SHA256, digest(SHA256, OWNER))
+WRITE = policy.after_command_code(SHA256, bytes(32), CC.NV_Write)
 
 
 def script(algorithm, auth_policy, *assertions):
     """An index that its policy alone authorizes, and a use of it behind assertions."""
-    area = AREA.format(algorithm, len(auth_policy), auth_policy.hex()).replace(" ", "")
+    area = nv.Public(0x0100_0001, algorithm, ATTRIBUTES, auth_policy, 8).text.hex()
     name = "sha1" if algorithm == SHA1 else "sha256"
     return [
         "do Startup 0",
@@ -51,16 +48,19 @@ def script(algorithm, auth_policy, *assertions):
     ]
 
 
+def by_either(first, second, *branches):
+    """The same by the policy of two branches, which the session is told in pieces."""
+    told = f"PolicyOR 03000000 {'+'.join(it.hex() for it in branches)}"
+    return script(SHA1, policy.after_or(SHA1, [first, second]), "PolicyLocality 03000000 0x1", told)
+
+
+# What is broken; the texts with other hashes; the policy; a script; and whether it meets the policy.
 WEAK = (
     (
         "two texts have one hash",
-        {PLATFORM: hashlib.sha256(OWNER).digest()},
+        {PLATFORM: digest(SHA256, OWNER)},
         "PolicySecret OWNER -",
-        script(
-            SHA256,
-            hashlib.sha256(hashlib.sha256(OWNER).digest()).digest(),
-            "PolicySecret PLATFORM 03000000 pw:- - - - 0",
-        ),
+        script(SHA256, BY_OWNER, "PolicySecret PLATFORM 03000000 pw:- - - - 0"),
         False,
     ),
     (
@@ -74,24 +74,14 @@ WEAK = (
         "a text has a hash that is astride two branches",
         {bytes(20) + LOCALITY_0: MIDDLE},
         "either\n    PolicyCommandCode Unseal\nor\n    PolicyAuthValue",
-        script(
-            SHA1,
-            hashlib.sha1(bytes(20) + bytes.fromhex("00000171") + UNSEAL + VALUE).digest(),
-            "PolicyLocality 03000000 0x1",
-            f"PolicyOR 03000000 {UNSEAL[:10].hex()}+{MIDDLE.hex()}+{VALUE[10:].hex()}",
-        ),
+        by_either(UNSEAL, VALUE, UNSEAL[:10], MIDDLE, VALUE[10:]),
         False,
     ),
     (
         "two branches have one hash, and the second one is met",
         {bytes(20) + LOCALITY_0: UNSEAL},
         "either\n    PolicyCommandCode Unseal\nor\n    PolicyLocality 0",
-        script(
-            SHA1,
-            hashlib.sha1(bytes(20) + bytes.fromhex("00000171") + UNSEAL + UNSEAL).digest(),
-            "PolicyLocality 03000000 0x1",
-            f"PolicyOR 03000000 {UNSEAL.hex()}+{UNSEAL.hex()}",
-        ),
+        by_either(UNSEAL, UNSEAL, UNSEAL, UNSEAL),
         True,
     ),
 )
@@ -109,10 +99,9 @@ def weakly(other):
 def judged(lines, text):
     """The auditor of what the device prints of a script, by a policy, and what it prints."""
     played = "\n".join(lines).encode()
-    printed, _ = player.played(played)
-    output = "".join(f"{it}\n" for _, it in printed).encode()
-    auditor = Auditor(start.new(), Log(output), [PolicyFile("policy", text.encode())])
-    auditor.read(played)
+    output = cases.printed(played)
+    auditor, fault = cases.audited(played, output, [PolicyFile("policy", text.encode())])
+    assert fault is None, fault
     return auditor, output
 
 

@@ -11,15 +11,13 @@ import sys
 from dataclasses import replace
 from unittest import mock
 
-from tpmsim.audit import start
-from tpmsim.audit.auditor import Auditor
-from tpmsim.audit.log import Disagreement, Log
-from tpmsim.model import machine, player, policy_state
+from tpmsim.model import machine, policy_state
 from tpmsim.model.general import Refusal
 from tpmsim.model.machine import Model
 from tpmsim.model.protection import Lockout
 from tpmsim.standard import CC, frames, policy
 from tests.common import places
+from tests.python.cases import audited, printed
 
 check_use, accepts, nv_increment = policy_state.check_use, Model.accepts, Model.nv_increment
 restore_pcrs, start_session = Model.restore_pcrs, Model.start_auth_session
@@ -94,76 +92,61 @@ def in_device(name, method):
     return mock.patch.object(Model, name, method)
 
 
+def in_policy(check):
+    return mock.patch.object(policy_state, "check_use", check)
+
+
 def in_policies(refused):
-    return mock.patch.object(policy_state, "check_use", unless(refused))
+    return in_policy(unless(refused))
 
 
-def in_lockout(name, method):
-    return mock.patch.object(Lockout, name, method)
+def always(*_):
+    return True
 
 
+def nothing(*_):
+    return None
+
+
+BOUND = in_device("is_bound", lambda self, session, handle: session.bind == self.name(handle))
+MASKS = in_device("encryption_key", lambda self, session, handle: session.key)
+BEGINS = in_rows(CC.StartAuthSession, keeps_a_digest)
 WRONG = (
     ("a trial session authorizes", "object_policies", in_policies("ATTRIBUTES")),
     ("PCRs may change after TPM2_PolicyPCR", "callers_in_turn", in_policies("PCR_CHANGED")),
     ("any command code will do", "nv_policies", in_policies("POLICY_CC")),
     ("any locality will do", "object_policies", in_policies("LOCALITY")),
     ("any digest will do", "object_policies", in_policies("POLICY_FAIL")),
-    (
-        "an index may be written or not",
-        "policy_nv_written",
-        mock.patch.object(policy_state, "check_use", written_or_not),
-    ),
-    (
-        "any cpHash will do",
-        "policy_cp_hash",
-        mock.patch.object(policy_state, "check_use", any_cp_hash),
-    ),
+    ("an index may be written or not", "policy_nv_written", in_policy(written_or_not)),
+    ("any cpHash will do", "policy_cp_hash", in_policy(any_cp_hash)),
     ("what has no policy is authorized by one", "clear", in_policies("AUTH_UNAVAILABLE")),
     ("any password will do", "passwords", in_device("accepts", takes_any_password)),
     ("an empty hmac will do", "hmac_sessions", in_device("accepts", takes_no_hmac)),
     (
         "a value authorizes what has no userWithAuth",
         "nv_access",
-        in_device("takes_auth_value", lambda self, handle, code: True),
+        in_device("takes_auth_value", always),
     ),
-    (
-        "a session is bound whatever the value is",
-        "hmac_sessions",
-        in_device("is_bound", lambda self, session, handle: session.bind == self.name(handle)),
-    ),
-    (
-        "masks are made without the authorization value",
-        "xor_sessions",
-        in_device("encryption_key", lambda self, session, handle: session.key),
-    ),
-    (
-        "nonces stay",
-        "callers_in_turn",
-        in_device("draw_nonces", lambda self, command, random: None),
-    ),
+    ("a session is bound whatever the value is", "hmac_sessions", BOUND),
+    ("masks are made without the authorization value", "xor_sessions", MASKS),
+    ("nonces stay", "callers_in_turn", in_device("draw_nonces", nothing)),
     ("a policy stays when it was used", "nv_policies", in_device("end_use", keeps_policy)),
-    (
-        "a session begins with a digest",
-        "policy_sessions",
-        in_rows(CC.StartAuthSession, keeps_a_digest),
-    ),
+    ("a session begins with a digest", "policy_sessions", BEGINS),
     ("PCR 16 is saved too", "startup_state", in_device("restore_pcrs", restores_16_too)),
     ("a counter begins at 1", "nv_counters", in_rows(CC.NV_Increment, counts_from_1)),
-    ("guesses are not counted", "lockout", in_lockout("count", lambda self, touched: None)),
-    ("guesses are no guesses", "lockout", in_device("touched", lambda self, entry, handle: None)),
+    ("guesses are not counted", "lockout", mock.patch.object(Lockout, "count", nothing)),
+    ("guesses are no guesses", "lockout", in_device("touched", nothing)),
 )
+
+
+def script_of(name):
+    return places.script(name).read_bytes()
 
 
 def fault_of(name):
     """What is found of a device as it is now, by the script of a name."""
-    script = places.script(name).read_bytes()
-    printed, _ = player.played(script)
-    auditor = Auditor(start.new(), Log("".join(f"{it}\n" for _, it in printed).encode()))
-    try:
-        auditor.read(script)
-    except Disagreement as fault:
-        return str(fault)
-    return None
+    script = script_of(name)
+    return audited(script, printed(script))[1]
 
 
 def main():

@@ -15,16 +15,14 @@ from unittest import mock
 
 import wrong_devices as wrong  # it lets the parts of the device and of the audit be found
 
-from tpmsim.audit import start
 from tpmsim.audit.auditor import Auditor
 from tpmsim.audit.conditions import Finding
 from tpmsim.audit.ground import Grounds
-from tpmsim.audit.log import Disagreement, Log
 from tpmsim.audit.uses import Uses
-from tpmsim.model import player, policy_state
 from tpmsim.model.general import Answer
 from tpmsim.policies.policy_file import PolicyFile
 from tpmsim.standard import CC, policy
+from tests.python.cases import audited, printed
 
 LOST, WRITTEN = "lost_grounds", "written_policies"
 
@@ -41,10 +39,6 @@ def does_nothing(self, request):
     return Answer()
 
 
-def in_policy(check):
-    return mock.patch.object(policy_state, "check_use", check)
-
-
 WRONG = (
     ("PCRs may change after TPM2_PolicyPCR", LOST, wrong.in_policies("PCR_CHANGED")),
     ("the same", WRITTEN, wrong.in_policies("PCR_CHANGED")),
@@ -52,14 +46,14 @@ WRONG = (
     ("the same", WRITTEN, wrong.in_policies("POLICY_CC")),
     ("any locality will do", LOST, wrong.in_policies("LOCALITY")),
     ("the same", WRITTEN, wrong.in_policies("LOCALITY")),
-    ("an index may be written or not", LOST, in_policy(wrong.written_or_not)),
-    ("the same", WRITTEN, in_policy(wrong.written_or_not)),
-    ("any cpHash will do", WRITTEN, in_policy(wrong.any_cp_hash)),
+    ("an index may be written or not", LOST, wrong.in_policy(wrong.written_or_not)),
+    ("the same", WRITTEN, wrong.in_policy(wrong.written_or_not)),
+    ("any cpHash will do", WRITTEN, wrong.in_policy(wrong.any_cp_hash)),
     ("a trial session authorizes", LOST, wrong.in_policies("ATTRIBUTES")),
     ("any digest will do", LOST, wrong.in_policies("POLICY_FAIL")),
     ("the same", WRITTEN, wrong.in_policies("POLICY_FAIL")),
-    ("any value will do", LOST, wrong.in_device("accepts", lambda *_: True)),
-    ("the same", WRITTEN, wrong.in_device("accepts", lambda *_: True)),
+    ("any value will do", LOST, wrong.in_device("accepts", wrong.always)),
+    ("the same", WRITTEN, wrong.in_device("accepts", wrong.always)),
     ("a policy stays when it was used", WRITTEN, wrong.in_device("end_use", wrong.keeps_policy)),
     ("TPM2_PolicyRestart does nothing", WRITTEN, wrong.in_rows(CC.PolicyRestart, does_nothing)),
     ("TPM2_PolicyOR takes any digests", WRITTEN, wrong.in_rows(CC.PolicyOR, or_of_any_digest)),
@@ -76,25 +70,6 @@ def policies_alone():
     return stack
 
 
-def printed(name):
-    """What a device as it is now prints of a script."""
-    return "".join(f"{it}\n" for _, it in player.played(script_of(name))[0]).encode()
-
-
-def script_of(name):
-    return wrong.places.script(name).read_bytes()
-
-
-def audited(name, output, files):
-    """The auditor of what is printed of a script, and what it finds."""
-    auditor = Auditor(start.new(), Log(output), files)
-    try:
-        auditor.read(script_of(name))
-    except Disagreement as fault:
-        return auditor, str(fault)
-    return auditor, None
-
-
 def files_of(folder):
     return [PolicyFile(it.name, it.read_bytes()) for it in sorted(folder.iterdir())]
 
@@ -103,14 +78,16 @@ def main(folder):
     missed = 0
     files = {it: files_of(pathlib.Path(folder) / it) for it in (LOST, WRITTEN)}
     for name, given in files.items():
-        auditor, fault = audited(name, printed(name), given)
+        script = wrong.script_of(name)
+        auditor, fault = audited(script, printed(script), given)
         assert fault is None and not auditor.policies.faults(), name
     for words, name, patch in WRONG:
+        script = wrong.script_of(name)
         with patch:
-            output = printed(name)
-            auditor, fault = audited(name, output, files[name])
+            output = printed(script)
+            auditor, fault = audited(script, output, files[name])
             with policies_alone():
-                alone, stopped = audited(name, output, files[name])
+                alone, stopped = audited(script, output, files[name])
         assert stopped is None, stopped
         found = fault or next(iter(auditor.policies.unmet()), None)
         missed += found is None or not alone.policies.unmet()

@@ -7,7 +7,7 @@ tests=$(cd "$(dirname "$0")/.." && pwd -P)
 for test in objects/sealed_to_pcrs objects/object_sessions sessions/session_encryption; do
     name=${test#*/}
     rm -f image
-    count=$(python3 "$tests/common/replay.py" prepare "$program" "$tests/$test.tpm")
+    count=$(python3 "$tests/common/replay.py" prepare "$tests/$test.tpm")
     begin "$count"
     python3 "$tests/common/replay.py" send socket >"$room/responses"
     ended "$name"

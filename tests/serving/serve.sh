@@ -37,7 +37,7 @@ ended 'three connections'
 rm -f image
 begin 2
 echo 'two connections that take turns with each byte:'
-python3 "$tests/common/ends.py" turns socket "$startup" "$random" "$random" | sed 's/^/    /'
+python3 "$tests/common/clients.py" turns socket "$startup" "$random" "$random" | sed 's/^/    /'
 ended 'two connections'
 
 # A size field of 9, or of 4,097, is answered, and ends the connection.

@@ -7,5 +7,5 @@ tests=$(cd "$(dirname "$0")/.." && pwd -P)
 rm -f entropy image
 ln -s /dev/zero entropy
 begin 1
-python3 "$tests/common/clock.py" socket
+python3 "$tests/common/clients.py" clock socket
 ended 'a second of commands'

@@ -12,13 +12,13 @@ ln -s /dev/zero entropy
 for kind in read write; do
     rm -f image
     begin 2
-    python3 "$tests/common/ends.py" "$kind" socket "$startup" "$change"
+    python3 "$tests/common/clients.py" "$kind" socket "$startup" "$change"
     talk "behind a failed $kind the authorization value is asked for" 4096 "$change"
     ended 'two connections'
 
     rm -f image
     begin 1
-    python3 "$tests/common/ends.py" "$kind" socket "$startup" "$change"
+    python3 "$tests/common/clients.py" "$kind" socket "$startup" "$change"
     ended "a connection that a failed $kind ends"
     begin 1
     talk 'and in the next run too' 4096 "$startup" "$change"

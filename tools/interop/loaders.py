@@ -30,8 +30,8 @@ SHARED_BANKS = (0x0004, 0x000B)
 ARM = "qemu-system-aarch64 -machine virt -cpu cortex-a57 -m 512 -display none -nodefaults -serial stdio"
 PC = "qemu-system-x86_64 -machine q35 -m 256 -display none -nodefaults -serial stdio"
 ARM_TPM, PC_TPM = "tpm-tis-device,tpmdev=tpm0", "tpm-crb,tpmdev=tpm0"
-OVMF = pathlib.Path("/usr/share/OVMF")
-AAVMF = pathlib.Path("/usr/share/AAVMF")
+OVMF = ("/usr/share/OVMF/OVMF_CODE_4M.fd", "/usr/share/OVMF/OVMF_VARS_4M.fd")
+AAVMF = ("/usr/share/AAVMF/AAVMF_CODE.fd", "/usr/share/AAVMF/AAVMF_VARS.fd")
 
 
 @dataclass(frozen=True)
@@ -57,32 +57,14 @@ UBOOT_STEPS = (
     ("PCR #10 content", ""),
 )
 
+SHELL = (("Shell>", ""),)
+FAULTS = ("Cannot initialize UEFI", "Error: 1", "Couldn't")
+UBOOT = ARM + " -bios /usr/lib/u-boot/qemu_arm64/u-boot.bin"
 LOADERS = {
-    "uboot": Loader(
-        ARM + " -bios /usr/lib/u-boot/qemu_arm64/u-boot.bin",
-        ARM_TPM,
-        steps=UBOOT_STEPS,
-        refused=("Cannot initialize UEFI", "Error: 1", "Couldn't"),
-    ),
-    "aavmf": Loader(
-        ARM,
-        ARM_TPM,
-        (str(AAVMF / "AAVMF_CODE.fd"), str(AAVMF / "AAVMF_VARS.fd")),
-        (("Shell>", ""),),
-    ),
-    "ovmf": Loader(
-        PC,
-        PC_TPM,
-        (str(OVMF / "OVMF_CODE_4M.fd"), str(OVMF / "OVMF_VARS_4M.fd")),
-        (("Shell>", ""),),
-    ),
-    "grub": Loader(
-        PC,
-        PC_TPM,
-        (str(OVMF / "OVMF_CODE_4M.fd"), str(OVMF / "OVMF_VARS_4M.fd")),
-        (("GRUB IS HERE", ""),),
-        has_grub=True,
-    ),
+    "uboot": Loader(UBOOT, ARM_TPM, steps=UBOOT_STEPS, refused=FAULTS),
+    "aavmf": Loader(ARM, ARM_TPM, AAVMF, SHELL),
+    "ovmf": Loader(PC, PC_TPM, OVMF, SHELL),
+    "grub": Loader(PC, PC_TPM, OVMF, (("GRUB IS HERE", ""),), has_grub=True),
 }
 
 
@@ -158,8 +140,7 @@ def shared_part(command: bytes) -> str:
 
 
 def extends_of(log: str) -> list[tuple[str, str]]:
-    """The shared part of each PCR_Extend of a log of swtpm at level 20, with the code of its response, in
-    hex."""
+    """Of each PCR_Extend of a log at level 20 the shared part, and the response code, in hex."""
     form = r"SWTPM_IO_(Read|Write): length \d+\s*\n((?:\s*(?:[0-9A-F]{2} ?)+\s*\n)+)"
     extends, last = [], b""
     for kind, text in re.findall(form, log):

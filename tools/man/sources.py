@@ -18,8 +18,7 @@ class Missing(Exception):
 
 @dataclass
 class Part:
-    """A section of a document: its text, how many levels its headings have above them, and the
-    anchors of all headings in it."""
+    """A section: its document, its text, how many levels are above it, and the anchors in it."""
 
     document: str
     text: str

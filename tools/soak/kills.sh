@@ -21,7 +21,7 @@ export PYTHONDONTWRITEBYTECODE=1
 common=$top/tests/common
 count=${1:-1000}
 mkdir each
-if python3 "$common/kills.py" "$program" "$count" "${2:-1}" counts &&
+if "$top/tools/python.sh" "$common/kills.py" "$program" "$count" "${2:-1}" counts &&
     cd each && "$top/tools/python.sh" "$common/save_each.py" "$program" "$count"; then
     rm -rf "$folder"
 else

@@ -1,0 +1,39 @@
+"""The image that a run of the program keeps, beside the device in Python that it has to be of."""
+
+import pathlib
+
+from tpmsim.model.image import image, open_image
+from tests.common.shims import fail
+
+IMAGE, BESIDE = pathlib.Path("image"), pathlib.Path("image.new")
+
+
+def opened():
+    return open_image(IMAGE.read_bytes())
+
+
+def identity():
+    """What is another after each save, or nothing where there is no image."""
+    try:
+        told = IMAGE.stat()
+    except FileNotFoundError:
+        return None
+    return told.st_ino, told.st_mtime_ns
+
+
+def check_image(label, device, compared=bytes):
+    """Makes sure that the image is a device's, by what is compared of both."""
+    if not IMAGE.exists():
+        fail(f"{label}: there is no image")
+    if compared(IMAGE.read_bytes()) != compared(image(device)):
+        fail(f"{label}: the image is another device's")
+    if BESIDE.exists():
+        fail(f"{label}: {BESIDE} is there")
+
+
+def check_save(label, device, changes, old, compared=bytes):
+    """The same behind a change; else makes sure that the image is still the one of an identity."""
+    if changes:
+        check_image(label, device, compared)
+    elif identity() != old:
+        fail(f"{label}: the image is written, though nothing changed")

@@ -1,0 +1,100 @@
+"""Two runs of `tpmsim serve` at once, of which each has its own image or its own socket, and which
+share the other: one goes on, wherever the first one is meanwhile.
+"""
+
+import socket
+import time
+
+from tests.common.shims import AT_MOST, FILE, SERVE, SOCKET, Room, Tears, ended, fail
+
+ROOM = Room("torn")
+RANDOM = bytes(512)
+
+# How long a second run is given, which may have to wait for the first one.
+A_WHILE = 0.3
+
+
+class Rival:
+    """A run that serves many connections, whose call of a number waits for the file `go`. The file of
+    one word, `image` or `socket`, is its own.
+    """
+
+    def __init__(self, program, name, own, at=0):
+        self.calls = ROOM.path / f"{name}.calls"
+        words = [f"{name}.{own}" if it == own else it for it in SERVE]
+        go = (ROOM.path / "go").resolve()
+        self.process = program.begun([*words, "1000"], ROOM.path, at, calls=self.calls, WAIT_FOR=go)
+
+    @property
+    def noted(self):
+        return Tears.noted(self.calls) if self.calls.exists() else []
+
+    @property
+    def serves(self):
+        return "accept4" in self.noted
+
+    def await_that(self, is_so, seconds=AT_MOST):
+        """Waits until something is so, for this long at most."""
+        end = time.monotonic() + seconds
+        while not is_so() and time.monotonic() < end:
+            time.sleep(0.001)
+
+    def is_settled(self):
+        return self.serves or self.process.poll() is not None
+
+    def settle(self, seconds=AT_MOST):
+        self.await_that(self.is_settled, seconds)
+
+    def end(self):
+        self.process.kill()
+        return ended(self.process)
+
+
+def begin_anew():
+    """A folder with random bytes alone."""
+    ROOM.furnish(None, RANDOM)
+
+
+def begin_beside_left():
+    """The same with a socket at which nobody answers."""
+    begin_anew()
+    with socket.socket(socket.AF_UNIX, socket.SOCK_STREAM) as left:
+        left.bind(str(ROOM.path / "socket"))
+
+
+def check_rivals(program, begin, own, wanted, at_most):
+    """The second run is given this long, in seconds, before the first goes on; one of them ends as
+    wanted. Gives the calls at which the second needed the first.
+    """
+    begin()
+    alone = Rival(program, "first", own)
+    alone.settle()
+    alone.end()
+    calls, waited = alone.noted, []
+    for at in range(1, calls.index("accept4") + 1):
+        begin()
+        first = Rival(program, "first", own, at)
+        first.await_that(lambda: len(first.noted) == at)
+        second = Rival(program, "second", own)
+        second.settle(at_most)
+        if not second.is_settled():
+            waited.append(calls[at - 1])
+        (ROOM.path / "go").touch()
+        for rival in (first, second):
+            rival.settle()
+        going = [rival for rival in (first, second) if rival.serves]
+        endings = [rival.end() for rival in (first, second) if not rival.serves]
+        for rival in going:
+            rival.end()
+        if len(going) != 1 or endings != [wanted]:
+            fail(f"a second run while the first one waits at {calls[at - 1]}: {len(going)} go on")
+    return waited
+
+
+def check(program):
+    check_rivals(program, begin_beside_left, "image", SOCKET, A_WHILE)
+    print("two runs over a socket that was left: one goes on, the other ends with tpmsim: socket")
+    waited = check_rivals(program, begin_anew, "socket", FILE, AT_MOST)
+    if waited:
+        fail(f"a second run on an image waits for the first one at {waited}")
+    print("two runs on one image: one goes on, the other ends with tpmsim: file at once")
