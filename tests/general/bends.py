@@ -8,17 +8,7 @@ sized buffer of it holds a structure.
 
 from dataclasses import dataclass
 
-from tpmsim.standard import (
-    AES,
-    ALG_NULL,
-    CC,
-    KEYEDHASH,
-    XOR,
-    digest_bytes,
-    frames,
-    lines,
-    number,
-)
+from tpmsim.standard import AES, ALG_NULL, CC, KEYEDHASH, XOR, digest_bytes, frames, lines, number
 
 # How many bytes stand behind the algorithm of a cipher.
 BEHIND_CIPHER = {ALG_NULL: 0, AES: 4, XOR: 2}
@@ -105,7 +95,6 @@ FORMS = {
     "Selection": lambda walk, name: walk.items(name, walk.bank),
     "Digests": lambda walk, name: walk.items(name, walk.digest),
 }
-
 
 # Structures in sized buffers, each up to its last size.
 

@@ -74,7 +74,6 @@ tpm("It is flushed").flush(policy)
 case = "TPM2_Clear by the platform, and by lockoutAuth: SUCCESS"
 says(case, *(on_handle(CC.Clear, it) for it in (RH_PLATFORM, RH_LOCKOUT)))
 
-
 tpm.chapter("There is something of each kind, a reset and a restart among it.")
 tpm.power_cycle()
 tpm("TPM2_Shutdown(STATE)").shutting_down(STATE)
@@ -99,7 +98,6 @@ for handle, name, value in HIERARCHIES:
     words = f'The value of {name} is "{value.decode()}"'
     tpm(words).change_auth(handle, value, b"")
 tpm.set_protection("maxTries is 5, and the times are others, too", 5, 2000, 3000)
-
 
 tpm.chapter("TPM2_Clear by the platform.")
 names = {
@@ -153,7 +151,6 @@ tpm.define("The counter is defined again", counter(THIRD))
 tpm("TPM2_NV_Increment").incrementing(THIRD)
 tpm.read("It is 4", THIRD, number(4, 8))
 
-
 tpm.chapter("By sessions. The answer's hmac is by the value after it, the empty one.")
 tpm('lockoutAuth is "lockout"').change_auth(RH_LOCKOUT, b"lockout", b"")
 unbound = tpm.start("An HMAC session that is bound to nothing")
@@ -168,7 +165,6 @@ tpm("By the bound one").clearing(RH_LOCKOUT, bound)
 tpm("And by it once more").clearing(RH_LOCKOUT, bound)
 clearing = tpm.clearing(RH_PLATFORM, b"platform", unbound, bound)
 tpm.accepted("By the platform, with both behind it", clearing)
-
 
 tpm.chapter("Over starts.")
 tpm("TPM2_Shutdown(STATE)").shutting_down(STATE)

@@ -50,7 +50,6 @@ said.fails(*(tpm.clear_control(it, YES, policy) for it in BOTH))
 tpm("It is flushed").flush(policy)
 clears("None of these disabled TPM2_Clear: by lockoutAuth and by the platform")
 
-
 tpm.chapter("By the platform.")
 says("NO, and TPM2_Clear was enabled already: SUCCESS", control(RH_PLATFORM, NO))
 clears("TPM2_Clear")
@@ -84,7 +83,6 @@ for session, words in (
     tpm("It opens with the time").lock_reset()
     tpm("It is flushed").flush(session)
 
-
 tpm.chapter("DISABLED is the check of the command itself, behind all others.")
 says("A byte behind the handle: SIZE", *(on_handle(CC.Clear, it, b"\0") for it in BOTH))
 wrong_password = [frames.entry(hmac=b"x")]
@@ -97,7 +95,6 @@ says("Of TPM2_ClearControl, too: LOCKOUT", control(RH_LOCKOUT, NO), control(RH_L
 tpm.wait(1_000_000)
 is_disabled("Behind lockoutRecovery")
 
-
 tpm.chapter("By sessions that cannot encrypt what is no sized buffer.")
 session = tpm.start("An HMAC session with AES", aes=True)
 for attribute in (DECRYPT, ENCRYPT):
@@ -109,7 +106,6 @@ for attribute in (DECRYPT, ENCRYPT):
         ),
     )
 tpm("It is flushed").flush(session)
-
 
 tpm.chapter("It is kept over starts.")
 tpm.power_cycle()

@@ -53,7 +53,6 @@ is_now("None of them took any time", 5, 5, 1, 0)
 
 time()
 
-
 clock = 11_108 + 2 * MOST
 tpm.chapter("A power cycle: time starts over, and clock goes on.")
 tpm.power()

@@ -134,7 +134,6 @@ as_it_was = [whole[:length] for length in range(len(whole))]
 refused("With commandSize as it was", "COMMAND_SIZE", NO_TRY, *as_it_was)
 comes_whole(prepared)
 
-
 # An entry that is right for what is left of the parameters: then they are what is refused.
 session = UNBOUND
 whole = frames.nv_write(DATA, 2)
@@ -152,7 +151,6 @@ tpm.chapter("A wrong password is a try, whatever is left.")
 for left in range(len(whole)):
     prepared = tpm.prepare(CC.NV_Write, [FIRST, FIRST], whole[:left], b"x")
     refused_alone(f"{left} bytes are left", "AUTH_FAIL/s1", TRY, prepared.buffer())
-
 
 session = UNBOUND
 tpm.chapter("Tries add up to maxTries, which is 3. No more is counted then.")
@@ -183,7 +181,6 @@ cut(case, tpm.writing(FOURTH, DATA, session), "BAD_AUTH/s1", NO_TRY)
 tpm('ownerAuth is "pin"').change_auth(RH_OWNER, PIN, b"")
 case = "TPM2_HierarchyChangeAuth of TPM_RH_OWNER"
 cut(case, tpm.change_auth(RH_OWNER, b"", session), "BAD_AUTH/s1", NO_TRY)
-
 
 session = UNBOUND
 tpm.chapter(

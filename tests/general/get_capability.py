@@ -121,7 +121,6 @@ says(
 case = "A password, as there is nothing to authorize: HANDLE/s1"
 says(case, command(CC.GetCapability, frames.area(frames.entry()) + asked, frames.SESSIONS))
 
-
 tpm.chapter("With a session.")
 session = tpm.start("An HMAC session with AES", aes=True)
 asked = tpm.capability(PROPERTIES, 0x100, 1, session)
@@ -132,7 +131,6 @@ for attribute, words in ((DECRYPT, "decrypted"), (ENCRYPT, "encrypted")):
     said = tpm(f"Nothing can be {words}: ATTRIBUTES/s1")
     said.refused(asked.but_entry(1, attributes=CONTINUE_SESSION | attribute))
 tpm("It is flushed").flush(session)
-
 
 tpm.chapter("Handles of PCRs.")
 borders("From 0", HANDLES, 0, list(range(24)))
@@ -149,7 +147,6 @@ gives("From between", HANDLES, 0x4000_0008, 2, whole[2:4], more=True)
 borders("From the last", HANDLES, whole[-1], whole[-1:])
 borders("From behind it", HANDLES, whole[-1] + 1, [])
 gives("From the last one of the kind", HANDLES, 0x40FF_FFFF, 1, [])
-
 
 tpm.chapter("Sessions: those of every type are 02, by their places.")
 borders("There is none", HANDLES, 0x0200_0000, [])
@@ -176,7 +173,6 @@ borders("From the last", HANDLES, 0x0200_000F, handles[15:])
 tpm.power_cycle()
 borders("A power cycle has ended them", HANDLES, 0x0200_0000, [])
 
-
 tpm.chapter("Transient objects.")
 borders("There is none", HANDLES, 0x8000_0000, [])
 for count in range(4):
@@ -191,7 +187,6 @@ borders("From the last", HANDLES, handles[3], there[2:])
 borders("From behind it", HANDLES, handles[3] + 1, [])
 borders("There is no persistent object", HANDLES, 0x8100_0000, [])
 gives("From the last one of the kind", HANDLES, 0x80FF_FFFF, 1, [])
-
 
 tpm.chapter("NV indices, which are defined in no order.")
 borders("There is none", HANDLES, 0x0100_0000, [])
@@ -212,7 +207,6 @@ tpm("One is undefined").undefining(handles[7])
 del handles[7]
 borders("From 01000000", HANDLES, 0x0100_0000, handles)
 
-
 tpm.chapter("Commands, by their codes; the attributes are answered.")
 borders("From 0", COMMANDS, 0, ATTRIBUTES)
 first, last = ATTRIBUTES[0] & 0xFFFF, ATTRIBUTES[-1] & 0xFFFF
@@ -232,14 +226,12 @@ for at, attributes in enumerate(ATTRIBUTES):
     is_more = at + 2 < len(ATTRIBUTES)
     gives("From behind each" if not at else "", COMMANDS, code, 1, following, is_more)
 
-
 tpm.chapter("PCRs: both banks have all of them, whatever property and count are.")
 banks = number(frames.SHA1, 2) + b"\3\xff\xff\xff", number(frames.SHA256, 2) + b"\3\xff\xff\xff"
 for wanted, count in ((0, 64), (0, 0), (0, 1), (1, 1), (MOST, MOST), (MOST, 0)):
     words = f"Property {wanted:X}, count {count:X}"
     given = tpm(words).capability(PCRS, wanted, count)
     assert given == answer(PCRS, banks, more=False)
-
 
 tpm.chapter(
     "Properties: TPM_PT_FAMILY_INDICATOR (100), TPM_PT_TOTAL_COMMANDS (129), "

@@ -163,7 +163,6 @@ tpm.wait(2**32 - 1)
 tpm.raw("TPM2_GetRandom: INITIALIZE", tpm.random(2).buffer())
 start_again(is_kept=True)
 
-
 for code, make in COMMANDS.items():
     is_kept = code.has(Fact.KEEPS_SAVED)
     tpm.chapter(f"TPM2_{code.name} {'keeps' if is_kept else 'cancels'} it.")

@@ -26,7 +26,6 @@ tpm.power()
 case = "None of these has saved a state: TPM2_Startup(STATE): VALUE/p1"
 says(case, command(CC.Startup, number(STATE, 2)))
 
-
 tpm.startup()
 says("TPM2_Shutdown(CLEAR): SUCCESS", shutdown(CLEAR))
 says("TPM2_Shutdown(STATE), and once more: SUCCESS", shutdown(STATE), shutdown(STATE))
@@ -48,7 +47,6 @@ tpm.chapter("A state is restored once.")
 tpm.power()
 tpm("TPM2_Startup(STATE): VALUE/p1").starting(STATE)
 tpm.start_up("TPM2_Startup(CLEAR)")
-
 
 tpm.chapter("With sessions, which authorize nothing here.")
 tpm('ownerAuth is "owner"').change_auth(RH_OWNER, b"owner", b"")

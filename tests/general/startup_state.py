@@ -69,7 +69,6 @@ tpm.power()
 tpm.start_up("TPM2_Startup(STATE)", STATE)
 assert values("As at a start") == at_start
 
-
 tpm.chapter("From each locality, it is the same.")
 tpm("PCR 3 is extended").event(b"3", b"", pcr=3)
 for locality in (4, 3):
@@ -79,7 +78,6 @@ for locality in (4, 3):
     tpm.start_up(f"TPM2_Startup(STATE) from locality {locality}", STATE)
     tpm("TPM2_PCR_Read of PCR 3").read_pcr(3)
 tpm.locality_is(0)
-
 
 tpm.chapter("Sessions and transient objects are gone.")
 session = tpm.start("An HMAC session")
@@ -95,13 +93,11 @@ for kind, words in ((SE_HMAC, "HMAC"), (SE_POLICY, "policy"), (SE_TRIAL, "trial"
     tpm.start(f"A new {words} session has the next place", kind=kind)
 tpm.power_cycle()
 
-
 tpm.chapter("A policy that was told before has no session any more.")
 policy = tpm.policy("A policy session")
 tpm("TPM2_PolicyPCR of PCR 3").pcrs(policy, [(SHA256, [3])])
 restart(STATE, "a resume")
 tpm("TPM2_PolicyGetDigest: REFERENCE_H0").get_digest(policy)
-
 
 tpm.chapter("platformAuth, and the primary seed of the null hierarchy.")
 name = null_name("A primary object of TPM_RH_NULL")
@@ -117,7 +113,6 @@ tpm.power()
 tpm.start_up("TPM2_Startup(CLEAR), a reset")
 assert null_name("Another primary object: its seed is new") != name
 tpm("platformAuth is empty").change_auth(RH_PLATFORM, b"", b"")
-
 
 tpm.chapter("NV indices. Their locks and what is cleared at a start stay at a resume.")
 locks = NvAttribute.WRITE_STCLEAR | NvAttribute.READ_STCLEAR
@@ -139,7 +134,6 @@ said = tpm("The locks of the first are open")
 said.is_now(FIRST, cleared=NvAttribute.WRITELOCKED | NvAttribute.READLOCKED)
 tpm.is_now("The second is not written", SECOND, cleared=NvAttribute.WRITTEN)
 tpm.is_now("The third is locked", THIRD)
-
 
 tpm.chapter("With lockoutRecovery 0 lockoutAuth is closed until a reset.")
 closing = tpm.lock_reset(b"wrong")

@@ -83,7 +83,6 @@ answered(
 )
 answered("Saved ones are 03", "SUCCESS", sessions.format("03000000"), nothing)
 
-
 tpm.chapter("TPM2_ClearControl and TPM2_Clear.")
 control = "8002 0000001C 00000127 {} " + PW + " {}"
 clear = "8002 0000001B 00000126 {} " + PW
@@ -98,7 +97,6 @@ before = tpm("The update counter").read_pcr(0)
 answered("TPM2_Clear by the platform", "SUCCESS", clear.format("4000000C"), OK)
 after = tpm("It is one more").read_pcr(0)
 assert int.from_bytes(after[:4], "big") == int.from_bytes(before[:4], "big") + 1
-
 
 tpm.chapter("TPM2_EvictControl: a loaded object stays, and the platform takes it away.")
 root = tpm.create_primary("A storage key", frames.RH_OWNER, storage_key())
@@ -115,7 +113,6 @@ answered(case, "SUCCESS", f"8002 00000023 00000120 4000000C 81000001 {PW} 810000
 answered("It is gone", "HANDLE/h1", "8001 0000000E 00000173 81000001", code(0x18B))
 tpm.flush_objects("What was loaded is flushed", handle, root)
 
-
 tpm.chapter("A buffer of an HMAC session that is sent again is a try.")
 tpm.raw(
     'TPM2_NV_DefineSpace of index 01000001, attributes 00040004, eight bytes, value "a": '
@@ -131,7 +128,6 @@ tpm.does("TPM2_NV_Write by it", write)
 answered("The same buffer", "AUTH_FAIL/s1", write.buffer().hex(), code(0x98E))
 tries_are("One try", 1)
 tpm.unlocks()
-
 
 tpm.chapter("Passwords count without their trailing zeros; and which wrong ones are tries.")
 change = "8002 {:08X} 00000129 40000001 {:08X} 40000009 0000 01 {} 0003 616263"
@@ -152,7 +148,6 @@ answered(
 )
 tries_are("One", 1)
 
-
 tpm.chapter("maxTries 3 and recoveryTime 1000, which are those of a new device.")
 unseal = "8002 {:08X} 0000015E 80000000 {:08X} 40000009 0000 01 {}"
 bad = unseal.format(0x1C, 10, "0001 78")
@@ -166,7 +161,6 @@ answered("999,999 milliseconds later", "LOCKOUT", right, code(0x921))
 tpm.wait(1)
 answered("One more", "SUCCESS", right, opened)
 tries_are("Two", 2)
-
 
 tpm.chapter("PCR 3 and 16 are extended, and TPM2_Shutdown(STATE) saves the first of them.")
 extend = "8002 00000041 00000182 {:08X} " + PW + " 00000001 000B " + "00" * 32

@@ -84,7 +84,6 @@ tpm("That with a wrong password: LOCKOUT").unsealing(PROTECTED, b"x")
 tpm("What is not authorized is not: its public area").public(PROTECTED)
 tpm("TPM2_PCR_Reset").reset(b"")
 
-
 opened("The last try was just now. It is forgiven after recoveryTime.", 1_000_000)
 tpm.chapter("One try is forgiven, and two are not.")
 wrong("So one more is one too many")
@@ -107,7 +106,6 @@ tpm.wait(499_999)
 locked("The right one, a millisecond before the end")
 tpm.wait(1)
 right("At the end")
-
 
 tpm.chapter("Several tries at once, and the rest of the time.")
 wrong("The third one")
@@ -134,7 +132,6 @@ lock()
 locked("So three are three")
 tpm.unlocks()
 
-
 tpm.chapter("Where there is no try, no time counts.")
 tpm.wait(999_999)
 lock()
@@ -142,7 +139,6 @@ tpm.wait(1)
 locked("A millisecond after the last try, and 1,000 seconds after the last before")
 opened("That millisecond has counted.", 999_999)
 tpm.unlocks()
-
 
 tpm.chapter("Time passes with every command, refused ones too.")
 lock()
@@ -156,7 +152,6 @@ locked("999,999 milliseconds have passed")
 tpm.wait(1)
 right("One more")
 tpm.unlocks()
-
 
 tpm.chapter("A power cycle takes no try back, and starts the time anew.")
 lock()
@@ -224,7 +219,6 @@ wrong("One more")
 locked("The right one")
 tpm.unlocks()
 
-
 tpm.chapter("With recoveryTime 0 the protection is off: no try is counted, and none locks.")
 lock()
 locked("The right one")
@@ -252,7 +246,6 @@ wrong("A wrong one")
 tpm.set_protection("The values of a new device", 3, 1000, 1000)
 right("The right one")
 
-
 tpm.chapter("noDA and TPMA_NV_NO_DA: no try is counted.")
 said = tpm("Five wrong passwords of an index: BAD_AUTH/s1")
 said.fails(*(tpm.reading(THIRD, 8, it) for it in (b"0", b"1", b"2", b"3", b"4")))
@@ -268,7 +261,6 @@ tpm.unseal("Nor is the object with noDA", FREE, SECRET)
 tpm("Nor is TPM_RH_OWNER").change_auth(RH_OWNER, b"", b"")
 tpm("A wrong one of them is as before: BAD_AUTH/s1").unsealing(FREE, b"0")
 tpm.unlocks()
-
 
 tpm.chapter("The order of the checks: what comes before LOCKOUT, and what behind it.")
 session = tpm.policy("A policy session")

@@ -167,7 +167,6 @@ tpm.fails("Behind a password: AUTH_FAIL/s2", wrong(tpm.reset(b"", bound), 2))
 closed("The right password")
 closed_for("It opens.", 1_000_000)
 
-
 tpm.chapter("A power cycle opens nothing, and starts the time anew.")
 wrong_password("A wrong one")
 tpm.wait(999_999)
@@ -183,7 +182,6 @@ tpm.wait(1_000_000)
 tpm.startup()
 right("It is over")
 
-
 tpm.chapter("With lockoutRecovery 0 no time opens it, but the next reset.")
 tpm("lockoutRecovery is 0").attack_parameters(3, 1000, 0, LOCKOUT)
 wrong_password("A wrong one")
@@ -197,7 +195,6 @@ tpm.power_cycle()
 tpm("lockoutRecovery is 1 second").attack_parameters(3, 1000, 1, LOCKOUT)
 wrong_password("A wrong one")
 closed_for("It opens.", 1_000)
-
 
 tpm.chapter("lockoutAuth and other protected entities have nothing to do with each other.")
 tpm.define("An NV index", area(FIRST, BY_VALUE), auth=b"pin")
@@ -233,7 +230,6 @@ tpm.wait(1_000)
 tpm("Nor is maxTries 0").attack_parameters(0, 1000, 1, LOCKOUT)
 right("The right one")
 tpm("Of the index: LOCKOUT").writing(FIRST, b"x")
-
 
 tpm.chapter("The longest lockoutRecovery.")
 tpm("It is FFFFFFFF").attack_parameters(3, 1000, 0xFFFF_FFFF, LOCKOUT)

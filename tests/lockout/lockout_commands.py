@@ -70,7 +70,6 @@ tries("Unseal of an HMAC key", lambda: tpm.unsealing(KEY), "ATTRIBUTES/h1")
 session = tpm.policy("A policy session")
 tries("PolicySecret of an object", lambda: tpm.secret(session, PIN, of=SEALED))
 
-
 tpm.chapter("NV indices.")
 for words, public in (
     ("An ordinary one with locks", area(FIRST, BY_VALUE | LOCKS)),

@@ -163,7 +163,6 @@ for each in NvAttribute:
 every = nv.NAMED & ~nv_commands.NOT_DEFINED & ~CREATED & ~nv.of_type(nv.TYPE_MASK)
 fitting("All of these", area(attributes=every))
 
-
 tpm.chapter("Numbers of indices.")
 for each in (0x0100_0000, 0x0140_0001, 0x01C0_0000, 0x01FF_FFFF):
     fitting(f"{each:08X}", area(each))
@@ -171,7 +170,6 @@ tpm.define("01000001", area())
 unfitting("The same, or with anything else in it: NV_DEFINED", area(), counter())
 unfitting("Also by the platform: NV_DEFINED", area(attributes=BY_OWNER | CREATED), by=RH_PLATFORM)
 tpm("It is undefined").undefining(FIRST)
-
 
 tpm.chapter("There are at most 64 indices, by whomever they are defined.")
 every = range(FIRST, FIRST + 64)
@@ -193,7 +191,6 @@ for index in (*every, 0x0100_0100):
         by = RH_PLATFORM if index in every and index % 2 else RH_OWNER
         what = "All are undefined" if index == FIRST else ""
         tpm(what).undefining(index, by=by)
-
 
 tpm.chapter("All have at most 16,384 bytes, whether they are written or not.")
 every = range(FIRST, FIRST + 8)

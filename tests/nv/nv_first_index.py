@@ -7,7 +7,6 @@ from tests.common.vocabulary import area, BY_VALUE, FIRST, RH_OWNER, Teller
 tpm = Teller(__name__, __doc__, starts=False)
 PUBLIC = area(FIRST, BY_VALUE)
 
-
 tpm.startup()
 
 # The command is the one that these hex digits spell.

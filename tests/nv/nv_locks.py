@@ -62,7 +62,6 @@ for attributes in (0, CLEARED, DEFINE, WRITE_CLEAR, DEFINE | WRITE_CLEAR):
     tpm("TPM2_NV_ReadLock: ATTRIBUTES/h2").read_locking(FIRST, by=RH_OWNER)
     undefine()
 
-
 tpm.chapter("WRITEDEFINE.")
 for more in (0, WRITE_CLEAR):
     define(DEFINE | more)
@@ -90,7 +89,6 @@ start()
 tpm.is_now("What was not locked is not", FIRST)
 write("TPM2_NV_Write again")
 undefine()
-
 
 tpm.chapter("WRITE_STCLEAR.")
 for writes_before in (True, False):
@@ -136,7 +134,6 @@ tpm.is_now("After a start", FIRST, cleared=WRITE_LOCKED)
 read_lock()
 write()
 undefine()
-
 
 tpm.chapter("CLEAR_STCLEAR: the data go with each start.")
 for make, change, name in (
@@ -185,7 +182,6 @@ write()
 read()
 undefine()
 
-
 tpm.chapter("It is TPM2_Startup that opens, not the power; what is not started cannot be asked.")
 define(WRITE_CLEAR | READ_CLEAR | CLEARED)
 write()
@@ -199,7 +195,6 @@ said = tpm("TPM2_Startup(CLEAR) on a device that is started: INITIALIZE")
 said.raw(frames.command(CC.Startup, frames.number(0, 2)))
 tpm.is_now("Changes nothing", FIRST)
 undefine()
-
 
 tpm.chapter("A lock is that of one index.")
 define(WRITE_CLEAR | READ_CLEAR)

@@ -113,7 +113,6 @@ for algorithm, name in HASHES:
     for each in (session, other):
         tpm("A session is flushed").flush(each)
 
-
 tpm.chapter("Which attribute lets what authorize: the others do not.")
 session = tpm.policy("A policy session")
 hmac = tpm.start("An HMAC session")
@@ -171,7 +170,6 @@ tpm.read("TPM2_NV_Read by the owner", FIRST, DATA, by=RH_OWNER)
 tpm.undefines(FIRST)
 tpm("The session is flushed").flush(session)
 
-
 tpm.chapter("A policy session that is bound to the index. The first write ends no key of it.")
 tpm.define("The index", area(FIRST, BY_POLICY, auth_policy=after_auth_value()), auth=b"a")
 session = tpm.policy("The session, with AES", bind=FIRST, aes=True)
@@ -188,7 +186,6 @@ tpm("TPM2_PolicyAuthValue").auth_value_told(session)
 tpm("It ends with the command").writing(FIRST, DATA, Use(session, 0, demand=AUTH_VALUE))
 tpm("It is no more: REFERENCE_H0").get_digest(session)
 tpm.undefines(FIRST)
-
 
 tpm.chapter("The policy is that of the index that authorizes, and of no other entity.")
 auth_policy = after_auth_value()

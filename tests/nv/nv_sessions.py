@@ -84,7 +84,6 @@ for algorithm, name in ((SHA256, "SHA-256"), (SHA1, "SHA-1")):
         tpm("TPM2_NV_UndefineSpace").undefining(index, session)
     flush(session)
 
-
 tpm.chapter("An hmac of before the index was written names another index.")
 tpm.define("An index", area(FIRST, BY_VALUE), auth=b"a")
 session = tpm.start("A session")
@@ -104,7 +103,6 @@ tpm.fails("With other data: AUTH_FAIL/s1", prepared.but(parameters=frames.nv_wri
 tpm.does("As it was prepared", prepared)
 flush(session)
 undefine(FIRST, SECOND)
-
 
 tpm.chapter(
     "A session that is bound to an index before its first write. The command's hmac is without "
@@ -145,7 +143,6 @@ tpm("A wrong password of the second: BAD_AUTH/s1").reading(SECOND, 1, b"x")
 tpm("Of the first: AUTH_FAIL/s1").reading(FIRST, 1, b"x")
 flush(session, other)
 undefine(FIRST, SECOND)
-
 
 tpm.chapter("Parameters that are encrypted.")
 tpm('ownerAuth becomes "owner"').change_auth(RH_OWNER, b"owner", b"")
@@ -213,7 +210,6 @@ said.prepare(CC.NV_Write, [FIRST, FIRST], b"\0\4abc", Use(session, DECRYPTS))
 flush(session, plain, none, owner)
 undefine(FIRST, SECOND, THIRD, FOURTH, 0x0100_0005)
 tpm("ownerAuth is empty again").change_auth(RH_OWNER, b"", b"owner")
-
 
 tpm.chapter("TPM2_StartAuthSession and TPM2_PolicySecret of an index.")
 tpm.define("An index", area(FIRST, BY_VALUE), auth=b"a")

@@ -282,7 +282,6 @@ in_order(
     ("With nothing wrong", "SUCCESS", [RH_PLATFORM, PLATFORMS], b""),
 )
 
-
 tpm.chapter("TPM2_NV_ReadPublic, with a session that authorizes nothing.")
 general_refusals(CC.NV_ReadPublic, [ORDINARY], b"\0", [Use(session)])
 wrong_size = tpm.index_public(ORDINARY, session).handles
@@ -338,7 +337,6 @@ in_order(
     ("1,024", "NV_RANGE", [ORDINARY, ORDINARY], frames.nv_read(1024, 9)),
     ("With nothing wrong", "SUCCESS", [ORDINARY, ORDINARY], frames.nv_read(8)),
 )
-
 
 for code, name in ((CC.NV_WriteLock, "TPM2_NV_WriteLock"), (CC.NV_ReadLock, "TPM2_NV_ReadLock")):
     tpm.chapter(f"{name}.")

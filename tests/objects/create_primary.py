@@ -2,25 +2,16 @@
 hierarchy's seed.
 """
 
-from tests.common.vocabulary import ALG_NULL, CC, digest, frames, HERE, hmac_key, mac, number
-from tests.common.vocabulary import ObjectAttribute, on_handle, OPEN, Public, RH_ENDORSEMENT
-from tests.common.vocabulary import RH_LOCKOUT, RH_NULL, RH_OWNER, RH_PLATFORM, sealed, SHA1, SHA256
-from tests.common.vocabulary import sized, storage_key, SYMCIPHER, Teller
+from tests.common.steps import aes_key, GENERATED, HIERARCHIES, Steps
+from tests.common.vocabulary import ALG_NULL, CC, digest, frames, HASHES, HERE, hmac_key, mac
+from tests.common.vocabulary import number, ObjectAttribute, on_handle, RH_ENDORSEMENT, RH_LOCKOUT
+from tests.common.vocabulary import RH_NULL, RH_OWNER, RH_PLATFORM, sealed, SHA1, SHA256, sized
+from tests.common.vocabulary import storage_key, STORES
 
-HIERARCHIES = (
-    (RH_OWNER, "TPM_RH_OWNER"),
-    (RH_ENDORSEMENT, "TPM_RH_ENDORSEMENT"),
-    (RH_PLATFORM, "TPM_RH_PLATFORM"),
-    (RH_NULL, "TPM_RH_NULL"),
-)
-ALGORITHMS = ((SHA1, "SHA-1"), (SHA256, "SHA-256"))
 QUESTION = b"what do ya want for nothing?"
 
-tpm = Teller(__name__, __doc__)
-
-
-def creates(what, hierarchy, public, **more):
-    return tpm.create_primary(what, hierarchy, public, **more)
+tpm = Steps(__name__, __doc__)
+creates = tpm.create_primary
 
 
 def refused(words, hierarchy, public, *uses, **more):
@@ -54,14 +45,11 @@ tpm.says(
     "objects: VALUE/h1",
     *(
         tpm.primary(it, storage_key())
-        for it in (
-            *(RH_LOCKOUT, frames.RS_PW, 0, 0x0100_0000, 0x0200_0000, 0x0300_0000),
-            *(0x8000_0000, 0x8100_0000, 0x4000_0000, 0xFFFF_FFFF),
-        )
+        for it in (RH_LOCKOUT, frames.RS_PW, 0, 0x0100_0000, 0x0200_0000, 0x0300_0000)
+        + (0x8000_0000, 0x8100_0000, 0x4000_0000, 0xFFFF_FFFF)
     ),
 )
-said = tpm("It has to be authorized: no sessions (tag 8001): AUTH_MISSING")
-said.raw(frames.command(CC.CreatePrimary, number(RH_OWNER, 4)))
+tpm.needs_entries(CC.CreatePrimary, RH_OWNER)
 tpm.accepted('The value of TPM_RH_OWNER is "owner"', tpm.change_auth(RH_OWNER, b"owner", b""))
 refused("By the empty password: BAD_AUTH/s1", RH_OWNER, storage_key(), b"")
 session = tpm.start("An HMAC session")
@@ -71,7 +59,7 @@ tpm.flush_objects("The object is flushed", by_session)
 
 tpm.chapter("The same template and the same hierarchy give the same object, whatever is drawn.")
 names = set()
-for algorithm, hash_name in ALGORITHMS:
+for algorithm, hash_name in HASHES:
     for hierarchy, hierarchy_name in HIERARCHIES:
         case = f"A storage key in {hierarchy_name} with nameAlg {hash_name}"
         first = creates(case, hierarchy, storage_key(algorithm))
@@ -85,6 +73,7 @@ assert len(names) == 2 * len(HIERARCHIES)
 
 tpm.chapter("Whatever is another in inSensitive or inPublic gives another object.")
 names = set()
+USUAL = storage_key().attributes
 for what, public, more in (
     ("userAuth is empty", storage_key(), {}),
     ('"a"', storage_key(), {"user_auth": b"a"}),
@@ -96,22 +85,12 @@ for what, public, more in (
     ("unique is one zero", storage_key(unique=b"\0"), {}),
     ("32 bytes 11", storage_key(unique=b"\x11" * 32), {}),
     ("An authPolicy", storage_key(auth_policy=bytes(32)), {}),
-    ("stClear", storage_key(attributes=storage_key().attributes | ObjectAttribute.ST_CLEAR), {}),
-    (
-        "adminWithPolicy",
-        storage_key(attributes=storage_key().attributes | ObjectAttribute.ADMIN_WITH_POLICY),
-        {},
-    ),
-    (
-        "Neither fixedTPM nor fixedParent",
-        storage_key(attributes=storage_key().attributes & ~HERE),
-        {},
-    ),
+    ("stClear", storage_key(attributes=USUAL | ObjectAttribute.ST_CLEAR), {}),
+    ("adminWithPolicy", storage_key(attributes=USUAL | ObjectAttribute.ADMIN_WITH_POLICY), {}),
+    ("Neither fixedTPM nor fixedParent", storage_key(attributes=USUAL & ~HERE), {}),
 ):
-    handle = creates(what, RH_OWNER, public, **more)
-    public, _ = tpm.read_public("TPM2_ReadPublic", handle)
-    names.add(public.unique)
-    tpm.flush_objects("It is flushed", handle)
+    with tpm.held(what, RH_OWNER, public, **more) as handle:
+        names.add(tpm.read_public("TPM2_ReadPublic", handle)[0].unique)
 assert len(names) == 9
 
 tpm.chapter("outsideInfo, PCRs and the locality are no part of the object, but of its creation.")
@@ -124,14 +103,12 @@ for what, more in (
     ("PCR 17 of the SHA-1 bank, twice", {"pcrs": [(SHA1, [17]), (SHA1, [17])]}),
     ("Banks of which no PCR is selected", {"pcrs": [(SHA1, []), (SHA256, [])]}),
 ):
-    handle = creates(what, RH_OWNER, storage_key(), **more)
-    same.append((tpm.names[handle], tpm.creation_data))
-    tpm.flush_objects("It is flushed", handle)
+    with tpm.held(what, RH_OWNER, storage_key(), **more) as handle:
+        same.append((tpm.names[handle], tpm.creation_data))
 for locality in (4, 1, 0):
     tpm.locality_is(locality)
-    handle = creates(f"From locality {locality}", RH_OWNER, storage_key())
-    same.append((tpm.names[handle], tpm.creation_data))
-    tpm.flush_objects("It is flushed", handle)
+    with tpm.held(f"From locality {locality}", RH_OWNER, storage_key()) as handle:
+        same.append((tpm.names[handle], tpm.creation_data))
 assert len({name for name, _ in same}) == 1 and len({data for _, data in same}) == 8
 refused("35 bytes of outsideInfo: SIZE/p3", RH_OWNER, storage_key(), outside_info=bytes(35))
 case = "16 banks, the most that there may be, and one more: SIZE/p4"
@@ -142,8 +119,7 @@ whole = tpm.primary(RH_OWNER, storage_key())
 tpm.says("A byte behind creationPCR: SIZE", whole.but(parameters=whole.parameters + b"\0"))
 
 tpm.chapter("Objects of each type, with data that are given and that are generated.")
-GENERATED = ObjectAttribute.SENSITIVE_DATA_ORIGIN
-for algorithm, hash_name in ALGORITHMS:
+for algorithm, hash_name in HASHES:
     tpm.chapter(f"Their nameAlg is {hash_name}.")
     handle = creates("Sealed data of one byte", RH_OWNER, sealed(algorithm), data=b"x")
     tpm.unseal("TPM2_Unseal", handle, b"x")
@@ -159,27 +135,16 @@ for algorithm, hash_name in ALGORITHMS:
     _, answer = tpm.accepted("TPM2_HMAC", tpm.hmac(handle, b"text", ALG_NULL))
     assert answer == sized(mac(SHA256, b"k" * 128, b"text"))
     case = "An HMAC key of SHA-1 that is generated"
-    handle = creates(case, RH_ENDORSEMENT, hmac_key(algorithm, HERE | OPEN | GENERATED, SHA1))
+    handle = creates(case, RH_ENDORSEMENT, hmac_key(algorithm, GENERATED, SHA1))
     tpm.accepted("TPM2_HMAC", tpm.hmac(handle, b"text", SHA1))
     case = "With scheme NULL: as long as a digest of nameAlg"
-    handle = creates(case, RH_PLATFORM, hmac_key(algorithm, HERE | OPEN | GENERATED, ALG_NULL))
+    handle = creates(case, RH_PLATFORM, hmac_key(algorithm, GENERATED, ALG_NULL))
     tpm.accepted("TPM2_HMAC with SHA-256", tpm.hmac(handle, b"text", SHA256))
-    handle = creates(
-        "A restricted one",
-        RH_OWNER,
-        hmac_key(algorithm, HERE | OPEN | GENERATED | ObjectAttribute.RESTRICTED),
-    )
-    handle = creates(
-        "An AES key of 16 bytes, which may sign and decrypt",
-        RH_OWNER,
-        Public(SYMCIPHER, algorithm, HERE | OPEN | ObjectAttribute.SIGN | ObjectAttribute.DECRYPT),
-        data=bytes(range(16)),
-    )
-    handle = creates(
-        "A storage key of 16 bytes that are given",
-        RH_OWNER,
-        Public(SYMCIPHER, algorithm, storage_key().attributes & ~GENERATED),
-        data=bytes(range(16)),
-    )
+    restricted = hmac_key(algorithm, GENERATED | ObjectAttribute.RESTRICTED)
+    creates("A restricted one", RH_OWNER, restricted)
+    case = "An AES key of 16 bytes, which may sign and decrypt"
+    creates(case, RH_OWNER, aes_key(algorithm=algorithm), data=bytes(range(16)))
+    given = aes_key(STORES, algorithm)
+    creates("A storage key of 16 bytes that are given", RH_OWNER, given, data=bytes(range(16)))
     refused("A ninth object: OBJECT_MEMORY", RH_OWNER, storage_key())
     tpm.flush_objects("The eight are flushed", *range(FIRST, FIRST + 8))

@@ -1,0 +1,146 @@
+"""A teller with the steps that many scripts of commands take, and what those go through."""
+
+import contextlib
+import itertools
+from collections.abc import Callable, Iterator, Sequence
+from typing import Any
+
+from tpmsim.caller import HERE, hmac_key, Made, Means, OPEN, Prepared, Session, STATE, Use
+from tpmsim.standard import CC, command, CONTINUE_SESSION, DECRYPT, ENCRYPT, number, RH_ENDORSEMENT
+from tpmsim.standard import RH_NULL, RH_OWNER, RH_PLATFORM, SHA256, SYMCIPHER
+from tpmsim.standard.objects import Attribute, Public
+from tpmsim.standard.policy import AUTH_VALUE, PASSWORD
+from tests.common.teller import Teller
+
+HIERARCHIES = (
+    (RH_OWNER, "TPM_RH_OWNER"),
+    (RH_ENDORSEMENT, "TPM_RH_ENDORSEMENT"),
+    (RH_PLATFORM, "TPM_RH_PLATFORM"),
+    (RH_NULL, "TPM_RH_NULL"),
+)
+
+# Attributes of an object that is protected from guessing, and of one whose key is generated.
+PROTECTED = HERE | Attribute.USER_WITH_AUTH
+GENERATED = HERE | OPEN | Attribute.SENSITIVE_DATA_ORIGIN
+
+RESTRICTED_KEY = hmac_key(attributes=HERE | OPEN | Attribute.RESTRICTED)
+
+
+def aes_key(
+    attributes: int = Attribute.SIGN | Attribute.DECRYPT, algorithm: int = SHA256
+) -> Public:
+    """The template of an AES key that is given, with what else it may."""
+    return Public(SYMCIPHER, algorithm, HERE | OPEN | attributes)
+
+
+class Steps(Teller):
+    # What needs an object.
+
+    def refuses_others(
+        self,
+        prepare: Callable[[int], Prepared],
+        *more: int,
+        transient: Sequence[int] = (0x8000_0000, 0x8000_0008, 0x80FF_FFFF),
+        persistent: Sequence[int] = (0x8100_0000,),
+    ) -> None:
+        """While there is no object: a command on what is none, and on objects by their handles."""
+        none = RH_OWNER, RH_NULL, 0, 0x0100_0000, 0x0200_0000, 0x0300_0000, *more
+        for words, handles in (
+            (
+                "No object's handle: TPM_RH_OWNER, TPM_RH_NULL, PCR 0, an NV index, sessions: "
+                "VALUE/h1",
+                none,
+            ),
+            ("A transient object, while there is none: REFERENCE_H0", transient),
+            ("A persistent object, while there is none: HANDLE/h1", persistent),
+        ):
+            self.says(words, *map(prepare, handles))
+
+    def needs_entries(self, code: CC, handle: int, parameters: bytes = b"") -> None:
+        words = "It has to be authorized: no sessions (tag 8001): AUTH_MISSING"
+        self.raw(words, command(code, number(handle, 4) + parameters))
+
+    # Objects and sessions that are there for a while.
+
+    @contextlib.contextmanager
+    def held(
+        self,
+        what: str,
+        hierarchy: int,
+        public: Public,
+        *uses: Means,
+        flushed: str = "It is flushed",
+        **more: Any,
+    ) -> Iterator[int]:
+        """A primary object, which is flushed in the end."""
+        handle = self.create_primary(what, hierarchy, public, *uses, **more)
+        yield handle
+        self.flush_objects(flushed, handle)
+
+    @contextlib.contextmanager
+    def loaded(
+        self, what: str, parent: int, made: Made, *uses: Means, flushed: str = "It is flushed"
+    ) -> Iterator[int]:
+        """An object below its parent, which is flushed in the end."""
+        handle = self.load(what, parent, made, *uses)
+        yield handle
+        self.flush_objects(flushed, handle)
+
+    def flushes(self, what: str, *sessions: Session) -> None:
+        """With the same words for each."""
+        for session in sessions:
+            self.does(what, self.flush(session))
+
+    # Policies that ask for the authorization value.
+
+    def by_value(self, session: Session, attributes: int = CONTINUE_SESSION) -> Use:
+        """TPM2_PolicyAuthValue, and the use of the session that its policy asks for then."""
+        self.does("TPM2_PolicyAuthValue", self.auth_value_told(session))
+        return Use(session, attributes, demand=AUTH_VALUE)
+
+    def by_password(self, session: Session, attributes: int = CONTINUE_SESSION) -> Use:
+        """The same with TPM2_PolicyPassword."""
+        self.does("TPM2_PolicyPassword", self.password_told(session))
+        return Use(session, attributes, demand=PASSWORD)
+
+    # Sessions that can encrypt, where nothing can be encrypted.
+
+    def encrypts_nothing(self, *prepared: Prepared) -> None:
+        for attribute, words in ((DECRYPT, "decrypted"), (ENCRYPT, "encrypted")):
+            bent = [it.but_entry(1, attributes=CONTINUE_SESSION | attribute) for it in prepared]
+            self.refused(f"Nothing can be {words}: ATTRIBUTES/s1", *bent)
+
+    # What is kept.
+
+    def saves(self) -> None:
+        self.does("TPM2_Shutdown(STATE)", self.shutting_down(STATE))
+
+    def resumes(self, what: str = "TPM2_Startup(STATE)") -> None:
+        """By the state that was saved."""
+        self.power()
+        self.start_up(what, STATE)
+
+    def saves_and_resumes(self, what: str = "TPM2_Startup(STATE)") -> None:
+        self.saves()
+        self.resumes(what)
+
+    def lists(
+        self,
+        what: str,
+        kind: int,
+        first: int,
+        count: int,
+        elements: Sequence[int | tuple[int, int]],
+        more: bool = False,
+    ) -> None:
+        """TPM2_GetCapability answers these numbers, or pairs of them, and whether there are more."""
+        numbers = itertools.chain(*(it if isinstance(it, tuple) else (it,) for it in elements))
+        listed = number(len(elements), 4) + b"".join(number(it, 4) for it in numbers)
+        answer = self.does(what, self.capability(kind, first, count))
+        assert answer == number(more, 1) + number(kind, 4) + listed, what
+
+    def clock_is(self, what: str, time: int, clock: int, resets: int, restarts: int) -> None:
+        """What TPM2_ReadClock answers."""
+        counts = number(resets, 4) + number(restarts, 4)
+        answer = number(time, 8) + number(clock, 8) + counts + b"\1"
+        assert self.does(what, self.clock()) == answer, what
