@@ -6,8 +6,9 @@ from collections.abc import Callable, Iterator, Sequence
 from typing import Any
 
 from tpmsim.caller import HERE, hmac_key, Made, Means, OPEN, Prepared, Session, STATE, Use
-from tpmsim.standard import CC, command, CONTINUE_SESSION, DECRYPT, ENCRYPT, number, RH_ENDORSEMENT
-from tpmsim.standard import RH_NULL, RH_OWNER, RH_PLATFORM, SHA256, SYMCIPHER
+from tpmsim.standard import CC, command, CONTINUE_SESSION, DECRYPT, digest_bytes, ENCRYPT, number
+from tpmsim.standard import policy, RH_ENDORSEMENT, RH_NULL, RH_OWNER, RH_PLATFORM, SHA1, SHA256
+from tpmsim.standard import SYMCIPHER
 from tpmsim.standard.objects import Attribute, Public
 from tpmsim.standard.policy import AUTH_VALUE, PASSWORD
 from tests.common.teller import Teller
@@ -22,6 +23,12 @@ HIERARCHIES = (
 # Attributes of an object that is protected from guessing, and of one whose key is generated.
 PROTECTED = HERE | Attribute.USER_WITH_AUTH
 GENERATED = HERE | OPEN | Attribute.SENSITIVE_DATA_ORIGIN
+
+# The digest of a policy that asks for the authorization value, by its hash algorithm.
+AFTER_AUTH_VALUE = {
+    algorithm: policy.after_auth_value(algorithm, bytes(digest_bytes(algorithm)))
+    for algorithm in (SHA1, SHA256)
+}
 
 RESTRICTED_KEY = hmac_key(attributes=HERE | OPEN | Attribute.RESTRICTED)
 
