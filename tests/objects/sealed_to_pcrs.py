@@ -14,13 +14,11 @@ tpm = Teller(__name__, __doc__, starts=False)
 
 
 def measured():
-    event = tpm.event(b"program", b"", pcr=10)
-    tpm.accepted('PCR 10 is extended by an event, "program"', event)
+    tpm.accepted('PCR 10 is extended by an event, "program"', tpm.event(b"program", b"", pcr=10))
 
 
-def extend(pcr, value=b"\1" * 32):
-    parameters = digests((SHA256, value))
-    return tpm.prepare(CC.PCR_Extend, [pcr], parameters, b"")
+def extend(pcr):
+    return tpm.prepare(CC.PCR_Extend, [pcr], digests((SHA256, b"\1" * 32)), b"")
 
 
 def asserts(what, session):
@@ -42,13 +40,9 @@ AUTH_POLICY = policy.after_pcr(SHA256, bytes(32), selection(*CHOSEN), digest(SHA
 tpm.digest_is("TPM2_PolicyGetDigest: it will be the authPolicy", trial, AUTH_POLICY)
 tpm("The trial session is flushed").flush(trial)
 parent = tpm.create_primary("A storage key", RH_OWNER, storage_key())
-made = tpm.create(
-    "TPM2_Create of sealed data with this authPolicy, and without userWithAuth",
-    parent,
-    sealed(attributes=HERE | ObjectAttribute.NO_DA, auth_policy=AUTH_POLICY),
-    data=SECRET,
-    pcrs=CHOSEN,
-)
+said = tpm("TPM2_Create of sealed data with this authPolicy, and without userWithAuth")
+template = sealed(attributes=HERE | ObjectAttribute.NO_DA, auth_policy=AUTH_POLICY)
+made = said.create(parent, template, data=SECRET, pcrs=CHOSEN)
 handle = tpm.load("TPM2_Load", parent, made)
 
 tpm.chapter("PCR 10 is as it was.")
