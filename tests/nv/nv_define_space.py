@@ -2,11 +2,13 @@
 many indices there can be.
 """
 
+import itertools
+
+from tpmsim.model import nv_commands
 from tpmsim.standard.nv import Type
 from tests.common.vocabulary import area, bits, BY_OWNER, counter, digest_bytes, extended, FIRST
 from tests.common.vocabulary import frames, HASHES, number, nv, NvAttribute, RH_ENDORSEMENT
 from tests.common.vocabulary import RH_LOCKOUT, RH_NULL, RH_OWNER, RH_PLATFORM, SHA1, sized, Teller
-from tpmsim.model import nv_commands
 
 CREATED = NvAttribute.PLATFORMCREATE
 
@@ -32,17 +34,12 @@ def raw(text):
 
 def handles():
     tpm.chapter("Who defines indices: the owner and the platform.")
-    for what, handles in (
-        (
-            "TPM_RH_ENDORSEMENT, TPM_RH_LOCKOUT, TPM_RH_NULL and TPM_RS_PW",
-            (RH_ENDORSEMENT, RH_LOCKOUT, RH_NULL, frames.RS_PW),
-        ),
-        (
-            "PCR 0, an index, objects and sessions",
-            (0, FIRST, 0x8000_0000, 0x8100_0000, 0x0200_0000),
-        ),
-    ):
-        tpm.fails(f"{what}: VALUE/h1", *(tpm.defining(area(), b"", by=it) for it in handles))
+    case = "TPM_RH_ENDORSEMENT, TPM_RH_LOCKOUT, TPM_RH_NULL and TPM_RS_PW: VALUE/h1"
+    others = RH_ENDORSEMENT, RH_LOCKOUT, RH_NULL, frames.RS_PW
+    tpm.fails(case, *(tpm.defining(area(), b"", by=it) for it in others))
+    others = 0, FIRST, 0x8000_0000, 0x8100_0000, 0x0200_0000
+    case = "PCR 0, an index, objects and sessions: VALUE/h1"
+    tpm.fails(case, *(tpm.defining(area(), b"", by=it) for it in others))
     tpm.fails("Without sessions: AUTH_MISSING", tpm.defining(area()).but(entries=[]))
     fitting("By the owner", area())
     case = "By the platform, with PLATFORMCREATE"
@@ -108,17 +105,13 @@ unfitting(
     "nvIndex that is no handle of an index: VALUE/p2",
     *(area(it) for it in (0, 0x0000_0001, 0x0200_0001, RH_OWNER, 0x8100_0001, 0xFFFF_FFFF)),
 )
-for what, code, at, bad in (
-    ("nameAlg: SHA-384, NULL and none", "HASH/p2", 4, (0x000C, 0x0010, 0)),
-    ("Reserved attributes 8, 9 and 20 to 24", "RESERVED_BITS/p2", 6, (1 << 8, 1 << 9)),
+reserved = (1 << 8, 1 << 9, *(BY_OWNER | 1 << it for it in range(20, 25)))
+for words, at, size, bad in (
+    ("nameAlg: SHA-384, NULL and none: HASH/p2", 4, 2, (0x000C, 0x0010, 0)),
+    ("Reserved attributes 8, 9 and 20 to 24: RESERVED_BITS/p2", 6, 4, reserved),
 ):
-    size = 2 if at == 4 else 4
-    texts = [text[:at] + number(it, size) + text[at + size :] for it in bad]
-    if at == 6:
-        texts += [
-            text[:at] + number(BY_OWNER | 1 << it, 4) + text[at + size :] for it in range(20, 25)
-        ]
-    tpm.fails(f"{what}: {code}", *(raw(empty + sized(it)) for it in texts))
+    texts = (text[:at] + number(it, size) + text[at + size :] for it in bad)
+    tpm.fails(words, *(raw(empty + sized(it)) for it in texts))
 said = tpm("authPolicy of 33 bytes: SIZE/p2")
 said.fails(*(raw(empty + sized(area(auth_policy=it).text)) for it in (bytes(33), b"p" * 33)))
 said = tpm("A wrong nvIndex is found before a wrong nameAlg, as they are read in order: VALUE/p2")
@@ -173,11 +166,10 @@ tpm("It is undefined").undefining(FIRST)
 
 tpm.chapter("There are at most 64 indices, by whomever they are defined.")
 every = range(FIRST, FIRST + 64)
+words = {FIRST: "64 of them, of eight bytes", FIRST + 32: "The 33rd of them"}
 for index in every:
-    by = RH_PLATFORM if index % 2 else RH_OWNER
-    public = area(index, BY_OWNER | (CREATED if index % 2 else 0))
-    words = {FIRST: "64 of them, of eight bytes", FIRST + 32: "The 33rd of them"}
-    tpm.define(words.get(index, ""), public, by=by)
+    by, created = (RH_PLATFORM, CREATED) if index % 2 else (RH_OWNER, 0)
+    tpm.define(words.get(index, ""), area(index, BY_OWNER | created), by=by)
 case = "A 65th, of eight bytes or of none: NV_SPACE"
 unfitting(case, area(0x0100_0100), area(0x0100_0100, size=0))
 unfitting("One that is there: NV_DEFINED", area(FIRST + 1))
@@ -194,29 +186,24 @@ for index in (*every, 0x0100_0100):
 
 tpm.chapter("All have at most 16,384 bytes, whether they are written or not.")
 every = range(FIRST, FIRST + 8)
-values = {it: bytes([it & 0xFF]) * 2048 for it in every}
+halves = list(itertools.product(every, (0, 1024)))
 for index in every:
     tpm.define("" if index > FIRST else "Eight of 2,048 bytes", area(index, size=2048))
 unfitting("A ninth, of a byte: NV_SPACE", area(FIRST + 8, size=1))
-for index in every:
-    for half in (0, 1024):
-        what = "All are written, each in two halves" if (index, half) == (FIRST, 0) else ""
-        part = values[index][half : half + 1024]
-        tpm(what).writing(index, part, offset=half)
+for index, half in halves:
+    what = "All are written, each in two halves" if (index, half) == (FIRST, 0) else ""
+    tpm(what).writing(index, bytes([index & 0xFF]) * 1024, offset=half)
 unfitting("Another one, of a byte: NV_SPACE", area(FIRST + 8, size=1))
 tpm("The second is undefined").undefining(FIRST + 1)
 unfitting("One of 2,049 bytes: SIZE/p2", area(FIRST + 8, size=2049))
-for index in (FIRST + 8, FIRST + 9):
-    what = "Two of 1,024 bytes are defined" if index == FIRST + 8 else ""
-    tpm.define(what, area(index, size=1024))
+tpm.define("Two of 1,024 bytes are defined", area(FIRST + 8, size=1024))
+tpm.define("", area(FIRST + 9, size=1024))
 unfitting("One of a byte: NV_SPACE", area(FIRST + 1, size=1))
 tpm.define("One of no bytes", area(FIRST + 1, size=0))
-for index in every:
-    if index == FIRST + 1:
-        continue
-    for half in (0, 1024):
+for index, half in halves:
+    if index != FIRST + 1:
         what = "The others read as written" if (index, half) == (FIRST, 0) else ""
-        tpm.read(what, index, values[index][half : half + 1024], offset=half)
+        tpm.read(what, index, bytes([index & 0xFF]) * 1024, offset=half)
 tpm("The last one is undefined").undefining(FIRST + 9)
 unfitting("One of 1,025 bytes: NV_SPACE", area(FIRST + 9, size=1025))
 tpm.define("One of 1,016", area(FIRST + 9, size=1016))
