@@ -16,8 +16,16 @@ def some(size, seed=b""):
     return b"".join(digests)[:size]
 
 
-def write(what, index, data, offset=0):
-    tpm(what).writing(index, data, offset=offset, by=RH_OWNER)
+def writing(index, data, offset=0):
+    return tpm.writing(index, data, offset=offset, by=RH_OWNER)
+
+
+def write(what, *those):
+    tpm.does(what, writing(*those))
+
+
+def reading(index, size, offset=0):
+    return tpm.reading(index, size, offset=offset, by=RH_OWNER)
 
 
 def read(what, index, data, offset=0):
@@ -48,27 +56,17 @@ read("TPM2_NV_Read of the first half", SECOND, whole[:1024])
 read("Of the second half", SECOND, whole[1024:], 1024)
 
 tpm.chapter("More than 1,024 bytes at once.")
-tpm.fails(
-    "TPM2_NV_Write of 1,025 bytes: SIZE/p1",
-    tpm.writing(SECOND, bytes(1025), by=RH_OWNER),
-    tpm.writing(FIRST, bytes(1025), by=RH_OWNER),
-)
+case = "TPM2_NV_Write of 1,025 bytes: SIZE/p1"
+tpm.fails(case, writing(SECOND, bytes(1025)), writing(FIRST, bytes(1025)))
 tpm.fails(
     "TPM2_NV_Read of 1,025, of 2,048 and of FFFF bytes, also past the end: VALUE/p1",
-    *(tpm.reading(SECOND, it, by=RH_OWNER) for it in (1025, 2048, 0xFFFF)),
-    tpm.reading(SECOND, 1025, offset=2000, by=RH_OWNER),
-    tpm.reading(FIRST, 1025, by=RH_OWNER),
+    *(reading(SECOND, it) for it in (1025, 2048, 0xFFFF)),
+    *(reading(SECOND, 1025, 2000), reading(FIRST, 1025)),
 )
-tpm.fails(
-    "TPM2_NV_Read of 1,024 bytes past the end: NV_RANGE",
-    tpm.reading(SECOND, 1024, offset=1025, by=RH_OWNER),
-    tpm.reading(FIRST, 1024, offset=1, by=RH_OWNER),
-)
-tpm.fails(
-    "TPM2_NV_Write of 1,024 bytes past the end: NV_RANGE",
-    tpm.writing(SECOND, bytes(1024), offset=1025, by=RH_OWNER),
-    tpm.writing(FIRST, bytes(1024), offset=1, by=RH_OWNER),
-)
+case = "TPM2_NV_Read of 1,024 bytes past the end: NV_RANGE"
+tpm.fails(case, reading(SECOND, 1024, 1025), reading(FIRST, 1024, 1))
+case = "TPM2_NV_Write of 1,024 bytes past the end: NV_RANGE"
+tpm.fails(case, writing(SECOND, bytes(1024), 1025), writing(FIRST, bytes(1024), 1))
 read("The first is as it was", FIRST, data)
 
 tpm.chapter("WRITEALL: all bytes at once.")
@@ -76,15 +74,13 @@ public = area(THIRD, BY_OWNER | NvAttribute.WRITEALL, size=1024)
 tpm.define("TPM2_NV_DefineSpace of 1,024 bytes", public)
 tpm.fails(
     "TPM2_NV_Write of fewer bytes, and at another offset: NV_RANGE",
-    *(tpm.writing(THIRD, bytes(size), by=RH_OWNER) for size in (0, 1, 1023)),
-    tpm.writing(THIRD, bytes(1023), offset=1, by=RH_OWNER),
-    tpm.writing(THIRD, bytes(1024), offset=1, by=RH_OWNER),
-    tpm.writing(THIRD, b"", offset=1024, by=RH_OWNER),
+    *(writing(THIRD, bytes(size)) for size in (0, 1, 1023)),
+    *(writing(THIRD, bytes(1023), 1), writing(THIRD, bytes(1024), 1), writing(THIRD, b"", 1024)),
 )
 tpm("It is not written: NV_UNINITIALIZED").reading(THIRD, 8, by=RH_OWNER)
 write("TPM2_NV_Write of all", THIRD, data)
 read("A piece of it can be read", THIRD, data[100:200], 100)
-tpm("TPM2_NV_Write of fewer bytes: NV_RANGE").writing(THIRD, b"x", by=RH_OWNER)
+tpm.fails("TPM2_NV_Write of fewer bytes: NV_RANGE", writing(THIRD, b"x"))
 write("TPM2_NV_Write of all again", THIRD, data[::-1])
 read("TPM2_NV_Read", THIRD, data[::-1])
 tpm("It is undefined").undefining(THIRD)
