@@ -110,12 +110,11 @@ class Steps(Teller):
         self.does("TPM2_PolicyPassword", self.password_told(session))
         return Use(session, attributes, demand=PASSWORD)
 
-    # Sessions that can encrypt, where nothing can be encrypted.
-
-    def encrypts_nothing(self, *prepared: Prepared) -> None:
+    def encrypts_nothing(self, prepare: Callable[[], Prepared]) -> None:
+        """A command by a session that could encrypt, where nothing can be encrypted."""
         for attribute, words in ((DECRYPT, "decrypted"), (ENCRYPT, "encrypted")):
-            bent = [it.but_entry(1, attributes=CONTINUE_SESSION | attribute) for it in prepared]
-            self.refused(f"Nothing can be {words}: ATTRIBUTES/s1", *bent)
+            bent = prepare().but_entry(1, attributes=CONTINUE_SESSION | attribute)
+            self.refused(f"Nothing can be {words}: ATTRIBUTES/s1", bent)
 
     # What is kept.
 
