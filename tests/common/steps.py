@@ -7,8 +7,9 @@ from typing import Any
 
 from tpmsim.caller import HERE, hmac_key, Made, Means, OPEN, Prepared, Session, STATE, Use
 from tpmsim.standard import CC, command, CONTINUE_SESSION, DECRYPT, digest_bytes, ENCRYPT, number
-from tpmsim.standard import policy, RH_ENDORSEMENT, RH_NULL, RH_OWNER, RH_PLATFORM, SHA1, SHA256
-from tpmsim.standard import SYMCIPHER
+from tpmsim.standard import policy, RH_ENDORSEMENT, RH_LOCKOUT, RH_NULL, RH_OWNER, RH_PLATFORM
+from tpmsim.standard import SHA1, SHA256, SYMCIPHER
+
 from tpmsim.standard.objects import Attribute, Public
 from tpmsim.standard.policy import AUTH_VALUE, PASSWORD
 from tests.common.teller import Teller
@@ -18,6 +19,14 @@ HIERARCHIES = (
     (RH_ENDORSEMENT, "TPM_RH_ENDORSEMENT"),
     (RH_PLATFORM, "TPM_RH_PLATFORM"),
     (RH_NULL, "TPM_RH_NULL"),
+)
+
+# What is authorized by a value that can be changed, and one for each.
+AUTHORIZED = (
+    (RH_OWNER, "TPM_RH_OWNER", b"owner"),
+    (RH_ENDORSEMENT, "TPM_RH_ENDORSEMENT", b"endorsement"),
+    (RH_PLATFORM, "TPM_RH_PLATFORM", b"platform"),
+    (RH_LOCKOUT, "TPM_RH_LOCKOUT", b"lockout"),
 )
 
 # Attributes of an object that is protected from guessing, and of one whose key is generated.
@@ -129,6 +138,12 @@ class Steps(Teller):
     def saves_and_resumes(self, what: str = "TPM2_Startup(STATE)") -> None:
         self.saves()
         self.resumes(what)
+
+    def resumes_not(self, words: str = "TPM2_Startup(STATE): VALUE/p1") -> None:
+        """No state is saved."""
+        self.power()
+        self.fails(words, self.starting(STATE))
+        self.start_up("TPM2_Startup(CLEAR)")
 
     def lists(
         self,

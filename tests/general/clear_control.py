@@ -2,15 +2,16 @@
 the platform, and enables it again (NO, 00), which only the platform may.
 """
 
-from tests.common.vocabulary import CC, command, CONTINUE_SESSION, DECRYPT, ENCRYPT, frames, number
-from tests.common.vocabulary import on_handle, RH_ENDORSEMENT, RH_LOCKOUT, RH_NULL, RH_OWNER
-from tests.common.vocabulary import RH_PLATFORM, STATE, Teller, wrong
+from tpmsim.model.capability import LOCKOUT_COUNTER, PROPERTIES
+from tests.common.steps import Steps
+from tests.common.vocabulary import CC, command, DECRYPTS, ENCRYPTS, number, on_handle
+from tests.common.vocabulary import RH_ENDORSEMENT, RH_LOCKOUT, RH_NULL, RH_OWNER, RH_PLATFORM
+from tests.common.vocabulary import wrong
 
 NO, YES = 0, 1
 BOTH = RH_LOCKOUT, RH_PLATFORM
-PROPERTIES, LOCKOUT_COUNTER = 6, 0x20E
 
-tpm = Teller(__name__, __doc__, starts=False)
+tpm = Steps(__name__, __doc__, starts=False)
 says = tpm.raw
 
 
@@ -24,10 +25,6 @@ def clears(what):
 
 def is_disabled(what):
     says(f"{what}: DISABLED", *(on_handle(CC.Clear, it) for it in BOTH))
-
-
-def wrong_control(session):
-    return wrong(tpm.clear_control(RH_LOCKOUT, NO, session))
 
 
 says("Before TPM2_Startup: INITIALIZE", control(RH_PLATFORM, YES))
@@ -65,10 +62,8 @@ says("YES again: SUCCESS", control(RH_LOCKOUT, YES))
 says("NO: AUTH_FAIL", control(RH_LOCKOUT, NO))
 is_disabled("It is disabled as before")
 
-# TPM_PT_LOCKOUT_COUNTER is 0, and lockoutAuth is open.
-what = "That was no try, though its code is of one"
-given = tpm(what).capability(PROPERTIES, LOCKOUT_COUNTER, 1)
-assert given[-4:] == bytes(4)
+case = "That was no try, though its code is of one"
+tpm.lists(case, PROPERTIES, LOCKOUT_COUNTER, 1, [(LOCKOUT_COUNTER, 0)], more=True)
 tpm("lockoutAuth is open").lock_reset()
 
 for session, words in (
@@ -77,7 +72,8 @@ for session, words in (
 ):
     tpm(f"{words}: NO: AUTH_FAIL").clear_control(RH_LOCKOUT, NO, session)
     tpm(f"{words}: YES").clear_control(RH_LOCKOUT, YES, session)
-    tpm.fails("A wrong hmac, of NO: AUTH_FAIL/s1", wrong_control(session))
+    wrong_control = wrong(tpm.clear_control(RH_LOCKOUT, NO, session))
+    tpm.fails("A wrong hmac, of NO: AUTH_FAIL/s1", wrong_control)
     tpm("It has closed lockoutAuth: LOCKOUT").lock_reset()
     tpm.wait(1_000_000)
     tpm("It opens with the time").lock_reset()
@@ -85,34 +81,28 @@ for session, words in (
 
 tpm.chapter("DISABLED is the check of the command itself, behind all others.")
 says("A byte behind the handle: SIZE", *(on_handle(CC.Clear, it, b"\0") for it in BOTH))
-wrong_password = [frames.entry(hmac=b"x")]
-case = "A wrong password of the platform: BAD_AUTH/s1"
-says(case, on_handle(CC.Clear, RH_PLATFORM, b"", wrong_password))
+tpm("A wrong password of the platform: BAD_AUTH/s1").clearing(RH_PLATFORM, b"x")
 case = "One of TPM_RH_LOCKOUT: a try, which is counted: AUTH_FAIL/s1"
-says(case, on_handle(CC.Clear, RH_LOCKOUT, b"", wrong_password))
-says("The right one: LOCKOUT", on_handle(CC.Clear, RH_LOCKOUT))
+tpm(case).clearing(RH_LOCKOUT, b"x")
+tpm("The right one: LOCKOUT").clearing(RH_LOCKOUT)
 says("Of TPM2_ClearControl, too: LOCKOUT", control(RH_LOCKOUT, NO), control(RH_LOCKOUT, YES))
 tpm.wait(1_000_000)
 is_disabled("Behind lockoutRecovery")
 
 tpm.chapter("By sessions that cannot encrypt what is no sized buffer.")
 session = tpm.start("An HMAC session with AES", aes=True)
-for attribute in (DECRYPT, ENCRYPT):
-    words = "Its only parameter is one byte, and nothing is answered"
-    tpm.fails(
-        f"{words if attribute == DECRYPT else ''}: ATTRIBUTES/s1",
-        tpm.clear_control(RH_PLATFORM, NO, session).but_entry(
-            1, attributes=CONTINUE_SESSION | attribute
-        ),
-    )
+for words, attributes in (
+    ("Its only parameter is one byte, and nothing is answered: ATTRIBUTES/s1", DECRYPTS),
+    (": ATTRIBUTES/s1", ENCRYPTS),
+):
+    prepared = tpm.clear_control(RH_PLATFORM, NO, session)
+    tpm.fails(words, prepared.but_entry(1, attributes=attributes))
 tpm("It is flushed").flush(session)
 
 tpm.chapter("It is kept over starts.")
 tpm.power_cycle()
 is_disabled("Behind TPM2_Startup(CLEAR)")
-tpm("TPM2_Shutdown(STATE)").shutting_down(STATE)
-tpm.power()
-tpm.start_up("TPM2_Startup(STATE)", STATE)
+tpm.saves_and_resumes()
 is_disabled("Behind it")
 says("NO by the platform: SUCCESS", control(RH_PLATFORM, NO))
 clears("TPM2_Clear")

@@ -2,10 +2,10 @@
 what is kept anyway, CLEAR (0000), or PCR 0 to 15, STATE (0001).
 """
 
-from tests.common.vocabulary import CC, CLEAR, command, CONTINUE_SESSION, DECRYPT, ENCRYPT, frames
-from tests.common.vocabulary import number, RH_OWNER, STATE, Teller, Use, wrong
+from tests.common.steps import Steps
+from tests.common.vocabulary import CC, CLEAR, command, frames, number, RH_OWNER, STATE, Use, wrong
 
-tpm = Teller(__name__, __doc__, starts=False)
+tpm = Steps(__name__, __doc__, starts=False)
 says = tpm.raw
 
 
@@ -36,17 +36,11 @@ says(case, command(CC.Startup, number(CLEAR, 2)))
 tpm.chapter("The last one counts.")
 says("TPM2_Shutdown(STATE): SUCCESS", shutdown(STATE))
 says("TPM2_Shutdown(CLEAR): SUCCESS", shutdown(CLEAR))
-tpm.power()
-tpm("TPM2_Startup(STATE): VALUE/p1").starting(STATE)
-tpm.start_up("TPM2_Startup(CLEAR)")
+tpm.resumes_not()
 says("TPM2_Shutdown(CLEAR): SUCCESS", shutdown(CLEAR))
-says("TPM2_Shutdown(STATE): SUCCESS", shutdown(STATE))
-tpm.power()
-tpm.start_up("TPM2_Startup(STATE)", STATE)
+tpm.saves_and_resumes()
 tpm.chapter("A state is restored once.")
-tpm.power()
-tpm("TPM2_Startup(STATE): VALUE/p1").starting(STATE)
-tpm.start_up("TPM2_Startup(CLEAR)")
+tpm.resumes_not()
 
 tpm.chapter("With sessions, which authorize nothing here.")
 tpm('ownerAuth is "owner"').change_auth(RH_OWNER, b"owner", b"")
@@ -55,15 +49,9 @@ policy = tpm.policy("A policy session")
 tpm("TPM2_Shutdown(CLEAR) with one").shutting_down(CLEAR, session)
 tpm("TPM2_Shutdown(STATE) with both").shutting_down(STATE, policy, session)
 tpm.refused("With a wrong hmac, of CLEAR: BAD_AUTH/s1", wrong(tpm.shutting_down(CLEAR, session)))
-for attribute, words in ((DECRYPT, "decrypted"), (ENCRYPT, "encrypted")):
-    tpm.refused(
-        f"Nothing can be {words}: ATTRIBUTES/s1",
-        tpm.shutting_down(CLEAR, session).but_entry(1, attributes=CONTINUE_SESSION | attribute),
-    )
-tpm.power()
-tpm.start_up("The one of STATE was accepted: TPM2_Startup(STATE)", STATE)
+tpm.encrypts_nothing(lambda: tpm.shutting_down(CLEAR, session))
+tpm.resumes("The one of STATE was accepted: TPM2_Startup(STATE)")
 session = tpm.start("Another session", RH_OWNER)
 tpm("It ends with its use").shutting_down(STATE, Use(session, attributes=0))
 tpm("It is gone: REFERENCE_S0").shutting_down(CLEAR, session)
-tpm.power()
-tpm.start_up("TPM2_Startup(STATE)", STATE)
+tpm.resumes()
