@@ -5,7 +5,7 @@ tests/general/cut_nv_commands.tpm.
 """
 
 from tests.general import cuts
-from tests.general.cuts import STARTUP, cut, start
+from tests.general.cuts import comes_whole, cut, start, STARTUP
 from tpmsim.standard import CC, SHA1, SHA256, area, command, digests, entry, frames, number
 from tpmsim.standard import on_handle, sized
 
@@ -28,16 +28,6 @@ BY_DECRYPTING = [entry(SESSION, bytes(16), frames.CONTINUE_SESSION | frames.DECR
 # Three entries. The last session ends when they are accepted, and a trial session has its place.
 BY_THREE = [entry(), *BY_SESSION, entry(OTHER, nonce=bytes(16), attributes=0)]
 AES = start(aes=True)
-START = (
-    "tpmKey",
-    "bind",
-    "nonceCaller",
-    "encryptedSalt",
-    "before sessionType",
-    "symmetric",
-    "authHash",
-)
-SECRET = "authHandle", "policySession", "nonceTPM", "cpHashA", "policyRef", "expiration"
 
 
 def extending(*values):
@@ -55,8 +45,8 @@ def secret(password):
     return command(CC.PolicySecret, body, frames.SESSIONS)
 
 
-def policy(name, code, parameters=b"", *words):
-    return cut(name, command(code, number(TRIAL, 4) + parameters), "policySession", *words)
+def policy(name, code, parameters=b""):
+    return cut(name, command(code, number(TRIAL, 4) + parameters))
 
 
 def reading(*banks):
@@ -73,66 +63,43 @@ OWNER = 'TPM2_PolicySecret of TPM_RH_OWNER, whose value is "abc", by the empty p
 
 COMMANDS = [
     STARTUP,
-    cut("TPM2_GetRandom of 32 bytes", command(CC.GetRandom, number(32, 2)), "bytesRequested"),
-    cut("TPM2_PCR_Read of a bank", reading((SHA256, range(24))), "its selection"),
-    cut("TPM2_PCR_Read of two banks", reading((SHA1, [0]), (SHA256, [23])), "its selection"),
-    cut("TPM2_PCR_Extend by a digest", extending((SHA256, ZEROS)), "its handle", "its digests"),
-    cut(
-        "TPM2_PCR_Extend by two digests",
-        extending((SHA1, bytes(20)), (SHA256, ZEROS)),
-        *("its handle", "its digests"),
-    ),
-    cut('TPM2_PCR_Event of "abc"', event(), "its handle", "its data"),
-    cut("TPM2_PCR_Reset of PCR 16", on_handle(CC.PCR_Reset, 16), "its handle"),
+    cut("TPM2_GetRandom of 32 bytes", command(CC.GetRandom, number(32, 2))),
+    cut("TPM2_PCR_Read of a bank", reading((SHA256, range(24)))),
+    cut("TPM2_PCR_Read of two banks", reading((SHA1, [0]), (SHA256, [23]))),
+    cut("TPM2_PCR_Extend by a digest", extending((SHA256, ZEROS))),
+    cut("TPM2_PCR_Extend by two digests", extending((SHA1, bytes(20)), (SHA256, ZEROS))),
+    cut('TPM2_PCR_Event of "abc"', event()),
+    cut("TPM2_PCR_Reset of PCR 16", on_handle(CC.PCR_Reset, 16)),
     cut(
         'TPM2_HierarchyChangeAuth to "abc"',
         on_handle(CC.HierarchyChangeAuth, frames.RH_OWNER, sized(b"abc")),
-        *("its handle", "newAuth"),
     ),
-    cut("TPM2_StartAuthSession", AES, *START),
-    cut(
-        "TPM2_PCR_Reset by that session", on_handle(CC.PCR_Reset, 16, b"", BY_SESSION), "its handle"
-    ),
-    cut("TPM2_PCR_Event by it, where it decrypts", event(BY_DECRYPTING), "its handle", "its data"),
-    cut("TPM2_StartAuthSession of another session", AES),
+    cut("TPM2_StartAuthSession", AES),
+    cut("TPM2_PCR_Reset by that session", on_handle(CC.PCR_Reset, 16, b"", BY_SESSION)),
+    cut("TPM2_PCR_Event by it, where it decrypts", event(BY_DECRYPTING)),
+    comes_whole("TPM2_StartAuthSession of another session", AES),
     cut(
         "TPM2_PCR_Reset by the password, with both sessions, the second of which ends",
         on_handle(CC.PCR_Reset, 16, b"", BY_THREE),
-        "its handle",
     ),
-    cut("TPM2_FlushContext", flush(SESSION), "flushHandle"),
-    cut("TPM2_StartAuthSession of a trial session", start(kind=frames.SE_TRIAL), *START),
-    policy(
-        "TPM2_PolicyPCR of two banks",
-        CC.PolicyPCR,
-        sized(bytes(20)) + ONE_PCR,
-        *("pcrDigest", "its selection"),
-    ),
-    policy(
-        "TPM2_PolicyOR", CC.PolicyOR, frames.sized_list(bytes(20), b"", bytes(32)), "its digests"
-    ),
+    cut("TPM2_FlushContext", flush(SESSION)),
+    cut("TPM2_StartAuthSession of a trial session", start(kind=frames.SE_TRIAL)),
+    policy("TPM2_PolicyPCR of two banks", CC.PolicyPCR, sized(bytes(20)) + ONE_PCR),
+    policy("TPM2_PolicyOR", CC.PolicyOR, frames.sized_list(bytes(20), b"", bytes(32))),
     policy("TPM2_PolicyAuthValue", CC.PolicyAuthValue),
     policy("TPM2_PolicyPassword", CC.PolicyPassword),
-    policy("TPM2_PolicyCommandCode of Unseal", CC.PolicyCommandCode, number(CC.Unseal, 4), "code"),
-    policy("TPM2_PolicyLocality of locality 0", CC.PolicyLocality, b"\1", "before locality"),
-    cut(OWNER, secret(b""), "authHandle", "policySession", outcome="BAD_AUTH/s1"),
-    cut("TPM2_PolicySecret by the right password", secret(b"abc"), *SECRET),
+    policy("TPM2_PolicyCommandCode of Unseal", CC.PolicyCommandCode, number(CC.Unseal, 4)),
+    policy("TPM2_PolicyLocality of locality 0", CC.PolicyLocality, b"\1"),
+    cut(OWNER, secret(b""), "BAD_AUTH/s1"),
+    cut("TPM2_PolicySecret by the right password", secret(b"abc")),
     policy("TPM2_PolicyGetDigest", CC.PolicyGetDigest),
     policy("TPM2_PolicyRestart", CC.PolicyRestart),
-    cut("TPM2_GetRandom with a password", RANDOM_BY_PASSWORD, "", outcome="HANDLE/s1"),
-    policy("TPM2_PolicyCpHash", CC.PolicyCpHash, sized(bytes(range(32))), "cpHashA"),
-    policy(
-        "TPM2_PolicyNvWritten of an index that is not written",
-        CC.PolicyNvWritten,
-        *(b"\0", "before writtenSet"),
-    ),
-    cut("TPM2_FlushContext of it", flush(TRIAL)),
-    cut("TPM2_StartAuthSession with TPM_ALG_XOR", start(xor=SHA256), *START),
-    cut(
-        "TPM2_PCR_Event by that session, where it decrypts",
-        event(BY_DECRYPTING),
-        *("its handle", "its data"),
-    ),
+    cut("TPM2_GetRandom with a password", RANDOM_BY_PASSWORD, "HANDLE/s1"),
+    policy("TPM2_PolicyCpHash", CC.PolicyCpHash, sized(bytes(range(32)))),
+    policy("TPM2_PolicyNvWritten of an index that is not written", CC.PolicyNvWritten, b"\0"),
+    comes_whole("TPM2_FlushContext of it", flush(TRIAL)),
+    cut("TPM2_StartAuthSession with TPM_ALG_XOR", start(xor=SHA256)),
+    cut("TPM2_PCR_Event by that session, where it decrypts", event(BY_DECRYPTING)),
 ]
 
 

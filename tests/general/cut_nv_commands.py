@@ -1,7 +1,7 @@
 """Writes cut_nv_commands.tpm: the commands on NV indices, cut to every shorter length."""
 
 from tests.general import cuts
-from tests.general.cuts import STARTUP, cut, start
+from tests.general.cuts import comes_whole, cut, start, STARTUP
 from tpmsim.standard import CC, RH_OWNER, SHA256, command, entry, frames, number, nv, on_handle
 from tpmsim.standard import on_handles, policy, sized
 from tpmsim.standard.nv import Attribute, Type
@@ -23,14 +23,17 @@ CHANGING = policy.after_command_code(SHA256, bytes(32), CC.NV_ChangeAuth)
 
 def defining(name, index, kind, size=nv.NUMBER_BYTES, attributes=OWNERS, auth_policy=b""):
     public = nv.Public(index, SHA256, attributes | nv.of_type(kind), auth_policy, size)
-    whole = on_handle(CC.NV_DefineSpace, RH_OWNER, frames.nv_define_space(public.text, b"a"))
-    return cut(name, whole, "its handle", "auth", "publicInfo")
+    parameters = frames.nv_define_space(public.text, b"a")
+    return cut(name, on_handle(CC.NV_DefineSpace, RH_OWNER, parameters))
 
 
-def by_owner(code, index, parameters=b"", *words):
+def by_owner(code, index, parameters=b""):
     """A command on an index, authorized by the owner."""
-    whole = on_handles(code, [RH_OWNER, index], parameters)
-    return cut(f"TPM2_{code.name}", whole, "authHandle", "nvIndex", *words)
+    return cut(f"TPM2_{code.name}", on_handles(code, [RH_OWNER, index], parameters))
+
+
+def on_session(code, parameters=b""):
+    return command(code, number(SESSION, 4) + parameters)
 
 
 COMMANDS = [
@@ -42,27 +45,25 @@ COMMANDS = [
     defining("Of a counter", COUNTER, Type.COUNTER),
     defining("Of bits", BITS, Type.BITS),
     defining("Of an index that is extended", EXTENDED, Type.EXTEND, 32),
-    cut("TPM2_NV_ReadPublic", command(CC.NV_ReadPublic, number(ORDINARY, 4)), "nvIndex"),
-    by_owner(CC.NV_Write, ORDINARY, frames.nv_write(b"abc", 2), "data", "offset"),
-    by_owner(CC.NV_Read, ORDINARY, frames.nv_read(8), "size", "offset"),
+    cut("TPM2_NV_ReadPublic", command(CC.NV_ReadPublic, number(ORDINARY, 4))),
+    by_owner(CC.NV_Write, ORDINARY, frames.nv_write(b"abc", 2)),
+    by_owner(CC.NV_Read, ORDINARY, frames.nv_read(8)),
     by_owner(CC.NV_Increment, COUNTER),
-    by_owner(CC.NV_SetBits, BITS, number(5, 8), "bits"),
-    by_owner(CC.NV_Extend, EXTENDED, sized(b"abc"), "data"),
-    cut("TPM2_StartAuthSession of a policy session", start(kind=frames.SE_POLICY)),
+    by_owner(CC.NV_SetBits, BITS, number(5, 8)),
+    by_owner(CC.NV_Extend, EXTENDED, sized(b"abc")),
+    comes_whole("TPM2_StartAuthSession of a policy session", start(kind=frames.SE_POLICY)),
     cut(
         "TPM2_PolicyNV: the index is FFFF616263FFFFFF",
         on_handles(CC.PolicyNV, [RH_OWNER, ORDINARY, SESSION], frames.policy_nv(b"abc", 2, 0)),
-        *("authHandle", "nvIndex", "policySession", "operandB", "offset", "operation"),
     ),
-    cut("TPM2_PolicyRestart", command(CC.PolicyRestart, number(SESSION, 4))),
-    cut(
+    comes_whole("TPM2_PolicyRestart", on_session(CC.PolicyRestart)),
+    comes_whole(
         "TPM2_PolicyCommandCode of TPM2_NV_ChangeAuth",
-        command(CC.PolicyCommandCode, number(SESSION, 4) + number(CC.NV_ChangeAuth, 4)),
+        on_session(CC.PolicyCommandCode, number(CC.NV_ChangeAuth, 4)),
     ),
     cut(
         "TPM2_NV_ChangeAuth by the session, which is bound to nothing and has no hmac",
         on_handle(CC.NV_ChangeAuth, ORDINARY, sized(b"abc"), [entry(SESSION, nonce=bytes(16))]),
-        *("nvIndex", "newAuth"),
     ),
     by_owner(CC.NV_WriteLock, ORDINARY),
     by_owner(CC.NV_ReadLock, ORDINARY),

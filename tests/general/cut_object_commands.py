@@ -46,7 +46,6 @@ def on_object(code, handle, parameters=b""):
     return on_handle(code, handle, parameters, [entry(hmac=b"abc")])
 
 
-CREATION = "its handle", "inSensitive", "inPublic", "outsideInfo", "creationPCR"
 PRIMARY = on_handle(CC.CreatePrimary, frames.RH_OWNER, creation(storage_key()))
 KEY = on_handle(CC.CreatePrimary, frames.RH_OWNER, creation(hmac_key(), b"key"))
 SEALED = on_object(CC.Create, PARENT, creation(sealed(), b"secret"))
@@ -55,14 +54,14 @@ HMAC = on_object(CC.HMAC, CHILD, sized(b"data") + number(SHA256, 2))
 
 COMMANDS = [
     STARTUP,
-    cut("TPM2_CreatePrimary of a storage key", PRIMARY, *CREATION),
-    cut("TPM2_Create of sealed data", SEALED, *CREATION),
-    cut("TPM2_Load of what was created", LOADED, "its handle", "inPrivate", "inPublic"),
-    cut("TPM2_ReadPublic", command(CC.ReadPublic, number(CHILD, 4)), "objectHandle"),
-    cut("TPM2_Unseal", on_object(CC.Unseal, CHILD), "its handle"),
-    cut("TPM2_FlushContext of it", command(CC.FlushContext, number(CHILD, 4)), "flushHandle"),
-    cut("TPM2_CreatePrimary of an HMAC key", KEY, *CREATION),
-    cut("TPM2_HMAC by it", HMAC, "its handle", "buffer", "hashAlg"),
+    cut("TPM2_CreatePrimary of a storage key", PRIMARY),
+    cut("TPM2_Create of sealed data", SEALED),
+    cut("TPM2_Load of what was created", LOADED),
+    cut("TPM2_ReadPublic", command(CC.ReadPublic, number(CHILD, 4))),
+    cut("TPM2_Unseal", on_object(CC.Unseal, CHILD)),
+    cut("TPM2_FlushContext of it", command(CC.FlushContext, number(CHILD, 4))),
+    cut("TPM2_CreatePrimary of an HMAC key", KEY),
+    cut("TPM2_HMAC by it", HMAC),
 ]
 
 
