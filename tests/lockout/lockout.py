@@ -104,10 +104,8 @@ wrong("The third one")
 said = tpm("TPM2_DictionaryAttackParameters with maxTries 1: all three have to be forgiven now")
 said.set_protection(1, 1000, 1000)
 locked("One and a half times recoveryTime later: two are left", after=1_500_000)
-locked(
-    "A millisecond before three times recoveryTime: one is left, as the half has counted",
-    after=1_499_999,
-)
+case = "A millisecond before three times recoveryTime: one is left, as the half has counted"
+locked(case, after=1_499_999)
 right("Then", after=1)
 tpm.set_protection("maxTries is 3 again", 3, 1000, 1000)
 lock()

@@ -121,11 +121,8 @@ handles()
 sizes()
 
 tpm.chapter("Types.")
-unfitting(
-    "Every type but ordinary 0, counter 1, bits 2 and extend 4, whatever the size: "
-    "ATTRIBUTES/p2",
-    *(area(kind=it) for it in range(16) if it not in list(Type)),
-)
+case = "Every type but ordinary 0, counter 1, bits 2 and extend 4, whatever the size: ATTRIBUTES/p2"
+unfitting(case, *(area(kind=it) for it in range(16) if it not in list(Type)))
 tpm.chapter("Attributes.")
 unfitting(
     "POLICY_DELETE, WRITELOCKED, GLOBALLOCK, ORDERLY, READLOCKED and WRITTEN: ATTRIBUTES/p2",

@@ -108,11 +108,8 @@ def integrity(forger, algorithm):
     forger.refused("By the other hash algorithm", forger.forge(sensitive(), algorithm=other))
     size = digest_bytes(algorithm)
     value, rest = private[2 : 2 + size], private[2 + size :]
-    forger.refused(
-        "Without it, a part of it, none, and one that is longer",
-        rest,
-        *(sized(it) + rest for it in (value[:-1], b"", value + b"\0")),
-    )
+    case = "Without it, a part of it, none, and one that is longer"
+    forger.refused(case, rest, *(sized(it) + rest for it in (value[:-1], b"", value + b"\0")))
 
     tpm.chapter("The first block of the cipher.")
     wrong = (forger.forge(sensitive(), iv=bytes(it)) for it in (0, 1, 15, 17, 32))
