@@ -15,10 +15,6 @@ tpm = Steps(__name__, __doc__, starts=False)
 says = tpm.raw
 
 
-def control(handle, disables):
-    return on_handle(CC.ClearControl, handle, number(disables, 1))
-
-
 def clears(what):
     says(f"{what}: SUCCESS", *(on_handle(CC.Clear, it) for it in BOTH))
 
@@ -27,16 +23,16 @@ def is_disabled(what):
     says(f"{what}: DISABLED", *(on_handle(CC.Clear, it) for it in BOTH))
 
 
-says("Before TPM2_Startup: INITIALIZE", control(RH_PLATFORM, YES))
+tpm("Before TPM2_Startup: INITIALIZE").clear_control(RH_PLATFORM, YES)
 tpm.startup()
 says("No handle: INSUFFICIENT/h1", command(CC.ClearControl, b""))
 others = RH_OWNER, RH_ENDORSEMENT, RH_NULL, 0
-says("Who cannot clear: VALUE/h1", *(control(it, YES) for it in others))
+tpm.says("Who cannot clear: VALUE/h1", *(tpm.clear_control(it, YES) for it in others))
 case = "Without sessions: AUTH_MISSING"
 says(case, *(command(CC.ClearControl, number(it, 4) + b"\1") for it in BOTH))
 says("No parameter: INSUFFICIENT/p1", *(on_handle(CC.ClearControl, it) for it in BOTH))
 case = "Neither YES nor NO: VALUE/p1"
-says(case, *(control(handle, value) for handle in BOTH for value in (2, 0x80, 0xFF)))
+tpm.says(case, *(tpm.clear_control(handle, value) for handle in BOTH for value in (2, 0x80, 0xFF)))
 says(
     "A byte behind it, also of NO by lockoutAuth: SIZE",
     *(on_handle(CC.ClearControl, handle, it) for handle in BOTH for it in (b"\0\0", b"\1\0")),
@@ -48,18 +44,18 @@ tpm("It is flushed").flush(policy)
 clears("None of these disabled TPM2_Clear: by lockoutAuth and by the platform")
 
 tpm.chapter("By the platform.")
-says("NO, and TPM2_Clear was enabled already: SUCCESS", control(RH_PLATFORM, NO))
+tpm("NO, and TPM2_Clear was enabled already").clear_control(RH_PLATFORM, NO)
 clears("TPM2_Clear")
-says("YES, twice: SUCCESS", control(RH_PLATFORM, YES), control(RH_PLATFORM, YES))
+tpm.says("YES, twice: SUCCESS", *2 * [tpm.clear_control(RH_PLATFORM, YES)])
 is_disabled("TPM2_Clear by lockoutAuth, and by the platform")
-says("NO: SUCCESS", control(RH_PLATFORM, NO))
+tpm("NO").clear_control(RH_PLATFORM, NO)
 clears("TPM2_Clear")
 tpm.chapter("By lockoutAuth.")
-says("NO, though TPM2_Clear is enabled: AUTH_FAIL", control(RH_LOCKOUT, NO))
-says("YES: SUCCESS", control(RH_LOCKOUT, YES))
+tpm("NO, though TPM2_Clear is enabled: AUTH_FAIL").clear_control(RH_LOCKOUT, NO)
+tpm("YES").clear_control(RH_LOCKOUT, YES)
 is_disabled("TPM2_Clear by lockoutAuth, and by the platform")
-says("YES again: SUCCESS", control(RH_LOCKOUT, YES))
-says("NO: AUTH_FAIL", control(RH_LOCKOUT, NO))
+tpm("YES again").clear_control(RH_LOCKOUT, YES)
+tpm("NO: AUTH_FAIL").clear_control(RH_LOCKOUT, NO)
 is_disabled("It is disabled as before")
 
 case = "That was no try, though its code is of one"
@@ -85,7 +81,8 @@ tpm("A wrong password of the platform: BAD_AUTH/s1").clearing(RH_PLATFORM, b"x")
 case = "One of TPM_RH_LOCKOUT: a try, which is counted: AUTH_FAIL/s1"
 tpm(case).clearing(RH_LOCKOUT, b"x")
 tpm("The right one: LOCKOUT").clearing(RH_LOCKOUT)
-says("Of TPM2_ClearControl, too: LOCKOUT", control(RH_LOCKOUT, NO), control(RH_LOCKOUT, YES))
+said = tpm("Of TPM2_ClearControl, too: LOCKOUT")
+said.says(*(tpm.clear_control(RH_LOCKOUT, it) for it in (NO, YES)))
 tpm.wait(1_000_000)
 is_disabled("Behind lockoutRecovery")
 
@@ -104,5 +101,5 @@ tpm.power_cycle()
 is_disabled("Behind TPM2_Startup(CLEAR)")
 tpm.saves_and_resumes()
 is_disabled("Behind it")
-says("NO by the platform: SUCCESS", control(RH_PLATFORM, NO))
+tpm("NO by the platform").clear_control(RH_PLATFORM, NO)
 clears("TPM2_Clear")

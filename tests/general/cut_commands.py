@@ -4,6 +4,8 @@ Those of objects are in tests/general/cut_object_commands.tpm, and those on NV i
 tests/general/cut_nv_commands.tpm.
 """
 
+from functools import partial
+
 from tests.general import cuts
 from tests.general.cuts import comes_whole, cut, start, STARTUP
 from tpmsim.standard import CC, SHA1, SHA256, area, command, digests, entry, frames, number
@@ -102,6 +104,4 @@ COMMANDS = [
     cut("TPM2_PCR_Event by that session, where it decrypts", event(BY_DECRYPTING)),
 ]
 
-
-def write_script():
-    cuts.write(__file__, HEAD, LISTED, COMMANDS)
+write_script = partial(cuts.write, __file__, HEAD, LISTED, COMMANDS)

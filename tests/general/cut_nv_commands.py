@@ -1,5 +1,7 @@
 """Writes cut_nv_commands.tpm: the commands on NV indices, cut to every shorter length."""
 
+from functools import partial
+
 from tests.general import cuts
 from tests.general.cuts import comes_whole, cut, start, STARTUP
 from tpmsim.standard import CC, RH_OWNER, SHA256, command, entry, frames, number, nv, on_handle
@@ -70,6 +72,4 @@ COMMANDS = [
     by_owner(CC.NV_UndefineSpace, ORDINARY),
 ]
 
-
-def write_script():
-    cuts.write(__file__, HEAD, LISTED, COMMANDS)
+write_script = partial(cuts.write, __file__, HEAD, LISTED, COMMANDS)

@@ -1,5 +1,7 @@
 """Writes cut_object_commands.tpm: the commands of objects, cut to every shorter length."""
 
+from functools import partial
+
 from tests.general import cuts
 from tests.general.cuts import STARTUP, cut
 from tpmsim.caller import hmac_key, sealed, storage_key
@@ -64,6 +66,4 @@ COMMANDS = [
     cut("TPM2_HMAC by it", HMAC),
 ]
 
-
-def write_script():
-    cuts.write(__file__, HEAD, LISTED, COMMANDS)
+write_script = partial(cuts.write, __file__, HEAD, LISTED, COMMANDS)

@@ -2,6 +2,8 @@
 length.
 """
 
+from functools import partial
+
 from tests.general import cuts
 from tests.general.cuts import comes_whole, cut, STARTUP
 from tpmsim.caller import storage_key
@@ -43,6 +45,4 @@ COMMANDS = [
     cut("TPM2_Clear", on_handle(CC.Clear, RH_LOCKOUT)),
 ]
 
-
-def write_script():
-    cuts.write(__file__, HEAD, LISTED, COMMANDS)
+write_script = partial(cuts.write, __file__, HEAD, LISTED, COMMANDS)

@@ -18,10 +18,6 @@ tpm = Steps(__name__, __doc__, starts=False)
 says, gives = tpm.raw, tpm.lists
 
 
-def asking(capability, wanted, count):
-    return command(CC.GetCapability, number(capability, 4) + number(wanted, 4) + number(count, 4))
-
-
 def borders(name, capability, wanted, whole):
     """All that there is from `wanted` on, in parts: with every count that says something else."""
     gives(f"{name}, as many as there are", capability, wanted, MOST, whole)
@@ -76,21 +72,21 @@ def tries():
 
 
 asked = number(PROPERTIES, 4) + number(0x100, 4) + number(1, 4)
-says("Before TPM2_Startup: INITIALIZE", asking(PROPERTIES, 0x100, 1))
+tpm("Before TPM2_Startup: INITIALIZE").capability(PROPERTIES, 0x100, 1)
 tpm.startup()
-says("As it is asked for: SUCCESS", asking(PROPERTIES, 0x100, 1))
+tpm("As it is asked for").capability(PROPERTIES, 0x100, 1)
 for place in (1, 2, 3):
     case = f"Cut within parameter {place}: INSUFFICIENT/p{place}"
     says(case, *(command(CC.GetCapability, asked[: 4 * place - it]) for it in (4, 1)))
 says("A byte behind them: SIZE", command(CC.GetCapability, asked + b"\0"))
 case = "Algorithms (0), and others that are not served: VALUE/p1"
 others = (0, 3, 4, 7, 8, 9, 0x100, 0x0100_0001, MOST)
-says(case, *(asking(it, 0x100, 1) for it in others))
+tpm.says(case, *(tpm.capability(it, 0x100, 1) for it in others))
 case = "Such a one and a byte behind it: the bytes are looked at first: SIZE"
 says(case, command(CC.GetCapability, bytes(13)))
 case = "Handles that begin with another byte than 00, 01, 02, 03, 40, 80 and 81: HANDLE/p2"
 kinds = (0x04, 0x3F, 0x41, 0x7F, 0x82, 0x90, 0xFF)
-says(case, *(asking(HANDLES, it << 24, count) for it in kinds for count in (0, 1)))
+tpm.says(case, *(tpm.capability(HANDLES, it << 24, at) for it in kinds for at in (0, 1)))
 case = "A password, as there is nothing to authorize: HANDLE/s1"
 says(case, command(CC.GetCapability, frames.area(frames.entry()) + asked, frames.SESSIONS))
 

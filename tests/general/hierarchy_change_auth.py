@@ -9,10 +9,6 @@ from tests.common.vocabulary import RH_NULL, RH_OWNER, RH_PLATFORM, SHA1, sized,
 tpm = Teller(__name__, __doc__, starts=False)
 
 
-def starts(what, **choices):
-    return tpm.start(f"TPM2_StartAuthSession: {what}", **choices)
-
-
 def owners(parameters):
     """By the owner's value, with these bytes for newAuth."""
     return tpm.prepare(CC.HierarchyChangeAuth, [RH_OWNER], parameters, b"owner")
@@ -72,7 +68,7 @@ tpm.chapter(
     "authorization value, and the response's has the new one, for then the binding is no more."
 )
 for handle, name, old in AUTHORIZED:
-    session = starts(f"bound to {name}", bind=handle)
+    session = tpm.start(f"TPM2_StartAuthSession: bound to {name}", bind=handle)
     tpm(f'{name} to "new"').change_auth(handle, b"new", session)
     said = tpm('Now with "new" in the command\'s key, to "newer"|which is in the response\'s')
     said.change_auth(handle, b"newer", session)
@@ -85,8 +81,8 @@ for handle, name, old in AUTHORIZED:
     tpm.accepted("By the empty password, to the first value", tpm.change_auth(handle, old, b""))
 
 tpm.chapter("Through sessions that are not bound to the entity.")
-unbound = starts("bound to nothing, of SHA-1", algorithm=SHA1)
-to_owner = starts("bound to TPM_RH_OWNER", bind=RH_OWNER)
+unbound = tpm.start("TPM2_StartAuthSession: bound to nothing, of SHA-1", algorithm=SHA1)
+to_owner = tpm.start("TPM2_StartAuthSession: bound to TPM_RH_OWNER", bind=RH_OWNER)
 for session, words in ((unbound, "The first"), (to_owner, "The second")):
     said = tpm(f'{words} on TPM_RH_PLATFORM, from "platform" to "p"')
     said.change_auth(RH_PLATFORM, b"p", session)

@@ -4,6 +4,8 @@ nothing. Here each command follows a TPM2_Shutdown(STATE); behind a power cycle 
 then says whether the state was there still.
 """
 
+from functools import partial
+
 from tpmsim.standard import digests, Fact, start_auth_session
 from tests.common.steps import Steps
 from tests.common.vocabulary import area, bits, BY_OWNER, BY_VALUE, CC, CLEAR, counter, extended
@@ -16,21 +18,10 @@ CHANGING = policy.after_command_code(SHA256, bytes(32), CC.NV_ChangeAuth)
 
 tpm = Steps(__name__, __doc__)
 
-
-def session():
-    return tpm.policy("A policy session")
-
-
-def storage():
-    return tpm.create_primary("A storage key", RH_OWNER, storage_key())
-
-
-def sealed_data():
-    return tpm.create_primary("A sealed object", RH_OWNER, sealed(), data=b"data")
-
-
-def key():
-    return tpm.create_primary("An HMAC key", RH_OWNER, hmac_key(), data=b"key")
+session = partial(tpm.policy, "A policy session")
+storage = partial(tpm.create_primary, "A storage key", RH_OWNER, storage_key())
+sealed_data = partial(tpm.create_primary, "A sealed object", RH_OWNER, sealed(), data=b"data")
+key = partial(tpm.create_primary, "An HMAC key", RH_OWNER, hmac_key(), data=b"key")
 
 
 def loading():

@@ -9,15 +9,13 @@ tpm = Steps(__name__, __doc__, starts=False)
 says = tpm.raw
 
 
-def shutdown(kind):
-    return command(CC.Shutdown, number(kind, 2))
-
-
-says("Before TPM2_Startup, of both kinds: INITIALIZE", shutdown(CLEAR), shutdown(STATE))
+case = "Before TPM2_Startup, of both kinds: INITIALIZE"
+tpm.says(case, *map(tpm.shutting_down, (CLEAR, STATE)))
 tpm.startup()
 case = "Without a type, and with one byte of it: INSUFFICIENT/p1"
 says(case, *(command(CC.Shutdown, bytes(it)) for it in (0, 1)))
-says("Of no type that there is: VALUE/p1", *(shutdown(it) for it in (2, 0x100, 0xFFFF)))
+case = "Of no type that there is: VALUE/p1"
+tpm.says(case, *map(tpm.shutting_down, (2, 0x100, 0xFFFF)))
 says("A byte behind it: SIZE", command(CC.Shutdown, bytes(3)))
 case = "A password, as there is nothing to authorize: HANDLE/s1"
 says(case, command(CC.Shutdown, frames.area(frames.entry()) + number(STATE, 2), frames.SESSIONS))
@@ -27,17 +25,18 @@ case = "None of these has saved a state: TPM2_Startup(STATE): VALUE/p1"
 says(case, command(CC.Startup, number(STATE, 2)))
 
 tpm.startup()
-says("TPM2_Shutdown(CLEAR): SUCCESS", shutdown(CLEAR))
-says("TPM2_Shutdown(STATE), and once more: SUCCESS", shutdown(STATE), shutdown(STATE))
+tpm("TPM2_Shutdown(CLEAR)").shutting_down(CLEAR)
+case = "TPM2_Shutdown(STATE), and once more: SUCCESS"
+tpm.says(case, *map(tpm.shutting_down, (STATE, STATE)))
 says("It does not stop the device: TPM2_GetRandom: SUCCESS", tpm.random(2).buffer())
 tpm("TPM2_PCR_Reset").reset(b"")
 case = "Nor can it be started again without a power cycle: INITIALIZE"
 says(case, command(CC.Startup, number(CLEAR, 2)))
 tpm.chapter("The last one counts.")
-says("TPM2_Shutdown(STATE): SUCCESS", shutdown(STATE))
-says("TPM2_Shutdown(CLEAR): SUCCESS", shutdown(CLEAR))
+tpm("TPM2_Shutdown(STATE)").shutting_down(STATE)
+tpm("TPM2_Shutdown(CLEAR)").shutting_down(CLEAR)
 tpm.resumes_not()
-says("TPM2_Shutdown(CLEAR): SUCCESS", shutdown(CLEAR))
+tpm("TPM2_Shutdown(CLEAR)").shutting_down(CLEAR)
 tpm.saves_and_resumes()
 tpm.chapter("A state is restored once.")
 tpm.resumes_not()

@@ -4,6 +4,7 @@ written at each start.
 """
 
 import contextlib
+from functools import partial
 
 from tests.common.vocabulary import area, bits, BY_OWNER, CLEAR, extended, FIRST, NvAttribute
 from tests.common.vocabulary import RH_OWNER, SECOND, Teller
@@ -30,20 +31,13 @@ def read_lock(what="TPM2_NV_ReadLock"):
     tpm(what).read_locking(FIRST, by=RH_OWNER)
 
 
-def not_written():
-    write("TPM2_NV_Write: NV_LOCKED")
-
-
-def read():
-    tpm.read("TPM2_NV_Read", FIRST, DATA, by=RH_OWNER)
-
-
 def not_read(words="TPM2_NV_Read: NV_LOCKED"):
     tpm(words).reading(FIRST, 8, by=RH_OWNER)
 
 
-def without_data():
-    not_read("TPM2_NV_Read: NV_UNINITIALIZED")
+not_written = partial(write, "TPM2_NV_Write: NV_LOCKED")
+without_data = partial(not_read, "TPM2_NV_Read: NV_UNINITIALIZED")
+read = partial(tpm.read, "TPM2_NV_Read", FIRST, DATA, by=RH_OWNER)
 
 
 def takes(*steps):

@@ -13,11 +13,6 @@ QUESTION = b"what do ya want for nothing?"
 tpm = Steps(__name__, __doc__)
 creates = tpm.create_primary
 
-
-def refused(words, hierarchy, public, *uses, **more):
-    tpm(words).primary(hierarchy, public, *uses, **more)
-
-
 tpm.chapter(
     "An HMAC key that is given, byte by byte. inSensitive: userAuth is empty, and the key is "
     '"Jefe". inPublic: type KEYEDHASH (0008), nameAlg SHA-256 (000B), attributes userWithAuth, '
@@ -51,7 +46,7 @@ tpm.says(
 )
 tpm.needs_entries(CC.CreatePrimary, RH_OWNER)
 tpm.accepted('The value of TPM_RH_OWNER is "owner"', tpm.change_auth(RH_OWNER, b"owner", b""))
-refused("By the empty password: BAD_AUTH/s1", RH_OWNER, storage_key(), b"")
+tpm("By the empty password: BAD_AUTH/s1").primary(RH_OWNER, storage_key(), b"")
 session = tpm.start("An HMAC session")
 said = tpm("By that session")
 by_session = said.create_primary(RH_OWNER, storage_key(), session, user_auth=b"abc")
@@ -110,9 +105,9 @@ for locality in (4, 1, 0):
     with tpm.held(f"From locality {locality}", RH_OWNER, storage_key()) as handle:
         same.append((tpm.names[handle], tpm.creation_data))
 assert len({name for name, _ in same}) == 1 and len({data for _, data in same}) == 8
-refused("35 bytes of outsideInfo: SIZE/p3", RH_OWNER, storage_key(), outside_info=bytes(35))
+tpm("35 bytes of outsideInfo: SIZE/p3").primary(RH_OWNER, storage_key(), outside_info=bytes(35))
 case = "16 banks, the most that there may be, and one more: SIZE/p4"
-refused(case, RH_OWNER, storage_key(), pcrs=17 * [(SHA1, [])])
+tpm(case).primary(RH_OWNER, storage_key(), pcrs=17 * [(SHA1, [])])
 creates("16 of them", RH_OWNER, storage_key(), pcrs=16 * [(SHA256, [23])])
 tpm.flush_objects("It is flushed", FIRST)
 whole = tpm.primary(RH_OWNER, storage_key())
@@ -146,5 +141,5 @@ for algorithm, hash_name in HASHES:
     creates(case, RH_OWNER, aes_key(algorithm=algorithm), data=bytes(range(16)))
     given = aes_key(STORES, algorithm)
     creates("A storage key of 16 bytes that are given", RH_OWNER, given, data=bytes(range(16)))
-    refused("A ninth object: OBJECT_MEMORY", RH_OWNER, storage_key())
+    tpm("A ninth object: OBJECT_MEMORY").primary(RH_OWNER, storage_key())
     tpm.flush_objects("The eight are flushed", *range(FIRST, FIRST + 8))

@@ -26,10 +26,6 @@ def fails(words, *commands):
     tpm.says(words, *(tpm.evicting(*it, b"") for it in commands))
 
 
-def primary(what, hierarchy, template=storage_key()):
-    return tpm.create_primary(what, hierarchy, template)
-
-
 def kept_handles(what, *handles):
     """All persistent objects, as TPM2_GetCapability lists them."""
     tpm.lists(what, HANDLES, FIRST, 64, handles)
@@ -66,12 +62,14 @@ def handles_and_parameter(owners):
 def in_order():
     """Each refusal, where those behind it would stand too."""
     tpm.chapter("The checks in their order; each command has the later faults too.")
-    owners = primary("An object of the owner", RH_OWNER)
-    clears = primary("One with stClear", RH_OWNER, CLEARED)
-    endorsements = primary("One of the endorsement hierarchy", RH_ENDORSEMENT)
-    platforms = primary("One of the platform", RH_PLATFORM)
-    platforms_clears = primary("One of the platform with stClear", RH_PLATFORM, CLEARED)
-    nulls = primary("One of TPM_RH_NULL with stClear", RH_NULL, CLEARED)
+    owners = tpm.create_primary("An object of the owner", RH_OWNER, storage_key())
+    clears = tpm.create_primary("One with stClear", RH_OWNER, CLEARED)
+    endorsements = tpm.create_primary(
+        "One of the endorsement hierarchy", RH_ENDORSEMENT, storage_key()
+    )
+    platforms = tpm.create_primary("One of the platform", RH_PLATFORM, storage_key())
+    platforms_clears = tpm.create_primary("One of the platform with stClear", RH_PLATFORM, CLEARED)
+    nulls = tpm.create_primary("One of TPM_RH_NULL with stClear", RH_NULL, CLEARED)
     handles_and_parameter(owners)
 
     tpm.chapter("The hierarchy of the object.")
@@ -148,8 +146,8 @@ borders(*in_order())
 tpm.power_cycle()
 
 tpm.chapter("Sixteen persistent objects, and no more.")
-transient = primary("An object of the owner", RH_OWNER)
-platforms = primary("And one of the platform", RH_PLATFORM)
+transient = tpm.create_primary("An object of the owner", RH_OWNER, storage_key())
+platforms = tpm.create_primary("And one of the platform", RH_PLATFORM, storage_key())
 handles = [FIRST + 3 * it for it in range(MOST - 1)] + [LAST]
 for handle in handles[:-1]:
     words = "Fifteen of the owner" if handle == FIRST else ""
@@ -162,7 +160,7 @@ fails("At a handle that is taken: NV_DEFINED", (RH_OWNER, transient, FIRST))
 fails("In the wrong range: RANGE/p1", (RH_OWNER, transient, LAST))
 tpm.chapter("They take no place of a transient object, and no NV index takes one of theirs.")
 for count in range(6):
-    primary("Six more transient ones" if not count else "", RH_OWNER)
+    tpm.create_primary("Six more transient ones" if not count else "", RH_OWNER, storage_key())
 tpm("The ninth: OBJECT_MEMORY").primary(RH_OWNER, storage_key())
 tpm.define("An NV index", area(size=2048))
 tpm("It is undefined").undefining(0x0100_0001)
@@ -178,7 +176,7 @@ for handle in handles:
 kept_handles("None")
 
 tpm.chapter("A persistent object is what the transient one was.")
-root = primary("A storage key", RH_OWNER)
+root = tpm.create_primary("A storage key", RH_OWNER, storage_key())
 public, qualified = tpm.read_public("TPM2_ReadPublic of it", root)
 tpm.keep("It stays as 81000000", RH_OWNER, root, FIRST)
 assert tpm.read_public("The same public area and names", FIRST) == (public, qualified)
@@ -224,7 +222,7 @@ tpm.unseal("It is there", OTHER, b"a secret", b"pin")
 tpm("What was loaded is not: REFERENCE_H0").public(handle)
 
 tpm.chapter("TPM2_EvictControl by sessions.")
-handle = primary("An object of the owner", RH_OWNER)
+handle = tpm.create_primary("An object of the owner", RH_OWNER, storage_key())
 wanted = 0x8100_0003
 tpm('ownerAuth is "owner"').change_auth(RH_OWNER, b"owner", b"")
 session = tpm.start("An HMAC session, bound to TPM_RH_OWNER", RH_OWNER, aes=True)

@@ -13,23 +13,21 @@ NEEDLESS = "The storage key, which nothing under it needs any more"
 tpm = Teller(__name__, __doc__)
 
 
-def flush(handle):
-    return command(CC.FlushContext, number(handle, 4))
-
-
 def is_at(place, handle):
     assert handle == FIRST + place
 
 
 ABSENT = (0x8000_0000, 0x8000_0007, 0x8000_0008, 0x8000_0010, 0x8001_0000, 0x80FF_FFFF)
-tpm.raw("While there is no object: HANDLE/p1", *map(flush, ABSENT))
-tpm.raw("A persistent object is not flushed: VALUE/p1", *map(flush, (0x8100_0000, 0x81FF_FFFF)))
+tpm.says("While there is no object: HANDLE/p1", *map(tpm.flush, ABSENT))
+tpm.says(
+    "A persistent object is not flushed: VALUE/p1", *map(tpm.flush, (0x8100_0000, 0x81FF_FFFF))
+)
 parent = tpm.create_primary("A storage key, 80000000", RH_OWNER, storage_key())
 made = tpm.create("TPM2_Create of sealed data", parent, sealed(), data=b"secret")
 for place in range(1, PLACES):
     is_at(place, tpm.load("" if place > 1 else "It is loaded seven times", parent, made))
 tpm("A ninth object: OBJECT_MEMORY").primary(RH_OWNER, storage_key())
-tpm.raw("Numbers past the eight: HANDLE/p1", *map(flush, ABSENT[2:]))
+tpm.says("Numbers past the eight: HANDLE/p1", *map(tpm.flush, ABSENT[2:]))
 said = tpm("With sessions (tag 8002): AUTH_CONTEXT")
 said.raw(command(CC.FlushContext, frames.area(frames.entry()) + number(parent, 4), frames.SESSIONS))
 tpm.raw("Three bytes of a handle: INSUFFICIENT/p1", command(CC.FlushContext, b"\x80\0\0"))
@@ -40,7 +38,7 @@ for places in ((7,), (0,), (3, 1), (2, 5, 4), (6, 0, 7)):
     for place in places:
         words = f"8000000{place}" if place else NEEDLESS
         tpm.flush_objects(words, FIRST + place)
-        tpm.raw("Once more: HANDLE/p1", flush(FIRST + place))
+        tpm("Once more: HANDLE/p1").flush(FIRST + place)
         tpm("It is no more: REFERENCE_H0").public(FIRST + place)
     for place in sorted(places):
         said = tpm(f"TPM2_CreatePrimary: it is 8000000{place}")
@@ -49,7 +47,7 @@ for places in ((7,), (0,), (3, 1), (2, 5, 4), (6, 0, 7)):
 
 tpm.chapter("All of them.")
 tpm.flush_objects("From the last to the first", *range(FIRST + 7, FIRST - 1, -1))
-tpm.raw("There is none: HANDLE/p1", *map(flush, range(FIRST, FIRST + PLACES)))
+tpm.says("There is none: HANDLE/p1", *map(tpm.flush, range(FIRST, FIRST + PLACES)))
 tpm.chapter("A refused command leaves an object where it is, and a place free.")
 parent = tpm.create_primary("A storage key, 80000000", RH_OWNER, storage_key())
 tpm("TPM2_CreatePrimary by a wrong password: BAD_AUTH/s1").primary(RH_OWNER, sealed(), b"x")
