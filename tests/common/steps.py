@@ -78,13 +78,17 @@ class Steps(Teller):
 
     # Objects and sessions that are there for a while.
 
+    def owned(self, what: str, public: Public, *uses: Means, **more: Any) -> int:
+        """The handle of a primary object of the owner's hierarchy."""
+        return self.create_primary(what, RH_OWNER, public, *uses, **more)
+
     @contextlib.contextmanager
     def held(
         self,
         what: str,
-        hierarchy: int,
         public: Public,
         *uses: Means,
+        hierarchy: int = RH_OWNER,
         flushed: str = "It is flushed",
         **more: Any,
     ) -> Iterator[int]:

@@ -2,10 +2,7 @@
 bent_state_commands.tpm: the commands that cut_commands.py, and the like, have, each bent.
 """
 
-from tests.general import bends
-from tests.general import cut_commands
-from tests.general import cut_nv_commands
-from tests.general import cut_object_commands
+from tests.general import bends, cut_commands, cut_nv_commands, cut_object_commands
 from tests.general import cut_state_commands
 from tpmsim.standard import CC
 from tests.general.looks import LookingScript

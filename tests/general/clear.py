@@ -5,10 +5,10 @@ What is the platform's stays.
 
 from tpmsim.model.capability import HANDLES, PROPERTIES
 from tests.common.steps import AUTHORIZED, Steps
-from tests.common.vocabulary import area, BY_PLATFORM, BY_VALUE, CC, command, counter
-from tests.common.vocabulary import FIRST, number, NvAttribute, on_handle, RH_ENDORSEMENT
-from tests.common.vocabulary import RH_LOCKOUT, RH_NULL, RH_OWNER, RH_PLATFORM, sealed, SECOND
-from tests.common.vocabulary import SHA256, storage_key, THIRD, wrong
+from tests.common.vocabulary import area, BY_PLATFORM, BY_VALUE, CC, command, counter, FIRST, number
+from tests.common.vocabulary import NvAttribute, on_handle, RH_ENDORSEMENT, RH_LOCKOUT, RH_NULL
+from tests.common.vocabulary import RH_OWNER, RH_PLATFORM, sealed, SECOND, SHA256, storage_key
+from tests.common.vocabulary import THIRD, wrong
 
 WITH_OBJECTS = (
     (RH_OWNER, "the owner", 0x8100_0000, RH_OWNER),
@@ -37,7 +37,7 @@ def counter_of(what):
 
 def primary_of(what, hierarchy):
     """The Name and the ticket of a primary object, which does not stay."""
-    with tpm.held(what, hierarchy, storage_key()) as handle:
+    with tpm.held(what, storage_key(), hierarchy=hierarchy) as handle:
         return tpm.names[handle], tpm.ticket
 
 
@@ -79,7 +79,7 @@ tpm.set_protection("maxTries is 5, and the times are others, too", 5, 2000, 3000
 
 tpm.chapter("TPM2_Clear by the platform.")
 names = {it: primary_of("A primary object as it is before", it) for it, *_ in AUTHORIZED[:3]}
-parent = tpm.create_primary("A storage key of the owner", RH_OWNER, storage_key(), b"owner")
+parent = tpm.owned("A storage key of the owner", storage_key(), b"owner")
 below = tpm.create("An object below it", parent, sealed(), data=b"data")
 tpm("A try: AUTH_FAIL/s1").writing(SECOND, b"x", b"x")
 tpm("And one that closes lockoutAuth: AUTH_FAIL/s1").lock_reset(b"x")
@@ -99,8 +99,7 @@ tpm("lockoutAuth is open, and empty").lock_reset()
 tpm("So is ownerAuth").change_auth(RH_OWNER, b"", b"")
 tpm("And endorsementAuth").change_auth(RH_ENDORSEMENT, b"", b"")
 tpm("platformAuth is as it was: BAD_AUTH/s1").change_auth(RH_PLATFORM, b"", b"")
-said = tpm("TPM2_PolicyPCR: as if a PCR had changed: PCR_CHANGED")
-said.pcrs(policy, [(SHA256, [0])])
+tpm("TPM2_PolicyPCR: as if a PCR had changed: PCR_CHANGED").pcrs(policy, [(SHA256, [0])])
 tpm("The sessions are there: on PCR 16").reset(session)
 tpm("On TPM_RH_OWNER, whose value is another").change_auth(RH_OWNER, b"", session)
 tpm.chapter("The handles that are there.")
@@ -118,7 +117,7 @@ for hierarchy, name, _ in AUTHORIZED[:3]:
     assert (object_name == names[hierarchy][0]) == (hierarchy != RH_OWNER)
     # The proofs of both are new, so that old tickets are worth nothing.
     assert (ticket == names[hierarchy][1]) == (hierarchy == RH_PLATFORM)
-parent = tpm.create_primary("A storage key of the new owner", RH_OWNER, storage_key())
+parent = tpm.owned("A storage key of the new owner", storage_key())
 tpm("What was created below the old one: INTEGRITY/p1").loading(parent, below)
 tpm.chapter("No counter goes back.")
 tpm.define("The counter is defined again", counter(THIRD))

@@ -78,8 +78,7 @@ for session, words in (
 tpm.chapter("DISABLED is the check of the command itself, behind all others.")
 says("A byte behind the handle: SIZE", *(on_handle(CC.Clear, it, b"\0") for it in BOTH))
 tpm("A wrong password of the platform: BAD_AUTH/s1").clearing(RH_PLATFORM, b"x")
-case = "One of TPM_RH_LOCKOUT: a try, which is counted: AUTH_FAIL/s1"
-tpm(case).clearing(RH_LOCKOUT, b"x")
+tpm("One of TPM_RH_LOCKOUT: a try, which is counted: AUTH_FAIL/s1").clearing(RH_LOCKOUT, b"x")
 tpm("The right one: LOCKOUT").clearing(RH_LOCKOUT)
 said = tpm("Of TPM2_ClearControl, too: LOCKOUT")
 said.says(*(tpm.clear_control(RH_LOCKOUT, it) for it in (NO, YES)))

@@ -8,8 +8,8 @@ from functools import partial
 
 from tests.general import cuts
 from tests.general.cuts import comes_whole, cut, start, STARTUP
-from tpmsim.standard import CC, SHA1, SHA256, area, command, digests, entry, frames, number
-from tpmsim.standard import on_handle, sized
+from tpmsim.standard import area, CC, command, digests, entry, frames, number, on_handle, SHA1
+from tpmsim.standard import SHA256, sized
 
 HEAD = (
     "Each command that succeeds, cut to every shorter length: first as it is, and then with "

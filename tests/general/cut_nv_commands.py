@@ -4,8 +4,8 @@ from functools import partial
 
 from tests.general import cuts
 from tests.general.cuts import comes_whole, cut, start, STARTUP
-from tpmsim.standard import CC, RH_OWNER, SHA256, command, entry, frames, number, nv, on_handle
-from tpmsim.standard import on_handles, policy, sized
+from tpmsim.standard import CC, command, entry, frames, number, nv, on_handle, on_handles, policy
+from tpmsim.standard import RH_OWNER, SHA256, sized
 from tpmsim.standard.nv import Attribute, Type
 
 HEAD = (

@@ -7,8 +7,8 @@ from functools import partial
 from tests.general import cuts
 from tests.general.cuts import comes_whole, cut, STARTUP
 from tpmsim.caller import storage_key
-from tpmsim.standard import CC, RH_LOCKOUT, RH_OWNER, RH_PLATFORM, command, frames, number
-from tpmsim.standard import on_handle, on_handles, sized
+from tpmsim.standard import CC, command, frames, number, on_handle, on_handles, RH_LOCKOUT, RH_OWNER
+from tpmsim.standard import RH_PLATFORM, sized
 
 HEAD = (
     "The commands of starts, of capabilities, of dictionary attack protection, of persistent "

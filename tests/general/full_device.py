@@ -93,7 +93,7 @@ def keep_all():
         hierarchy, asker = hierarchies[at % len(hierarchies)]
         first = 0x8180_0000 if asker == RH_PLATFORM else 0x8100_0000
         said, chosen = tpm("A primary object"), {"data": data, "user_auth": user_auth}
-        with said.held(hierarchy, public, flushed="And is flushed", **chosen) as handle:
+        with said.held(public, hierarchy=hierarchy, flushed="And is flushed", **chosen) as handle:
             tpm.keep("It stays", asker, handle, first + 0x1000 * at)
     made = tpm.create("A child of the first", 0x8100_0000, hmac_key(), data=b"key")
     with tpm.loaded("It is loaded", 0x8100_0000, made) as handle:

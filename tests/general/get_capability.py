@@ -5,8 +5,8 @@ whether there are more behind them.
 
 from tpmsim.model.capability import command_attributes, COMMANDS, HANDLES, PCRS, PROPERTIES
 from tests.common.steps import Steps
-from tests.common.vocabulary import area, BY_VALUE, CC, command, frames, number, RH_OWNER
-from tests.common.vocabulary import SE_POLICY, selection, SHA1, SHA256, storage_key, wrong
+from tests.common.vocabulary import area, BY_VALUE, CC, command, frames, number, RH_OWNER, SE_POLICY
+from tests.common.vocabulary import selection, SHA1, SHA256, storage_key, wrong
 
 MOST = 2**32 - 1
 

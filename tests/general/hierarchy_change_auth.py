@@ -3,8 +3,8 @@ lockout, another authorization value, and is authorized by the old one.
 """
 
 from tests.common.steps import AUTHORIZED
-from tests.common.vocabulary import CC, command, frames, number, RH_ENDORSEMENT, RH_LOCKOUT
-from tests.common.vocabulary import RH_NULL, RH_OWNER, RH_PLATFORM, SHA1, sized, Teller, Use
+from tests.common.vocabulary import CC, command, frames, number, RH_ENDORSEMENT, RH_LOCKOUT, RH_NULL
+from tests.common.vocabulary import RH_OWNER, RH_PLATFORM, SHA1, sized, Teller, Use
 
 tpm = Teller(__name__, __doc__, starts=False)
 

@@ -9,13 +9,11 @@ tpm = Steps(__name__, __doc__, starts=False)
 says = tpm.raw
 
 
-case = "Before TPM2_Startup, of both kinds: INITIALIZE"
-tpm.says(case, *map(tpm.shutting_down, (CLEAR, STATE)))
+tpm.says("Before TPM2_Startup, of both kinds: INITIALIZE", *map(tpm.shutting_down, (CLEAR, STATE)))
 tpm.startup()
 case = "Without a type, and with one byte of it: INSUFFICIENT/p1"
 says(case, *(command(CC.Shutdown, bytes(it)) for it in (0, 1)))
-case = "Of no type that there is: VALUE/p1"
-tpm.says(case, *map(tpm.shutting_down, (2, 0x100, 0xFFFF)))
+tpm.says("Of no type that there is: VALUE/p1", *map(tpm.shutting_down, (2, 0x100, 0xFFFF)))
 says("A byte behind it: SIZE", command(CC.Shutdown, bytes(3)))
 case = "A password, as there is nothing to authorize: HANDLE/s1"
 says(case, command(CC.Shutdown, frames.area(frames.entry()) + number(STATE, 2), frames.SESSIONS))
@@ -26,8 +24,7 @@ says(case, command(CC.Startup, number(STATE, 2)))
 
 tpm.startup()
 tpm("TPM2_Shutdown(CLEAR)").shutting_down(CLEAR)
-case = "TPM2_Shutdown(STATE), and once more: SUCCESS"
-tpm.says(case, *map(tpm.shutting_down, (STATE, STATE)))
+tpm.says("TPM2_Shutdown(STATE), and once more: SUCCESS", *map(tpm.shutting_down, (STATE, STATE)))
 says("It does not stop the device: TPM2_GetRandom: SUCCESS", tpm.random(2).buffer())
 tpm("TPM2_PCR_Reset").reset(b"")
 case = "Nor can it be started again without a power cycle: INITIALIZE"

@@ -57,7 +57,7 @@ def reset():
 
 
 def null_name(what):
-    with tpm.held(what, RH_NULL, storage_key()) as handle:
+    with tpm.held(what, storage_key(), hierarchy=RH_NULL) as handle:
         return tpm.names[handle]
 
 
@@ -97,7 +97,7 @@ tpm.chapter("Sessions and transient objects are gone.")
 session = tpm.start("An HMAC session")
 policy = tpm.policy("A policy session")
 trial = tpm.trial("A trial session")
-handle = tpm.create_primary("A storage key", RH_OWNER, storage_key())
+handle = tpm.owned("A storage key", storage_key())
 resume()
 tpm("The HMAC session: REFERENCE_S0").reset(session)
 said = tpm("The policy session, and the trial session: REFERENCE_H0")

@@ -65,7 +65,7 @@ def sealed_objects():
     """They are gone after a power cycle."""
     for words, handle, more in (("without", GUARDED, 0), ("with", FREE, ObjectAttribute.NO_DA)):
         said, template = tpm(f"A sealed object {words} noDA"), sealed(attributes=PROTECTED | more)
-        made = said.create_primary(RH_OWNER, template, user_auth=PIN, data=SECRET)
+        made = said.owned(template, user_auth=PIN, data=SECRET)
         assert made == handle
 
 
@@ -227,8 +227,7 @@ right("The right one")
 tpm.chapter("noDA and TPMA_NV_NO_DA: no try is counted.")
 said = tpm("Five wrong passwords of an index: BAD_AUTH/s1")
 said.fails(*(tpm.reading(THIRD, 8, it) for it in FIVE))
-said = tpm("Five of an object: BAD_AUTH/s1")
-said.fails(*(tpm.unsealing(FREE, it) for it in FIVE))
+tpm.fails("Five of an object: BAD_AUTH/s1", *(tpm.unsealing(FREE, it) for it in FIVE))
 said = tpm("Five of TPM_RH_OWNER: BAD_AUTH/s1")
 said.fails(*(tpm.change_auth(RH_OWNER, b"x", it) for it in FIVE))
 right("What is protected is open")

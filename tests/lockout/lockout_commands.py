@@ -4,8 +4,8 @@
 
 from tests.common.steps import PROTECTED, Steps
 from tests.common.vocabulary import area, bits, BY_POLICY, BY_VALUE, CC, counter, extended, FIFTH
-from tests.common.vocabulary import FIRST, FOURTH, hmac_key, LOCKS, policy, RH_OWNER, sealed, SECOND
-from tests.common.vocabulary import SHA256, storage_key, STORES, THIRD, wrong
+from tests.common.vocabulary import FIRST, FOURTH, hmac_key, LOCKS, policy, sealed, SECOND, SHA256
+from tests.common.vocabulary import storage_key, STORES, THIRD, wrong
 
 
 PIN, DATA = b"pin", b"data"
@@ -47,7 +47,7 @@ def change_auth():
 tpm.set_protection("TPM2_DictionaryAttackParameters: maxTries is 1", 1, 1000, 1000)
 
 handles = [
-    tpm.create_primary(f"{words} without noDA", RH_OWNER, template, user_auth=PIN, data=data)
+    tpm.owned(f"{words} without noDA", template, user_auth=PIN, data=data)
     for words, template, data in (
         ("A storage key", storage_key(attributes=PROTECTED | STORES), b""),
         ("A sealed object", sealed(attributes=PROTECTED), DATA),
@@ -97,8 +97,7 @@ first = tpm.start("A session that is bound to the sealed object", SEALED)
 second = tpm.start("One that is bound to an index", FIRST)
 third = tpm.start("One that is bound to nothing")
 tpm.set_protection("maxTries is 2", 2, 1000, 1000)
-case = "The first two are wrong: AUTH_FAIL/s1"
-tpm.fails(case, wrong(wrong(tpm.reset(first, second, third)), 2))
+tpm.fails("The first two are wrong: AUTH_FAIL/s1", wrong(wrong(tpm.reset(first, second, third)), 2))
 tpm("It is not locked: all three").reset(first, second, third)
 tpm.unlocks()
 tpm.fails("The second of three: AUTH_FAIL/s2", wrong(tpm.reset(third, first, second), 2))

@@ -2,9 +2,9 @@
 the owner, the platform, the index itself and another one. By passwords, which a policy is not.
 """
 
-from tests.common.vocabulary import area, bits, BY_POLICY, BY_VALUE, counter, extended, FIRST
-from tests.common.vocabulary import LOCKS, nv, NvAttribute, RH_ENDORSEMENT, RH_LOCKOUT, RH_NULL
-from tests.common.vocabulary import RH_OWNER, RH_PLATFORM, RS_PW, SECOND, Teller, THIRD
+from tests.common.vocabulary import area, bits, BY_POLICY, BY_VALUE, counter, extended, FIRST, LOCKS
+from tests.common.vocabulary import nv, NvAttribute, RH_ENDORSEMENT, RH_LOCKOUT, RH_NULL, RH_OWNER
+from tests.common.vocabulary import RH_PLATFORM, RS_PW, SECOND, Teller, THIRD
 
 # What an index allows by one attribute for writing and one for reading, and who then may.
 ALLOWED = (

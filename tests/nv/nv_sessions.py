@@ -130,8 +130,7 @@ def is_wrong(words, prepared):
 case = "A wrong hmac on the second, which has NO_DA, is a try at the first: AUTH_FAIL/s1"
 is_wrong(case, tpm.writing(SECOND, DATA, session))
 other = tpm.start("A session that is bound to the second", bind=SECOND)
-case = "A wrong hmac by it on the second is none: BAD_AUTH/s1"
-is_wrong(case, tpm.writing(SECOND, DATA, other))
+is_wrong("A wrong hmac by it on the second is none: BAD_AUTH/s1", tpm.writing(SECOND, DATA, other))
 is_wrong("On the first it is: AUTH_FAIL/s1", tpm.writing(FIRST, DATA, other))
 case = "A wrong hmac by the first session on TPM_RH_OWNER: AUTH_FAIL/s1"
 is_wrong(case, tpm.undefining(FIRST, session))
@@ -151,22 +150,19 @@ tpm("The value is the one that was sent: TPM2_NV_Write").writing(FIRST, b"x")
 session = tpm.start("A session that is bound to the first index, with AES", bind=FIRST, aes=True)
 plain = tpm.start("One that is bound to nothing, with AES", aes=True)
 for name, use in (("the bound session", session), ("the other", plain)):
-    said = tpm(f"TPM2_NV_Write with its data encrypted by {name}")
-    said.writing(FIRST, DATA, use.decrypting)
+    tpm(f"TPM2_NV_Write with its data encrypted by {name}").writing(FIRST, DATA, use.decrypting)
     tpm.read("TPM2_NV_Read with its answer encrypted", FIRST, DATA, use.encrypting)
     tpm("TPM2_NV_Extend").extending(SECOND, DATA, use.decrypting)
     tpm.is_now("TPM2_NV_ReadPublic", SECOND, use.encrypting)
 said = tpm("The password authorizes, and a session beside it encrypts")
 said.writing(FIRST, b"8 others", b"hidden", session.decrypting)
 tpm.read("So in TPM2_NV_Read", FIRST, b"8 others", b"hidden", owner.encrypting)
-said = tpm("One session authorizes, another encrypts")
-said.read(FIRST, b"8 others", plain, owner.encrypting)
+tpm.read("One session authorizes, another encrypts", FIRST, b"8 others", plain, owner.encrypting)
 tpm("No bytes to encrypt").writing(FIRST, b"", session.decrypting, offset=3)
 whole = bytes(range(256)) * 4
 said = tpm("An index of 1,024 bytes")
 said.define(area(FIFTH, BY_VALUE, size=1024), owner.decrypting, auth=b"long")
-said = tpm("TPM2_NV_Write of 1,024 bytes that are encrypted")
-said.writing(FIFTH, whole, session.decrypting)
+tpm("TPM2_NV_Write of 1,024 bytes that are encrypted").writing(FIFTH, whole, session.decrypting)
 tpm.read("TPM2_NV_Read", FIFTH, whole, session.encrypting)
 
 

@@ -124,8 +124,7 @@ def change_auth():
     case = "A trial session, on an index without a policy: ATTRIBUTES/s1"
     both_wrong(case, first=trial, index=ORDINARY)
     both_wrong("A password: AUTH_UNAVAILABLE", first=VALUE)
-    case = "A policy session, on an index without a policy: AUTH_UNAVAILABLE"
-    both_wrong(case, index=ORDINARY)
+    both_wrong("A policy session, on an index without a policy: AUTH_UNAVAILABLE", index=ORDINARY)
     tpm("TPM2_PolicyPCR of no PCRs").pcrs(told, [])
     policy_in_order(told, both_wrong)
     tpm.refused("The last one is: BAD_AUTH/s2", others_in(prepared(), 2))

@@ -7,8 +7,8 @@ from tpmsim.standard import aes, Fields
 from tests.common.steps import aes_key, GENERATED, HIERARCHIES, PROTECTED, RESTRICTED_KEY, Steps
 from tests.common.vocabulary import ALG_NULL, CC, CONTINUE_SESSION, DECRYPT, digest, ENCRYPT, frames
 from tests.common.vocabulary import HASHES, hmac_key, mac, number, ObjectAttribute, RH_ENDORSEMENT
-from tests.common.vocabulary import RH_OWNER, RH_PLATFORM, sealed, SHA1, SHA256, storage_key
-from tests.common.vocabulary import STORES, Use
+from tests.common.vocabulary import RH_OWNER, RH_PLATFORM, sealed, SHA1, SHA256, storage_key, STORES
+from tests.common.vocabulary import Use
 
 tpm = Steps(__name__, __doc__)
 refused = tpm.says
@@ -25,14 +25,12 @@ tpm.refuses_others(
     transient=(0x8000_0000, 0x8000_0007, 0x8000_0008, 0x80FF_FFFF),
     persistent=(0x8100_0000, 0x8180_0000, 0x81FF_FFFF),
 )
-said = tpm('A storage key, whose value is "parent"')
-parent = said.create_primary(RH_OWNER, storage_key(), user_auth=b"parent")
+parent = tpm.owned('A storage key, whose value is "parent"', storage_key(), user_auth=b"parent")
 case = "Another number is still not there: REFERENCE_H0"
 refused(case, *(under(it, b"parent") for it in (0x8000_0001, 0x8000_0007, 0x8001_0000)))
 tpm.needs_entries(CC.Create, parent)
 refused("By another password: BAD_AUTH/s1", under(parent, b"Parent"))
-said = tpm("A storage key without noDA")
-with said.held(RH_OWNER, storage_key(attributes=PROTECTED | STORES)) as guarded:
+with tpm.held("A storage key without noDA", storage_key(attributes=PROTECTED | STORES)) as guarded:
     refused("By another password: AUTH_FAIL/s1", under(guarded, b"Parent"))
     tpm.create("By the right one, the empty one", guarded, sealed(), data=b"x")
 
@@ -44,7 +42,7 @@ for what, public, data in (
     ("An AES key to decrypt, which is not restricted", aes_key(ObjectAttribute.DECRYPT), bytes(16)),
     ("One to encrypt and decrypt", aes_key(), bytes(16)),
 ):
-    with tpm.held(what, RH_OWNER, public, data=data) as handle:
+    with tpm.held(what, public, data=data) as handle:
         refused("As a parent: TYPE/h1", under(handle))
 
 tpm.chapter("What is created is new, as its seed is drawn: the same template twice.")

@@ -48,8 +48,7 @@ tpm.needs_entries(CC.CreatePrimary, RH_OWNER)
 tpm.accepted('The value of TPM_RH_OWNER is "owner"', tpm.change_auth(RH_OWNER, b"owner", b""))
 tpm("By the empty password: BAD_AUTH/s1").primary(RH_OWNER, storage_key(), b"")
 session = tpm.start("An HMAC session")
-said = tpm("By that session")
-by_session = said.create_primary(RH_OWNER, storage_key(), session, user_auth=b"abc")
+by_session = tpm.owned("By that session", storage_key(), session, user_auth=b"abc")
 tpm.flush_objects("The object is flushed", by_session)
 
 tpm.chapter("The same template and the same hierarchy give the same object, whatever is drawn.")
@@ -84,7 +83,7 @@ for what, public, more in (
     ("adminWithPolicy", storage_key(attributes=USUAL | ObjectAttribute.ADMIN_WITH_POLICY), {}),
     ("Neither fixedTPM nor fixedParent", storage_key(attributes=USUAL & ~HERE), {}),
 ):
-    with tpm.held(what, RH_OWNER, public, **more) as handle:
+    with tpm.held(what, public, **more) as handle:
         names.add(tpm.read_public("TPM2_ReadPublic", handle)[0].unique)
 assert len(names) == 9
 
@@ -98,11 +97,11 @@ for what, more in (
     ("PCR 17 of the SHA-1 bank, twice", {"pcrs": [(SHA1, [17]), (SHA1, [17])]}),
     ("Banks of which no PCR is selected", {"pcrs": [(SHA1, []), (SHA256, [])]}),
 ):
-    with tpm.held(what, RH_OWNER, storage_key(), **more) as handle:
+    with tpm.held(what, storage_key(), **more) as handle:
         same.append((tpm.names[handle], tpm.creation_data))
 for locality in (4, 1, 0):
     tpm.locality_is(locality)
-    with tpm.held(f"From locality {locality}", RH_OWNER, storage_key()) as handle:
+    with tpm.held(f"From locality {locality}", storage_key()) as handle:
         same.append((tpm.names[handle], tpm.creation_data))
 assert len({name for name, _ in same}) == 1 and len({data for _, data in same}) == 8
 tpm("35 bytes of outsideInfo: SIZE/p3").primary(RH_OWNER, storage_key(), outside_info=bytes(35))

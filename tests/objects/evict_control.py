@@ -62,8 +62,8 @@ def handles_and_parameter(owners):
 def in_order():
     """Each refusal, where those behind it would stand too."""
     tpm.chapter("The checks in their order; each command has the later faults too.")
-    owners = tpm.create_primary("An object of the owner", RH_OWNER, storage_key())
-    clears = tpm.create_primary("One with stClear", RH_OWNER, CLEARED)
+    owners = tpm.owned("An object of the owner", storage_key())
+    clears = tpm.owned("One with stClear", CLEARED)
     endorsements = tpm.create_primary(
         "One of the endorsement hierarchy", RH_ENDORSEMENT, storage_key()
     )
@@ -146,12 +146,11 @@ borders(*in_order())
 tpm.power_cycle()
 
 tpm.chapter("Sixteen persistent objects, and no more.")
-transient = tpm.create_primary("An object of the owner", RH_OWNER, storage_key())
+transient = tpm.owned("An object of the owner", storage_key())
 platforms = tpm.create_primary("And one of the platform", RH_PLATFORM, storage_key())
 handles = [FIRST + 3 * it for it in range(MOST - 1)] + [LAST]
 for handle in handles[:-1]:
-    words = "Fifteen of the owner" if handle == FIRST else ""
-    tpm.keep(words, RH_OWNER, transient, handle)
+    tpm.keep("Fifteen of the owner" if handle == FIRST else "", RH_OWNER, transient, handle)
 tpm.keep("One of the platform", RH_PLATFORM, platforms, LAST)
 kept_handles("They are there, and the transient ones beside them", *handles)
 case = "One more, of either: NV_SPACE"
@@ -171,12 +170,11 @@ kept_handles("They ascend", *handles)
 tpm.power_cycle()
 kept_handles("A power cycle later", *handles)
 for handle in handles:
-    words = "The platform takes all away" if handle == FIRST else ""
-    tpm.remove(words, RH_PLATFORM, handle)
+    tpm.remove("The platform takes all away" if handle == FIRST else "", RH_PLATFORM, handle)
 kept_handles("None")
 
 tpm.chapter("A persistent object is what the transient one was.")
-root = tpm.create_primary("A storage key", RH_OWNER, storage_key())
+root = tpm.owned("A storage key", storage_key())
 public, qualified = tpm.read_public("TPM2_ReadPublic of it", root)
 tpm.keep("It stays as 81000000", RH_OWNER, root, FIRST)
 assert tpm.read_public("The same public area and names", FIRST) == (public, qualified)
@@ -222,7 +220,7 @@ tpm.unseal("It is there", OTHER, b"a secret", b"pin")
 tpm("What was loaded is not: REFERENCE_H0").public(handle)
 
 tpm.chapter("TPM2_EvictControl by sessions.")
-handle = tpm.create_primary("An object of the owner", RH_OWNER, storage_key())
+handle = tpm.owned("An object of the owner", storage_key())
 wanted = 0x8100_0003
 tpm('ownerAuth is "owner"').change_auth(RH_OWNER, b"owner", b"")
 session = tpm.start("An HMAC session, bound to TPM_RH_OWNER", RH_OWNER, aes=True)
@@ -237,8 +235,7 @@ tpm.fails(
     ),
 )
 policy = tpm.policy("A policy session")
-said = tpm("No policy authorizes a hierarchy: AUTH_UNAVAILABLE")
-said.evicting(RH_OWNER, handle, wanted, policy)
+tpm("No policy authorizes a hierarchy: AUTH_UNAVAILABLE").evicting(RH_OWNER, handle, wanted, policy)
 tpm("ownerAuth is empty").change_auth(RH_OWNER, b"", b"owner")
 for kept in (FIRST, OTHER, THIRD):
     tpm.remove("All are taken away" if kept == FIRST else "", RH_OWNER, kept)

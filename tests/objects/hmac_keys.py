@@ -3,8 +3,8 @@ the hash algorithm of its scheme, or with scheme NULL of the one that the comman
 """
 
 from tests.common.steps import aes_key, RESTRICTED_KEY, Steps
-from tests.common.vocabulary import ALG_NULL, CC, HASHES, hmac_key, mac, number, RH_NULL, RH_OWNER
-from tests.common.vocabulary import sealed, SHA1, SHA256, sized, storage_key
+from tests.common.vocabulary import ALG_NULL, CC, HASHES, hmac_key, mac, number, RH_NULL, sealed
+from tests.common.vocabulary import SHA1, SHA256, sized, storage_key
 
 tpm = Steps(__name__, __doc__)
 refused = tpm.says
@@ -31,7 +31,7 @@ CASES = (
 )
 for case, key, data in CASES:
     said = tpm(f"The key of case {case}, with scheme NULL")
-    with said.held(RH_NULL, hmac_key(scheme=ALG_NULL), data=key) as handle:
+    with said.held(hmac_key(scheme=ALG_NULL), hierarchy=RH_NULL, data=key) as handle:
         is_hmac("TPM2_HMAC with SHA-1", handle, key, data, SHA1, SHA1)
         is_hmac("With SHA-256", handle, key, data, SHA256, SHA256)
 
@@ -40,13 +40,12 @@ for scheme, name in HASHES:
     for name_algorithm, hash_name in HASHES:
         said = tpm(f"A key of HMAC with {name}, whose nameAlg is {hash_name}")
         template = hmac_key(name_algorithm, scheme=scheme)
-        with said.held(RH_OWNER, template, user_auth=b"a", data=b"key") as handle:
+        with said.held(template, user_auth=b"a", data=b"key") as handle:
             is_hmac("Its own", handle, b"key", b"text", scheme, scheme)
             is_hmac("TPM_ALG_NULL, for its own", handle, b"key", b"text", ALG_NULL, scheme)
             other = SHA256 if scheme == SHA1 else SHA1
             refused("The other: VALUE/p2", tpm.hmac(handle, b"text", other))
-said = tpm("A key of scheme NULL")
-key = said.create_primary(RH_OWNER, hmac_key(scheme=ALG_NULL), user_auth=b"a", data=b"key")
+key = tpm.owned("A key of scheme NULL", hmac_key(scheme=ALG_NULL), user_auth=b"a", data=b"key")
 refused("TPM_ALG_NULL: VALUE/p2", tpm.hmac(key, b"text", ALG_NULL))
 
 tpm.chapter("Sizes, and what cannot be read.")
@@ -61,8 +60,7 @@ def cut(words, *parameters):
 
 words = "1,025 bytes, whole and cut: SIZE/p1"
 cut(words, sized(bytes(1025)) + number(SHA256, 2), number(1025, 2), b"\xff\xff\0")
-words = "A buffer that is cut, and half a size: INSUFFICIENT/p1"
-cut(words, number(1024, 2) + bytes(1023), b"\0")
+cut("A buffer that is cut, and half a size: INSUFFICIENT/p1", number(1024, 2) + bytes(1023), b"\0")
 cut("No hashAlg, and half of one: INSUFFICIENT/p2", sized(b"text"), sized(b"text") + b"\0")
 words = "hashAlg is neither SHA-1 nor SHA-256 nor TPM_ALG_NULL: SHA-384, HMAC, none: HASH/p2"
 refused(words, *(tpm.hmac(key, b"text", it) for it in (0x000C, 0x0005, 0, 0xFFFF)))
@@ -79,7 +77,7 @@ for what, public, data, outcome in (
     ("Sealed data", sealed(), b"secret", "KEY/h1"),
     ("With nameAlg SHA-1", sealed(SHA1), b"secret", "KEY/h1"),
 ):
-    with tpm.held(what, RH_OWNER, public, data=data) as handle:
+    with tpm.held(what, public, data=data) as handle:
         words = f"TPM2_HMAC, whatever is named: {outcome}"
         refused(words, *(tpm.hmac(handle, b"text", it) for it in (SHA256, SHA1, ALG_NULL)))
         refused("But what cannot be read: HASH/p2", tpm.hmac(handle, b"text", 0))

@@ -12,8 +12,7 @@ from tests.common.vocabulary import storage_key, STORES
 tpm = Steps(__name__, __doc__)
 refused = tpm.says
 
-said = tpm('A storage key, whose value is "parent"')
-parent = said.create_primary(RH_OWNER, storage_key(), user_auth=b"parent")
+parent = tpm.owned('A storage key, whose value is "parent"', storage_key(), user_auth=b"parent")
 said = tpm('TPM2_Create: sealed data, whose value is "child"')
 made = said.create(parent, sealed(), user_auth=b"child", data=b"secret")
 
@@ -43,16 +42,14 @@ with tpm.loaded("TPM2_Load by it", parent, made, session) as by_session:
     refused("Sealed data are no parent: TYPE/h1", tpm.loading(by_session, made))
 
 tpm.chapter("inPrivate belongs to one parent and to one public area.")
-said = tpm("Another primary key")
-with said.held(RH_OWNER, storage_key(unique=b"twin"), user_auth=b"parent") as twin:
+with tpm.held("Another primary key", storage_key(unique=b"twin"), user_auth=b"parent") as twin:
     refused("TPM2_Load under it: INTEGRITY/p1", tpm.loading(twin, made))
-said = tpm("The same primary key once more")
-same = said.create_primary(RH_OWNER, storage_key(), user_auth=b"parent")
+same = tpm.owned("The same primary key once more", storage_key(), user_auth=b"parent")
 loaded = tpm.load("TPM2_Load under it", same, made)
 tpm.unseal("TPM2_Unseal", loaded, b"secret")
 tpm.flush_objects("Both are flushed", loaded, same)
 said = tpm("The same template in TPM_RH_ENDORSEMENT")
-with said.held(RH_ENDORSEMENT, storage_key(), user_auth=b"parent") as alien:
+with said.held(storage_key(), hierarchy=RH_ENDORSEMENT, user_auth=b"parent") as alien:
     refused("TPM2_Load under it: INTEGRITY/p1", tpm.loading(alien, made))
 
 

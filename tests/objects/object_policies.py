@@ -3,8 +3,9 @@ What it was told is held against the command and the device, and it counts for o
 """
 
 from tests.common.steps import AFTER_AUTH_VALUE, Steps
-from tests.common.vocabulary import ALG_NULL, AUTH_VALUE, CC, CONTINUE_SESSION
-from tests.common.vocabulary import DECRYPT, digest, ENCRYPT, HASHES, HERE, hmac_key, name_of
+from tests.common.vocabulary import ALG_NULL, AUTH_VALUE, CC, CONTINUE_SESSION, DECRYPT, digest
+from tests.common.vocabulary import ENCRYPT, HASHES, HERE, hmac_key, name_of, sealed, selection
+from tests.common.vocabulary import SHA1, SHA256, storage_key, Use, zeros
 from tests.common.vocabulary import (
     ObjectAttribute,
     others_in,
@@ -13,7 +14,6 @@ from tests.common.vocabulary import (
     RH_ENDORSEMENT,
     RH_OWNER,
 )
-from tests.common.vocabulary import sealed, selection, SHA1, SHA256, storage_key, Use, zeros
 
 NO_DA, USER = ObjectAttribute.NO_DA, ObjectAttribute.USER_WITH_AUTH
 PCR_16 = [(SHA256, [16])]
@@ -21,7 +21,7 @@ SECRET, PIN = b"secret", b"pin"
 ENCRYPTING = CONTINUE_SESSION | ENCRYPT
 
 tpm = Steps(__name__, __doc__, tries=True)
-parent = tpm.create_primary("A storage key", RH_OWNER, storage_key())
+parent = tpm.owned("A storage key", storage_key())
 
 
 def sealed_by(what, auth_policy, algorithm=SHA256, attributes=HERE | NO_DA, user_auth=PIN):
@@ -183,8 +183,7 @@ right = policy.after_command_code(SHA256, AFTER_PCR_16, CC.Unseal)
 right = policy.after_secret(SHA256, right, name_of(RH_ENDORSEMENT), b"")
 right = policy.after_locality(SHA256, right, 1)
 handle = sealed_by("An object with a policy of all of it", right)
-said = tpm("An object that has no policy")
-without = said.create_primary(RH_OWNER, sealed(), user_auth=PIN, data=SECRET)
+without = tpm.owned("An object that has no policy", sealed(), user_auth=PIN, data=SECRET)
 right_hash, wrong_hash = tpm.cp_hash(tpm.unsealing(handle)), bytes([7]) * 32
 
 
@@ -274,9 +273,8 @@ for what, attributes, by_value in (
     ("Without userWithAuth", NO_DA, False),
     ("With userWithAuth", NO_DA | USER, True),
 ):
-    handle = tpm.create_primary(
+    handle = tpm.owned(
         f"{what}: an HMAC key with a policy",
-        RH_OWNER,
         hmac_key(attributes=HERE | attributes, auth_policy=FOR_HMAC),
         user_auth=PIN,
         data=b"key",
@@ -301,7 +299,7 @@ said = tpm("A storage key with TPM2_PolicyAuthValue as its policy")
 for_policy = storage_key(
     attributes=storage_key().attributes & ~USER, auth_policy=AFTER_AUTH_VALUE[SHA256]
 )
-guarded = said.create_primary(RH_OWNER, for_policy, user_auth=b"parent")
+guarded = said.owned(for_policy, user_auth=b"parent")
 tpm("TPM2_Create by the password: AUTH_UNAVAILABLE").child(guarded, sealed(), data=b"x")
 said = tpm("TPM2_Create by the policy")
 made = said.create(guarded, sealed(), tpm.by_value(session), data=SECRET)

@@ -20,12 +20,11 @@ from tests.common.vocabulary import (
 SECRET, PIN = b"secret", b"pin"
 
 tpm = Steps(__name__, __doc__, tries=True)
-parent = tpm.create_primary("A storage key", RH_OWNER, storage_key())
+parent = tpm.owned("A storage key", storage_key())
 said = tpm('TPM2_Create of sealed data, whose value is "pin"')
 made = said.create(parent, sealed(), user_auth=PIN, data=SECRET)
 handle = tpm.load("TPM2_Load", parent, made)
-said = tpm("Other sealed data with the same value")
-twin = said.create_primary(RH_OWNER, sealed(), user_auth=PIN, data=SECRET)
+twin = tpm.owned("Other sealed data with the same value", sealed(), user_auth=PIN, data=SECRET)
 
 for algorithm, hash_name in reversed(HASHES):
     tpm.chapter(f"Sessions with {hash_name}.")
@@ -71,7 +70,7 @@ for algorithm, hash_name in reversed(HASHES):
     tpm("The session that is bound to it lives on").reset(bound)
     tpm("But there is no object: REFERENCE_H0").prepare(CC.Unseal, [handle], b"", bound)
     said = tpm("Another object takes the place of one")
-    stranger = said.create_primary(RH_OWNER, sealed(), user_auth=PIN, data=b"x")
+    stranger = said.owned(sealed(), user_auth=PIN, data=b"x")
     assert stranger in (handle, again)
     tpm.unseal("To that it is not bound, and the value is in the key", stranger, b"x", bound)
     handle = tpm.load("TPM2_Load of the object", parent, made)
@@ -102,8 +101,7 @@ for what, public, data in (
     tpm("TPM2_PCR_Reset by the session").reset(Use(session, 0))
 
 tpm.chapter("A wrong entry is a try where it uses the value of an object without noDA.")
-said = tpm("Such an object")
-guarded = said.create_primary(RH_OWNER, sealed(attributes=PROTECTED), user_auth=PIN, data=SECRET)
+guarded = tpm.owned("Such an object", sealed(attributes=PROTECTED), user_auth=PIN, data=SECRET)
 plain = tpm.start("A session that is bound to nothing")
 to_guarded = tpm.start("One that is bound to this object", bind=guarded)
 to_open = tpm.start("One that is bound to an object with noDA", bind=handle)
@@ -175,10 +173,7 @@ tpm.chapter("Three sessions at once.")
 first, second, third = (tpm.start("One with AES", bind=it, aes=True) for it in (handle, twin, 10))
 said = tpm("The first authorizes, the second encrypts")
 said.unseal(handle, SECRET, first, second.encrypting, third)
-said = tpm("An HMAC key")
-key = said.create_primary(
-    RH_OWNER, hmac_key(), third, first.decrypting, second.encrypting, data=b"k"
-)
+key = tpm.owned("An HMAC key", hmac_key(), third, first.decrypting, second.encrypting, data=b"k")
 said = tpm("The second authorizes, the third decrypts, and the first encrypts")
 said.hmac(key, b"text", ALG_NULL, second, third.decrypting, first.encrypting)
 tpm.flush_objects("All are flushed", key, handle, twin, parent)

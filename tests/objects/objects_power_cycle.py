@@ -4,8 +4,7 @@ made again. The null hierarchy has a new seed and a new proof after each TPM2_St
 """
 
 from tests.common.steps import HIERARCHIES, Steps
-from tests.common.vocabulary import hmac_key, RH_NULL, RH_OWNER, sealed, SHA1, STATE
-from tests.common.vocabulary import storage_key
+from tests.common.vocabulary import hmac_key, RH_NULL, RH_OWNER, sealed, SHA1, STATE, storage_key
 
 tpm = Steps(__name__, __doc__, starts=False)
 
@@ -20,7 +19,7 @@ def primaries():
     """The Name of a storage key in each hierarchy, and a child that was created under each."""
     names, children = {}, {}
     for hierarchy, name in HIERARCHIES:
-        with tpm.held(f"A storage key in {name}", hierarchy, storage_key()) as handle:
+        with tpm.held(f"A storage key in {name}", storage_key(), hierarchy=hierarchy) as handle:
             names[hierarchy] = tpm.names[handle]
             said = tpm("TPM2_Create of sealed data")
             children[hierarchy] = said.create(handle, sealed(), data=b"secret")
@@ -31,7 +30,7 @@ def tickets():
     """The tickets of a creation, by two hierarchies."""
     found = {}
     for hierarchy, name in (HIERARCHIES[0], HIERARCHIES[3]):
-        with tpm.held(f"A key in {name}", hierarchy, hmac_key(), data=b"key"):
+        with tpm.held(f"A key in {name}", hmac_key(), hierarchy=hierarchy, data=b"key"):
             found[hierarchy] = tpm.ticket
     return found
 
@@ -47,8 +46,7 @@ tpm.power()
 tpm("Before TPM2_Startup: INITIALIZE").public(handles[0])
 tpm.chapter("A refused TPM2_Startup draws nothing, and starts nothing.")
 tpm.script.entropy(bytes(range(128, 192)))
-said = tpm("TPM2_Startup(STATE), while no state is saved: VALUE/p1")
-said.starting(STATE)
+tpm("TPM2_Startup(STATE), while no state is saved: VALUE/p1").starting(STATE)
 start("The second start, with other random bytes.", bytes(range(64, 128)))
 tpm.forget(*handles)
 tpm.says("The objects are gone: REFERENCE_H0", *map(tpm.public, handles))
@@ -64,7 +62,7 @@ assert first_tickets[RH_NULL] != second_tickets[RH_NULL]
 tpm.chapter("What was created before the power cycle is loaded under the same primary object.")
 for hierarchy, name in HIERARCHIES:
     said = tpm(f"The storage key in {name}")
-    with said.held(hierarchy, storage_key(), flushed="The parent is flushed") as handle:
+    with said.held(storage_key(), hierarchy=hierarchy, flushed="The parent is flushed") as handle:
         made = children[hierarchy]
         if hierarchy == RH_NULL:
             tpm("TPM2_Load: it is another one: INTEGRITY/p1").loading(handle, made)

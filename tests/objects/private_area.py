@@ -10,8 +10,8 @@ from tpmsim.model.object_rules import Sensitive
 from tpmsim.standard import aes, kdfa, KEYEDHASH
 from tests.common.steps import aes_key, Steps
 from tests.common.vocabulary import digest, digest_bytes, flipped, HASHES, hmac_key, mac, number
-from tests.common.vocabulary import Public, RH_OWNER, sealed, SHA1, SHA256, sized, storage_key
-from tests.common.vocabulary import STORES, SYMCIPHER
+from tests.common.vocabulary import Public, sealed, SHA1, SHA256, sized, storage_key, STORES
+from tests.common.vocabulary import SYMCIPHER
 
 ZERO_BLOCK = bytes(aes.BLOCK)
 
@@ -24,8 +24,7 @@ def refused(what, parent, public, *privates):
 
 
 def parent_of(algorithm, hash_name):
-    said = tpm(f"A storage key with nameAlg {hash_name}")
-    return said.create_primary(RH_OWNER, storage_key(algorithm))
+    return tpm.owned(f"A storage key with nameAlg {hash_name}", storage_key(algorithm))
 
 
 tpm.chapter("A private area that the device made, and that is changed on its way.")

@@ -4,8 +4,8 @@ it in it. It needs no authorization.
 """
 
 from tests.common.steps import Steps
-from tests.common.vocabulary import CC, command, digest, hmac_key, number, RH_NULL, RH_OWNER
-from tests.common.vocabulary import sealed, SHA1, SHA256, storage_key
+from tests.common.vocabulary import CC, command, digest, hmac_key, number, RH_NULL, RH_OWNER, sealed
+from tests.common.vocabulary import SHA1, SHA256, storage_key
 
 tpm = Steps(__name__, __doc__, starts=False)
 
@@ -35,8 +35,7 @@ for hierarchy, name in ((RH_OWNER, "TPM_RH_OWNER"), (RH_NULL, "TPM_RH_NULL")):
     tpm.flush_objects("They are flushed", *handles)
 
 tpm.chapter("What is wrong with the command.")
-said = tpm('An HMAC key, whose value is "a"')
-key = said.create_primary(RH_OWNER, hmac_key(), user_auth=b"a", data=b"key")
+key = tpm.owned('An HMAC key, whose value is "a"', hmac_key(), user_auth=b"a", data=b"key")
 whole = tpm.public(key)
 tpm.says("A byte behind the handle: SIZE", whole.but(parameters=b"\0"))
 tpm("A password, as it needs none: HANDLE/s1").public(key, b"a")
@@ -45,7 +44,7 @@ tpm.read_public("TPM2_ReadPublic with both", key, session, other)
 tpm.read_public("With outPublic encrypted", key, session.encrypting)
 said = tpm("There is no parameter to decrypt: ATTRIBUTES/s1")
 said.refused(tpm.public(key, session).but_entry(1, attributes=0x21))
-stranger = tpm.create_primary("Another object", RH_OWNER, sealed(), data=b"secret")
+stranger = tpm.owned("Another object", sealed(), data=b"secret")
 bound = tpm.start("A session that is bound to the HMAC key", bind=key)
 said = tpm(
     "With its hmac, which has the Name of the HMAC key in it, for the other object: BAD_AUTH/s1"

@@ -5,14 +5,13 @@ and answers.
 
 from tests.common.steps import Steps
 from tests.common.vocabulary import ALG_NULL, CC, CONTINUE_SESSION, DECRYPT, ENCRYPT, HASHES
-from tests.common.vocabulary import hmac_key, mac, number, RH_OWNER, sealed, SHA1, SHA256, sized
-from tests.common.vocabulary import storage_key, Use
+from tests.common.vocabulary import hmac_key, mac, number, sealed, SHA1, SHA256, sized, storage_key
+from tests.common.vocabulary import Use
 
 IN, OUT = CONTINUE_SESSION | DECRYPT, CONTINUE_SESSION | ENCRYPT
 
 tpm = Steps(__name__, __doc__)
-said = tpm('A storage key, whose value is "parent"')
-parent = said.create_primary(RH_OWNER, storage_key(), user_auth=b"parent")
+parent = tpm.owned('A storage key, whose value is "parent"', storage_key(), user_auth=b"parent")
 
 for algorithm, hash_name in reversed(HASHES):
     tpm.chapter(f"AES sessions with {hash_name}.")
@@ -76,17 +75,14 @@ for algorithm, hash_name in reversed(HASHES):
     made = said.create(parent, storage_key(), session, unrelated.decrypting, bound.encrypting)
     tpm.flush_objects("It is flushed", tpm.load("TPM2_Load", parent, made))
     said = tpm("TPM2_CreatePrimary with inSensitive and outPublic encrypted")
-    first = said.create_primary(
-        RH_OWNER, sealed(), Use(session, IN | OUT), user_auth=b"pin", data=data
-    )
-    said = tpm("In plain it is the same object")
-    second = said.create_primary(RH_OWNER, sealed(), user_auth=b"pin", data=data)
+    first = said.owned(sealed(), Use(session, IN | OUT), user_auth=b"pin", data=data)
+    second = tpm.owned("In plain it is the same object", sealed(), user_auth=b"pin", data=data)
     assert tpm.names[first] == tpm.names[second]
     tpm.flush_objects("Both are flushed", first, second)
 
     tpm.chapter("TPM2_HMAC, with what it takes and what it answers encrypted.")
     template, text = hmac_key(algorithm, scheme=ALG_NULL), b"a text of some length"
-    key = tpm.create_primary("A key", RH_OWNER, template, user_auth=b"k", data=b"key")
+    key = tpm.owned("A key", template, user_auth=b"k", data=b"key")
     for what, use in (("buffer alone", IN), ("outHMAC alone", OUT), ("Both", IN | OUT)):
         _, answer = tpm.accepted(what, tpm.hmac(key, text, SHA256, Use(session, use)))
         assert answer == sized(mac(SHA256, b"key", text))
@@ -100,7 +96,7 @@ for algorithm, hash_name in reversed(HASHES):
 tpm.chapter("What cannot be encrypted.")
 plain = tpm.start("A session without AES")
 aes = tpm.start("One with AES", aes=True)
-handle = tpm.create_primary("Sealed data", RH_OWNER, sealed(), data=b"secret")
+handle = tpm.owned("Sealed data", sealed(), data=b"secret")
 said = tpm("TPM2_Unseal, encrypted by the one without: SYMMETRIC/s1")
 said.refused(tpm.unsealing(handle, plain).but_entry(1, attributes=OUT))
 said = tpm("TPM2_Unseal has no parameter to decrypt: ATTRIBUTES/s1")

@@ -18,8 +18,7 @@ def qualified(above, name, algorithm):
 
 for parent_algorithm, parent_hash in HASHES:
     tpm.chapter(f"A parent with nameAlg {parent_hash}.")
-    said = tpm("TPM2_CreatePrimary")
-    parent = said.create_primary(RH_OWNER, storage_key(parent_algorithm), user_auth=b"parent")
+    parent = tpm.owned("TPM2_CreatePrimary", storage_key(parent_algorithm), user_auth=b"parent")
     _, above = tpm.read_public("TPM2_ReadPublic", parent)
     assert above == qualified(number(RH_OWNER, 4), tpm.names[parent], parent_algorithm)
     for algorithm, hash_name in HASHES:
@@ -48,7 +47,7 @@ for parent_algorithm, parent_hash in HASHES:
     tpm.flush_objects("The parent is flushed", parent)
 
 tpm.chapter("Children of children: four storage keys under one another, and sealed data.")
-chain = [tpm.create_primary("The primary key", RH_OWNER, storage_key(SHA1))]
+chain = [tpm.owned("The primary key", storage_key(SHA1))]
 _, above = tpm.read_public("TPM2_ReadPublic", chain[0])
 links = []
 for place, algorithm in enumerate((SHA256, SHA1, SHA1, SHA256), 1):
@@ -70,7 +69,7 @@ tpm.unseal("What was under them stays", handle, b"deep")
 assert tpm.read_public("And keeps its qualified name", handle)[1] == answered
 tpm.flush_objects("It is flushed", handle)
 tpm.chapter("All of it once more, from the primary key on.")
-parent = tpm.create_primary("The primary key", RH_OWNER, storage_key(SHA1))
+parent = tpm.owned("The primary key", storage_key(SHA1))
 for made in links:
     child = tpm.load("TPM2_Load of the next one", parent, made)
     tpm.flush_objects("Its parent is flushed", parent)
@@ -98,7 +97,7 @@ for hierarchy in (RH_PLATFORM, RH_ENDORSEMENT, RH_NULL):
 
 tpm.chapter("fixedTPM: what is under a parent without it is without it, down to the last.")
 movable = storage_key(attributes=OPEN | STORES)
-primary = tpm.create_primary("A parent without fixedTPM", RH_OWNER, movable)
+primary = tpm.owned("A parent without fixedTPM", movable)
 inner = storage_key(SHA1, attributes=OPEN | STORES | ObjectAttribute.FIXED_PARENT)
 made = tpm.create("TPM2_Create of a storage key with fixedParent", primary, inner)
 child = tpm.load("TPM2_Load", primary, made)
@@ -110,7 +109,7 @@ tpm.unseal("TPM2_Unseal", handle, b"leaf")
 tpm.flush_objects("They are flushed", primary, child, handle)
 
 tpm.chapter("A policy of SHA-1.")
-parent = tpm.create_primary("A parent with SHA-256", RH_OWNER, storage_key())
+parent = tpm.owned("A parent with SHA-256", storage_key())
 for_unseal = policy.after_command_code(SHA1, bytes(20), CC.Unseal)
 template = sealed(SHA1, HERE | ObjectAttribute.NO_DA, auth_policy=for_unseal)
 said = tpm("Sealed data with nameAlg SHA-1 and a policy: TPM2_Create")

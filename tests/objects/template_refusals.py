@@ -9,8 +9,8 @@ from tpmsim.model.object_rules import NAMED
 from tpmsim.standard import AES, ALG_HMAC, CFB, KEYEDHASH
 from tests.common.steps import aes_key, GENERATED, Steps
 from tests.common.vocabulary import ALG_NULL, CC, frames, HERE, hmac_key, number, ObjectAttribute
-from tests.common.vocabulary import OPEN, RH_OWNER, sealed, SHA1, SHA256, sized, storage_key
-from tests.common.vocabulary import STORES, SYMCIPHER
+from tests.common.vocabulary import OPEN, RH_OWNER, sealed, SHA1, SHA256, sized, storage_key, STORES
+from tests.common.vocabulary import SYMCIPHER
 
 RESTRICTED, SIGN = ObjectAttribute.RESTRICTED, ObjectAttribute.SIGN
 FIXED_TPM, FIXED_PARENT = ObjectAttribute.FIXED_TPM, ObjectAttribute.FIXED_PARENT
@@ -57,7 +57,7 @@ class Target:
         tpm.says(words, *(self.prepared(sized(public.text), it) for it in sensitives))
 
 
-parent = tpm.create_primary("A storage key", RH_OWNER, storage_key())
+parent = tpm.owned("A storage key", storage_key())
 CREATING = Target(CC.CreatePrimary, RH_OWNER), Target(CC.Create, parent)
 TARGETS = *CREATING, Target(CC.Load, parent)
 
@@ -221,8 +221,7 @@ def ask_of_all(target):
 
 def below_movable():
     tpm.chapter("Under a parent without fixedTPM nothing has it; fixedParent may be or not.")
-    said = tpm("A storage key without fixedTPM")
-    movable = said.create_primary(RH_OWNER, storage_key(attributes=OPEN | STORES))
+    movable = tpm.owned("A storage key without fixedTPM", storage_key(attributes=OPEN | STORES))
     for code in (CC.Create, CC.Load):
         Target(code, movable).asked(
             f"TPM2_{code.name} of something with fixedTPM, also with fixedParent and with "

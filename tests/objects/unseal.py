@@ -1,14 +1,14 @@
 """Writes unseal.tpm. TPM2_Unseal gives out the data of a sealed object, by its authorization."""
 
 from tests.common.steps import aes_key, PROTECTED, RESTRICTED_KEY, Steps
-from tests.common.vocabulary import ALG_NULL, CC, HERE, hmac_key, ObjectAttribute, RH_OWNER, sealed
-from tests.common.vocabulary import SHA1, storage_key
+from tests.common.vocabulary import ALG_NULL, CC, HERE, hmac_key, ObjectAttribute, sealed, SHA1
+from tests.common.vocabulary import storage_key
 
 tpm = Steps(__name__, __doc__)
 refused = tpm.says
 
 tpm.refuses_others(tpm.unsealing)
-parent = tpm.create_primary("A storage key", RH_OWNER, storage_key())
+parent = tpm.owned("A storage key", storage_key())
 
 tpm.chapter("Data of all sizes.")
 for size in (1, 15, 16, 17, 127, 128):
@@ -56,7 +56,7 @@ for what, public, data, outcome in (
     ("With scheme NULL", hmac_key(scheme=ALG_NULL), b"key", "ATTRIBUTES/h1"),
     ("A restricted one", RESTRICTED_KEY, b"key", "ATTRIBUTES/h1"),
 ):
-    with tpm.held(what, RH_OWNER, public, user_auth=b"a", data=data) as handle:
+    with tpm.held(what, public, user_auth=b"a", data=data) as handle:
         refused("TPM2_Unseal by another value: BAD_AUTH/s1", tpm.unsealing(handle, b"b"))
         refused(f"By the right one: {outcome}", tpm.unsealing(handle))
         refused("With a byte behind: SIZE", tpm.unsealing(handle).but(parameters=b"\0"))
