@@ -1,12 +1,22 @@
 """A teller with the steps that many scripts of commands take, and what those go through."""
 
 import contextlib
+import functools
 import itertools
 from collections.abc import Callable, Iterator, Sequence
 from typing import Any
 
 from tpmsim.caller import HERE, hmac_key, Made, Means, OPEN, Prepared, Session, STATE, Use
-from tpmsim.standard import CC, command, CONTINUE_SESSION, DECRYPT, digest_bytes, ENCRYPT, number
+from tpmsim.standard import (
+    CC,
+    command,
+    CONTINUE_SESSION,
+    DECRYPT,
+    digest_bytes,
+    ENCRYPT,
+    number,
+    nv,
+)
 from tpmsim.standard import policy, RH_ENDORSEMENT, RH_LOCKOUT, RH_NULL, RH_OWNER, RH_PLATFORM
 from tpmsim.standard import SHA1, SHA256, SYMCIPHER
 
@@ -40,6 +50,11 @@ AFTER_AUTH_VALUE = {
 }
 
 RESTRICTED_KEY = hmac_key(attributes=HERE | OPEN | Attribute.RESTRICTED)
+
+
+# How a session is used whose policy asks for the authorization value: in the hmac's key, in plain.
+with_value = functools.partial(Use, demand=AUTH_VALUE)
+in_plain = functools.partial(Use, demand=PASSWORD)
 
 
 def aes_key(
@@ -76,11 +91,15 @@ class Steps(Teller):
         words = "It has to be authorized: no sessions (tag 8001): AUTH_MISSING"
         self.raw(words, command(code, number(handle, 4) + parameters))
 
-    # Objects and sessions that are there for a while.
+    # Objects, sessions and indices that are there for a while.
 
     def owned(self, what: str, public: Public, *uses: Means, **more: Any) -> int:
         """The handle of a primary object of the owner's hierarchy."""
         return self.create_primary(what, RH_OWNER, public, *uses, **more)
+
+    def below(self, what: str, parent: int, public: Public, *uses: Means, **more: Any) -> int:
+        """The handle of an object that is created below a parent, and loaded."""
+        return self.load("TPM2_Load", parent, self.create(what, parent, public, *uses, **more))
 
     @contextlib.contextmanager
     def held(
@@ -106,6 +125,13 @@ class Steps(Teller):
         yield handle
         self.flush_objects(flushed, handle)
 
+    def written(
+        self, what: str, public: nv.Public, data: bytes, auth: bytes = b"", by: int | None = None
+    ) -> None:
+        """An index that is defined by the owner, and written."""
+        self.define(what, public, auth=auth)
+        self.does("It is written", self.writing(public.index, data, by=by))
+
     def flushes(self, what: str, *sessions: Session) -> None:
         """With the same words for each."""
         for session in sessions:
@@ -116,12 +142,12 @@ class Steps(Teller):
     def by_value(self, session: Session, attributes: int = CONTINUE_SESSION) -> Use:
         """TPM2_PolicyAuthValue, and the use of the session that its policy asks for then."""
         self.does("TPM2_PolicyAuthValue", self.auth_value_told(session))
-        return Use(session, attributes, demand=AUTH_VALUE)
+        return with_value(session, attributes)
 
     def by_password(self, session: Session, attributes: int = CONTINUE_SESSION) -> Use:
         """The same with TPM2_PolicyPassword."""
         self.does("TPM2_PolicyPassword", self.password_told(session))
-        return Use(session, attributes, demand=PASSWORD)
+        return in_plain(session, attributes)
 
     def encrypts_nothing(self, prepare: Callable[[], Prepared]) -> None:
         """A command by a session that could encrypt, where nothing can be encrypted."""

@@ -33,10 +33,6 @@ def commands_of(cut):
     return [(name, whole) for name, whole, _, outcome in cut.COMMANDS if outcome == "SUCCESS"]
 
 
-def code_of(buffer):
-    return int.from_bytes(buffer[6:10], "big")
-
-
 def bent(script, whole):
     """What of a command is refused, by the device in Python."""
     for what, buffer in bends.bends(whole):
@@ -47,7 +43,8 @@ def bent(script, whole):
 
 
 def write_script():
-    codes = {code_of(whole) for *_, cut in SCRIPTS for _, whole in commands_of(cut)}
+    buffers = [whole for *_, cut in SCRIPTS for _, whole in commands_of(cut)]
+    codes = {int.from_bytes(it[6:10], "big") for it in buffers}
     assert codes == set(CC), "a command that is served is not bent"
     for path, which, cut in SCRIPTS:
         head = HEAD.format(which=which)

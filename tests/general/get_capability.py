@@ -34,8 +34,7 @@ def borders(name, capability, wanted, whole):
 def tries():
     tpm.chapter("The tries that are counted (20E).")
     index = 0x0100_2000
-    tpm.define("An index", area(index, BY_VALUE), auth=b"a")
-    tpm("It is written").writing(index, b"x")
+    tpm.written("An index", area(index, BY_VALUE), b"x", auth=b"a")
 
     def are(what, count, after=0):
         if after:

@@ -98,8 +98,7 @@ def start_again(is_kept):
         tpm.resumes_not("It was cancelled: TPM2_Startup(STATE): VALUE/p1")
 
 
-tpm.define("An ordinary index", area(FIRST))
-tpm("It is written").writing(FIRST, b"data", by=RH_OWNER)
+tpm.written("An ordinary index", area(FIRST), b"data", by=RH_OWNER)
 tpm.define("A counter", counter(SECOND))
 tpm.define("Bits", bits(THIRD))
 tpm.define("An index that is extended", extended(FOURTH))

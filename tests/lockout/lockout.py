@@ -52,13 +52,13 @@ def lock():
 
 
 said, only_password = tpm('An NV index with the value "2468"'), AFTER_AUTH_VALUE[SHA256]
-said.define(area(FIRST, BY_VALUE | NvAttribute.POLICYREAD, auth_policy=only_password), auth=PIN)
-tpm("It is written").writing(FIRST, SECRET)
+public = area(FIRST, BY_VALUE | NvAttribute.POLICYREAD, auth_policy=only_password)
+said.written(public, SECRET, auth=PIN)
 said = tpm("Another one, which only the owner can write")
-said.define(area(SECOND, NvAttribute.AUTHREAD | NvAttribute.OWNERWRITE), auth=PIN)
-tpm("It is written").writing(SECOND, SECRET, by=RH_OWNER)
-tpm.define("One with TPMA_NV_NO_DA", area(THIRD, BY_VALUE | NvAttribute.NO_DA), auth=PIN)
-tpm("It is written").writing(THIRD, SECRET)
+owners = area(SECOND, NvAttribute.AUTHREAD | NvAttribute.OWNERWRITE)
+said.written(owners, SECRET, auth=PIN, by=RH_OWNER)
+free = area(THIRD, BY_VALUE | NvAttribute.NO_DA)
+tpm.written("One with TPMA_NV_NO_DA", free, SECRET, auth=PIN)
 
 
 def sealed_objects():

@@ -8,10 +8,9 @@ from dataclasses import dataclass
 from functools import partial
 from typing import Callable
 
-from tests.common.steps import AFTER_AUTH_VALUE, PROTECTED, Steps
-from tests.common.vocabulary import area, AUTH_VALUE, BY_POLICY, BY_VALUE, FIRST, NvAttribute
-from tests.common.vocabulary import PASSWORD, policy, RH_LOCKOUT, RH_OWNER, sealed, SECOND, SHA256
-from tests.common.vocabulary import Use, wrong
+from tests.common.steps import AFTER_AUTH_VALUE, in_plain, PROTECTED, Steps, with_value
+from tests.common.vocabulary import area, BY_POLICY, BY_VALUE, FIRST, NvAttribute, policy
+from tests.common.vocabulary import RH_LOCKOUT, RH_OWNER, sealed, SECOND, SHA256, wrong
 
 PIN, DATA, OWNER, LOCKOUT = b"pin", b"a secret", b"owner", b"lockout"
 DEMANDING = AFTER_AUTH_VALUE[SHA256]
@@ -57,12 +56,12 @@ def ways(handle, use):
         ),
         Way(
             "A policy session with TPM2_PolicyAuthValue",
-            lambda: use(Use(told, demand=AUTH_VALUE)),
+            lambda: use(with_value(told)),
             tell=partial(tpm.by_value, told),
         ),
         Way(
             "A policy session with TPM2_PolicyPassword",
-            lambda: use(Use(told, demand=PASSWORD)),
+            lambda: use(in_plain(told)),
             tell=partial(tpm.by_password, told),
         ),
         Way(
@@ -146,8 +145,7 @@ tpm.set_protection("TPM2_DictionaryAttackParameters: maxTries is 1", 1, 1000, 10
 tpm('lockoutAuth is "lockout"').change_auth(RH_LOCKOUT, LOCKOUT, b"")
 tpm('ownerAuth is "owner"').change_auth(RH_OWNER, OWNER, b"")
 said = tpm("An NV index, with a policy that asks for its value")
-said.define(area(FIRST, BY_VALUE | BY_POLICY, auth_policy=DEMANDING), auth=PIN)
-tpm("It is written").writing(FIRST, DATA)
+said.written(area(FIRST, BY_VALUE | BY_POLICY, auth_policy=DEMANDING), DATA, auth=PIN)
 template = sealed(attributes=PROTECTED, auth_policy=DEMANDING)
 SEALED = tpm.owned("A sealed object, with the same policy", template, user_auth=PIN, data=DATA)
 check("the NV index", FIRST, lambda use: tpm.writing(FIRST, DATA, use))

@@ -2,11 +2,10 @@
 takes a policy with TPM2_PolicyCommandCode of this very command.
 """
 
-from tests.common.steps import AFTER_AUTH_VALUE, Steps
-from tests.common.vocabulary import area, AUTH_VALUE, BY_OWNER, BY_POLICY, BY_VALUE, CC, DECRYPTS
-from tests.common.vocabulary import digest_bytes, FIRST, HASHES, LOCKS, number, NvAttribute, policy
-from tests.common.vocabulary import RH_OWNER, RH_PLATFORM, SECOND, SHA1, SHA256, sized, THIRD, Use
-from tests.common.vocabulary import zeros
+from tests.common.steps import AFTER_AUTH_VALUE, Steps, with_value
+from tests.common.vocabulary import area, BY_OWNER, BY_POLICY, BY_VALUE, CC, DECRYPTS, digest_bytes
+from tests.common.vocabulary import FIRST, HASHES, LOCKS, number, NvAttribute, policy, RH_OWNER
+from tests.common.vocabulary import RH_PLATFORM, SECOND, SHA1, SHA256, sized, THIRD, Use, zeros
 
 tpm = Steps(__name__, __doc__, tries=True)
 
@@ -133,7 +132,7 @@ def both_told(tell=tpm.by_value, **choices):
 wrong = tpm.changing_auth(FIRST, b"new", both_told()).but_entry(1, hmac=bytes(32))
 tpm.fails("A wrong hmac: AUTH_FAIL/s1", wrong)
 said = tpm("By an hmac, whose key has the old value; that of the response has the new one")
-said.changing_auth(FIRST, b"new", Use(aes, demand=AUTH_VALUE))
+said.changing_auth(FIRST, b"new", with_value(aes))
 tpm("With the new value encrypted").changing_auth(FIRST, b"hidden", both_told(attributes=DECRYPTS))
 tpm("TPM2_NV_Write by it").writing(FIRST, b"x")
 use = both_told(tpm.by_password)

@@ -2,11 +2,10 @@
 an index authorize what is asked of it.
 """
 
-from tests.common.steps import AFTER_AUTH_VALUE, Steps
-from tests.common.vocabulary import area, AUTH_VALUE, BY_OWNER, BY_POLICY, CC, DECRYPTS, digest
-from tests.common.vocabulary import ENCRYPTS, FIRST, HASHES, LOCKS, nv, NvAttribute, others_in
-from tests.common.vocabulary import policy, RH_OWNER, SECOND, selection, SHA1, SHA256, THIRD, Use
-from tests.common.vocabulary import zeros
+from tests.common.steps import AFTER_AUTH_VALUE, Steps, with_value
+from tests.common.vocabulary import area, BY_OWNER, BY_POLICY, CC, DECRYPTS, digest, ENCRYPTS, FIRST
+from tests.common.vocabulary import HASHES, LOCKS, nv, NvAttribute, others_in, policy, RH_OWNER
+from tests.common.vocabulary import SECOND, selection, SHA1, SHA256, THIRD, Use, zeros
 
 DATA = b"8 bytes."
 POLICYWRITE, POLICYREAD = NvAttribute.POLICYWRITE, NvAttribute.POLICYREAD
@@ -54,7 +53,7 @@ def by_code_and_pcrs():
         tpm(words).branches(session, to_write, to_read)
 
     tpm("TPM2_NV_Read by the writer's: POLICY_CC/s1").reading(FIRST, 8, writer())
-    tpm("TPM2_NV_Write").writing(FIRST, DATA, Use(session, demand=AUTH_VALUE))
+    tpm("TPM2_NV_Write").writing(FIRST, DATA, with_value(session))
     reader()
     tpm("TPM2_NV_Write by the reader's: POLICY_CC/s1").writing(FIRST, DATA, session)
     tpm.read("TPM2_NV_Read", FIRST, DATA, session)
@@ -169,7 +168,7 @@ for words, asker in (
     ("The first, by the owner: AUTH_UNAVAILABLE", RH_OWNER),
     ("The first, by itself", FIRST),
 ):
-    tpm(words).writing(FIRST, DATA, Use(session, demand=AUTH_VALUE), by=asker)
+    tpm(words).writing(FIRST, DATA, with_value(session), by=asker)
 trial = tpm.trial("A trial session")
 tpm("TPM2_PolicyAuthValue").auth_value_told(trial)
 tpm("By it: ATTRIBUTES/s1").writing(FIRST, DATA, trial)

@@ -24,8 +24,7 @@ for hierarchy, name in ((RH_OWNER, "TPM_RH_OWNER"), (RH_NULL, "TPM_RH_NULL")):
         (SHA1, "A storage key under it, with nameAlg SHA-1"),
         (SHA256, "One under that, with nameAlg SHA-256"),
     ):
-        made = tpm.create(f"{what}: TPM2_Create", handles[-1], storage_key(algorithm))
-        handles.append(tpm.load("TPM2_Load", handles[-1], made))
+        handles.append(tpm.below(f"{what}: TPM2_Create", handles[-1], storage_key(algorithm)))
     for handle, algorithm, what in zip(
         handles, (SHA256, SHA1, SHA256), ("The first", "The second", "The third")
     ):

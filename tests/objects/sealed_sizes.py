@@ -17,8 +17,7 @@ for algorithm, hash_name in reversed(HASHES):
     tpm.chapter(f"AES sessions with {hash_name}.")
     data = bytes(range(128))
     said = tpm('TPM2_Create of 128 bytes, whose value is "pin"')
-    made = said.create(parent, sealed(algorithm), user_auth=b"pin", data=data)
-    handle = tpm.load("TPM2_Load", parent, made)
+    handle = said.below(parent, sealed(algorithm), user_auth=b"pin", data=data)
     session = tpm.start("A session with AES", algorithm=algorithm, aes=True)
     prepared = tpm.unsealing(handle, session.encrypting)
     response = tpm.raw(
@@ -72,8 +71,8 @@ for algorithm, hash_name in reversed(HASHES):
     with said.loaded(parent, made, session, Use(unrelated, IN | OUT)) as again:
         tpm.unseal("TPM2_Unseal", again, data, bound.encrypting, session)
     said = tpm("inSensitive by one, outPrivate by another, and a third authorizes")
-    made = said.create(parent, storage_key(), session, unrelated.decrypting, bound.encrypting)
-    tpm.flush_objects("It is flushed", tpm.load("TPM2_Load", parent, made))
+    key = said.below(parent, storage_key(), session, unrelated.decrypting, bound.encrypting)
+    tpm.flush_objects("It is flushed", key)
     said = tpm("TPM2_CreatePrimary with inSensitive and outPublic encrypted")
     first = said.owned(sealed(), Use(session, IN | OUT), user_auth=b"pin", data=data)
     second = tpm.owned("In plain it is the same object", sealed(), user_auth=b"pin", data=data)

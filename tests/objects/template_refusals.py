@@ -234,9 +234,9 @@ def below_movable():
         ("With encryptedDuplication", OPEN | DUPLICATION),
         ("With both", OPEN | FIXED_PARENT | DUPLICATION),
     ):
-        made = tpm.create(f"{what}: TPM2_Create", movable, sealed(attributes=attributes), data=b"x")
-        with tpm.loaded("TPM2_Load", movable, made):
-            pass
+        template = sealed(attributes=attributes)
+        handle = tpm.below(f"{what}: TPM2_Create", movable, template, data=b"x")
+        tpm.flush_objects("It is flushed", handle)
     tpm.flush_objects("The parent is flushed", movable)
 
 

@@ -36,8 +36,7 @@ with tpm.loaded("TPM2_Load", parent, made) as handle:
     tpm("TPM2_Unseal by another: AUTH_FAIL/s1").unsealing(handle, b"pin")
     tpm.unseal("By the empty one", handle, b"secret")
 said, no_value = tpm("Without userWithAuth, and without a policy"), HERE | ObjectAttribute.NO_DA
-made = said.create(parent, sealed(attributes=no_value), user_auth=b"pin", data=b"secret")
-handle = tpm.load("TPM2_Load", parent, made)
+handle = said.below(parent, sealed(attributes=no_value), user_auth=b"pin", data=b"secret")
 session = tpm.start("An HMAC session")
 policy = tpm.policy("A policy session")
 case = "Nothing authorizes it: the right password, and a wrong one: AUTH_UNAVAILABLE"
