@@ -4,18 +4,9 @@ objects and the sessions are gone all the same.
 """
 
 from tests.common.steps import Steps
-from tests.common.vocabulary import (
-    area,
-    BY_OWNER,
-    BY_VALUE,
-    CLEAR,
-    FIRST,
-    FOURTH,
-    LOCKS,
-    NvAttribute,
-)
-from tests.common.vocabulary import RH_NULL, RH_OWNER, RH_PLATFORM, SECOND, SHA256, STATE
-from tests.common.vocabulary import storage_key, THIRD
+from tests.common.vocabulary import area, BY_OWNER, BY_VALUE, CLEAR, FIRST, FOURTH, LOCKS
+from tests.common.vocabulary import NvAttribute, RH_NULL, RH_OWNER, RH_PLATFORM, SECOND, SHA256
+from tests.common.vocabulary import STATE, storage_key, THIRD
 
 # PCR 16 and 23 start as zeros, and so do those up to 15; 17 to 22 start as ones.
 PCRS = 0, 3, 15, 16, 17, 22, 23

@@ -4,16 +4,9 @@ What it was told is held against the command and the device, and it counts for o
 
 from tests.common.steps import AFTER_AUTH_VALUE, in_plain, Steps, with_value
 from tests.common.vocabulary import ALG_NULL, CC, CONTINUE_SESSION, DECRYPT, digest, ENCRYPT, HASHES
-from tests.common.vocabulary import HERE, hmac_key, name_of, sealed, selection, SHA1, SHA256
+from tests.common.vocabulary import HERE, hmac_key, name_of, ObjectAttribute, others_in, policy
+from tests.common.vocabulary import RH_ENDORSEMENT, RH_OWNER, sealed, selection, SHA1, SHA256
 from tests.common.vocabulary import storage_key, Use, zeros
-from tests.common.vocabulary import (
-    ObjectAttribute,
-    others_in,
-    PASSWORD,
-    policy,
-    RH_ENDORSEMENT,
-    RH_OWNER,
-)
 
 NO_DA, USER = ObjectAttribute.NO_DA, ObjectAttribute.USER_WITH_AUTH
 PCR_16 = [(SHA256, [16])]

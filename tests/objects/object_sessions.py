@@ -6,16 +6,8 @@ TPM2_PolicySecret.
 from tpmsim.standard import policy_secret, start_auth_session
 from tests.common.steps import PROTECTED, Steps
 from tests.common.vocabulary import ALG_NULL, CC, command, HASHES, HERE, hmac_key, number, policy
-from tests.common.vocabulary import (
-    RH_ENDORSEMENT,
-    RH_OWNER,
-    sealed,
-    SHA1,
-    SHA256,
-    storage_key,
-    Use,
-    zeros,
-)
+from tests.common.vocabulary import RH_ENDORSEMENT, RH_OWNER, sealed, SHA1, SHA256, storage_key, Use
+from tests.common.vocabulary import zeros
 
 SECRET, PIN = b"secret", b"pin"
 
