@@ -11,14 +11,11 @@ from tests.general.cuts import comes_whole, cut, start, STARTUP
 from tpmsim.standard import area, CC, command, digests, entry, frames, number, on_handle, SHA1
 from tpmsim.standard import SHA256, sized
 
-HEAD = (
-    "Each command that succeeds, cut to every shorter length: first as it is, and then with "
-    "its commandSize corrected. At last it comes whole. So do TPM2_PolicySecret by a wrong "
-    "password and TPM2_GetRandom with a password, which are refused whole too."
+WHICH, LISTED = "Each command that succeeds,", frames.HMAC_SESSION
+MORE = (
+    "So do TPM2_PolicySecret by a wrong password and TPM2_GetRandom with a password, which are "
+    "refused whole too."
 )
-
-# The kind of handles that is looked at behind each refusal.
-LISTED = frames.HMAC_SESSION
 
 # A session that is bound to nothing, and so has neither a key nor an hmac.
 SESSION, OTHER, TRIAL = 0x0200_0000, 0x0200_0001, 0x0300_0000
@@ -104,4 +101,4 @@ COMMANDS = [
     cut("TPM2_PCR_Event by that session, where it decrypts", event(BY_DECRYPTING)),
 ]
 
-write_script = partial(cuts.write, __file__, HEAD, LISTED, COMMANDS)
+write_script = partial(cuts.write, __file__, WHICH, LISTED, COMMANDS, MORE)

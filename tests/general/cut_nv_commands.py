@@ -4,27 +4,20 @@ from functools import partial
 
 from tests.general import cuts
 from tests.general.cuts import comes_whole, cut, start, STARTUP
-from tpmsim.standard import CC, command, entry, frames, number, nv, on_handle, on_handles, policy
+from tpmsim.caller import area, bits, BY_OWNER, counter, extended
+from tpmsim.standard import CC, command, entry, frames, number, on_handle, on_handles, policy
 from tpmsim.standard import RH_OWNER, SHA256, sized
-from tpmsim.standard.nv import Attribute, Type
+from tpmsim.standard.nv import Attribute
 
-HEAD = (
-    "The commands on NV indices, each cut to every shorter length: first as it is, and then "
-    "with its commandSize corrected. At last it comes whole."
-)
-
-# The kind of handles that is looked at behind each refusal.
-LISTED = frames.NV
+WHICH, LISTED = "The commands on NV indices, each", frames.NV
 
 ORDINARY, COUNTER, BITS, EXTENDED = range(0x0100_0001, 0x0100_0005)
 SESSION = 0x0300_0000
-OWNERS = Attribute.OWNERWRITE | Attribute.OWNERREAD
 LOCKS = Attribute.WRITE_STCLEAR | Attribute.READ_STCLEAR
 CHANGING = policy.after_command_code(SHA256, bytes(32), CC.NV_ChangeAuth)
 
 
-def defining(name, index, kind, size=nv.NUMBER_BYTES, attributes=OWNERS, auth_policy=b""):
-    public = nv.Public(index, SHA256, attributes | nv.of_type(kind), auth_policy, size)
+def defining(name, public):
     parameters = frames.nv_define_space(public.text, b"a")
     return cut(name, on_handle(CC.NV_DefineSpace, RH_OWNER, parameters))
 
@@ -42,11 +35,11 @@ COMMANDS = [
     STARTUP,
     defining(
         "TPM2_NV_DefineSpace of an ordinary index with a policy",
-        *(ORDINARY, Type.ORDINARY, 8, OWNERS | LOCKS, CHANGING),
+        area(ORDINARY, BY_OWNER | LOCKS, auth_policy=CHANGING),
     ),
-    defining("Of a counter", COUNTER, Type.COUNTER),
-    defining("Of bits", BITS, Type.BITS),
-    defining("Of an index that is extended", EXTENDED, Type.EXTEND, 32),
+    defining("Of a counter", counter(COUNTER, BY_OWNER)),
+    defining("Of bits", bits(BITS, BY_OWNER)),
+    defining("Of an index that is extended", extended(EXTENDED, BY_OWNER)),
     cut("TPM2_NV_ReadPublic", command(CC.NV_ReadPublic, number(ORDINARY, 4))),
     by_owner(CC.NV_Write, ORDINARY, frames.nv_write(b"abc", 2)),
     by_owner(CC.NV_Read, ORDINARY, frames.nv_read(8)),
@@ -72,4 +65,4 @@ COMMANDS = [
     by_owner(CC.NV_UndefineSpace, ORDINARY),
 ]
 
-write_script = partial(cuts.write, __file__, HEAD, LISTED, COMMANDS)
+write_script = partial(cuts.write, __file__, WHICH, LISTED, COMMANDS)

@@ -10,13 +10,7 @@ from tpmsim.model.machine import MANUFACTURED
 from tpmsim.model.state import SECRET_BYTES
 from tpmsim.standard import CC, SHA256, command, entry, frames, number, on_handle, sized
 
-HEAD = (
-    "The commands of objects, each cut to every shorter length: first as it is, and then with "
-    "its commandSize corrected. At last it comes whole."
-)
-
-# The kind of handles that is looked at behind each refusal.
-LISTED = frames.TRANSIENT
+WHICH, LISTED = "The commands of objects, each", frames.TRANSIENT
 
 # A storage key, and what is sealed under it, with random bytes that are zeros.
 PARENT, CHILD = 0x8000_0000, 0x8000_0001
@@ -66,4 +60,4 @@ COMMANDS = [
     cut("TPM2_HMAC by it", HMAC),
 ]
 
-write_script = partial(cuts.write, __file__, HEAD, LISTED, COMMANDS)
+write_script = partial(cuts.write, __file__, WHICH, LISTED, COMMANDS)

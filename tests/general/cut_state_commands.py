@@ -10,13 +10,10 @@ from tpmsim.caller import storage_key
 from tpmsim.standard import CC, command, frames, number, on_handle, on_handles, RH_LOCKOUT, RH_OWNER
 from tpmsim.standard import RH_PLATFORM, sized
 
-HEAD = (
+WHICH = (
     "The commands of starts, of capabilities, of dictionary attack protection, of persistent "
-    "objects and of clearing, each cut to every shorter length: first as it is, and then with "
-    "its commandSize corrected. At last it comes whole."
+    "objects and of clearing, each"
 )
-
-# The kind of handles that is looked at behind each refusal.
 LISTED = frames.PERSISTENT
 
 OBJECT, KEPT = 0x8000_0000, 0x8100_0000
@@ -45,4 +42,4 @@ COMMANDS = [
     cut("TPM2_Clear", on_handle(CC.Clear, RH_LOCKOUT)),
 ]
 
-write_script = partial(cuts.write, __file__, HEAD, LISTED, COMMANDS)
+write_script = partial(cuts.write, __file__, WHICH, LISTED, COMMANDS)

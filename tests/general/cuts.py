@@ -8,6 +8,10 @@ from tpmsim.standard import CC, command, frames, number
 from tests.general.bends import Walk, pieces
 from tests.general.looks import LookingScript
 
+HEAD = (
+    "cut to every shorter length: first as it is, and then with its commandSize corrected. At last "
+    "it comes whole."
+)
 HEADER_BYTES = 10
 
 # Handles and parameters that are not called by their names in Part 3; one byte is not cut within.
@@ -82,8 +86,11 @@ def cuts(whole, found):
     assert start == len(whole)
 
 
-def write(program, head, kind, commands):
-    """A script of commands: each one's name, its whole buffer, the pieces, and what it comes to."""
+def write(program, which, kind, commands, more=""):
+    """A script of commands: each one's name, its whole buffer, the pieces, and what it comes to.
+    Behind each refusal the handles of this kind are looked at.
+    """
+    head = f"{which} {HEAD} {more}".rstrip()
     script = LookingScript(program, head, kind)
     for name, whole, found, outcome in commands:
         script.refusals(name, whole, outcome, cuts(whole, found))

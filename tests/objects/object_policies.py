@@ -28,9 +28,6 @@ def start_again(session):
     tpm.digest_is("TPM2_PolicyGetDigest: zeros", session, zeros(session))
 
 
-# A demand for the authorization value.
-
-
 def demands(algorithm, handle):
     """Of an object whose value is "pin", by a session that is bound to nothing."""
     session = tpm.policy("A policy session", algorithm=algorithm)
@@ -125,8 +122,6 @@ for algorithm, hash_name in reversed(HASHES):
     demands_of_bound(algorithm, handle)
     demands_of_no_value(algorithm)
 
-# Without a demand.
-
 tpm.chapter("A policy that asks for no value: the key of the hmac is the session's alone.")
 AFTER_CODE = policy.after_command_code(SHA256, bytes(32), CC.Unseal)
 handle = sealed_by("An object for TPM2_Unseal alone", AFTER_CODE)
@@ -148,8 +143,6 @@ tpm.unseal("Beside another session", handle, SECRET, bound, session)
 tpm("TPM2_PolicyCommandCode").command_code(bound, CC.Unseal)
 tpm.unseal("The other authorizes nothing, and keeps what it was told", handle, SECRET, bound)
 tpm.flush_objects("The object is flushed", handle)
-
-# The conditions.
 
 tpm.chapter("Each condition of a use in its order: all of them fail, and one is put right.")
 
@@ -255,8 +248,6 @@ tpm("TPM2_PolicyPassword").password_told(session)
 tpm.unseal("Without a change between them", handle, SECRET, by_password)
 tpm.flush_objects("It is flushed", handle)
 
-# What else can be authorized, and by what.
-
 tpm.chapter("userWithAuth: what its absence and its presence mean.")
 FOR_HMAC = policy.after_command_code(SHA256, bytes(32), CC.HMAC)
 for what, attributes, by_value in (
@@ -337,8 +328,6 @@ for what, attributes, outcome in TRIES:
         tpm.unseal("The right one", handle, SECRET, each)
     tpm.flushes("A session is flushed", bound, unbound)
     tpm.flush_objects("The object is flushed", handle)
-
-# TPM2_PolicySecret by a policy.
 
 tpm.chapter("TPM2_PolicySecret of an object, authorized by the very session that it is told to.")
 handle = sealed_by("An object with TPM2_PolicyAuthValue as its policy", AFTER_AUTH_VALUE[SHA256])

@@ -159,9 +159,6 @@ def read_public(target):
     tpm.says(f"All is read before authPolicy is compared with nameAlg: {case}", behind)
 
 
-# What is asked of every public area.
-
-
 def of(make, *attributes):
     return [make(attributes=it) for it in attributes]
 
@@ -300,8 +297,6 @@ below_movable()
 for target in CREATING:
     ask_of_created(target)
     create_what_is_right(target)
-
-# Behind all of it.
 
 tpm.chapter("The parent comes first, and the place for the object last.")
 child = tpm.create("TPM2_Create of sealed data", parent, sealed(), data=b"secret")
