@@ -64,39 +64,29 @@ def in_order():
     tpm.chapter("The checks in their order; each command has the later faults too.")
     owners = tpm.owned("An object of the owner", storage_key())
     clears = tpm.owned("One with stClear", CLEARED)
-    endorsements = tpm.create_primary(
-        "One of the endorsement hierarchy", RH_ENDORSEMENT, storage_key()
-    )
+    said = tpm("One of the endorsement hierarchy")
+    endorsements = said.create_primary(RH_ENDORSEMENT, storage_key())
     platforms = tpm.create_primary("One of the platform", RH_PLATFORM, storage_key())
     platforms_clears = tpm.create_primary("One of the platform with stClear", RH_PLATFORM, CLEARED)
     nulls = tpm.create_primary("One of TPM_RH_NULL with stClear", RH_NULL, CLEARED)
     handles_and_parameter(owners)
 
     tpm.chapter("The hierarchy of the object.")
-    fails(
-        "The platform has its own alone: HIERARCHY/h2",
-        *((RH_PLATFORM, it, FIRST) for it in (owners, clears, endorsements, nulls)),
-        *((RH_PLATFORM, it, LAST) for it in (owners, clears, endorsements, nulls)),
-    )
-    fails(
-        "The owner has the platform's not, and those of TPM_RH_NULL not: HIERARCHY/h2",
-        *((RH_OWNER, it, FIRST) for it in (platforms, platforms_clears, nulls)),
-        *((RH_OWNER, it, LAST) for it in (platforms, platforms_clears, nulls)),
-    )
+    case = "The platform has its own alone: HIERARCHY/h2"
+    others = owners, clears, endorsements, nulls
+    fails(case, *((RH_PLATFORM, it, at) for at in (FIRST, LAST) for it in others))
+    case = "The owner has the platform's not, and those of TPM_RH_NULL not: HIERARCHY/h2"
+    others = platforms, platforms_clears, nulls
+    fails(case, *((RH_OWNER, it, at) for at in (FIRST, LAST) for it in others))
     tpm.chapter("stClear, and a wrong range.")
     fails(
         "An object that a start takes away cannot stay: ATTRIBUTES/h2",
-        (RH_OWNER, clears, FIRST),
-        (RH_OWNER, clears, LAST),
-        (RH_PLATFORM, platforms_clears, LAST),
-        (RH_PLATFORM, platforms_clears, FIRST),
+        *((RH_OWNER, clears, it) for it in (FIRST, LAST)),
+        *((RH_PLATFORM, platforms_clears, it) for it in (LAST, FIRST)),
     )
     tpm.chapter("The range of handles.")
-    fails(
-        "The owner's ends at 817FFFFF: RANGE/p1",
-        *((RH_OWNER, owners, it) for it in (PLATFORMS_FIRST, LAST)),
-        *((RH_OWNER, endorsements, it) for it in (PLATFORMS_FIRST, LAST)),
-    )
+    case, all_owners = "The owner's ends at 817FFFFF: RANGE/p1", (owners, endorsements)
+    fails(case, *((RH_OWNER, it, at) for it in all_owners for at in (PLATFORMS_FIRST, LAST)))
     case = "The platform's begins behind it: RANGE/p1"
     fails(case, *((RH_PLATFORM, platforms, it) for it in (FIRST, OWNERS_LAST)))
     return owners, endorsements, platforms
@@ -119,10 +109,8 @@ def borders(owners, endorsements, platforms):
     fails("The owner's by a handle of the platform: RANGE/p1", (RH_OWNER, FIRST, LAST))
     fails(
         "By another handle, whether there is something or not: HANDLE/h2",
-        (RH_OWNER, FIRST, OWNERS_LAST),
-        (RH_OWNER, FIRST, OTHER),
-        (RH_PLATFORM, FIRST, LAST),
-        (RH_PLATFORM, FIRST, OTHER),
+        *((RH_OWNER, FIRST, it) for it in (OWNERS_LAST, OTHER)),
+        *((RH_PLATFORM, FIRST, it) for it in (LAST, OTHER)),
         (RH_PLATFORM, LAST, PLATFORMS_FIRST),
     )
     fails(
@@ -211,9 +199,7 @@ tpm("A third wrong password locks: AUTH_FAIL/s1").unsealing(OTHER, b"nip")
 tpm("The right one: LOCKOUT").unsealing(OTHER, b"pin")
 tpm.unlocks()
 
-# Through TPM2_Shutdown.
 tpm.saves_and_resumes()
-
 tpm.unseal("It is there", OTHER, b"a secret", b"pin")
 tpm("What was loaded is not: REFERENCE_H0").public(handle)
 
