@@ -35,12 +35,9 @@ tpm.startup()
 tpm.wait(5)
 is_now("Five milliseconds later", 5, 5, 1, 0)
 says("A byte behind it: SIZE", command(CC.ReadClock, b"\0"))
-says(
-    "With an authorization area, right or wrong: AUTH_CONTEXT",
-    command(CC.ReadClock, frames.area(frames.entry()), frames.SESSIONS),
-    command(CC.ReadClock, number(0, 4), frames.SESSIONS),
-    command(CC.ReadClock, b"", frames.SESSIONS),
-)
+case = "With an authorization area, right or wrong: AUTH_CONTEXT"
+areas = frames.area(frames.entry()), number(0, 4), b""
+says(case, *(command(CC.ReadClock, it, frames.SESSIONS) for it in areas))
 is_now("None of them took any time", 5, 5, 1, 0)
 
 time()

@@ -22,14 +22,9 @@ says("SUCCESS", on_handle(PARAMETERS, RH_LOCKOUT, THREE))
 
 tpm.chapter("The handle.")
 says("None: INSUFFICIENT/h1", *(command(code, b"") for code, _ in COMMANDS))
-says(
-    "That of another hierarchy, of TPM_RH_NULL, and of PCR 0: VALUE/h1",
-    *(
-        on_handle(code, handle, parameters)
-        for code, parameters in COMMANDS
-        for handle in (RH_OWNER, RH_PLATFORM, RH_NULL, 0)
-    ),
-)
+case = "That of another hierarchy, of TPM_RH_NULL, and of PCR 0: VALUE/h1"
+others = RH_OWNER, RH_PLATFORM, RH_NULL, 0
+says(case, *(on_handle(code, it, parameters) for code, parameters in COMMANDS for it in others))
 case = "Without sessions: AUTH_MISSING"
 says(case, *(command(code, number(RH_LOCKOUT, 4) + parameters) for code, parameters in COMMANDS))
 

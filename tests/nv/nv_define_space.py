@@ -128,17 +128,11 @@ unfitting(
     "POLICY_DELETE, WRITELOCKED, GLOBALLOCK, ORDERLY, READLOCKED and WRITTEN: ATTRIBUTES/p2",
     *(area(attributes=BY_OWNER | it) for it in NvAttribute if it & nv_commands.NOT_DEFINED),
 )
-unfitting(
-    "No attribute that allows to write: ATTRIBUTES/p2",
-    area(attributes=0),
-    *(area(attributes=it) for it in NvAttribute if it & nv.READS),
-    area(attributes=nv.READS),
-)
-unfitting(
-    "None that allows to read: ATTRIBUTES/p2",
-    *(area(attributes=it) for it in NvAttribute if it & nv.WRITES),
-    area(attributes=nv.WRITES),
-)
+case = "No attribute that allows to write: ATTRIBUTES/p2"
+reads = 0, *(it for it in NvAttribute if it & nv.READS), nv.READS
+unfitting(case, *(area(attributes=it) for it in reads))
+writes = *(it for it in NvAttribute if it & nv.WRITES), nv.WRITES
+unfitting("None that allows to read: ATTRIBUTES/p2", *(area(attributes=it) for it in writes))
 clears = NvAttribute.CLEAR_STCLEAR
 unfitting("A counter with CLEAR_STCLEAR: ATTRIBUTES/p2", counter(attributes=BY_OWNER | clears))
 for make, name in ((bits, "Bits"), (extended, "An index that is extended,")):

@@ -45,14 +45,11 @@ tpm.read("A piece", FIRST, WHOLE[1:4], offset=1)
 tpm.read("The last byte", FIRST, WHOLE[7:], offset=7)
 tpm.read("No bytes", FIRST, b"")
 tpm.read("No bytes, behind the last", FIRST, b"", offset=8)
-AT_END = (1, 8), (0, 9)
+AT_END, FAR = ((1, 8), (0, 9)), (1024, 0xFFFF)
 tpm.fails(
     "TPM2_NV_Read past the end: of nine bytes, of eight at 1, of one at 8, of none at 9, and of "
     "1,024 at FFFF: NV_RANGE",
-    *(
-        tpm.reading(FIRST, size, offset=at)
-        for size, at in ((9, 0), (8, 1), *AT_END, (1024, 0xFFFF))
-    ),
+    *(tpm.reading(FIRST, size, offset=at) for size, at in ((9, 0), (8, 1), *AT_END, FAR)),
 )
 tpm.fails(
     "TPM2_NV_Write past the end: of nine bytes, of one at 8, and of none at 9 and at FFFF: "

@@ -180,17 +180,13 @@ tpm.fails(
     "decrypt, where the first parameter is no sized buffer or none: TPM2_NV_Read, "
     "TPM2_NV_SetBits, TPM2_NV_Increment, TPM2_NV_WriteLock and TPM2_NV_UndefineSpace: "
     "ATTRIBUTES/s1",
-    decrypts(read),
-    decrypts(tpm.setting(THIRD, 1, session)),
-    decrypts(tpm.incrementing(FOURTH, session)),
-    decrypts(tpm.write_locking(FIRST, session)),
-    decrypts(tpm.undefining(FIRST, owner)),
+    *map(decrypts, (read, tpm.setting(THIRD, 1, session), tpm.incrementing(FOURTH, session))),
+    *map(decrypts, (tpm.write_locking(FIRST, session), tpm.undefining(FIRST, owner))),
 )
 tpm.fails(
     "encrypt, where nothing is answered: TPM2_NV_Write, TPM2_NV_Extend and TPM2_NV_DefineSpace: "
     "ATTRIBUTES/s1",
-    encrypts(write),
-    encrypts(tpm.extending(SECOND, DATA, session)),
+    *map(encrypts, (write, tpm.extending(SECOND, DATA, session))),
     encrypts(tpm.defining(area(0x0100_0006), owner)),
 )
 none = tpm.start("A session without AES", bind=FIRST)

@@ -249,23 +249,17 @@ tpm("A byte behind the handle: SIZE").prepare(CC.NV_ReadPublic, wrong_size, b"\0
 tpm.is_now("With nothing wrong", ORDINARY, session)
 
 LONG = sized(bytes(1025))
-changes(
-    CC.NV_Write,
-    ", with data encrypted",
-    ORDINARY,
-    LOCKED_COUNTER,
-    frames.nv_write(b"8 bytes."),
-    [
-        ("data of 1,025 bytes", "SIZE/p1", LONG + b"\0"),
-        ("offset is cut", "INSUFFICIENT/p2", sized(b"x") + b"\0"),
-    ],
-    [("Past the end", frames.nv_write(b"x", 9))],
+faults = (
+    ("data of 1,025 bytes", "SIZE/p1", LONG + b"\0"),
+    ("offset is cut", "INSUFFICIENT/p2", sized(b"x") + b"\0"),
 )
+whole, ranges = frames.nv_write(b"8 bytes."), [("Past the end", frames.nv_write(b"x", 9))]
+what = ", with data encrypted"
+changes(CC.NV_Write, what, ORDINARY, LOCKED_COUNTER, whole, faults, ranges)
 changes(CC.NV_Increment, "", COUNTER, LOCKED_ORDINARY, b"")
 faults = [("bits are cut", "INSUFFICIENT/p1", bytes(7))]
 changes(CC.NV_SetBits, "", BITS, LOCKED_ORDINARY, number(5, 8), faults)
 faults = [("data are cut", "INSUFFICIENT/p1", b"\0\3ab"), ("1,025 bytes", "SIZE/p1", LONG + b"\0")]
-what = ", with data encrypted"
 changes(CC.NV_Extend, what, EXTENDED, LOCKED_COUNTER, sized(b"abc"), faults)
 
 tpm.chapter("TPM2_NV_Read.")

@@ -5,10 +5,9 @@ parent alone can load. Nothing of it stays in the device.
 from tpmsim.model import object_rules
 from tpmsim.standard import aes, Fields
 from tests.common.steps import aes_key, GENERATED, HIERARCHIES, PROTECTED, RESTRICTED_KEY, Steps
-from tests.common.vocabulary import ALG_NULL, CC, CONTINUE_SESSION, DECRYPT, digest, ENCRYPT, frames
-from tests.common.vocabulary import HASHES, hmac_key, mac, number, ObjectAttribute, RH_ENDORSEMENT
-from tests.common.vocabulary import RH_OWNER, RH_PLATFORM, sealed, SHA1, SHA256, storage_key, STORES
-from tests.common.vocabulary import Use
+from tests.common.vocabulary import ALG_NULL, CC, digest, ENCRYPT, frames, HASHES, hmac_key, mac
+from tests.common.vocabulary import number, ObjectAttribute, RH_ENDORSEMENT, RH_OWNER, RH_PLATFORM
+from tests.common.vocabulary import sealed, SHA1, SHA256, storage_key, STORES, Use
 
 tpm = Steps(__name__, __doc__)
 refused = tpm.says
@@ -19,12 +18,9 @@ def under(handle, *uses):
 
 
 tpm.chapter("parentHandle.")
-tpm.refuses_others(
-    under,
-    0x7F00_0000,
-    transient=(0x8000_0000, 0x8000_0007, 0x8000_0008, 0x80FF_FFFF),
-    persistent=(0x8100_0000, 0x8180_0000, 0x81FF_FFFF),
-)
+transient = 0x8000_0000, 0x8000_0007, 0x8000_0008, 0x80FF_FFFF
+persistent = 0x8100_0000, 0x8180_0000, 0x81FF_FFFF
+tpm.refuses_others(under, 0x7F00_0000, transient=transient, persistent=persistent)
 parent = tpm.owned('A storage key, whose value is "parent"', storage_key(), user_auth=b"parent")
 case = "Another number is still not there: REFERENCE_H0"
 refused(case, *(under(it, b"parent") for it in (0x8000_0001, 0x8000_0007, 0x8001_0000)))
@@ -90,16 +86,10 @@ tpm.chapter(
     "are the most that are drawn. What is answered is the longest of a creation, too."
 )
 tpm.script.entropy(RANDOM)
-prepared = tpm.child(
-    parent,
-    hmac_key(attributes=GENERATED, auth_policy=bytes(32), unique=bytes(32)),
-    long[0],
-    Use(long[1], DECRYPT | CONTINUE_SESSION),
-    Use(long[2], ENCRYPT),
-    user_auth=b"a" * 32,
-    outside_info=b"o" * 34,
-    pcrs=16 * [(SHA256, range(24))],
-)
+longest = {"user_auth": b"a" * 32, "outside_info": b"o" * 34}
+template = hmac_key(attributes=GENERATED, auth_policy=bytes(32), unique=bytes(32))
+uses, pcrs = (long[0], long[1].decrypting, Use(long[2], ENCRYPT)), 16 * [(SHA256, range(24))]
+prepared = tpm.child(parent, template, *uses, **longest, pcrs=pcrs)
 said = tpm("TPM2_Create with three sessions, of which the last ends: SUCCESS")
 tpm.received(prepared, said.raw(prepared.buffer()))
 assert [it.nonce_tpm for it in long] == [RANDOM[at : at + 32] for at in (80, 112, 144)]
@@ -137,14 +127,8 @@ assert tpm.creation_data[4 + 34] == 1 << 3
 tpm.locality_is(0)
 
 tpm.chapter("Sizes.")
-tpm.create(
-    "The longest of all: 128 bytes of data, 32 bytes of userAuth and of authPolicy",
-    parent,
-    sealed(auth_policy=bytes(32)),
-    user_auth=b"a" * 32,
-    data=b"d" * 128,
-    outside_info=b"o" * 34,
-)
+said = tpm("The longest of all: 128 bytes of data, 32 bytes of userAuth and of authPolicy")
+said.create(parent, sealed(auth_policy=bytes(32)), **longest, data=b"d" * 128)
 refused("129 bytes of data: SIZE/p1", tpm.child(parent, sealed(), data=bytes(129)))
 case = "35 bytes of outsideInfo: SIZE/p3"
 refused(case, tpm.child(parent, sealed(), data=b"x", outside_info=bytes(35)))

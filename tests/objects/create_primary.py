@@ -35,14 +35,12 @@ tpm.raw("TPM2_Unseal: it is a key: ATTRIBUTES/h1", on_handle(CC.Unseal, FIRST))
 tpm("It is flushed").flush(FIRST)
 
 tpm.chapter("primaryHandle.")
+others = RH_LOCKOUT, frames.RS_PW, 0, 0x0100_0000, 0x0200_0000, 0x0300_0000
+objects = 0x8000_0000, 0x8100_0000, 0x4000_0000, 0xFFFF_FFFF
 tpm.says(
     "No hierarchy that has objects: TPM_RH_LOCKOUT, TPM_RS_PW, PCR 0, an NV index, sessions, "
     "objects: VALUE/h1",
-    *(
-        tpm.primary(it, storage_key())
-        for it in (RH_LOCKOUT, frames.RS_PW, 0, 0x0100_0000, 0x0200_0000, 0x0300_0000)
-        + (0x8000_0000, 0x8100_0000, 0x4000_0000, 0xFFFF_FFFF)
-    ),
+    *(tpm.primary(it, storage_key()) for it in others + objects),
 )
 tpm.needs_entries(CC.CreatePrimary, RH_OWNER)
 tpm.accepted('The value of TPM_RH_OWNER is "owner"', tpm.change_auth(RH_OWNER, b"owner", b""))
@@ -117,13 +115,9 @@ for algorithm, hash_name in HASHES:
     tpm.chapter(f"Their nameAlg is {hash_name}.")
     handle = creates("Sealed data of one byte", RH_OWNER, sealed(algorithm), data=b"x")
     tpm.unseal("TPM2_Unseal", handle, b"x")
-    handle = creates(
-        "Sealed data of 128 bytes, the most that there may be, by a value of d bytes",
-        RH_NULL,
-        sealed(algorithm),
-        user_auth=digest(algorithm, b"long"),
-        data=bytes(range(128)),
-    )
+    case = "Sealed data of 128 bytes, the most that there may be, by a value of d bytes"
+    most = {"user_auth": digest(algorithm, b"long"), "data": bytes(range(128))}
+    handle = creates(case, RH_NULL, sealed(algorithm), **most)
     tpm.unseal("TPM2_Unseal", handle, bytes(range(128)))
     handle = creates("An HMAC key of 128 bytes", RH_OWNER, hmac_key(algorithm), data=b"k" * 128)
     _, answer = tpm.accepted("TPM2_HMAC", tpm.hmac(handle, b"text", ALG_NULL))

@@ -5,7 +5,16 @@ on, and is used as the transient one was.
 
 from tpmsim.model.capability import HANDLES
 from tests.common.steps import PROTECTED, Steps
-from tests.common.vocabulary import area, CC, command, frames, hmac_key, number, ObjectAttribute
+from tests.common.vocabulary import (
+    area,
+    CC,
+    command,
+    DECRYPT,
+    ENCRYPT,
+    hmac_key,
+    number,
+    ObjectAttribute,
+)
 from tests.common.vocabulary import RH_ENDORSEMENT, RH_LOCKOUT, RH_NULL, RH_OWNER, RH_PLATFORM
 from tests.common.vocabulary import sealed, SHA256, storage_key, wrong
 
@@ -113,12 +122,8 @@ def borders(owners, endorsements, platforms):
         *((RH_PLATFORM, FIRST, it) for it in (LAST, OTHER)),
         (RH_PLATFORM, LAST, PLATFORMS_FIRST),
     )
-    fails(
-        "A handle that is taken: NV_DEFINED",
-        (RH_OWNER, owners, FIRST),
-        (RH_OWNER, endorsements, FIRST),
-        (RH_PLATFORM, platforms, LAST),
-    )
+    by_owner = (RH_OWNER, owners, FIRST), (RH_OWNER, endorsements, FIRST)
+    fails("A handle that is taken: NV_DEFINED", *by_owner, (RH_PLATFORM, platforms, LAST))
     tpm.remove("The owner takes the last one away", RH_OWNER, OWNERS_LAST)
     tpm("It is gone: HANDLE/h1").public(OWNERS_LAST)
     kept_handles("Three are left", FIRST, PLATFORMS_FIRST, LAST)
@@ -211,13 +216,9 @@ session = tpm.start("An HMAC session, bound to TPM_RH_OWNER", RH_OWNER, aes=True
 tpm.fails("A wrong hmac: BAD_AUTH/s1", wrong(tpm.evicting(RH_OWNER, handle, wanted, session)))
 tpm.keep("The right one", RH_OWNER, handle, wanted, session)
 tpm.remove("It takes it away again", RH_OWNER, wanted, session)
-tpm.fails(
-    "Nothing can be encrypted or decrypted: ATTRIBUTES/s1",
-    *(
-        tpm.evicting(RH_OWNER, handle, wanted, session).but_entry(1, attributes=it)
-        for it in (frames.DECRYPT, frames.ENCRYPT)
-    ),
-)
+prepared = (tpm.evicting(RH_OWNER, handle, wanted, session) for _ in range(2))
+bent = (it.but_entry(1, attributes=bit) for it, bit in zip(prepared, (DECRYPT, ENCRYPT)))
+tpm.fails("Nothing can be encrypted or decrypted: ATTRIBUTES/s1", *bent)
 policy = tpm.policy("A policy session")
 tpm("No policy authorizes a hierarchy: AUTH_UNAVAILABLE").evicting(RH_OWNER, handle, wanted, policy)
 tpm("ownerAuth is empty").change_auth(RH_OWNER, b"", b"owner")

@@ -72,25 +72,17 @@ for what, changes in (
 ):
     refused(f"{what}: INTEGRITY/p1", with_public(**changes))
 other = tpm.create("TPM2_Create of the same data", parent, sealed(), data=b"secret")
-refused(
-    "The private area of the one, and the public area of the other: INTEGRITY/p1",
-    tpm.loading(parent, replace(made, public=other.public)),
-    tpm.loading(parent, replace(made, private=other.private)),
-)
+case = "The private area of the one, and the public area of the other: INTEGRITY/p1"
+mixed = replace(made, public=other.public), replace(made, private=other.private)
+refused(case, *(tpm.loading(parent, it) for it in mixed))
 
 tpm.chapter("Sizes.")
-refused(
-    "inPrivate of 257 bytes, whole and cut: SIZE/p1",
-    tpm.loading(parent, replace(made, private=bytes(257))),
-    tpm.loading(parent, made).but(parameters=number(257, 2)),
-    tpm.loading(parent, made).but(parameters=b"\xff\xff"),
-)
-refused(
-    "Of 256 bytes, and empty: INTEGRITY/p1",
-    tpm.loading(parent, replace(made, private=bytes(256))),
-    tpm.loading(parent, replace(made, private=b"")),
-)
 whole = tpm.loading(parent, made)
+case, long = "inPrivate of 257 bytes, whole and cut: SIZE/p1", replace(made, private=bytes(257))
+cut = (whole.but(parameters=it) for it in (number(257, 2), b"\xff\xff"))
+refused(case, tpm.loading(parent, long), *cut)
+others = (replace(made, private=it) for it in (bytes(256), b""))
+refused("Of 256 bytes, and empty: INTEGRITY/p1", *(tpm.loading(parent, it) for it in others))
 refused("A byte behind inPublic: SIZE", whole.but(parameters=whole.parameters + b"\0"))
 case = "inPrivate reaches beyond the command: INSUFFICIENT/p1"
 refused(case, whole.but(parameters=number(256, 2) + whole.parameters[2:]))

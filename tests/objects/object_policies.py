@@ -254,12 +254,9 @@ for what, attributes, by_value in (
     ("Without userWithAuth", NO_DA, False),
     ("With userWithAuth", NO_DA | USER, True),
 ):
-    handle = tpm.owned(
-        f"{what}: an HMAC key with a policy",
-        hmac_key(attributes=HERE | attributes, auth_policy=FOR_HMAC),
-        user_auth=PIN,
-        data=b"key",
-    )
+    said = tpm(f"{what}: an HMAC key with a policy")
+    template = hmac_key(attributes=HERE | attributes, auth_policy=FOR_HMAC)
+    handle = said.owned(template, user_auth=PIN, data=b"key")
     plain = tpm.start("An HMAC session")
     bound = tpm.start("One that is bound to it", bind=handle)
     for words, use in (("By the password", PIN), ("By the one", plain), ("By the other", bound)):

@@ -135,12 +135,9 @@ def sensitive_area(forger):
     forger.text_refused(case, text[:-1], text[:2], text[:1], b"")
     case = "A byte left over in it, and behind it"
     forger.text_refused(case, sized(content + b"\0"), text + b"\0")
-    forger.text_refused(
-        "An authorization value and a seed of 33 bytes, and data of 129",
-        sensitive(auth=b"a" * 33),
-        sensitive(seed=b"s" * 33),
-        sensitive(data=b"d" * 129),
-    )
+    case = "An authorization value and a seed of 33 bytes, and data of 129"
+    long = {"auth": b"a" * 33}, {"seed": b"s" * 33}, {"data": b"d" * 129}
+    forger.text_refused(case, *(sensitive(**it) for it in long))
     key = object_rules.encrypting_key(forger.known, storage_key().name)
     protected = sized(ZERO_BLOCK) + aes.cfb_encrypt(key, ZERO_BLOCK, text)
     forger.refused("Encrypted with the key of another Name", forger.behind(protected))

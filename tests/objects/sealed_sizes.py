@@ -20,12 +20,11 @@ for algorithm, hash_name in reversed(HASHES):
     handle = said.below(parent, sealed(algorithm), user_auth=b"pin", data=data)
     session = tpm.start("A session with AES", algorithm=algorithm, aes=True)
     prepared = tpm.unsealing(handle, session.encrypting)
-    response = tpm.raw(
+    said = tpm(
         "TPM2_Unseal authorized by it, with encrypt: the answer is 0080, and 128 bytes that are "
-        "not those that were sealed: SUCCESS",
-        prepared.buffer(),
-        fresh=True,
+        "not those that were sealed: SUCCESS"
     )
+    response = said.raw(prepared.buffer(), fresh=True)
     assert response[14:16] == number(128, 2) and data[:4] not in response
     _, answer = tpm.received(prepared, response)
     assert answer == sized(data)
@@ -54,13 +53,8 @@ for algorithm, hash_name in reversed(HASHES):
             "else: SIZE/p1"
         ).child(parent, sealed(), session.decrypting, data=data)
     whole = tpm.child(parent, sealed(), data=data).parameters
-    tpm.refused(
-        "inSensitive is cut, and encrypted: INSUFFICIENT/p1",
-        *(
-            tpm.prepare(CC.Create, [parent], whole[:it], session.decrypting)
-            for it in (0, 1, 2, 133)
-        ),
-    )
+    said, cut = tpm("inSensitive is cut, and encrypted: INSUFFICIENT/p1"), (0, 1, 2, 133)
+    said.refused(*(tpm.prepare(CC.Create, [parent], whole[:it], session.decrypting) for it in cut))
 
     tpm.chapter("Both ways at once.")
     said = tpm(

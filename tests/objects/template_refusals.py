@@ -127,12 +127,9 @@ def read_parameters(target):
     case = "Its mode is not CFB: CTR, CBC, NULL"
     ciphers = (cipher + shorts(AES, 128, it, 0) for it in (0x40, 0x42, ALG_NULL))
     target.also_cut(case, "MODE/p2", ciphers, cipher + shorts(AES, 128, 0))
-    target.public(
-        "unique of 33 bytes, whole and cut: SIZE/p2",
-        head() + shorts(ALG_NULL) + sized(bytes(33)),
-        head() + shorts(ALG_NULL, 33) + bytes(32),
-        cipher + shorts(AES, 128, CFB, 33),
-    )
+    long = (head() + shorts(ALG_NULL, 33) + bytes(size) for size in (33, 32))
+    case = "unique of 33 bytes, whole and cut: SIZE/p2"
+    target.public(case, *long, cipher + shorts(AES, 128, CFB, 33))
 
 
 def read_public(target):
