@@ -74,14 +74,10 @@ tpm("lockoutAuth as the password of TPM_RH_OWNER: BAD_AUTH/s1").change_auth(RH_O
 said = tpm("A wrong hmac beside a right one of a session bound to TPM_RH_LOCKOUT: BAD_AUTH/s1")
 said.refused(wrong(tpm.reset(to_owner, bound)))
 tpm.refused("Behind it: BAD_AUTH/s2", wrong(tpm.reset(bound, to_owner), 2))
-said = tpm(
-    "The second entry of TPM_RH_LOCKOUT's own command, where the first is right: BAD_AUTH/s2"
-)
-said.refused(wrong(change(RH_LOCKOUT, bound, to_owner), 2))
-said = tpm(
-    "Of two wrong entries the first is answered, here the one that is no such try: BAD_AUTH/s1"
-)
-said.refused(wrong(wrong(tpm.reset(to_owner, bound)), 2))
+case = "The second entry of TPM_RH_LOCKOUT's own command, where the first is right: BAD_AUTH/s2"
+tpm.refused(case, wrong(change(RH_LOCKOUT, bound, to_owner), 2))
+case = "Of two wrong entries the first is answered, here the one that is no such try: BAD_AUTH/s1"
+tpm.refused(case, wrong(wrong(tpm.reset(to_owner, bound)), 2))
 tpm.refused("And here the one that is: AUTH_FAIL/s1", wrong(wrong(tpm.reset(bound, to_owner)), 2))
 
 tpm.chapter("A binding of the start counts, whatever has become of the value.")
@@ -132,10 +128,8 @@ said = tpm(
 said.fails(tpm.attack_parameters(3, 1000, 1000), tpm.change_auth(RH_LOCKOUT, b"x", LOCKOUT))
 said = tpm("A session that is bound to nothing, one that is bound to it, and a wrong hmac: LOCKOUT")
 said.fails(tpm.lock_reset(unbound), tpm.lock_reset(bound), wrong(tpm.lock_reset(unbound)))
-said = tpm(
-    "One that is bound to it and authorizes PCR 16, and one that authorizes nothing: LOCKOUT"
-)
-said.fails(tpm.reset(bound), tpm.random(2, bound), tpm.reset(b"", bound))
+case = "One that is bound to it and authorizes PCR 16, and one that authorizes nothing: LOCKOUT"
+tpm.fails(case, tpm.reset(bound), tpm.random(2, bound), tpm.reset(b"", bound))
 
 tpm("A session that is bound to another entity").reset(to_owner)
 closed_for("It opens. Wrong tries while it was closed have not closed it anew.", 1_000_000)

@@ -12,9 +12,8 @@ PIN, DATA = b"pin", b"data"
 PARENT, SEALED, KEY = range(0x8000_0000, 0x8000_0003)
 
 # The policy of an index whose value may be changed by who knows it.
-CHANGING = policy.after_auth_value(
-    SHA256, policy.after_command_code(SHA256, bytes(32), CC.NV_ChangeAuth)
-)
+CHANGING = policy.after_command_code(SHA256, bytes(32), CC.NV_ChangeAuth)
+CHANGING = policy.after_auth_value(SHA256, CHANGING)
 
 tpm = Steps(__name__, __doc__)
 

@@ -45,29 +45,22 @@ def ways(handle, use):
     bound_policy = tpm.policy("One that is bound to the entity", bind=handle)
     sessions = unbound, to_owner, bound, to_lockout, told, bound_policy
 
+    by_lockout = "One that is bound to TPM_RH_LOCKOUT: the entity's value is in the key"
+    value, password = partial(tpm.by_value, told), partial(tpm.by_password, told)
+    on_owner = "The session that is bound to the entity, on TPM_RH_OWNER"
     return sessions, (
         Way("The password", lambda: use(PIN)),
         Way("An HMAC session that is bound to nothing", lambda: use(unbound)),
         Way("One that is bound to TPM_RH_OWNER", lambda: use(to_owner)),
         Way("One that is bound to the entity", lambda: use(bound)),
+        Way(by_lockout, lambda: use(to_lockout)),
         Way(
-            "One that is bound to TPM_RH_LOCKOUT: the entity's value is in the key",
-            lambda: use(to_lockout),
+            "A policy session with TPM2_PolicyAuthValue", lambda: use(with_value(told)), tell=value
         ),
         Way(
-            "A policy session with TPM2_PolicyAuthValue",
-            lambda: use(with_value(told)),
-            tell=partial(tpm.by_value, told),
+            "A policy session with TPM2_PolicyPassword", lambda: use(in_plain(told)), tell=password
         ),
-        Way(
-            "A policy session with TPM2_PolicyPassword",
-            lambda: use(in_plain(told)),
-            tell=partial(tpm.by_password, told),
-        ),
-        Way(
-            "The session that is bound to the entity, on TPM_RH_OWNER",
-            lambda: tpm.change_auth(RH_OWNER, OWNER, bound),
-        ),
+        Way(on_owner, lambda: tpm.change_auth(RH_OWNER, OWNER, bound)),
         Way("On PCR 16", lambda: tpm.reset(bound)),
         Way("Where it authorizes nothing, alone", lambda: tpm.random(2, bound)),
         Way("And behind a password", lambda: tpm.reset(b"", bound), place=2),

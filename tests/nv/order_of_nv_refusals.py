@@ -198,6 +198,7 @@ def policy_nv():
     )
 
 
+CHANGING = policy.after_command_code(SHA1, bytes(20), CC.NV_ChangeAuth)
 tpm.chapter("Indices: of each type, some that are locked, and the rest of the bytes.")
 for index, public in enumerate(
     (
@@ -211,12 +212,7 @@ for index, public in enumerate(
         area(UNWRITTEN, BY_VALUE | LOCKS),
         area(UNREAD, BY_VALUE),
         area(BY_OTHERS, BY_OWNER | BY_POLICY),
-        area(
-            CHANGED,
-            BY_VALUE | NvAttribute.NO_DA,
-            algorithm=SHA1,
-            auth_policy=policy.after_command_code(SHA1, bytes(20), CC.NV_ChangeAuth),
-        ),
+        area(CHANGED, BY_VALUE | NvAttribute.NO_DA, algorithm=SHA1, auth_policy=CHANGING),
         *(area(0x0100_0041 + it, BY_VALUE, size=2000) for it in range(8)),
     )
 ):

@@ -23,11 +23,8 @@ jefe = "0008 0000 0004 4A656665 0010 0008 000B 00040440 0000 0005 000B 0000 0000
 said = tpm("TPM2_CreatePrimary in TPM_RH_OWNER: the object is 80000000: SUCCESS")
 said.raw(on_handle(CC.CreatePrimary, RH_OWNER, bytes.fromhex(jefe)))
 FIRST = 0x8000_0000
-answer = tpm.raw(
-    'TPM2_HMAC of "what do ya want for nothing?" with SHA-256, which is test case 2 of RFC 4231: '
-    "SUCCESS",
-    on_handle(CC.HMAC, FIRST, sized(QUESTION) + number(SHA256, 2)),
-)
+case = 'TPM2_HMAC of "what do ya want for nothing?" with SHA-256, which is test case 2 of RFC 4231'
+answer = tpm(case).hmac(FIRST, QUESTION, SHA256, b"")
 assert mac(SHA256, b"Jefe", QUESTION) in answer
 said = tpm("With SHA-1, which is not its scheme's: VALUE/p2")
 said.raw(on_handle(CC.HMAC, FIRST, sized(QUESTION) + number(SHA1, 2)))
@@ -65,15 +62,12 @@ assert len(names) == 2 * len(HIERARCHIES)
 
 tpm.chapter("Whatever is another in inSensitive or inPublic gives another object.")
 names = set()
+SAME_VALUE = '"a" and a zero, which is the same authorization value, and another object'
 USUAL = storage_key().attributes
 for what, public, more in (
     ("userAuth is empty", storage_key(), {}),
     ('"a"', storage_key(), {"user_auth": b"a"}),
-    (
-        '"a" and a zero, which is the same authorization value, and another object',
-        storage_key(),
-        {"user_auth": b"a\0"},
-    ),
+    (SAME_VALUE, storage_key(), {"user_auth": b"a\0"}),
     ("unique is one zero", storage_key(unique=b"\0"), {}),
     ("32 bytes 11", storage_key(unique=b"\x11" * 32), {}),
     ("An authPolicy", storage_key(auth_policy=bytes(32)), {}),

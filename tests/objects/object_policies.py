@@ -274,9 +274,8 @@ for what, attributes, by_value in (
 
 tpm.chapter("A parent with a policy, by which its children are created and loaded.")
 said = tpm("A storage key with TPM2_PolicyAuthValue as its policy")
-for_policy = storage_key(
-    attributes=storage_key().attributes & ~USER, auth_policy=AFTER_AUTH_VALUE[SHA256]
-)
+without_user = storage_key().attributes & ~USER
+for_policy = storage_key(attributes=without_user, auth_policy=AFTER_AUTH_VALUE[SHA256])
 guarded = said.owned(for_policy, user_auth=b"parent")
 tpm("TPM2_Create by the password: AUTH_UNAVAILABLE").child(guarded, sealed(), data=b"x")
 said = tpm("TPM2_Create by the policy")

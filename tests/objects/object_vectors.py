@@ -78,10 +78,9 @@ qualified_name = step("primary qualified name", SHA256_NUMBER + sha256(OWNER, na
 created = creation("primary", name, (bytes.fromhex("0010"), OWNER, OWNER), b"first")
 
 given = sized(in_sensitive) + sized(template)
-answer = script.command(
-    'TPM2_CreatePrimary of a storage key, whose value is "owner key": SUCCESS',
-    on_handle(CC.CreatePrimary, RH_OWNER, given + sized(b"first") + selection()),
-)
+words = 'TPM2_CreatePrimary of a storage key, whose value is "owner key": SUCCESS'
+creating = on_handle(CC.CreatePrimary, RH_OWNER, given + sized(b"first") + selection())
+answer = script.command(words, creating)
 assert answer[10:14] == number(0x8000_0000, 4)
 assert answer[18:-5] == sized(public) + created + sized(name)
 answer = script.command("TPM2_ReadPublic: SUCCESS", command(CC.ReadPublic, number(0x8000_0000, 4)))
@@ -119,10 +118,8 @@ def by_password(code, handle, parameters, password=b"owner key"):
 script.chapter("The random bytes are 40, 41, 42 and so on.")
 script.entropy(random)
 given = sized(in_sensitive) + sized(template) + sized(b"") + selection()
-answer = script.command(
-    'TPM2_Create of sealed data, whose value is "pin": SUCCESS',
-    by_password(CC.Create, 0x8000_0000, given),
-)
+words = 'TPM2_Create of sealed data, whose value is "pin": SUCCESS'
+answer = script.command(words, by_password(CC.Create, 0x8000_0000, given))
 assert answer[14:-5] == sized(private) + sized(public) + created
 loading = by_password(CC.Load, 0x8000_0000, sized(private) + sized(public))
 answer = script.command("TPM2_Load: SUCCESS", loading)

@@ -41,13 +41,10 @@ DECRYPTS = Use(session, 1 | DECRYPT)
 
 # A template whose authPolicy, attributes and scheme are wrong, and others with some of that.
 WRONG = hmac_key(SHA1, HERE | OPEN | ObjectAttribute.RESTRICTED, ALG_NULL, auth_policy=b"p")
+FIXED_ALONE = sealed(SHA1, ObjectAttribute.FIXED_TPM | OPEN, scheme=SHA1)
 PUBLIC_FAULTS = (
     ("authPolicy", "SIZE/p2", WRONG),
-    (
-        "fixedTPM without fixedParent",
-        "ATTRIBUTES/p2",
-        sealed(SHA1, ObjectAttribute.FIXED_TPM | OPEN, scheme=SHA1),
-    ),
+    ("fixedTPM without fixedParent", "ATTRIBUTES/p2", FIXED_ALONE),
     ("Scheme HMAC without sign", "SCHEME/p2", sealed(SHA1, scheme=SHA1)),
 )
 GOOD = frames.sensitive_create(data=SECRET)

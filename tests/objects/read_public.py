@@ -45,10 +45,8 @@ said = tpm("There is no parameter to decrypt: ATTRIBUTES/s1")
 said.refused(tpm.public(key, session).but_entry(1, attributes=0x21))
 stranger = tpm.owned("Another object", sealed(), data=b"secret")
 bound = tpm.start("A session that is bound to the HMAC key", bind=key)
-said = tpm(
-    "With its hmac, which has the Name of the HMAC key in it, for the other object: BAD_AUTH/s1"
-)
-said.refused(tpm.public(key, bound).but(handles=[stranger]))
+case = "With its hmac, which has the Name of the HMAC key in it, for the other object: BAD_AUTH/s1"
+tpm.refused(case, tpm.public(key, bound).but(handles=[stranger]))
 tpm.read_public("For the right one", key, bound)
 tpm.flush_objects("Both are flushed", key, stranger)
 tpm.says("They are no more: REFERENCE_H0", tpm.public(key), tpm.public(stranger))

@@ -57,10 +57,8 @@ for algorithm, hash_name in reversed(HASHES):
     said.refused(*(tpm.prepare(CC.Create, [parent], whole[:it], session.decrypting) for it in cut))
 
     tpm.chapter("Both ways at once.")
-    said = tpm(
-        "TPM2_Create with inSensitive and outPrivate encrypted by the session that authorizes"
-    )
-    made = said.create(parent, sealed(), Use(session, IN | OUT), user_auth=b"pin", data=data)
+    case = "TPM2_Create with inSensitive and outPrivate encrypted by the session that authorizes"
+    made = tpm.create(case, parent, sealed(), Use(session, IN | OUT), user_auth=b"pin", data=data)
     said = tpm("TPM2_Load with inPrivate and name encrypted by another")
     with said.loaded(parent, made, session, Use(unrelated, IN | OUT)) as again:
         tpm.unseal("TPM2_Unseal", again, data, bound.encrypting, session)

@@ -184,15 +184,11 @@ WRONG_ATTRIBUTES = (
     ("A SYMCIPHER with neither sign nor decrypt", of(storage_key, HERE | OPEN)),
     ("A restricted SYMCIPHER with sign", of(storage_key, HERE | OPEN | RESTRICTED | SIGN)),
 )
+NO_SIGN = [sealed(scheme=SHA256), sealed(SHA1, scheme=SHA1)]
+NO_SCHEME = hmac_key(attributes=HERE | OPEN | RESTRICTED, scheme=ALG_NULL)
 WRONG_SCHEMES = (
-    (
-        "A KEYEDHASH with scheme HMAC and without sign",
-        [sealed(scheme=SHA256), sealed(SHA1, scheme=SHA1)],
-    ),
-    (
-        "A restricted KEYEDHASH with scheme NULL",
-        [hmac_key(attributes=HERE | OPEN | RESTRICTED, scheme=ALG_NULL)],
-    ),
+    ("A KEYEDHASH with scheme HMAC and without sign", NO_SIGN),
+    ("A restricted KEYEDHASH with scheme NULL", [NO_SCHEME]),
 )
 
 
