@@ -5,7 +5,7 @@ had, so that none has a value twice. Index 01000002 has the attributes 00020012.
 from tests.common.vocabulary import area, BY_OWNER, counter, FIRST, FOURTH, number, NvAttribute
 from tests.common.vocabulary import RH_OWNER, SECOND, SHA1, Teller, THIRD
 
-tpm = Teller(__name__, __doc__, starts=False)
+tpm = Teller(__name__, __doc__)
 
 
 def count(what, index, value, times=1):
@@ -24,7 +24,6 @@ def define_again(what, index):
     define(what, index)
 
 
-tpm.startup()
 define("TPM2_NV_DefineSpace of 01000002", SECOND)
 assert tpm.publics[SECOND].attributes == 0x0002_0012
 said = tpm("TPM2_NV_Read before the first TPM2_NV_Increment: NV_UNINITIALIZED")

@@ -4,10 +4,9 @@
 
 from tests.common.vocabulary import area, BY_VALUE, FIRST, RH_OWNER, Teller
 
-tpm = Teller(__name__, __doc__, starts=False)
+tpm = Teller(__name__, __doc__)
 PUBLIC, WHOLE = area(FIRST, BY_VALUE), b"aBCD\xff\xff\xffz"
 
-tpm.startup()
 defining = tpm.defining(PUBLIC, auth=b"a")
 assert defining.buffer() == bytes.fromhex(
     "8002 0000002E 0000012A 40000001 00000009 40000009 0000 01 0000"

@@ -27,7 +27,7 @@ MOST = 16
 
 CLEARED = storage_key(attributes=storage_key().attributes | ObjectAttribute.ST_CLEAR)
 
-tpm = Steps(__name__, __doc__, starts=False)
+tpm = Steps(__name__, __doc__)
 
 
 def fails(words, *commands):
@@ -134,7 +134,6 @@ def borders(owners, endorsements, platforms):
     fails("None is there: HANDLE/h2", (RH_PLATFORM, LAST, LAST), (RH_OWNER, FIRST, FIRST))
 
 
-tpm.startup()
 borders(*in_order())
 tpm.power_cycle()
 

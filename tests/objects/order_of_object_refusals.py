@@ -3,6 +3,8 @@ with many faults, of which one after the other is repaired. What is answered is 
 left.
 """
 
+from functools import partial
+
 from tests.common.order import OrderTeller
 from tests.common.steps import GENERATED, RESTRICTED_KEY
 from tests.common.vocabulary import ALG_NULL, CC, command, DECRYPT, frames, HERE, hmac_key, number
@@ -63,10 +65,8 @@ for code, on in ((CC.CreatePrimary, RH_OWNER), (CC.Create, parent)):
     uses = [tpm.auth_value(on), DECRYPTS]
     general_refusals(code, on, GOOD[:-1], uses)
     faults = sized(bytes(35)) + BANK
-    in_order(
-        code,
-        on,
-        uses,
+    of_creation = partial(in_order, code, on, uses)
+    of_creation(
         ("inSensitive is cut", "INSUFFICIENT/p1", GOOD[:-1]),
         (
             "It is too long for what is in it",
@@ -82,10 +82,7 @@ for code, on in ((CC.CreatePrimary, RH_OWNER), (CC.Create, parent)):
         tpm.in_order(
             code, uses, ("Under what is no parent", "TYPE/h1", [handle], with_public(WRONG))
         )
-    in_order(
-        code,
-        on,
-        uses,
+    of_creation(
         *((*words, with_public(public)) for *words, public in PUBLIC_FAULTS),
         ("userAuth of 21 bytes", "SIZE/p1", with_public(sealed(SHA1, GENERATED))),
         (
@@ -101,10 +98,8 @@ tpm.chapter("TPM2_Load, with inPrivate encrypted.")
 uses = [b"parent", DECRYPTS]
 private, public = sized(made.private), sized(made.public.text)
 general_refusals(CC.Load, parent, private[:-1], uses)
-in_order(
-    CC.Load,
-    parent,
-    uses,
+of_loading = partial(in_order, CC.Load, parent, uses)
+of_loading(
     ("inPrivate is cut", "INSUFFICIENT/p1", private[:-1]),
     ("It has 257 bytes", "SIZE/p1", sized(bytes(257)) + BAD_TYPE + b"\0"),
     ("The type", "TYPE/p2", NONE + BAD_TYPE + b"\0"),
@@ -113,12 +108,9 @@ in_order(
 case = "Under what is no parent", "TYPE/h1", [handle], NONE + sized(WRONG.text)
 tpm.in_order(CC.Load, uses, case)
 faults = ((*words, NONE + sized(public.text)) for *words, public in PUBLIC_FAULTS)
-in_order(CC.Load, parent, uses, *faults)
+of_loading(*faults)
 others = [tpm.load("" if it else "Eight objects are there", parent, made) for it in range(4)]
-in_order(
-    CC.Load,
-    parent,
-    uses,
+of_loading(
     ("Another private area", "INTEGRITY/p1", sized(bytes(64)) + public),
     ("No place", "OBJECT_MEMORY", private + public),
 )

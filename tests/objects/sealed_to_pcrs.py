@@ -10,7 +10,7 @@ from tests.common.vocabulary import sealed, selection, SHA256, storage_key, Tell
 CHOSEN = [(SHA256, [10])]
 SECRET = b"the secret"
 
-tpm = Teller(__name__, __doc__, starts=False)
+tpm = Teller(__name__, __doc__)
 
 
 def measured():
@@ -27,7 +27,6 @@ def policy_session(what="A policy session"):
     return session
 
 
-tpm.startup()
 measured()
 trial = tpm.trial("A trial session")
 tpm("TPM2_PolicyPCR").pcrs(trial, CHOSEN)
