@@ -103,7 +103,7 @@ said.fails(raw(empty + sized(text + b"\0")), raw(empty + sized(text[:-2]) + text
 tpm.fails("A byte behind publicInfo: SIZE", raw(empty + good + b"\0"))
 unfitting(
     "nvIndex that is no handle of an index: VALUE/p2",
-    *(area(it) for it in (0, 0x0000_0001, 0x0200_0001, RH_OWNER, 0x8100_0001, 0xFFFF_FFFF)),
+    *map(area, (0, 0x0000_0001, 0x0200_0001, RH_OWNER, 0x8100_0001, 0xFFFF_FFFF)),
 )
 reserved = (1 << 8, 1 << 9, *(BY_OWNER | 1 << it for it in range(20, 25)))
 for words, at, size, bad in (

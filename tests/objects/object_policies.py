@@ -57,6 +57,14 @@ def demands(algorithm, handle):
     start_again(session)
     tpm("Once more: POLICY_FAIL/s1").unsealing(handle, by_value)
 
+    later_counts(algorithm, session, by_value, by_password)
+
+    tpm.chapter("Without continueSession the session ends.")
+    tpm.unseal("By the password", handle, SECRET, tpm.by_password(session, 0))
+    tpm("It is no more: REFERENCE_H0").get_digest(session)
+
+
+def later_counts(algorithm, session, by_value, by_password):
     tpm.chapter("Of the two the later one counts.")
     twice = policy.after_auth_value(algorithm, AFTER_AUTH_VALUE[algorithm])
     for first, last, use, other in (
@@ -69,10 +77,6 @@ def demands(algorithm, handle):
         tpm("What the first asks for: BAD_AUTH/s1").unsealing(double, other)
         tpm.unseal("What the second asks for", double, SECRET, use)
         tpm.flush_objects("The object is flushed", double)
-
-    tpm.chapter("Without continueSession the session ends.")
-    tpm.unseal("By the password", handle, SECRET, tpm.by_password(session, 0))
-    tpm("It is no more: REFERENCE_H0").get_digest(session)
 
 
 def demands_of_bound(algorithm, handle):
