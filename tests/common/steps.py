@@ -7,19 +7,9 @@ from collections.abc import Callable, Iterator, Sequence
 from typing import Any
 
 from tpmsim.caller import HERE, hmac_key, Made, Means, OPEN, Prepared, Session, STATE, Use
-from tpmsim.standard import (
-    CC,
-    command,
-    CONTINUE_SESSION,
-    DECRYPT,
-    digest_bytes,
-    ENCRYPT,
-    number,
-    nv,
-)
-from tpmsim.standard import policy, RH_ENDORSEMENT, RH_LOCKOUT, RH_NULL, RH_OWNER, RH_PLATFORM
+from tpmsim.standard import CC, command, CONTINUE_SESSION, DECRYPT, digest_bytes, ENCRYPT, number
+from tpmsim.standard import nv, policy, RH_ENDORSEMENT, RH_LOCKOUT, RH_NULL, RH_OWNER, RH_PLATFORM
 from tpmsim.standard import SHA1, SHA256, SYMCIPHER
-
 from tpmsim.standard.objects import Attribute, Public
 from tpmsim.standard.policy import AUTH_VALUE, PASSWORD
 from tests.common.teller import Teller
@@ -51,6 +41,9 @@ AFTER_AUTH_VALUE = {
 
 RESTRICTED_KEY = hmac_key(attributes=HERE | OPEN | Attribute.RESTRICTED)
 
+# Handles of what is no object, and what a command comes to that needs one.
+OTHERS = RH_OWNER, RH_NULL, 0, 0x0100_0000, 0x0200_0000, 0x0300_0000
+NO_OBJECT = "No object's handle: TPM_RH_OWNER, TPM_RH_NULL, PCR 0, an NV index, sessions: VALUE/h1"
 
 # How a session is used whose policy asks for the authorization value: in the hmac's key, in plain.
 with_value = functools.partial(Use, demand=AUTH_VALUE)
@@ -65,6 +58,8 @@ def aes_key(
 
 
 class Steps(Teller):
+    """A step sends commands that come to what its words say, or else to what it is named for."""
+
     # What needs an object.
 
     def refuses_others(
@@ -75,17 +70,10 @@ class Steps(Teller):
         persistent: Sequence[int] = (0x8100_0000,),
     ) -> None:
         """While there is no object: a command on what is none, and on objects by their handles."""
-        none = RH_OWNER, RH_NULL, 0, 0x0100_0000, 0x0200_0000, 0x0300_0000, *more
-        for words, handles in (
-            (
-                "No object's handle: TPM_RH_OWNER, TPM_RH_NULL, PCR 0, an NV index, sessions: "
-                "VALUE/h1",
-                none,
-            ),
-            ("A transient object, while there is none: REFERENCE_H0", transient),
-            ("A persistent object, while there is none: HANDLE/h1", persistent),
-        ):
-            self.says(words, *map(prepare, handles))
+        self.says(NO_OBJECT, *map(prepare, (*OTHERS, *more)))
+        words = "A transient object, while there is none: REFERENCE_H0"
+        self.says(words, *map(prepare, transient))
+        self.says("A persistent object, while there is none: HANDLE/h1", *map(prepare, persistent))
 
     def needs_entries(self, code: CC, handle: int, parameters: bytes = b"") -> None:
         words = "It has to be authorized: no sessions (tag 8001): AUTH_MISSING"
@@ -184,7 +172,7 @@ class Steps(Teller):
         elements: Sequence[int | tuple[int, int]],
         more: bool = False,
     ) -> None:
-        """TPM2_GetCapability answers these numbers, or pairs of them, and whether there are more."""
+        """TPM2_GetCapability answers these numbers or pairs of them, and whether there are more."""
         numbers = itertools.chain(*(it if isinstance(it, tuple) else (it,) for it in elements))
         listed = number(len(elements), 4) + b"".join(number(it, 4) for it in numbers)
         answer = self.does(what, self.capability(kind, first, count))

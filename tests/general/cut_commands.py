@@ -8,8 +8,8 @@ from functools import partial
 
 from tests.general import cuts
 from tests.general.cuts import comes_whole, cut, start, STARTUP
-from tpmsim.standard import area, CC, command, digests, entry, frames, number, on_handle, SHA1
-from tpmsim.standard import SHA256, sized
+from tpmsim.standard import area, CC, command, digests, entry, frames, number, on_handle, on_handles
+from tpmsim.standard import SHA1, SHA256, sized
 
 WHICH, LISTED = "Each command that succeeds,", frames.HMAC_SESSION
 MORE = (
@@ -33,15 +33,11 @@ def extending(*values):
     return on_handle(CC.PCR_Extend, 10, digests(*values))
 
 
-def event(*entries):
-    return on_handle(CC.PCR_Event, 10, sized(b"abc"), *entries)
-
-
 def secret(password):
     """TPM2_PolicySecret of TPM_RH_OWNER."""
-    body = number(frames.RH_OWNER, 4) + number(TRIAL, 4) + area(entry(hmac=password))
-    body += frames.policy_secret(b"nonce", bytes(32), b"policyRef")
-    return command(CC.PolicySecret, body, frames.SESSIONS)
+    parameters = frames.policy_secret(b"nonce", bytes(32), b"policyRef")
+    handles = frames.RH_OWNER, TRIAL
+    return on_handles(CC.PolicySecret, handles, parameters, [entry(hmac=password)])
 
 
 def policy(name, code, parameters=b""):
@@ -52,10 +48,7 @@ def reading(*banks):
     return command(CC.PCR_Read, frames.selection(*banks))
 
 
-def flush(session):
-    return command(CC.FlushContext, number(session, 4))
-
-
+event = partial(on_handle, CC.PCR_Event, 10, sized(b"abc"))
 ZEROS, ONE_PCR = bytes(32), frames.selection((SHA1, [0]), (SHA256, [1]))
 RANDOM_BY_PASSWORD = command(CC.GetRandom, area(entry()) + number(4, 2), frames.SESSIONS)
 OWNER = 'TPM2_PolicySecret of TPM_RH_OWNER, whose value is "abc", by the empty password'
@@ -81,7 +74,7 @@ COMMANDS = [
         "TPM2_PCR_Reset by the password, with both sessions, the second of which ends",
         on_handle(CC.PCR_Reset, 16, b"", BY_THREE),
     ),
-    cut("TPM2_FlushContext", flush(SESSION)),
+    cut("TPM2_FlushContext", command(CC.FlushContext, number(SESSION, 4))),
     cut("TPM2_StartAuthSession of a trial session", start(kind=frames.SE_TRIAL)),
     policy("TPM2_PolicyPCR of two banks", CC.PolicyPCR, sized(bytes(20)) + ONE_PCR),
     policy("TPM2_PolicyOR", CC.PolicyOR, frames.sized_list(bytes(20), b"", bytes(32))),
@@ -96,7 +89,7 @@ COMMANDS = [
     cut("TPM2_GetRandom with a password", RANDOM_BY_PASSWORD, "HANDLE/s1"),
     policy("TPM2_PolicyCpHash", CC.PolicyCpHash, sized(bytes(range(32)))),
     policy("TPM2_PolicyNvWritten of an index that is not written", CC.PolicyNvWritten, b"\0"),
-    comes_whole("TPM2_FlushContext of it", flush(TRIAL)),
+    comes_whole("TPM2_FlushContext of it", command(CC.FlushContext, number(TRIAL, 4))),
     cut("TPM2_StartAuthSession with TPM_ALG_XOR", start(xor=SHA256)),
     cut("TPM2_PCR_Event by that session, where it decrypts", event(BY_DECRYPTING)),
 ]

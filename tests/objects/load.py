@@ -4,10 +4,9 @@ parent.
 
 from dataclasses import replace
 
-from tests.common.steps import GENERATED, PROTECTED, Steps
+from tests.common.steps import GENERATED, NO_OBJECT, OTHERS, PROTECTED, Steps
 from tests.common.vocabulary import CC, frames, HERE, hmac_key, mac, number, ObjectAttribute, OPEN
-from tests.common.vocabulary import RH_ENDORSEMENT, RH_NULL, RH_OWNER, sealed, SHA1, SHA256, sized
-from tests.common.vocabulary import storage_key, STORES
+from tests.common.vocabulary import RH_ENDORSEMENT, sealed, SHA1, SHA256, sized, storage_key, STORES
 
 tpm = Steps(__name__, __doc__)
 refused = tpm.says
@@ -17,9 +16,7 @@ said = tpm('TPM2_Create: sealed data, whose value is "child"')
 made = said.create(parent, sealed(), user_auth=b"child", data=b"secret")
 
 tpm.chapter("parentHandle.")
-others = RH_OWNER, RH_NULL, 0, 0x0100_0000, 0x0200_0000, 0x0300_0000
-case = "No object's handle: TPM_RH_OWNER, TPM_RH_NULL, PCR 0, an NV index, sessions: VALUE/h1"
-refused(case, *(tpm.loading(it, made) for it in others))
+refused(NO_OBJECT, *(tpm.loading(it, made) for it in OTHERS))
 case = "A transient object that is not there: REFERENCE_H0"
 refused(case, *(tpm.loading(it, made) for it in (0x8000_0001, 0x8000_0008, 0x80FF_FFFF)))
 refused("A persistent object: HANDLE/h1", tpm.loading(0x8100_0000, made))
