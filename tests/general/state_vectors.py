@@ -17,18 +17,14 @@ SUCCESS = "8001 0000000A 00000000"
 tpm = Teller(__name__, __doc__, starts=False)
 
 
-def bytes_of(text):
-    return bytes.fromhex(text.replace(" ", ""))
-
-
 def code(number):
     """The answer to a command that is refused."""
     return f"8001 0000000A {number:08X}"
 
 
 def answered(what, asked, wanted, outcome="SUCCESS"):
-    response = tpm.raw(f"{what}: {outcome}", bytes_of(asked))
-    assert response == bytes_of(wanted), f"{what}: {response.hex()}"
+    response = tpm.raw(f"{what}: {outcome}", bytes.fromhex(asked))
+    assert response == bytes.fromhex(wanted), f"{what}: {response.hex()}"
 
 
 def tries_are(what, tries):
@@ -106,7 +102,9 @@ tpm.chapter("A buffer of an HMAC session that is sent again is a try.")
 tpm.raw(
     'TPM2_NV_DefineSpace of index 01000001, attributes 00040004, eight bytes, value "a": '
     "SUCCESS",
-    bytes_of(f"8002 0000002E 0000012A 40000001 {PW} 0001 61 000E 01000001 000B 00040004 0000 0008"),
+    bytes.fromhex(
+        f"8002 0000002E 0000012A 40000001 {PW} 0001 61 000E 01000001 000B 00040004 0000 0008"
+    ),
 )
 tpm.auth_values[FIRST] = b"a"
 tpm.note_public(area(FIRST, BY_VALUE))

@@ -130,7 +130,6 @@ said = tpm("A session that is bound to nothing, one that is bound to it, and a w
 said.fails(tpm.lock_reset(unbound), tpm.lock_reset(bound), wrong(tpm.lock_reset(unbound)))
 case = "One that is bound to it and authorizes PCR 16, and one that authorizes nothing: LOCKOUT"
 tpm.fails(case, tpm.reset(bound), tpm.random(2, bound), tpm.reset(b"", bound))
-
 tpm("A session that is bound to another entity").reset(to_owner)
 closed_for("It opens. Wrong tries while it was closed have not closed it anew.", 1_000_000)
 tpm.chapter("In the middle of the time.")

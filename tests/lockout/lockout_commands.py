@@ -106,5 +106,4 @@ tpm("It is locked: LOCKOUT").reset(third, first, second)
 tpm.unlocks()
 said = tpm("The first is wrong and no try, and the others are: BAD_AUTH/s1")
 said.fails(*(wrong(wrong(wrong(tpm.reset(third, first, second)), 2), 3) for _ in range(2)))
-
 tpm("It is not locked").reset(third, first, second)
