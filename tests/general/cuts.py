@@ -14,7 +14,7 @@ HEAD = (
 )
 HEADER_BYTES = 10
 
-# Handles and parameters that are not called by their names in Part 3; one byte is not cut within.
+# Where a handle or a parameter is cut that is not called by its name in Part 3.
 WORDS = {
     "digests": "within its digests",
     "eventData": "within its data",

@@ -54,12 +54,8 @@ def ways(handle, use):
         Way("One that is bound to TPM_RH_OWNER", lambda: use(to_owner)),
         Way("One that is bound to the entity", lambda: use(bound)),
         Way(by_lockout, lambda: use(to_lockout)),
-        Way(
-            "A policy session with TPM2_PolicyAuthValue", lambda: use(with_value(told)), tell=value
-        ),
-        Way(
-            "A policy session with TPM2_PolicyPassword", lambda: use(in_plain(told)), tell=password
-        ),
+        Way("A policy session with TPM2_PolicyAuthValue", lambda: use(with_value(told)), 1, value),
+        Way("A policy session with TPM2_PolicyPassword", lambda: use(in_plain(told)), 1, password),
         Way(on_owner, lambda: tpm.change_auth(RH_OWNER, OWNER, bound)),
         Way("On PCR 16", lambda: tpm.reset(bound)),
         Way("Where it authorizes nothing, alone", lambda: tpm.random(2, bound)),

@@ -6,8 +6,8 @@ TPM2_PolicySecret.
 from tpmsim.standard import policy_secret, start_auth_session
 from tests.common.steps import PROTECTED, Steps
 from tests.common.vocabulary import ALG_NULL, CC, command, HASHES, HERE, hmac_key, number, policy
-from tests.common.vocabulary import RH_ENDORSEMENT, RH_OWNER, sealed, SHA1, SHA256, storage_key, Use
-from tests.common.vocabulary import zeros
+from tests.common.vocabulary import RH_ENDORSEMENT, RH_NULL, RH_OWNER, sealed, SHA1, SHA256
+from tests.common.vocabulary import storage_key, Use, zeros
 
 SECRET, PIN = b"secret", b"pin"
 
@@ -72,15 +72,11 @@ for algorithm, hash_name in reversed(HASHES):
     tpm.flushes("A session is flushed", unbound, bound, owner)
 
 tpm.chapter("TPM2_StartAuthSession: bind is an object.")
-
-
-def starting(bind):
-    return tpm.prepare(CC.StartAuthSession, *start_auth_session(bytes(16), bind))
-
-
+start = tpm.prepare(CC.StartAuthSession, *start_auth_session(bytes(16)))
 said = tpm("One that is not there: REFERENCE_H1")
-said.says(*map(starting, (0x8000_0006, 0x8000_0007, 0x8000_0008, 0x80FF_FFFF)))
-tpm.says("A persistent one: HANDLE/h2", starting(0x8100_0000))
+absent = 0x8000_0006, 0x8000_0007, 0x8000_0008, 0x80FF_FFFF
+said.says(*(start.but(handles=[RH_NULL, it]) for it in absent))
+tpm.says("A persistent one: HANDLE/h2", start.but(handles=[RH_NULL, 0x8100_0000]))
 for what, public, data in (
     ("A storage key", storage_key(), b""),
     ("An HMAC key with nameAlg SHA-1", hmac_key(SHA1), b"key"),
