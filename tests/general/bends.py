@@ -6,26 +6,15 @@ by their kinds, as lines.py has them. So a new command is bent without a line he
 sized buffer of it holds a structure.
 """
 
-from dataclasses import dataclass
+from typing import NamedTuple
 
-from tpmsim.standard import (
-    AES,
-    ALG_NULL,
-    CC,
-    KEYEDHASH,
-    XOR,
-    digest_bytes,
-    frames,
-    lines,
-    number,
-)
+from tpmsim.standard import AES, ALG_NULL, CC, KEYEDHASH, XOR, digest_bytes, frames, lines, number
 
 # How many bytes stand behind the algorithm of a cipher.
 BEHIND_CIPHER = {ALG_NULL: 0, AES: 4, XOR: 2}
 
 
-@dataclass(frozen=True)
-class Number:
+class Number(NamedTuple):
     """A size or a count: what it is, and where its bytes stand."""
 
     name: str
@@ -83,13 +72,10 @@ class Walk:
         end = self.at + size
         while self.at < end:
             place += 1
-            self.entry(place)
-
-    def entry(self, place):
-        self.take(4)
-        self.sized(f"the nonce in entry {place}")
-        self.take(1)
-        self.sized(f"the hmac in entry {place}")
+            self.take(4)
+            self.sized(f"the nonce in entry {place}")
+            self.take(1)
+            self.sized(f"the hmac in entry {place}")
 
 
 # The forms of parameters, by the names of their kinds.
@@ -107,12 +93,14 @@ FORMS = {
 }
 
 
-# Structures in sized buffers, each up to its last size.
+def parts(*names):
+    """What reads sized buffers of these names, one behind the other."""
+    return lambda walk: [walk.sized(name) for name in names]
 
 
-def sensitive_create(walk):
-    walk.sized("userAuth")
-    walk.sized("data")
+def nv_public(walk):
+    walk.take(10)
+    walk.sized("authPolicy")
 
 
 def public_area(walk):
@@ -126,24 +114,14 @@ def public_area(walk):
     walk.sized("unique")
 
 
-def nv_public(walk):
-    walk.take(10)
-    walk.sized("authPolicy")
-
-
-def private_area(walk):
-    """What stands behind these is encrypted."""
-    walk.sized("integrity")
-    walk.sized("iv")
-
-
-# The parameters that hold them, each by its command and its place.
+# The parameters that are structures in sized buffers, each by its command and its place; they are
+# read up to their last size, and a private area up to what is encrypted.
 STRUCTURES = {
-    (CC.CreatePrimary, 1): sensitive_create,
+    (CC.CreatePrimary, 1): parts("userAuth", "data"),
     (CC.CreatePrimary, 2): public_area,
-    (CC.Create, 1): sensitive_create,
+    (CC.Create, 1): parts("userAuth", "data"),
     (CC.Create, 2): public_area,
-    (CC.Load, 1): private_area,
+    (CC.Load, 1): parts("integrity", "iv"),
     (CC.Load, 2): public_area,
     (CC.NV_DefineSpace, 2): nv_public,
 }
@@ -190,13 +168,9 @@ def raised_and_lowered(buffer, it):
         yield f"{it.name} {done}", changed(buffer, it, by)
 
 
-def with_a_byte_more(buffer):
-    return changed(buffer + b"\0", COMMAND_SIZE, 1)
-
-
 def bends(buffer):
     """What is bent, and the buffer that is bent so."""
     yield from raised_and_lowered(buffer, COMMAND_SIZE)
-    yield "a zero byte more and commandSize corrected", with_a_byte_more(buffer)
+    yield "a zero byte more and commandSize corrected", changed(buffer + b"\0", COMMAND_SIZE, 1)
     for it in numbers(buffer):
         yield from raised_and_lowered(buffer, it)

@@ -2,42 +2,25 @@
 bent_state_commands.tpm: the commands that cut_commands.py, and the like, have, each bent.
 """
 
-from tests.general import bends
-from tests.general import cut_commands
-from tests.general import cut_nv_commands
-from tests.general import cut_object_commands
+from tests.general import bends, cut_commands, cut_nv_commands, cut_object_commands
 from tests.general import cut_state_commands
 from tpmsim.standard import CC
 from tests.general.looks import LookingScript
 
 HEAD = (
-    "{which} bent: first commandSize is raised and lowered by one, the bytes as they are; then "
+    "bent: first commandSize is raised and lowered by one, the bytes as they are; then "
     "a zero byte more stands at the end, with commandSize corrected; then each size and each "
     "count behind the header is raised and lowered by one, all else as it is. A 0 is lowered to "
     "the largest number. All that is bent is refused. At last the command comes whole. "
     "Parameters, entries and the items of lists are counted from 1."
 )
 
-SCRIPTS = (
-    ("bent_commands", "Each command that succeeds,", cut_commands),
-    ("bent_nv_commands", "The commands on NV indices, each", cut_nv_commands),
-    ("bent_object_commands", "The commands of objects, each", cut_object_commands),
-    (
-        "bent_state_commands",
-        "The commands of starts, of capabilities, of dictionary attack protection, of persistent "
-        "objects and of clearing, each",
-        cut_state_commands,
-    ),
-)
+CUT = cut_commands, cut_nv_commands, cut_object_commands, cut_state_commands
 
 
 def commands_of(cut):
     """The names and the buffers of those that succeed."""
     return [(name, whole) for name, whole, _, outcome in cut.COMMANDS if outcome == "SUCCESS"]
-
-
-def code_of(buffer):
-    return int.from_bytes(buffer[6:10], "big")
 
 
 def bent(script, whole):
@@ -50,11 +33,12 @@ def bent(script, whole):
 
 
 def write_script():
-    codes = {code_of(whole) for *_, cut in SCRIPTS for _, whole in commands_of(cut)}
+    buffers = [whole for cut in CUT for _, whole in commands_of(cut)]
+    codes = {int.from_bytes(it[6:10], "big") for it in buffers}
     assert codes == set(CC), "a command that is served is not bent"
-    for path, which, cut in SCRIPTS:
-        head = HEAD.format(which=which)
-        script = LookingScript(__file__, head, cut.LISTED, path)
+    for cut in CUT:
+        path = cut.__name__.removeprefix("tests.general.").replace("cut", "bent")
+        script = LookingScript(__file__, f"{cut.WHICH} {HEAD}", cut.LISTED, path)
         for name, whole in commands_of(cut):
             script.refusals(name, whole, "SUCCESS", bent(script, whole))
         script.write()

@@ -3,45 +3,31 @@ gone, with the seed of its primary objects, and so are its authorization values 
 What is the platform's stays.
 """
 
-from tests.common.vocabulary import area, BY_OWNER, BY_PLATFORM, BY_VALUE, CC, command, counter
-from tests.common.vocabulary import FIRST, number, NvAttribute, on_handle, RH_ENDORSEMENT
-from tests.common.vocabulary import RH_LOCKOUT, RH_NULL, RH_OWNER, RH_PLATFORM, sealed, SECOND
-from tests.common.vocabulary import SHA256, STATE, storage_key, Teller, THIRD, wrong
+from tpmsim.model.capability import HANDLES, PROPERTIES
+from tests.common.steps import AUTHORIZED, Steps
+from tests.common.vocabulary import area, BY_PLATFORM, BY_VALUE, CC, command, counter, FIRST, number
+from tests.common.vocabulary import NvAttribute, on_handle, RH_ENDORSEMENT, RH_LOCKOUT, RH_NULL
+from tests.common.vocabulary import RH_OWNER, RH_PLATFORM, sealed, SECOND, SHA256, storage_key
+from tests.common.vocabulary import THIRD, wrong
 
-HANDLES, PROPERTIES = 1, 6
-HIERARCHIES = (
-    (RH_OWNER, "TPM_RH_OWNER", b"owner"),
-    (RH_ENDORSEMENT, "TPM_RH_ENDORSEMENT", b"endorsement"),
-    (RH_PLATFORM, "TPM_RH_PLATFORM", b"platform"),
-    (RH_LOCKOUT, "TPM_RH_LOCKOUT", b"lockout"),
-)
 WITH_OBJECTS = (
     (RH_OWNER, "the owner", 0x8100_0000, RH_OWNER),
     (RH_ENDORSEMENT, "the endorsement hierarchy", 0x8100_0001, RH_OWNER),
     (RH_PLATFORM, "the platform", 0x8180_0000, RH_PLATFORM),
 )
 
-tpm = Teller(__name__, __doc__, starts=False)
+tpm = Steps(__name__, __doc__, starts=False)
 says = tpm.raw
 
 
 def listed(what, wanted, *handles):
     """The handles of a kind, as TPM2_GetCapability lists them."""
-    elements = number(len(handles), 4) + b"".join(number(it, 4) for it in handles)
-    given = tpm(what).capability(HANDLES, wanted, 64)
-    assert given == b"\0" + number(HANDLES, 4) + elements, what
+    tpm.lists(what, HANDLES, wanted, 64, handles)
 
 
 def lockout_is(what, *values):
     """TPM_PT_LOCKOUT_COUNTER and the three behind it."""
-    pairs = b"".join(number(0x20E + at, 4) + number(it, 4) for at, it in enumerate(values))
-    given = tpm(what).capability(PROPERTIES, 0x20E, 4)
-    assert given == b"\0" + number(PROPERTIES, 4) + number(4, 4) + pairs, what
-
-
-def clock_is(what, time, clock, resets, restarts):
-    answer = number(time, 8) + number(clock, 8) + number(resets, 4) + number(restarts, 4) + b"\1"
-    assert tpm(what).clock() == answer, what
+    tpm.lists(what, PROPERTIES, 0x20E, 4, list(enumerate(values, 0x20E)))
 
 
 def counter_of(what):
@@ -51,10 +37,8 @@ def counter_of(what):
 
 def primary_of(what, hierarchy):
     """The Name and the ticket of a primary object, which does not stay."""
-    handle = tpm.create_primary(what, hierarchy, storage_key(), tpm.auth_value(hierarchy))
-    name = tpm.names[handle]
-    tpm.flush_objects("It is flushed", handle)
-    return name, tpm.ticket
+    with tpm.held(what, storage_key(), hierarchy=hierarchy) as handle:
+        return tpm.names[handle], tpm.ticket
 
 
 says("Before TPM2_Startup: INITIALIZE", on_handle(CC.Clear, RH_PLATFORM))
@@ -62,9 +46,8 @@ tpm.startup()
 says("No handle: INSUFFICIENT/h1", command(CC.Clear, b""))
 case = "Who cannot clear: VALUE/h1"
 says(case, *(on_handle(CC.Clear, it) for it in (RH_OWNER, RH_ENDORSEMENT, RH_NULL, 0, 0x8000_0000)))
-for handle in (RH_LOCKOUT, RH_PLATFORM):
-    words = "Without sessions" if handle == RH_LOCKOUT else ""
-    says(f"{words}: AUTH_MISSING", command(CC.Clear, number(handle, 4)))
+says("Without sessions: AUTH_MISSING", command(CC.Clear, number(RH_LOCKOUT, 4)))
+says("AUTH_MISSING", command(CC.Clear, number(RH_PLATFORM, 4)))
 case = "A byte behind the handle: SIZE"
 says(case, *(on_handle(CC.Clear, it, b"\0") for it in (RH_LOCKOUT, RH_PLATFORM)))
 tpm("A wrong password: BAD_AUTH/s1").clearing(RH_PLATFORM, b"x")
@@ -74,61 +57,49 @@ tpm("It is flushed").flush(policy)
 case = "TPM2_Clear by the platform, and by lockoutAuth: SUCCESS"
 says(case, *(on_handle(CC.Clear, it) for it in (RH_PLATFORM, RH_LOCKOUT)))
 
-
 tpm.chapter("There is something of each kind, a reset and a restart among it.")
 tpm.power_cycle()
-tpm("TPM2_Shutdown(STATE)").shutting_down(STATE)
-tpm.power()
-tpm.start_up("TPM2_Startup(STATE)", STATE)
+tpm.saves_and_resumes()
 tpm.wait(5000)
-for index, attributes, by in (
-    (FIRST, BY_OWNER | BY_VALUE, RH_OWNER),
-    (SECOND, BY_PLATFORM | BY_VALUE | NvAttribute.PLATFORMCREATE, RH_PLATFORM),
-):
-    words = "An NV index of the owner, and one of the platform" if index == FIRST else ""
-    tpm.define(words, area(index, attributes), by=by)
-    tpm("").writing(index, b"data", by=by)
+tpm.define("An NV index of the owner, and one of the platform", area(FIRST))
+tpm("").writing(FIRST, b"data", by=RH_OWNER)
+platforms = BY_PLATFORM | BY_VALUE | NvAttribute.PLATFORMCREATE
+tpm.define("", area(SECOND, platforms), by=RH_PLATFORM)
+tpm("").writing(SECOND, b"data", by=RH_PLATFORM)
 tpm.define("A counter of the owner", counter(THIRD))
-for _ in range(3):
-    tpm("It is 3" if not _ else "").incrementing(THIRD)
+for words in ("It is 3", "", ""):
+    tpm(words).incrementing(THIRD)
 for hierarchy, words, kept, asker in WITH_OBJECTS:
     handle = tpm.create_primary(f"An object of {words}", hierarchy, storage_key())
     tpm.keep("It stays", asker, handle, kept)
 tpm.create_primary("One of TPM_RH_NULL", RH_NULL, storage_key())
-for handle, name, value in HIERARCHIES:
-    words = f'The value of {name} is "{value.decode()}"'
-    tpm(words).change_auth(handle, value, b"")
+for handle, name, value in AUTHORIZED:
+    tpm(f'The value of {name} is "{value.decode()}"').change_auth(handle, value, b"")
 tpm.set_protection("maxTries is 5, and the times are others, too", 5, 2000, 3000)
 
-
 tpm.chapter("TPM2_Clear by the platform.")
-names = {
-    hierarchy: primary_of("A primary object as it is before", hierarchy)
-    for hierarchy, *_ in HIERARCHIES[:3]
-}
-parent = tpm.create_primary("A storage key of the owner", RH_OWNER, storage_key(), b"owner")
+names = {it: primary_of("A primary object as it is before", it) for it, *_ in AUTHORIZED[:3]}
+parent = tpm.owned("A storage key of the owner", storage_key(), b"owner")
 below = tpm.create("An object below it", parent, sealed(), data=b"data")
-bad = tpm.writing(SECOND, b"x", b"x")
-tpm.fails("A try: AUTH_FAIL/s1", bad)
+tpm("A try: AUTH_FAIL/s1").writing(SECOND, b"x", b"x")
 tpm("And one that closes lockoutAuth: AUTH_FAIL/s1").lock_reset(b"x")
 session = tpm.start("A session that is bound to the owner", RH_OWNER)
 policy = tpm.policy("A policy session")
 tpm("TPM2_PolicyPCR").pcrs(policy, [(SHA256, [0])])
 lockout_is("One try", 1, 5, 2000, 3000)
 before = counter_of("The update counter, and PCR 16")
-clock_is("The clock", 5000, 5000, 1, 1)
+tpm.clock_is("The clock", 5000, 5000, 1, 1)
 tpm.wait(70)
 tpm("TPM2_Clear").clearing(RH_PLATFORM)
 tpm.wait(7)
-clock_is("The clock and the counts are 0, the time goes on", 5077, 7, 0, 0)
+tpm.clock_is("The clock and the counts are 0, the time goes on", 5077, 7, 0, 0)
 assert counter_of("The update counter is one more; PCR 16 is as it was") == before + 1
 lockout_is("No try, and the parameters as they were", 0, 5, 2000, 3000)
 tpm("lockoutAuth is open, and empty").lock_reset()
 tpm("So is ownerAuth").change_auth(RH_OWNER, b"", b"")
 tpm("And endorsementAuth").change_auth(RH_ENDORSEMENT, b"", b"")
 tpm("platformAuth is as it was: BAD_AUTH/s1").change_auth(RH_PLATFORM, b"", b"")
-pcr = tpm.pcrs(policy, [(SHA256, [0])])
-tpm.fails("TPM2_PolicyPCR: as if a PCR had changed: PCR_CHANGED", pcr)
+tpm("TPM2_PolicyPCR: as if a PCR had changed: PCR_CHANGED").pcrs(policy, [(SHA256, [0])])
 tpm("The sessions are there: on PCR 16").reset(session)
 tpm("On TPM_RH_OWNER, whose value is another").change_auth(RH_OWNER, b"", session)
 tpm.chapter("The handles that are there.")
@@ -141,18 +112,17 @@ tpm.read("TPM2_NV_Read of its index", SECOND, b"data", by=RH_PLATFORM)
 tpm("The owner's index: HANDLE/h1").index_public(FIRST)
 tpm("The owner's object: HANDLE/h1").public(0x8100_0000)
 tpm.chapter("The seed of the owner is new, and the others are not.")
-for hierarchy, name, _ in HIERARCHIES[:3]:
+for hierarchy, name, _ in AUTHORIZED[:3]:
     object_name, ticket = primary_of(f"The same primary object of {name}", hierarchy)
     assert (object_name == names[hierarchy][0]) == (hierarchy != RH_OWNER)
     # The proofs of both are new, so that old tickets are worth nothing.
     assert (ticket == names[hierarchy][1]) == (hierarchy == RH_PLATFORM)
-parent = tpm.create_primary("A storage key of the new owner", RH_OWNER, storage_key())
+parent = tpm.owned("A storage key of the new owner", storage_key())
 tpm("What was created below the old one: INTEGRITY/p1").loading(parent, below)
 tpm.chapter("No counter goes back.")
 tpm.define("The counter is defined again", counter(THIRD))
 tpm("TPM2_NV_Increment").incrementing(THIRD)
 tpm.read("It is 4", THIRD, number(4, 8))
-
 
 tpm.chapter("By sessions. The answer's hmac is by the value after it, the empty one.")
 tpm('lockoutAuth is "lockout"').change_auth(RH_LOCKOUT, b"lockout", b"")
@@ -166,16 +136,12 @@ tpm("TPM2_Clear by the first").clearing(RH_LOCKOUT, unbound)
 tpm('lockoutAuth is "lockout"').change_auth(RH_LOCKOUT, b"lockout", b"")
 tpm("By the bound one").clearing(RH_LOCKOUT, bound)
 tpm("And by it once more").clearing(RH_LOCKOUT, bound)
-clearing = tpm.clearing(RH_PLATFORM, b"platform", unbound, bound)
-tpm.accepted("By the platform, with both behind it", clearing)
-
+tpm("By the platform, with both behind it").clearing(RH_PLATFORM, b"platform", unbound, bound)
 
 tpm.chapter("Over starts.")
-tpm("TPM2_Shutdown(STATE)").shutting_down(STATE)
+tpm.saves()
 tpm("TPM2_Clear cancels what was saved").clearing(RH_PLATFORM)
-tpm.power()
-tpm("TPM2_Startup(STATE): VALUE/p1").starting(STATE)
-tpm.start_up("TPM2_Startup(CLEAR)")
-clock_is("It is the first reset", 0, 0, 1, 0)
+tpm.resumes_not()
+tpm.clock_is("It is the first reset", 0, 0, 1, 0)
 listed("The persistent object of the platform", 0x8100_0000, 0x8180_0000)
 tpm("platformAuth is empty now").clearing(RH_PLATFORM, b"")

@@ -2,20 +2,17 @@
 the platform, and enables it again (NO, 00), which only the platform may.
 """
 
-from tests.common.vocabulary import CC, command, CONTINUE_SESSION, DECRYPT, ENCRYPT, frames, number
-from tests.common.vocabulary import on_handle, RH_ENDORSEMENT, RH_LOCKOUT, RH_NULL, RH_OWNER
-from tests.common.vocabulary import RH_PLATFORM, STATE, Teller, wrong
+from tpmsim.model.capability import LOCKOUT_COUNTER, PROPERTIES
+from tests.common.steps import Steps
+from tests.common.vocabulary import CC, command, DECRYPTS, ENCRYPTS, number, on_handle
+from tests.common.vocabulary import RH_ENDORSEMENT, RH_LOCKOUT, RH_NULL, RH_OWNER, RH_PLATFORM
+from tests.common.vocabulary import wrong
 
 NO, YES = 0, 1
 BOTH = RH_LOCKOUT, RH_PLATFORM
-PROPERTIES, LOCKOUT_COUNTER = 6, 0x20E
 
-tpm = Teller(__name__, __doc__, starts=False)
+tpm = Steps(__name__, __doc__, starts=False)
 says = tpm.raw
-
-
-def control(handle, disables):
-    return on_handle(CC.ClearControl, handle, number(disables, 1))
 
 
 def clears(what):
@@ -26,20 +23,16 @@ def is_disabled(what):
     says(f"{what}: DISABLED", *(on_handle(CC.Clear, it) for it in BOTH))
 
 
-def wrong_control(session):
-    return wrong(tpm.clear_control(RH_LOCKOUT, NO, session))
-
-
-says("Before TPM2_Startup: INITIALIZE", control(RH_PLATFORM, YES))
+tpm("Before TPM2_Startup: INITIALIZE").clear_control(RH_PLATFORM, YES)
 tpm.startup()
 says("No handle: INSUFFICIENT/h1", command(CC.ClearControl, b""))
 others = RH_OWNER, RH_ENDORSEMENT, RH_NULL, 0
-says("Who cannot clear: VALUE/h1", *(control(it, YES) for it in others))
+tpm.says("Who cannot clear: VALUE/h1", *(tpm.clear_control(it, YES) for it in others))
 case = "Without sessions: AUTH_MISSING"
 says(case, *(command(CC.ClearControl, number(it, 4) + b"\1") for it in BOTH))
 says("No parameter: INSUFFICIENT/p1", *(on_handle(CC.ClearControl, it) for it in BOTH))
 case = "Neither YES nor NO: VALUE/p1"
-says(case, *(control(handle, value) for handle in BOTH for value in (2, 0x80, 0xFF)))
+tpm.says(case, *(tpm.clear_control(handle, value) for handle in BOTH for value in (2, 0x80, 0xFF)))
 says(
     "A byte behind it, also of NO by lockoutAuth: SIZE",
     *(on_handle(CC.ClearControl, handle, it) for handle in BOTH for it in (b"\0\0", b"\1\0")),
@@ -50,26 +43,23 @@ said.fails(*(tpm.clear_control(it, YES, policy) for it in BOTH))
 tpm("It is flushed").flush(policy)
 clears("None of these disabled TPM2_Clear: by lockoutAuth and by the platform")
 
-
 tpm.chapter("By the platform.")
-says("NO, and TPM2_Clear was enabled already: SUCCESS", control(RH_PLATFORM, NO))
+tpm("NO, and TPM2_Clear was enabled already").clear_control(RH_PLATFORM, NO)
 clears("TPM2_Clear")
-says("YES, twice: SUCCESS", control(RH_PLATFORM, YES), control(RH_PLATFORM, YES))
+tpm.says("YES, twice: SUCCESS", *2 * [tpm.clear_control(RH_PLATFORM, YES)])
 is_disabled("TPM2_Clear by lockoutAuth, and by the platform")
-says("NO: SUCCESS", control(RH_PLATFORM, NO))
+tpm("NO").clear_control(RH_PLATFORM, NO)
 clears("TPM2_Clear")
 tpm.chapter("By lockoutAuth.")
-says("NO, though TPM2_Clear is enabled: AUTH_FAIL", control(RH_LOCKOUT, NO))
-says("YES: SUCCESS", control(RH_LOCKOUT, YES))
+tpm("NO, though TPM2_Clear is enabled: AUTH_FAIL").clear_control(RH_LOCKOUT, NO)
+tpm("YES").clear_control(RH_LOCKOUT, YES)
 is_disabled("TPM2_Clear by lockoutAuth, and by the platform")
-says("YES again: SUCCESS", control(RH_LOCKOUT, YES))
-says("NO: AUTH_FAIL", control(RH_LOCKOUT, NO))
+tpm("YES again").clear_control(RH_LOCKOUT, YES)
+tpm("NO: AUTH_FAIL").clear_control(RH_LOCKOUT, NO)
 is_disabled("It is disabled as before")
 
-# TPM_PT_LOCKOUT_COUNTER is 0, and lockoutAuth is open.
-what = "That was no try, though its code is of one"
-given = tpm(what).capability(PROPERTIES, LOCKOUT_COUNTER, 1)
-assert given[-4:] == bytes(4)
+case = "That was no try, though its code is of one"
+tpm.lists(case, PROPERTIES, LOCKOUT_COUNTER, 1, [(LOCKOUT_COUNTER, 0)], more=True)
 tpm("lockoutAuth is open").lock_reset()
 
 for session, words in (
@@ -78,45 +68,37 @@ for session, words in (
 ):
     tpm(f"{words}: NO: AUTH_FAIL").clear_control(RH_LOCKOUT, NO, session)
     tpm(f"{words}: YES").clear_control(RH_LOCKOUT, YES, session)
-    tpm.fails("A wrong hmac, of NO: AUTH_FAIL/s1", wrong_control(session))
+    wrong_control = wrong(tpm.clear_control(RH_LOCKOUT, NO, session))
+    tpm.fails("A wrong hmac, of NO: AUTH_FAIL/s1", wrong_control)
     tpm("It has closed lockoutAuth: LOCKOUT").lock_reset()
     tpm.wait(1_000_000)
     tpm("It opens with the time").lock_reset()
     tpm("It is flushed").flush(session)
 
-
 tpm.chapter("DISABLED is the check of the command itself, behind all others.")
 says("A byte behind the handle: SIZE", *(on_handle(CC.Clear, it, b"\0") for it in BOTH))
-wrong_password = [frames.entry(hmac=b"x")]
-case = "A wrong password of the platform: BAD_AUTH/s1"
-says(case, on_handle(CC.Clear, RH_PLATFORM, b"", wrong_password))
-case = "One of TPM_RH_LOCKOUT: a try, which is counted: AUTH_FAIL/s1"
-says(case, on_handle(CC.Clear, RH_LOCKOUT, b"", wrong_password))
-says("The right one: LOCKOUT", on_handle(CC.Clear, RH_LOCKOUT))
-says("Of TPM2_ClearControl, too: LOCKOUT", control(RH_LOCKOUT, NO), control(RH_LOCKOUT, YES))
+tpm("A wrong password of the platform: BAD_AUTH/s1").clearing(RH_PLATFORM, b"x")
+tpm("One of TPM_RH_LOCKOUT: a try, which is counted: AUTH_FAIL/s1").clearing(RH_LOCKOUT, b"x")
+tpm("The right one: LOCKOUT").clearing(RH_LOCKOUT)
+said = tpm("Of TPM2_ClearControl, too: LOCKOUT")
+said.says(*(tpm.clear_control(RH_LOCKOUT, it) for it in (NO, YES)))
 tpm.wait(1_000_000)
 is_disabled("Behind lockoutRecovery")
 
-
 tpm.chapter("By sessions that cannot encrypt what is no sized buffer.")
 session = tpm.start("An HMAC session with AES", aes=True)
-for attribute in (DECRYPT, ENCRYPT):
-    words = "Its only parameter is one byte, and nothing is answered"
-    tpm.fails(
-        f"{words if attribute == DECRYPT else ''}: ATTRIBUTES/s1",
-        tpm.clear_control(RH_PLATFORM, NO, session).but_entry(
-            1, attributes=CONTINUE_SESSION | attribute
-        ),
-    )
+for words, attributes in (
+    ("Its only parameter is one byte, and nothing is answered: ATTRIBUTES/s1", DECRYPTS),
+    (": ATTRIBUTES/s1", ENCRYPTS),
+):
+    prepared = tpm.clear_control(RH_PLATFORM, NO, session)
+    tpm.fails(words, prepared.but_entry(1, attributes=attributes))
 tpm("It is flushed").flush(session)
-
 
 tpm.chapter("It is kept over starts.")
 tpm.power_cycle()
 is_disabled("Behind TPM2_Startup(CLEAR)")
-tpm("TPM2_Shutdown(STATE)").shutting_down(STATE)
-tpm.power()
-tpm.start_up("TPM2_Startup(STATE)", STATE)
+tpm.saves_and_resumes()
 is_disabled("Behind it")
-says("NO by the platform: SUCCESS", control(RH_PLATFORM, NO))
+tpm("NO by the platform").clear_control(RH_PLATFORM, NO)
 clears("TPM2_Clear")

@@ -3,21 +3,13 @@ the device's life; resetCount and restartCount; and that the clock is safe (01),
 back. The numbers of eight bytes end far beyond what a script can wait for.
 """
 
-from tests.common.vocabulary import CC, CLEAR, command, frames, number, STATE, Teller
+from tests.common.steps import Steps
+from tests.common.vocabulary import CC, CLEAR, command, frames, number, STATE
 
 MOST = 2**32 - 1
 
-tpm = Teller(__name__, __doc__, starts=False)
-says = tpm.raw
-
-
-def is_now(what, time, clock, resets, restarts):
-    answer = number(time, 8) + number(clock, 8) + number(resets, 4) + number(restarts, 4) + b"\1"
-    assert tpm(what).clock() == answer, what
-
-
-def shut_down(kind):
-    tpm(f"TPM2_Shutdown({'STATE' if kind else 'CLEAR'})").shutting_down(kind)
+tpm = Steps(__name__, __doc__, starts=False)
+says, is_now = tpm.raw, tpm.clock_is
 
 
 def time():
@@ -43,16 +35,12 @@ tpm.startup()
 tpm.wait(5)
 is_now("Five milliseconds later", 5, 5, 1, 0)
 says("A byte behind it: SIZE", command(CC.ReadClock, b"\0"))
-says(
-    "With an authorization area, right or wrong: AUTH_CONTEXT",
-    command(CC.ReadClock, frames.area(frames.entry()), frames.SESSIONS),
-    command(CC.ReadClock, number(0, 4), frames.SESSIONS),
-    command(CC.ReadClock, b"", frames.SESSIONS),
-)
+case = "With an authorization area, right or wrong: AUTH_CONTEXT"
+areas = frames.area(frames.entry()), number(0, 4), b""
+says(case, *(command(CC.ReadClock, it, frames.SESSIONS) for it in areas))
 is_now("None of them took any time", 5, 5, 1, 0)
 
 time()
-
 
 clock = 11_108 + 2 * MOST
 tpm.chapter("A power cycle: time starts over, and clock goes on.")
@@ -71,32 +59,29 @@ is_now("20 since then", 20, clock + 27, 3, 0)
 clock = clock + 27
 
 tpm.chapter("Resets, restarts and resumes.")
-shut_down(STATE)
-tpm.power()
-tpm.start_up("TPM2_Startup(STATE), a resume", STATE)
+tpm.saves_and_resumes("TPM2_Startup(STATE), a resume")
 is_now("resetCount stays, restartCount is 1", 0, clock, 3, 1)
-shut_down(STATE)
+tpm.saves()
 tpm.power()
 tpm.start_up("TPM2_Startup(CLEAR), a restart, as a state was saved")
 is_now("restartCount is 2", 0, clock, 3, 2)
 tpm.power()
 tpm.start_up("TPM2_Startup(CLEAR) without TPM2_Shutdown, a reset")
 is_now("resetCount is 4, restartCount 0", 0, clock, 4, 0)
-shut_down(CLEAR)
+tpm("TPM2_Shutdown(CLEAR)").shutting_down(CLEAR)
 tpm.power()
 tpm.start_up("TPM2_Startup(CLEAR) after TPM2_Shutdown(CLEAR), a reset too")
 is_now("resetCount is 5", 0, clock, 5, 0)
-shut_down(STATE)
+tpm.saves()
 tpm.power()
 tpm("A wrong type: VALUE/p1").starting(2)
 tpm.start_up("TPM2_Startup(STATE)", STATE)
 is_now("A refused one has counted nothing", 0, clock, 5, 1)
-shut_down(STATE)
+tpm.saves()
 tpm.power()
-tpm.power()
-tpm.start_up("TPM2_Startup(STATE) after two power cycles", STATE)
+tpm.resumes("TPM2_Startup(STATE) after two power cycles")
 is_now("One resume", 0, clock, 5, 2)
-shut_down(STATE)
+tpm.saves()
 tpm("TPM2_PCR_Reset cancels what was saved").reset(b"")
 tpm.power()
 tpm.start_up("TPM2_Startup(CLEAR), a reset")

@@ -9,15 +9,15 @@ with the same hmac.
 from collections.abc import Iterator
 
 from tpmsim.caller import Prepared, Session
-from tests.common.vocabulary import area, bits, BY_POLICY, BY_VALUE, CC, DECRYPTS, extended, FIRST
-from tests.common.vocabulary import FOURTH, frames, HERE, hmac_key, NvAttribute, ObjectAttribute
-from tests.common.vocabulary import policy, RH_LOCKOUT, RH_OWNER, SECOND, SHA1, SHA256, sized, THIRD
-from tests.common.vocabulary import Use
+from tests.common.steps import AFTER_AUTH_VALUE, PROTECTED, with_value
+from tests.common.vocabulary import area, bits, BY_POLICY, BY_VALUE, CC, extended, FIRST, FOURTH
+from tests.common.vocabulary import frames, hmac_key, NvAttribute, RH_LOCKOUT, RH_OWNER, SECOND
+from tests.common.vocabulary import SHA1, SHA256, sized, THIRD
 from tests.general.cuts import HEADER_BYTES, with_size
 from tests.sessions.grounds_caller import GroundsCaller
 
 PIN, DATA, LOCKOUT = b"pin", b"abc", b"lockout"
-DEMANDING = policy.after_auth_value(SHA256, bytes(32))
+DEMANDING = AFTER_AUTH_VALUE[SHA256]
 HANDLES_BYTES = 8
 NO_TRY, TRY = 0, 1
 
@@ -90,13 +90,8 @@ tpm.define("Protected bits", bits(SECOND, BY_VALUE), auth=PIN)
 tpm.define("A protected index that is extended", extended(THIRD, BY_VALUE), auth=PIN)
 tpm.define("One with TPMA_NV_NO_DA", area(FOURTH, BY_VALUE | NvAttribute.NO_DA), auth=PIN)
 tpm("The first is written").writing(FIRST, DATA, offset=2)
-KEY = tpm.create_primary(
-    "A protected HMAC key",
-    RH_OWNER,
-    hmac_key(attributes=HERE | ObjectAttribute.USER_WITH_AUTH),
-    user_auth=PIN,
-    data=b"a key",
-)
+said, protected = tpm("A protected HMAC key"), hmac_key(attributes=PROTECTED)
+key = said.create_primary(RH_OWNER, protected, user_auth=PIN, data=b"a key")
 
 # TPM2_NV_Write of the first index, by each kind of session.
 unbound = tpm.start("A session that is bound to nothing: the value of the index is the key")
@@ -107,16 +102,14 @@ bound = tpm.start("One that is bound to the index", FIRST)
 cut("TPM2_NV_Write by it", tpm.writing(FIRST, DATA, bound, offset=2))
 to_owner = tpm.start("One that is bound to TPM_RH_OWNER, with AES", RH_OWNER, aes=True)
 case = "TPM2_NV_Write by it, with encrypted data"
-cut(case, tpm.writing(FIRST, DATA, Use(to_owner, DECRYPTS), offset=2))
+cut(case, tpm.writing(FIRST, DATA, to_owner.decrypting, offset=2))
 told = tpm.policy("A policy session")
 tpm("TPM2_PolicyAuthValue").auth_value_told(told)
-by_policy = Use(told, demand=policy.AUTH_VALUE)
-cut("TPM2_NV_Write by it", tpm.writing(FIRST, DATA, by_policy, offset=2))
-UNBOUND, OF_SHA1, BOUND, TO_OWNER, TOLD = unbound, sha1, bound, to_owner, told
+cut("TPM2_NV_Write by it", tpm.writing(FIRST, DATA, with_value(told), offset=2))
 
-tpm("A session is flushed").flush(OF_SHA1)
+tpm("A session is flushed").flush(sha1)
 
-prepared = tpm.writing(FIRST, DATA, UNBOUND, offset=2)
+prepared = tpm.writing(FIRST, DATA, unbound, offset=2)
 tpm.chapter(
     "TPM2_NV_Write, cut before its parameters, with commandSize corrected, and anywhere, with "
     "commandSize as it was. No hmac is compared, so that is no try."
@@ -128,19 +121,16 @@ for words, start, end, outcome in (
     ("Within nvIndex", HEADER_BYTES + 4, handles, "INSUFFICIENT/h2"),
     ("Within the authorization area", handles, area_end, "AUTHSIZE"),
 ):
-    shorter = [with_size(whole[:length]) for length in range(start, end)]
-    refused(words, outcome, NO_TRY, *shorter)
-as_it_was = [whole[:length] for length in range(len(whole))]
+    refused(words, outcome, NO_TRY, *(with_size(whole[:length]) for length in range(start, end)))
+as_it_was = (whole[:length] for length in range(len(whole)))
 refused("With commandSize as it was", "COMMAND_SIZE", NO_TRY, *as_it_was)
 comes_whole(prepared)
 
-
 # An entry that is right for what is left of the parameters: then they are what is refused.
-session = UNBOUND
 whole = frames.nv_write(DATA, 2)
 in_data = range(len(sized(DATA)))
 for words, use in (
-    ("An hmac that is made of what is left of the parameters", session),
+    ("An hmac that is made of what is left of the parameters", unbound),
     ("The password", PIN),
 ):
     tpm.chapter(f"{words} is right: so the parameters are refused, and that is no try.")
@@ -153,10 +143,8 @@ for left in range(len(whole)):
     prepared = tpm.prepare(CC.NV_Write, [FIRST, FIRST], whole[:left], b"x")
     refused_alone(f"{left} bytes are left", "AUTH_FAIL/s1", TRY, prepared.buffer())
 
-
-session = UNBOUND
 tpm.chapter("Tries add up to maxTries, which is 3. No more is counted then.")
-prepared = tpm.writing(FIRST, DATA, session, offset=2)
+prepared = tpm.writing(FIRST, DATA, unbound, offset=2)
 for tries, (what, buffer) in enumerate(cuts_of(prepared), 1):
     refused(what, "AUTH_FAIL/s1" if tries <= 3 else "LOCKOUT", min(tries, 3), buffer)
 refused("Whole", "LOCKOUT", 3, prepared.buffer())
@@ -164,7 +152,7 @@ tpm.unlocks()
 comes_whole(prepared)
 
 tpm.set_protection("TPM2_DictionaryAttackParameters: maxTries is 1", 1, 1000, 1000)
-prepared = tpm.writing(FIRST, DATA, session, offset=2)
+prepared = tpm.writing(FIRST, DATA, unbound, offset=2)
 for what, buffer in cuts_of(prepared):
     refused(what, "AUTH_FAIL/s1", TRY, buffer)
     refused("Now it is locked: the same", "LOCKOUT", TRY, buffer)
@@ -172,26 +160,23 @@ for what, buffer in cuts_of(prepared):
 comes_whole(prepared)
 
 tpm.set_protection("maxTries is 3 again", 3, 1000, 1000)
-tpm.restarts(TOLD)
-by_each_command(UNBOUND, TOLD, KEY)
-beside(UNBOUND, BOUND)
+tpm.restarts(told)
+by_each_command(unbound, told, key)
+beside(unbound, bound)
 
 # The same where nothing protected is tried.
-session = UNBOUND
 case = "TPM2_NV_Write of the index with TPMA_NV_NO_DA"
-cut(case, tpm.writing(FOURTH, DATA, session), "BAD_AUTH/s1", NO_TRY)
+cut(case, tpm.writing(FOURTH, DATA, unbound), "BAD_AUTH/s1", NO_TRY)
 tpm('ownerAuth is "pin"').change_auth(RH_OWNER, PIN, b"")
 case = "TPM2_HierarchyChangeAuth of TPM_RH_OWNER"
-cut(case, tpm.change_auth(RH_OWNER, b"", session), "BAD_AUTH/s1", NO_TRY)
+cut(case, tpm.change_auth(RH_OWNER, b"", unbound), "BAD_AUTH/s1", NO_TRY)
 
-
-session = UNBOUND
 tpm.chapter(
     "TPM2_DictionaryAttackParameters by a session: a try at lockoutAuth counts nothing, and "
     "closes it for lockoutRecovery, which is 1,000 seconds."
 )
 tpm('lockoutAuth is "lockout"').change_auth(RH_LOCKOUT, LOCKOUT, b"")
-prepared = tpm.attack_parameters(3, 1000, 1000, session)
+prepared = tpm.attack_parameters(3, 1000, 1000, unbound)
 for what, buffer in cuts_of(prepared):
     refused(what, "AUTH_FAIL/s1", NO_TRY, buffer)
     refused("Now it is closed: the same", "LOCKOUT", NO_TRY, buffer)

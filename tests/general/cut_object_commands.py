@@ -1,5 +1,7 @@
 """Writes cut_object_commands.tpm: the commands of objects, cut to every shorter length."""
 
+from functools import partial
+
 from tests.general import cuts
 from tests.general.cuts import STARTUP, cut
 from tpmsim.caller import hmac_key, sealed, storage_key
@@ -8,13 +10,7 @@ from tpmsim.model.machine import MANUFACTURED
 from tpmsim.model.state import SECRET_BYTES
 from tpmsim.standard import CC, SHA256, command, entry, frames, number, on_handle, sized
 
-HEAD = (
-    "The commands of objects, each cut to every shorter length: first as it is, and then with "
-    "its commandSize corrected. At last it comes whole."
-)
-
-# The kind of handles that is looked at behind each refusal.
-LISTED = frames.TRANSIENT
+WHICH, LISTED = "The commands of objects, each", frames.TRANSIENT
 
 # A storage key, and what is sealed under it, with random bytes that are zeros.
 PARENT, CHILD = 0x8000_0000, 0x8000_0001
@@ -46,7 +42,6 @@ def on_object(code, handle, parameters=b""):
     return on_handle(code, handle, parameters, [entry(hmac=b"abc")])
 
 
-CREATION = "its handle", "inSensitive", "inPublic", "outsideInfo", "creationPCR"
 PRIMARY = on_handle(CC.CreatePrimary, frames.RH_OWNER, creation(storage_key()))
 KEY = on_handle(CC.CreatePrimary, frames.RH_OWNER, creation(hmac_key(), b"key"))
 SEALED = on_object(CC.Create, PARENT, creation(sealed(), b"secret"))
@@ -55,16 +50,14 @@ HMAC = on_object(CC.HMAC, CHILD, sized(b"data") + number(SHA256, 2))
 
 COMMANDS = [
     STARTUP,
-    cut("TPM2_CreatePrimary of a storage key", PRIMARY, *CREATION),
-    cut("TPM2_Create of sealed data", SEALED, *CREATION),
-    cut("TPM2_Load of what was created", LOADED, "its handle", "inPrivate", "inPublic"),
-    cut("TPM2_ReadPublic", command(CC.ReadPublic, number(CHILD, 4)), "objectHandle"),
-    cut("TPM2_Unseal", on_object(CC.Unseal, CHILD), "its handle"),
-    cut("TPM2_FlushContext of it", command(CC.FlushContext, number(CHILD, 4)), "flushHandle"),
-    cut("TPM2_CreatePrimary of an HMAC key", KEY, *CREATION),
-    cut("TPM2_HMAC by it", HMAC, "its handle", "buffer", "hashAlg"),
+    cut("TPM2_CreatePrimary of a storage key", PRIMARY),
+    cut("TPM2_Create of sealed data", SEALED),
+    cut("TPM2_Load of what was created", LOADED),
+    cut("TPM2_ReadPublic", command(CC.ReadPublic, number(CHILD, 4))),
+    cut("TPM2_Unseal", on_object(CC.Unseal, CHILD)),
+    cut("TPM2_FlushContext of it", command(CC.FlushContext, number(CHILD, 4))),
+    cut("TPM2_CreatePrimary of an HMAC key", KEY),
+    cut("TPM2_HMAC by it", HMAC),
 ]
 
-
-def write_script():
-    cuts.write(__file__, HEAD, LISTED, COMMANDS)
+write_script = partial(cuts.write, __file__, WHICH, LISTED, COMMANDS)

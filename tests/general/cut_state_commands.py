@@ -2,56 +2,44 @@
 length.
 """
 
+from functools import partial
+
 from tests.general import cuts
-from tests.general.cuts import STARTUP, cut
+from tests.general.cuts import comes_whole, cut, STARTUP
 from tpmsim.caller import storage_key
-from tpmsim.standard import CC, RH_LOCKOUT, RH_OWNER, RH_PLATFORM, command, frames, number
-from tpmsim.standard import on_handle, on_handles, sized
+from tpmsim.standard import CC, command, frames, number, on_handle, on_handles, RH_LOCKOUT, RH_OWNER
+from tpmsim.standard import RH_PLATFORM, sized
 
-HEAD = (
+WHICH = (
     "The commands of starts, of capabilities, of dictionary attack protection, of persistent "
-    "objects and of clearing, each cut to every shorter length: first as it is, and then with "
-    "its commandSize corrected. At last it comes whole."
+    "objects and of clearing, each"
 )
-
-# The kind of handles that is looked at behind each refusal.
 LISTED = frames.PERSISTENT
 
 OBJECT, KEPT = 0x8000_0000, 0x8100_0000
 
-PRIMARY = on_handle(
-    CC.CreatePrimary,
-    RH_OWNER,
-    frames.creation(frames.sensitive_create(), sized(storage_key().text)),
-)
-
-CAPABILITY = command(CC.GetCapability, number(1, 4) + number(0, 4) + number(3, 4))
+CREATION = frames.creation(frames.sensitive_create(), sized(storage_key().text))
+CAPABILITY = number(1, 4) + number(0, 4) + number(3, 4)
 KEEPING = on_handles(CC.EvictControl, [RH_OWNER, OBJECT], number(KEPT, 4))
-PROTECTING = on_handle(
-    CC.DictionaryAttackParameters, RH_LOCKOUT, frames.attack_parameters(3, 1000, 1000)
-)
-RESETTING = on_handle(CC.DictionaryAttackLockReset, RH_LOCKOUT)
+PROTECTION = frames.attack_parameters(3, 1000, 1000)
 
 COMMANDS = [
     STARTUP,
-    cut("TPM2_SelfTest", command(CC.SelfTest, b"\1"), "fullTest"),
-    cut("TPM2_GetCapability", CAPABILITY, "capability", "property", "propertyCount"),
-    cut("TPM2_ReadClock", command(CC.ReadClock, b"")),
-    cut("TPM2_Shutdown", command(CC.Shutdown, number(1, 2)), "shutdownType"),
-    cut("TPM2_CreatePrimary of a storage key", PRIMARY),
-    cut("TPM2_EvictControl", KEEPING, "auth", "objectHandle", "persistentHandle"),
-    cut("TPM2_DictionaryAttackLockReset", RESETTING, "its handle"),
+    cut("TPM2_SelfTest", command(CC.SelfTest, b"\1")),
+    cut("TPM2_GetCapability", command(CC.GetCapability, CAPABILITY)),
+    comes_whole("TPM2_ReadClock", command(CC.ReadClock, b"")),
+    cut("TPM2_Shutdown", command(CC.Shutdown, number(1, 2))),
+    comes_whole(
+        "TPM2_CreatePrimary of a storage key", on_handle(CC.CreatePrimary, RH_OWNER, CREATION)
+    ),
+    cut("TPM2_EvictControl", KEEPING),
+    cut("TPM2_DictionaryAttackLockReset", on_handle(CC.DictionaryAttackLockReset, RH_LOCKOUT)),
     cut(
         "TPM2_DictionaryAttackParameters",
-        PROTECTING,
-        *("its handle", "newMaxTries", "newRecoveryTime", "lockoutRecovery"),
+        on_handle(CC.DictionaryAttackParameters, RH_LOCKOUT, PROTECTION),
     ),
-    cut(
-        "TPM2_ClearControl", on_handle(CC.ClearControl, RH_PLATFORM, b"\0"), "its handle", "disable"
-    ),
-    cut("TPM2_Clear", on_handle(CC.Clear, RH_LOCKOUT), "its handle"),
+    cut("TPM2_ClearControl", on_handle(CC.ClearControl, RH_PLATFORM, b"\0")),
+    cut("TPM2_Clear", on_handle(CC.Clear, RH_LOCKOUT)),
 ]
 
-
-def write_script():
-    cuts.write(__file__, HEAD, LISTED, COMMANDS)
+write_script = partial(cuts.write, __file__, WHICH, LISTED, COMMANDS)

@@ -8,27 +8,54 @@ from tpmsim.standard import CC, command, frames, number
 from tests.general.bends import Walk, pieces
 from tests.general.looks import LookingScript
 
+HEAD = (
+    "cut to every shorter length: first as it is, and then with its commandSize corrected. At last "
+    "it comes whole."
+)
 HEADER_BYTES = 10
-AREA = "within the authorization area"
+
+# Where a handle or a parameter is cut that is not called by its name in Part 3.
+WORDS = {
+    "digests": "within its digests",
+    "eventData": "within its data",
+    "locality": "before locality",
+    "pcrs": "within its selection",
+    "pcrSelectionIn": "within its selection",
+    "pHashList": "within its digests",
+    "sessionHandle": "within policySession",
+    "sessionType": "before sessionType",
+    "writtenSet": "before writtenSet",
+}
 
 
-def cut(name, whole, *words, outcome="SUCCESS"):
-    """A command: its name, its whole buffer, the pieces of it, and what it comes to. The words are
-    those of its handles and its parameters, in their order; without words it comes whole alone.
-    One that is refused whole is so wherever it is cut behind the authorization area.
-    """
-    found, named = [], iter(words)
-    for place, end in pieces(Walk(whole)) if words else ():
-        if place:
-            word = next(named)
-            within = word if word.startswith("before ") else f"within {word}"
-            found.append((end, within, f"INSUFFICIENT/{place}"))
+def names(code):
+    """Where a command is cut: in each handle, and then in each parameter."""
+    for it in (*code.handles, *code.parameters):
+        if code.authorized and [it] == list(code.handles) and it.name != "nvIndex":
+            yield "within its handle"
         else:
-            found.append((end, AREA, "AUTHSIZE"))
-            if outcome != "SUCCESS":
-                found.append((len(whole), "behind the authorization area", outcome))
-                break
+            yield WORDS.get(it.name, f"within {it.name}")
+
+
+def cut(name, whole, outcome="SUCCESS"):
+    """A command: its name, its whole buffer, the pieces of it, and what it comes to. One that is
+    refused whole is so wherever it is cut behind the authorization area.
+    """
+    found, named = [], names(CC(int.from_bytes(whole[6:10], "big")))
+    for place, end in pieces(Walk(whole)):
+        if place:
+            found.append((end, next(named), f"INSUFFICIENT/{place}"))
+            continue
+        found.append((end, "within the authorization area", "AUTHSIZE"))
+        if outcome != "SUCCESS":
+            found.append((len(whole), "behind the authorization area", outcome))
+            break
     return name, whole, found, outcome
+
+
+def comes_whole(name, whole):
+    """A command that is not cut."""
+    return name, whole, [], "SUCCESS"
 
 
 def start(**choices):
@@ -37,7 +64,7 @@ def start(**choices):
     return command(CC.StartAuthSession, b"".join(number(it, 4) for it in handles) + parameters)
 
 
-STARTUP = cut("TPM2_Startup(CLEAR)", command(CC.Startup, number(0, 2)), "startupType")
+STARTUP = cut("TPM2_Startup(CLEAR)", command(CC.Startup, number(0, 2)))
 
 
 def with_size(buffer):
@@ -59,8 +86,11 @@ def cuts(whole, found):
     assert start == len(whole)
 
 
-def write(program, head, kind, commands):
-    """A script of commands: each one's name, its whole buffer, the pieces, and what it comes to."""
+def write(program, which, kind, commands, more=""):
+    """A script of commands: each one's name, its whole buffer, the pieces, and what it comes to.
+    Behind each refusal the handles of this kind are looked at.
+    """
+    head = f"{which} {HEAD} {more}".rstrip()
     script = LookingScript(program, head, kind)
     for name, whole, found, outcome in commands:
         script.refusals(name, whole, outcome, cuts(whole, found))

@@ -3,12 +3,13 @@ objects, eight transient ones, 64 NV indices of 16,384 bytes in all, and sixteen
 tests/images/images.py prints the image of what it keeps.
 """
 
-from tests.common.vocabulary import ALG_NULL, area, bits, BY_OWNER, BY_PLATFORM, BY_POLICY, BY_VALUE
-from tests.common.vocabulary import CC, counter, extended, frames, HERE, hmac_key, NvAttribute
-from tests.common.vocabulary import ObjectAttribute, OPEN, policy, RH_ENDORSEMENT, RH_LOCKOUT
-from tests.common.vocabulary import RH_NULL, RH_OWNER, RH_PLATFORM, SE_HMAC, SE_POLICY, SE_TRIAL
-from tests.common.vocabulary import sealed, SHA1, SHA256, STATE, storage_key, Teller
 from tpmsim.model import nv_commands
+from tests.common.steps import AFTER_AUTH_VALUE, GENERATED, PROTECTED, Steps
+from tests.common.vocabulary import ALG_NULL, area, bits, BY_OWNER, BY_PLATFORM, BY_POLICY, BY_VALUE
+from tests.common.vocabulary import CC, counter, extended, frames, HERE, hmac_key, LOCKS
+from tests.common.vocabulary import NvAttribute, RH_ENDORSEMENT, RH_LOCKOUT, RH_NULL, RH_OWNER
+from tests.common.vocabulary import RH_PLATFORM, SE_HMAC, SE_POLICY, SE_TRIAL, sealed, SHA1, SHA256
+from tests.common.vocabulary import storage_key
 
 PERSISTENT, OBJECTS, SESSIONS = 16, 8, 16
 AUTH_VALUES = (
@@ -17,57 +18,50 @@ AUTH_VALUES = (
     (RH_PLATFORM, b"p"),
     (RH_LOCKOUT, b"lockout"),
 )
-POLICIES = {
-    algorithm: policy.after_auth_value(algorithm, bytes(size))
-    for algorithm, size in ((SHA1, 20), (SHA256, 32))
-}
-STAYS = HERE | OPEN
 
 # Objects that stay, of each type, scheme and hash algorithm.
 TEMPLATES = (
     (storage_key(), b"", b""),
     (storage_key(SHA1), b"", b"a"),
     (sealed(), b"a secret", b"pin"),
-    (sealed(attributes=HERE | ObjectAttribute.USER_WITH_AUTH), b"x", b""),
-    (sealed(SHA1, attributes=HERE, auth_policy=POLICIES[SHA1]), bytes(range(128)), b"b" * 20),
-    (sealed(auth_policy=POLICIES[SHA256]), bytes(128), b"c" * 32),
+    (sealed(attributes=PROTECTED), b"x", b""),
+    (sealed(SHA1, HERE, auth_policy=AFTER_AUTH_VALUE[SHA1]), bytes(range(128)), b"b" * 20),
+    (sealed(auth_policy=AFTER_AUTH_VALUE[SHA256]), bytes(128), b"c" * 32),
     (hmac_key(), b"a key", b""),
     (hmac_key(SHA1, scheme=SHA1), b"another key", b"mac"),
     (hmac_key(scheme=ALG_NULL), b"k", b""),
-    (hmac_key(attributes=STAYS | ObjectAttribute.SENSITIVE_DATA_ORIGIN), b"", b""),
+    (hmac_key(attributes=GENERATED), b"", b""),
 )
 
-tpm = Teller(__name__, __doc__, starts=False)
+SHA1_POLICY = {"algorithm": SHA1, "auth_policy": AFTER_AUTH_VALUE[SHA1]}
+SHA256_POLICY = {"auth_policy": AFTER_AUTH_VALUE[SHA256]}
 
+# Ordinary ones that are large and small, written or not, and the other types.
+INDICES = (
+    (area(0x0100_0000, BY_OWNER, size=2048), b""),
+    (area(0x01FF_FFFF, BY_OWNER, size=2048), b"a"),
+    (area(0x0100_0001, BY_OWNER | LOCKS, size=2048), b"b" * 32),
+    (area(0x0100_0002, BY_VALUE, size=0), b""),
+    (area(0x0100_0003, BY_POLICY, size=3, **SHA1_POLICY), b"c" * 20),
+    (counter(0x0100_0004), b"count"),
+    (counter(0x0100_0005, BY_OWNER | NvAttribute.NO_DA), b""),
+    (bits(0x0100_0006), b""),
+    (extended(0x0100_0007), b""),
+    (extended(0x0100_0008, algorithm=SHA1), b""),
+    (area(0x0100_0009, BY_OWNER | BY_POLICY, size=100, **SHA256_POLICY), b""),
+)
 
-def indices():
-    """Ordinary ones that are large and small, written or not, and the other types."""
-    locks = NvAttribute.WRITE_STCLEAR | NvAttribute.READ_STCLEAR
-    for_policy = area(0x0100_0003, BY_POLICY, algorithm=SHA1, auth_policy=POLICIES[SHA1], size=3)
-    return (
-        (area(0x0100_0000, BY_OWNER, size=2048), b""),
-        (area(0x01FF_FFFF, BY_OWNER, size=2048), b"a"),
-        (area(0x0100_0001, BY_OWNER | locks, size=2048), b"b" * 32),
-        (area(0x0100_0002, BY_VALUE, size=0), b""),
-        (for_policy, b"c" * 20),
-        (counter(0x0100_0004), b"count"),
-        (counter(0x0100_0005, BY_OWNER | NvAttribute.NO_DA), b""),
-        (bits(0x0100_0006), b""),
-        (extended(0x0100_0007), b""),
-        (extended(0x0100_0008, algorithm=SHA1), b""),
-        (area(0x0100_0009, BY_OWNER | BY_POLICY, auth_policy=POLICIES[SHA256], size=100), b""),
-    )
+tpm = Steps(__name__, __doc__, starts=False)
 
 
 def define_all():
     tpm.chapter("NV indices.")
-    defined = indices()
-    for public, auth in defined:
-        tpm.define("One of each kind" if public is defined[0][0] else "", public, auth=auth)
+    for public, auth in INDICES:
+        tpm.define("One of each kind" if public is INDICES[0][0] else "", public, auth=auth)
     platforms = area(0x0180_0000, BY_PLATFORM | NvAttribute.PLATFORMCREATE, size=1)
     tpm.define("One of the platform", platforms, by=RH_PLATFORM)
-    taken = sum(it.data_size for it, _ in defined) + platforms.data_size
-    count = nv_commands.INDICES - len(defined) - 1
+    taken = sum(it.data_size for it, _ in INDICES) + platforms.data_size
+    count = nv_commands.INDICES - len(INDICES) - 1
     for at in range(count):
         left_for_this = nv_commands.ALL_BYTES - taken - 8 * (count - 1 - at)
         public = area(0x0140_0000 + at, BY_OWNER, size=min(left_for_this, nv_commands.INDEX_BYTES))
@@ -98,16 +92,13 @@ def keep_all():
         public, data, user_auth = TEMPLATES[at % len(TEMPLATES)]
         hierarchy, asker = hierarchies[at % len(hierarchies)]
         first = 0x8180_0000 if asker == RH_PLATFORM else 0x8100_0000
-        said = tpm("A primary object")
-        handle = said.create_primary(hierarchy, public, data=data, user_auth=user_auth)
-        tpm.keep("It stays", asker, handle, first + 0x1000 * at)
-        tpm.flush_objects("And is flushed", handle)
-    parent = 0x8100_0000
-    made = tpm.create("A child of the first", parent, hmac_key(), data=b"key")
-    handle = tpm.load("It is loaded", parent, made)
-    tpm.keep("It stays", RH_OWNER, handle, 0x817F_FFFF)
-    tpm("One more: NV_SPACE").evicting(RH_OWNER, handle, 0x8100_0001)
-    tpm.flush_objects("It is flushed", handle)
+        said, chosen = tpm("A primary object"), {"data": data, "user_auth": user_auth}
+        with said.held(public, hierarchy=hierarchy, flushed="And is flushed", **chosen) as handle:
+            tpm.keep("It stays", asker, handle, first + 0x1000 * at)
+    made = tpm.create("A child of the first", 0x8100_0000, hmac_key(), data=b"key")
+    with tpm.loaded("It is loaded", 0x8100_0000, made) as handle:
+        tpm.keep("It stays", RH_OWNER, handle, 0x817F_FFFF)
+        tpm("One more: NV_SPACE").evicting(RH_OWNER, handle, 0x8100_0001)
 
 
 def transient():
@@ -135,12 +126,12 @@ def the_rest():
     for pcr in (0, 3, 15, 16):
         tpm("A PCR is extended").event(b"event", b"", pcr=pcr)
     tpm.wait(123_456_789)
-    tpm("TPM2_Shutdown(STATE)").shutting_down(STATE)
+    tpm.saves()
 
 
 def build():
     tpm.startup()
-    tpm("TPM2_Shutdown(STATE)").shutting_down(STATE)
+    tpm.saves()
     tpm.power()
     tpm.start_up("TPM2_Startup(CLEAR), a restart")
     define_all()

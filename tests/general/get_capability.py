@@ -3,35 +3,19 @@
 whether there are more behind them.
 """
 
-from tests.common.vocabulary import area, BY_VALUE, CC, command, CONTINUE_SESSION, DECRYPT, ENCRYPT
-from tests.common.vocabulary import frames, number, RH_OWNER, SE_HMAC, SE_POLICY, SE_TRIAL
-from tests.common.vocabulary import storage_key, Teller, wrong
-from tpmsim.model.capability import command_attributes
+from tpmsim.model.capability import command_attributes, COMMANDS, HANDLES, PCRS, PROPERTIES
+from tests.common.steps import Steps
+from tests.common.vocabulary import area, BY_VALUE, CC, command, frames, number, RH_OWNER, SE_POLICY
+from tests.common.vocabulary import selection, SHA1, SHA256, storage_key, wrong
 
-HANDLES, COMMANDS, PCRS, PROPERTIES = 1, 2, 5, 6
 MOST = 2**32 - 1
 
 # TPMA_CC of each command: its code, the number of its handles from bit 25 on, and bit 28 where it
 # answers a handle.
 ATTRIBUTES = [command_attributes(it) for it in sorted(CC)]
 
-tpm = Teller(__name__, __doc__, starts=False)
-says = tpm.raw
-
-
-def answer(capability, elements, more):
-    listed = number(len(elements), 4) + b"".join(elements)
-    return number(more, 1) + number(capability, 4) + listed
-
-
-def gives(what, capability, wanted, count, elements, more=False):
-    """Numbers of four bytes, or pairs of them."""
-    texts = [
-        b"".join(number(it, 4) for it in (each if isinstance(each, tuple) else (each,)))
-        for each in elements
-    ]
-    given = tpm(what).capability(capability, wanted, count)
-    assert given == answer(capability, texts, more), what
+tpm = Steps(__name__, __doc__, starts=False)
+says, gives = tpm.raw, tpm.lists
 
 
 def borders(name, capability, wanted, whole):
@@ -50,10 +34,11 @@ def borders(name, capability, wanted, whole):
 def tries():
     tpm.chapter("The tries that are counted (20E).")
     index = 0x0100_2000
-    tpm.define("An index", area(index, BY_VALUE), auth=b"a")
-    tpm("It is written").writing(index, b"x")
+    tpm.written("An index", area(index, BY_VALUE), b"x", auth=b"a")
 
-    def are(what, count):
+    def are(what, count, after=0):
+        if after:
+            tpm.wait(after)
         gives(what, PROPERTIES, 0x20E, 1, [(0x20E, count)], more=True)
 
     bad = tpm.writing(index, b"x", b"b")
@@ -66,73 +51,51 @@ def tries():
     are("Nor was it", 3)
     tpm("One of TPM_RH_LOCKOUT: AUTH_FAIL/s1").lock_reset(b"x")
     are("Nor that", 3)
-    tpm.wait(999_999)
-    are("Just before recoveryTime", 3)
-    tpm.wait(1)
-    are("Then", 2)
-    tpm.wait(1_999_999)
-    are("A millisecond before all are forgiven", 1)
-    tpm.wait(1)
-    are("Then", 0)
+    are("Just before recoveryTime", 3, after=999_999)
+    are("Then", 2, after=1)
+    are("A millisecond before all are forgiven", 1, after=1_999_999)
+    are("Then", 0, after=1)
     tpm.fails("A wrong password: AUTH_FAIL/s1", bad)
-    tpm.wait(2**32 - 1)
-    are("Never less than 0", 0)
+    are("Never less than 0", 0, after=MOST)
     tpm.fails("Two wrong ones: AUTH_FAIL/s1", bad, bad)
     tpm.power_cycle()
     are("After a power cycle", 2)
-    tpm.wait(1_500_000)
-    are("1,500 seconds later", 1)
-    tpm.wait(500_000)
-    are("500 more", 0)
+    are("1,500 seconds later", 1, after=1_500_000)
+    are("500 more", 0, after=500_000)
     tpm.fails("Two wrong ones: AUTH_FAIL/s1", bad, bad)
     tpm.set_protection("recoveryTime is 0", 3, 0, 1000)
     tpm.fails("Two wrong ones are not counted: AUTH_FAIL/s1", bad, bad)
-    tpm.wait(2**32 - 1)
-    are("Nor are others forgiven", 2)
+    are("Nor are others forgiven", 2, after=MOST)
     tpm.unlocks()
     are("None", 0)
 
 
 asked = number(PROPERTIES, 4) + number(0x100, 4) + number(1, 4)
-says("Before TPM2_Startup: INITIALIZE", command(CC.GetCapability, asked))
+tpm("Before TPM2_Startup: INITIALIZE").capability(PROPERTIES, 0x100, 1)
 tpm.startup()
-says("As it is asked for: SUCCESS", command(CC.GetCapability, asked))
+tpm("As it is asked for").capability(PROPERTIES, 0x100, 1)
 for place in (1, 2, 3):
     case = f"Cut within parameter {place}: INSUFFICIENT/p{place}"
     says(case, *(command(CC.GetCapability, asked[: 4 * place - it]) for it in (4, 1)))
 says("A byte behind them: SIZE", command(CC.GetCapability, asked + b"\0"))
-says(
-    "Algorithms (0), and others that are not served: VALUE/p1",
-    *(
-        command(CC.GetCapability, number(it, 4) + asked[4:])
-        for it in (0, 3, 4, 7, 8, 9, 0x100, 0x0100_0001, MOST)
-    ),
-)
+case = "Algorithms (0), and others that are not served: VALUE/p1"
+others = (0, 3, 4, 7, 8, 9, 0x100, 0x0100_0001, MOST)
+tpm.says(case, *(tpm.capability(it, 0x100, 1) for it in others))
 case = "Such a one and a byte behind it: the bytes are looked at first: SIZE"
 says(case, command(CC.GetCapability, bytes(13)))
-says(
-    "Handles that begin with another byte than 00, 01, 02, 03, 40, 80 and 81: HANDLE/p2",
-    *(
-        command(CC.GetCapability, number(HANDLES, 4) + number(it << 24, 4) + number(count, 4))
-        for it in (0x04, 0x3F, 0x41, 0x7F, 0x82, 0x90, 0xFF)
-        for count in (0, 1)
-    ),
-)
+case = "Handles that begin with another byte than 00, 01, 02, 03, 40, 80 and 81: HANDLE/p2"
+kinds = (0x04, 0x3F, 0x41, 0x7F, 0x82, 0x90, 0xFF)
+tpm.says(case, *(tpm.capability(HANDLES, it << 24, at) for it in kinds for at in (0, 1)))
 case = "A password, as there is nothing to authorize: HANDLE/s1"
 says(case, command(CC.GetCapability, frames.area(frames.entry()) + asked, frames.SESSIONS))
 
-
 tpm.chapter("With a session.")
 session = tpm.start("An HMAC session with AES", aes=True)
-asked = tpm.capability(PROPERTIES, 0x100, 1, session)
-tpm.accepted("It authorizes nothing", asked)
+tpm("It authorizes nothing").capability(PROPERTIES, 0x100, 1, session)
 asked = tpm.capability(PROPERTIES, 0x100, 1, session)
 tpm.refused("A wrong hmac: BAD_AUTH/s1", wrong(asked))
-for attribute, words in ((DECRYPT, "decrypted"), (ENCRYPT, "encrypted")):
-    said = tpm(f"Nothing can be {words}: ATTRIBUTES/s1")
-    said.refused(asked.but_entry(1, attributes=CONTINUE_SESSION | attribute))
+tpm.encrypts_nothing(lambda: asked)
 tpm("It is flushed").flush(session)
-
 
 tpm.chapter("Handles of PCRs.")
 borders("From 0", HANDLES, 0, list(range(24)))
@@ -150,13 +113,15 @@ borders("From the last", HANDLES, whole[-1], whole[-1:])
 borders("From behind it", HANDLES, whole[-1] + 1, [])
 gives("From the last one of the kind", HANDLES, 0x40FF_FFFF, 1, [])
 
-
 tpm.chapter("Sessions: those of every type are 02, by their places.")
 borders("There is none", HANDLES, 0x0200_0000, [])
 borders("Nor from its last one on", HANDLES, 0x02FF_FFFF, [])
-kinds = SE_TRIAL, SE_HMAC, SE_POLICY, SE_HMAC
-words = "A trial session", "An HMAC session", "A policy session", "An HMAC session"
-held = [tpm.start(name, kind=kind) for name, kind in zip(words, kinds)]
+held = [
+    tpm.trial("A trial session"),
+    tpm.start("An HMAC session"),
+    tpm.policy("A policy session"),
+    tpm.start("An HMAC session"),
+]
 handles = [it.handle for it in held]
 assert handles == [0x0300_0000, 0x0200_0001, 0x0300_0002, 0x0200_0003]
 borders("From 02000000", HANDLES, 0x0200_0000, handles)
@@ -176,7 +141,6 @@ borders("From the last", HANDLES, 0x0200_000F, handles[15:])
 tpm.power_cycle()
 borders("A power cycle has ended them", HANDLES, 0x0200_0000, [])
 
-
 tpm.chapter("Transient objects.")
 borders("There is none", HANDLES, 0x8000_0000, [])
 for count in range(4):
@@ -191,7 +155,6 @@ borders("From the last", HANDLES, handles[3], there[2:])
 borders("From behind it", HANDLES, handles[3] + 1, [])
 borders("There is no persistent object", HANDLES, 0x8100_0000, [])
 gives("From the last one of the kind", HANDLES, 0x80FF_FFFF, 1, [])
-
 
 tpm.chapter("NV indices, which are defined in no order.")
 borders("There is none", HANDLES, 0x0100_0000, [])
@@ -212,7 +175,6 @@ tpm("One is undefined").undefining(handles[7])
 del handles[7]
 borders("From 01000000", HANDLES, 0x0100_0000, handles)
 
-
 tpm.chapter("Commands, by their codes; the attributes are answered.")
 borders("From 0", COMMANDS, 0, ATTRIBUTES)
 first, last = ATTRIBUTES[0] & 0xFFFF, ATTRIBUTES[-1] & 0xFFFF
@@ -222,24 +184,17 @@ borders("From the last code", COMMANDS, last, ATTRIBUTES[-1:])
 borders("From behind it", COMMANDS, last + 1, [])
 gives("From FFFFFFFF", COMMANDS, MOST, 1, [])
 gives("Attributes are no code", COMMANDS, ATTRIBUTES[0], 1, [])
-for at, attributes in enumerate(ATTRIBUTES):
-    code = attributes & 0xFFFF
-    is_more = at + 1 < len(ATTRIBUTES)
-    gives("From each code" if not at else "", COMMANDS, code, 1, [attributes], is_more)
-for at, attributes in enumerate(ATTRIBUTES):
-    code = (attributes & 0xFFFF) + 1
-    following = ATTRIBUTES[at + 1 : at + 2]
-    is_more = at + 2 < len(ATTRIBUTES)
-    gives("From behind each" if not at else "", COMMANDS, code, 1, following, is_more)
-
+for words, behind in (("From each code", 0), ("From behind each", 1)):
+    for at, attributes in enumerate(ATTRIBUTES):
+        code, following = (attributes & 0xFFFF) + behind, ATTRIBUTES[at + behind :]
+        is_more = len(following) > 1
+        gives(words if not at else "", COMMANDS, code, 1, following[:1], is_more)
 
 tpm.chapter("PCRs: both banks have all of them, whatever property and count are.")
-banks = number(frames.SHA1, 2) + b"\3\xff\xff\xff", number(frames.SHA256, 2) + b"\3\xff\xff\xff"
+banks = selection((SHA1, range(24)), (SHA256, range(24)))
 for wanted, count in ((0, 64), (0, 0), (0, 1), (1, 1), (MOST, MOST), (MOST, 0)):
-    words = f"Property {wanted:X}, count {count:X}"
-    given = tpm(words).capability(PCRS, wanted, count)
-    assert given == answer(PCRS, banks, more=False)
-
+    said = tpm(f"Property {wanted:X}, count {count:X}")
+    assert said.capability(PCRS, wanted, count) == b"\0" + number(PCRS, 4) + banks
 
 tpm.chapter(
     "Properties: TPM_PT_FAMILY_INDICATOR (100), TPM_PT_TOTAL_COMMANDS (129), "

@@ -2,98 +2,70 @@
 lockout, another authorization value, and is authorized by the old one.
 """
 
-from tests.common.vocabulary import CC, command, frames, number, on_handle, RH_ENDORSEMENT
-from tests.common.vocabulary import RH_LOCKOUT, RH_NULL, RH_OWNER, RH_PLATFORM, SHA1, sized, Teller
-from tests.common.vocabulary import Use
-
-HIERARCHIES = [
-    (RH_OWNER, "TPM_RH_OWNER", b"owner"),
-    (RH_ENDORSEMENT, "TPM_RH_ENDORSEMENT", b"endorsement"),
-    (RH_PLATFORM, "TPM_RH_PLATFORM", b"platform"),
-    (RH_LOCKOUT, "TPM_RH_LOCKOUT", b"lockout"),
-]
+from tests.common.steps import AUTHORIZED
+from tests.common.vocabulary import CC, command, frames, number, RH_ENDORSEMENT, RH_LOCKOUT, RH_NULL
+from tests.common.vocabulary import RH_OWNER, RH_PLATFORM, SHA1, sized, Teller, Use
 
 tpm = Teller(__name__, __doc__, starts=False)
+change = tpm.change_auth
 
 
-def change(handle, new=b"", password=b""):
-    return on_handle(CC.HierarchyChangeAuth, handle, sized(new), [frames.entry(hmac=password)])
+def owners(parameters):
+    """By the owner's value, with these bytes for newAuth."""
+    return tpm.prepare(CC.HierarchyChangeAuth, [RH_OWNER], parameters, b"owner")
 
 
-def starts(what, **choices):
-    return tpm.start(f"TPM2_StartAuthSession: {what}", **choices)
-
-
-tpm.raw("Before TPM2_Startup: INITIALIZE", change(RH_OWNER, b"abc"))
+tpm("Before TPM2_Startup: INITIALIZE").change_auth(RH_OWNER, b"abc", b"")
 tpm.startup()
 
 tpm.chapter("By passwords, each of the four. Every authorization value is empty at first.")
-for handle, name, new in HIERARCHIES:
+for handle, name, new in AUTHORIZED:
     # A wrong one at TPM_RH_LOCKOUT has a script of its own, lockout_authorization.
     tried = handle != RH_LOCKOUT
     if tried:
-        tpm.raw(f'{name} by the password "x": BAD_AUTH/s1', change(handle, new, b"x"))
-    said = tpm(f'{name} by the empty password, to "{new.decode()}"')
-    said.accepted(tpm.change_auth(handle, new, b""))
+        tpm(f'{name} by the password "x": BAD_AUTH/s1').change_auth(handle, new, b"x")
+    tpm.accepted(f'{name} by the empty password, to "{new.decode()}"', change(handle, new, b""))
     if tried:
-        tpm.raw("By the empty password once more: BAD_AUTH/s1", change(handle, new))
-    tpm.accepted("By the new one, to the same", tpm.change_auth(handle, new, new))
-tpm.raw(
-    "No value of another entity serves: BAD_AUTH/s1",
-    change(RH_OWNER, b"x", b"endorsement"),
-    change(RH_ENDORSEMENT, b"x", b"owner"),
-    change(RH_PLATFORM, b"x", b"lockout"),
-)
+        tpm("By the empty password once more: BAD_AUTH/s1").change_auth(handle, new, b"")
+    tpm.accepted("By the new one, to the same", change(handle, new, new))
+said = tpm("No value of another entity serves: BAD_AUTH/s1")
+others = (RH_OWNER, b"endorsement"), (RH_ENDORSEMENT, b"owner"), (RH_PLATFORM, b"lockout")
+said.says(*(change(handle, b"x", value) for handle, value in others))
 
 tpm.chapter("Handles and parameters that are refused.")
-tpm.raw(
-    "TPM_RH_NULL, whose value stays empty, PCR 0, an object, an NV index and a session: VALUE/h1",
-    *map(change, (RH_NULL, 0, 0x8000_0000, 0x8100_0000, 0x0100_0000, 0x0200_0000, frames.RS_PW)),
-)
+others = RH_NULL, 0, 0x8000_0000, 0x8100_0000, 0x0100_0000, 0x0200_0000, frames.RS_PW
+case = "TPM_RH_NULL, whose value stays empty, PCR 0, an object, an NV index and a session: VALUE/h1"
+tpm.says(case, *(change(it, b"", b"") for it in others))
 tpm.raw("No handle: INSUFFICIENT/h1", command(CC.HierarchyChangeAuth, b"", frames.SESSIONS))
 said = tpm("No sessions (tag 8001): AUTH_MISSING")
 said.raw(command(CC.HierarchyChangeAuth, number(RH_OWNER, 4) + sized(b"abc")))
-OWNER = [frames.entry(hmac=b"owner")]
-tpm.raw(
-    "No newAuth, half its size, and one that is cut: INSUFFICIENT/p1",
-    *(
-        on_handle(CC.HierarchyChangeAuth, RH_OWNER, text, OWNER)
-        for text in (b"", b"\0", b"\0\x03ab", b"\0\x20" + bytes(31))
-    ),
-)
-tpm.raw(
-    "One of 33 bytes, of letters or of zeros, whole or cut: SIZE/p1",
-    change(RH_OWNER, b"a" * 33, b"owner"),
-    change(RH_OWNER, bytes(33), b"owner"),
-    change(RH_OWNER, b"owner" + bytes(28), b"owner"),
-    on_handle(CC.HierarchyChangeAuth, RH_OWNER, b"\0\x21", OWNER),
-)
-said = tpm("A byte behind it: SIZE")
-said.raw(on_handle(CC.HierarchyChangeAuth, RH_OWNER, sized(b"abc") + b"\0", OWNER))
-tpm.raw("None of them changed the value: SUCCESS", change(RH_OWNER, b"owner", b"owner"))
+said = tpm("No newAuth, half its size, and one that is cut: INSUFFICIENT/p1")
+said.says(*map(owners, (b"", b"\0", b"\0\x03ab", b"\0\x20" + bytes(31))))
+said = tpm("One of 33 bytes, of letters or of zeros, whole or cut: SIZE/p1")
+long = b"a" * 33, bytes(33), b"owner" + bytes(28)
+said.says(*map(owners, map(sized, long)), owners(b"\0\x21"))
+tpm.says("A byte behind it: SIZE", owners(sized(b"abc") + b"\0"))
+tpm("None of them changed the value").change_auth(RH_OWNER, b"owner", b"owner")
 
 tpm.chapter("Sizes, and trailing zeros, which do not count.")
 longest = b"0123456789abcdef" * 2
-tpm.accepted("32 bytes", tpm.change_auth(RH_OWNER, longest, b"owner"))
-tpm.raw("By its first 31 bytes: BAD_AUTH/s1", change(RH_OWNER, b"owner", longest[:31]))
-said = tpm('By all of them, to "abc" and 29 zeros')
-said.accepted(tpm.change_auth(RH_OWNER, b"abc" + bytes(29), longest))
-tpm.accepted('By "abc", to "abc" again', tpm.change_auth(RH_OWNER, b"abc", b"abc"))
-said = tpm('By "abc" and a zero, to "a", a zero and "c"')
-said.accepted(tpm.change_auth(RH_OWNER, b"a\0c", b"abc\0"))
+tpm.accepted("32 bytes", change(RH_OWNER, longest, b"owner"))
+tpm("By its first 31 bytes: BAD_AUTH/s1").change_auth(RH_OWNER, b"owner", longest[:31])
+tpm.accepted('By all of them, to "abc" and 29 zeros', change(RH_OWNER, b"abc" + bytes(29), longest))
+tpm.accepted('By "abc", to "abc" again', change(RH_OWNER, b"abc", b"abc"))
+tpm.accepted('By "abc" and a zero, to "a", a zero and "c"', change(RH_OWNER, b"a\0c", b"abc\0"))
 said = tpm('By "ac", and by a zero and "a": BAD_AUTH/s1')
-said.raw(change(RH_OWNER, b"", b"ac"), change(RH_OWNER, b"", b"\0a"))
-said = tpm("By that value, to 32 zeros, which is no value")
-said.accepted(tpm.change_auth(RH_OWNER, bytes(32), b"a\0c"))
-tpm.accepted("By the empty password, to one zero", tpm.change_auth(RH_OWNER, b"\0", b""))
-tpm.accepted('By two zeros, to "owner"', tpm.change_auth(RH_OWNER, b"owner", b"\0\0"))
+said.says(*(change(RH_OWNER, b"", it) for it in (b"ac", b"\0a")))
+tpm.accepted("By that value, to 32 zeros, which is no value", change(RH_OWNER, bytes(32), b"a\0c"))
+tpm.accepted("By the empty password, to one zero", change(RH_OWNER, b"\0", b""))
+tpm.accepted('By two zeros, to "owner"', change(RH_OWNER, b"owner", b"\0\0"))
 
 tpm.chapter(
     "Through a session that is bound to the entity: the command's hmac is without the "
     "authorization value, and the response's has the new one, for then the binding is no more."
 )
-for handle, name, old in HIERARCHIES:
-    session = starts(f"bound to {name}", bind=handle)
+for handle, name, old in AUTHORIZED:
+    session = tpm.start(f"TPM2_StartAuthSession: bound to {name}", bind=handle)
     tpm(f'{name} to "new"').change_auth(handle, b"new", session)
     said = tpm('Now with "new" in the command\'s key, to "newer"|which is in the response\'s')
     said.change_auth(handle, b"newer", session)
@@ -103,23 +75,23 @@ for handle, name, old in HIERARCHIES:
     said.change_auth(handle, old + b"\0", session)
     said = tpm("To no value, in a session that ends|and its response has no value in its key")
     said.change_auth(handle, b"", Use(session, 0))
-    tpm.accepted("By the empty password, to the first value", tpm.change_auth(handle, old, b""))
+    tpm.accepted("By the empty password, to the first value", change(handle, old, b""))
 
 tpm.chapter("Through sessions that are not bound to the entity.")
-unbound = starts("bound to nothing, of SHA-1", algorithm=SHA1)
-to_owner = starts("bound to TPM_RH_OWNER", bind=RH_OWNER)
+unbound = tpm.start("TPM2_StartAuthSession: bound to nothing, of SHA-1", algorithm=SHA1)
+to_owner = tpm.start("TPM2_StartAuthSession: bound to TPM_RH_OWNER", bind=RH_OWNER)
 for session, words in ((unbound, "The first"), (to_owner, "The second")):
     said = tpm(f'{words} on TPM_RH_PLATFORM, from "platform" to "p"')
     said.change_auth(RH_PLATFORM, b"p", session)
     tpm("And back").change_auth(RH_PLATFORM, b"platform", session)
 said = tpm("A password changes ownerAuth, while a session is bound to TPM_RH_OWNER")
-said.accepted(tpm.change_auth(RH_OWNER, b"another", b"owner"))
+said.accepted(change(RH_OWNER, b"another", b"owner"))
 said = tpm('The session needs "another" in its key, and sets "owner" again')
 said.change_auth(RH_OWNER, b"owner", to_owner)
 tpm("And then not").change_auth(RH_OWNER, b"owner", to_owner)
 
 tpm.chapter("An empty key and an empty hmac, while the key does not stay empty.")
-tpm.accepted("ownerAuth is empty", tpm.change_auth(RH_OWNER, b"", b"owner"))
+tpm.accepted("ownerAuth is empty", change(RH_OWNER, b"", b"owner"))
 said = tpm('An empty hmac of the unbound session, to "owner", is answered by an empty one')
 said.change_auth(RH_OWNER, b"owner", unbound)
 tpm("A key that becomes empty gives an hmac all the same").change_auth(RH_OWNER, b"", unbound)
@@ -131,7 +103,7 @@ tpm.power()
 tpm.auth_values[RH_PLATFORM] = b""
 tpm.startup()
 said = tpm("platformAuth is empty: by its old value: BAD_AUTH/s1")
-said.raw(change(RH_PLATFORM, b"platform", b"platform"))
-tpm.accepted("By the empty password", tpm.change_auth(RH_PLATFORM, b"platform", b""))
-for handle, name, value in HIERARCHIES:
-    tpm.accepted(f"{name} by its value", tpm.change_auth(handle, value, value))
+said.change_auth(RH_PLATFORM, b"platform", b"platform")
+tpm.accepted("By the empty password", change(RH_PLATFORM, b"platform", b""))
+for handle, name, value in AUTHORIZED:
+    tpm.accepted(f"{name} by its value", change(handle, value, value))

@@ -40,11 +40,6 @@ def at_handles(kind):
     return capabilities(capability.HANDLES, kind << 24)
 
 
-def at_protection():
-    """The failed tries, maxTries, recoveryTime and lockoutRecovery."""
-    return capabilities(capability.PROPERTIES, capability.LOCKOUT_COUNTER, 4)
-
-
 def at_index(index, owner_auth):
     """The public area of an index, and its data where the owner reads them."""
     public = index.public
@@ -64,7 +59,8 @@ def at_all(device):
     yield at_pcrs()
     for kind in LISTED:
         yield at_handles(kind)
-    yield at_protection()
+    # The failed tries, maxTries, recoveryTime and lockoutRecovery.
+    yield capabilities(capability.PROPERTIES, capability.LOCKOUT_COUNTER, 4)
     yield command(CC.ReadClock, b"")
     for handle in device.sessions:
         if handle_kinds.is_policy(handle):

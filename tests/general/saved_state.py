@@ -4,32 +4,24 @@ nothing. Here each command follows a TPM2_Shutdown(STATE); behind a power cycle 
 then says whether the state was there still.
 """
 
-from tpmsim.standard import Fact
+from functools import partial
+
+from tpmsim.standard import digests, Fact, start_auth_session
+from tests.common.steps import Steps
 from tests.common.vocabulary import area, bits, BY_OWNER, BY_VALUE, CC, CLEAR, counter, extended
-from tests.common.vocabulary import FIFTH, FIRST, FOURTH, frames, hmac_key, LOCKS, policy
-from tests.common.vocabulary import RH_ENDORSEMENT, RH_OWNER, RH_PLATFORM, sealed, SECOND, SHA256
-from tests.common.vocabulary import STATE, storage_key, Teller, THIRD, Use, wrong
+from tests.common.vocabulary import FIFTH, FIRST, FOURTH, hmac_key, LOCKS, policy, RH_ENDORSEMENT
+from tests.common.vocabulary import RH_NULL, RH_OWNER, RH_PLATFORM, sealed, SECOND, SHA256
+from tests.common.vocabulary import storage_key, THIRD, Use, wrong
 
 KEPT = 0x8100_0001
 CHANGING = policy.after_command_code(SHA256, bytes(32), CC.NV_ChangeAuth)
 
-tpm = Teller(__name__, __doc__, starts=False)
+tpm = Steps(__name__, __doc__)
 
-
-def session():
-    return tpm.policy("A policy session")
-
-
-def storage():
-    return tpm.create_primary("A storage key", RH_OWNER, storage_key())
-
-
-def sealed_data():
-    return tpm.create_primary("A sealed object", RH_OWNER, sealed(), data=b"data")
-
-
-def key():
-    return tpm.create_primary("An HMAC key", RH_OWNER, hmac_key(), data=b"key")
+session = partial(tpm.policy, "A policy session")
+storage = partial(tpm.create_primary, "A storage key", RH_OWNER, storage_key())
+sealed_data = partial(tpm.create_primary, "A sealed object", RH_OWNER, sealed(), data=b"data")
+key = partial(tpm.create_primary, "An HMAC key", RH_OWNER, hmac_key(), data=b"key")
 
 
 def loading():
@@ -38,22 +30,13 @@ def loading():
 
 
 def changing_nv_auth():
-    policy_session = session()
-    told = tpm.command_code(policy_session, CC.NV_ChangeAuth)
-    tpm.says("TPM2_PolicyCommandCode of TPM2_NV_ChangeAuth: SUCCESS", told)
-    return tpm.changing_auth(FIFTH, b"", policy_session)
-
-
-def starting_session():
-    return tpm.prepare(CC.StartAuthSession, *frames.start_auth_session(tpm.nonce()))
+    told = session()
+    tpm("TPM2_PolicyCommandCode of TPM2_NV_ChangeAuth").command_code(told, CC.NV_ChangeAuth)
+    return tpm.changing_auth(FIFTH, b"", told)
 
 
 def extending_pcr(pcr):
-    return tpm.prepare(CC.PCR_Extend, [pcr], frames.digests((SHA256, bytes(32))), b"")
-
-
-def undefining():
-    return tpm.undefining(tpm.define("An index", area(0x0100_0006)))
+    return tpm.prepare(CC.PCR_Extend, [pcr], digests((SHA256, bytes(32))), b"")
 
 
 # For each command one that succeeds, behind what has to be done before TPM2_Shutdown(STATE) for it.
@@ -61,12 +44,12 @@ COMMANDS = {
     CC.SelfTest: lambda: tpm.self_test(1),
     CC.GetCapability: lambda: tpm.capability(6, 0x100, 1),
     CC.GetRandom: lambda: tpm.random(8),
-    CC.ReadClock: lambda: tpm.clock(),
+    CC.ReadClock: tpm.clock,
     CC.PCR_Read: lambda: tpm.read_pcr(0),
     CC.PCR_Extend: lambda: extending_pcr(0),
     CC.PCR_Event: lambda: tpm.event(b"event", b""),
     CC.PCR_Reset: lambda: tpm.reset(b""),
-    CC.StartAuthSession: starting_session,
+    CC.StartAuthSession: lambda: tpm.prepare(CC.StartAuthSession, *start_auth_session(tpm.nonce())),
     CC.PolicyRestart: lambda: tpm.restart(session()),
     CC.FlushContext: lambda: tpm.flush(session()),
     CC.PolicyPCR: lambda: tpm.pcrs(session(), [(SHA256, [0])]),
@@ -87,7 +70,7 @@ COMMANDS = {
     CC.EvictControl: lambda: tpm.evicting(RH_OWNER, storage(), KEPT),
     CC.HierarchyChangeAuth: lambda: tpm.change_auth(RH_ENDORSEMENT, b"", b""),
     CC.NV_DefineSpace: lambda: tpm.defining(area(0x0100_0008)),
-    CC.NV_UndefineSpace: undefining,
+    CC.NV_UndefineSpace: lambda: tpm.undefining(tpm.define("An index", area(0x0100_0006))),
     CC.NV_ReadPublic: lambda: tpm.index_public(FIRST),
     CC.NV_Write: lambda: tpm.writing(FIRST, b"data", by=RH_OWNER),
     CC.NV_Increment: lambda: tpm.incrementing(SECOND),
@@ -97,7 +80,7 @@ COMMANDS = {
     CC.NV_WriteLock: lambda: tpm.write_locking(FIFTH, by=RH_OWNER),
     CC.NV_ReadLock: lambda: tpm.read_locking(FIFTH, by=RH_OWNER),
     CC.NV_ChangeAuth: changing_nv_auth,
-    CC.DictionaryAttackLockReset: lambda: tpm.lock_reset(),
+    CC.DictionaryAttackLockReset: tpm.lock_reset,
     CC.DictionaryAttackParameters: lambda: tpm.attack_parameters(3, 1000, 1000),
     CC.ClearControl: lambda: tpm.clear_control(RH_PLATFORM, 0),
     CC.Clear: lambda: tpm.clearing(RH_PLATFORM),
@@ -107,23 +90,15 @@ COMMANDS = {
 assert COMMANDS.keys() == set(CC) - {CC.Startup, CC.Shutdown}
 
 
-def save():
-    tpm("TPM2_Shutdown(STATE)").shutting_down(STATE)
-
-
 def start_again(is_kept):
     """By the state that was saved, where it was kept."""
-    tpm.power()
     if is_kept:
-        tpm.start_up("It was kept: TPM2_Startup(STATE)", STATE)
+        tpm.resumes("It was kept: TPM2_Startup(STATE)")
     else:
-        tpm("It was cancelled: TPM2_Startup(STATE): VALUE/p1").starting(STATE)
-        tpm.start_up("TPM2_Startup(CLEAR)")
+        tpm.resumes_not("It was cancelled: TPM2_Startup(STATE): VALUE/p1")
 
 
-tpm.startup()
-tpm.define("An ordinary index", area(FIRST))
-tpm("It is written").writing(FIRST, b"data", by=RH_OWNER)
+tpm.written("An ordinary index", area(FIRST), b"data", by=RH_OWNER)
 tpm.define("A counter", counter(SECOND))
 tpm.define("Bits", bits(THIRD))
 tpm.define("An index that is extended", extended(FOURTH))
@@ -131,13 +106,13 @@ said = tpm("One with locks, and a policy for TPM2_NV_ChangeAuth")
 said.define(area(FIFTH, BY_OWNER | LOCKS, auth_policy=CHANGING))
 
 tpm.chapter("A second TPM2_Shutdown takes the place of the first.")
-save()
+tpm.saves()
 tpm("TPM2_Shutdown(CLEAR)").shutting_down(CLEAR)
 start_again(is_kept=False)
 tpm.chapter("A command that is refused cancels nothing, not even a try that is counted.")
 tpm.define("An index", area(0x0100_0007, BY_VALUE), auth=b"a")
 hmac = tpm.start("An HMAC session")
-save()
+tpm.saves()
 tpm("A wrong password: AUTH_FAIL/s1").writing(0x0100_0007, b"x", b"b")
 tpm("TPM2_PCR_Reset of PCR 0: LOCALITY").reset(b"", pcr=0)
 tpm("TPM2_Startup: INITIALIZE").starting(CLEAR)
@@ -147,27 +122,26 @@ start_again(is_kept=True)
 tpm.chapter("The use of sessions cancels nothing, where the command does not.")
 hmac = tpm.start("An HMAC session")
 other = tpm.start("Another one")
-save()
+tpm.saves()
 tpm("TPM2_GetRandom with both").random(8, hmac, other)
 tpm("With one that ends by it").random(8, Use(other, attributes=0))
 start_again(is_kept=True)
 tpm.chapter("TPM2_PCR_Extend on TPM_RH_NULL changes nothing, and cancels it all the same.")
-save()
-tpm.does("TPM2_PCR_Extend", extending_pcr(frames.RH_NULL))
+tpm.saves()
+tpm.does("TPM2_PCR_Extend", extending_pcr(RH_NULL))
 start_again(is_kept=False)
 tpm.chapter("Power cycles and time do not cancel it.")
-save()
+tpm.saves()
 tpm.power()
 tpm.power()
 tpm.wait(2**32 - 1)
 tpm.raw("TPM2_GetRandom: INITIALIZE", tpm.random(2).buffer())
 start_again(is_kept=True)
 
-
 for code, make in COMMANDS.items():
     is_kept = code.has(Fact.KEEPS_SAVED)
     tpm.chapter(f"TPM2_{code.name} {'keeps' if is_kept else 'cancels'} it.")
     prepared = make()
-    save()
+    tpm.saves()
     tpm.accepted(f"TPM2_{code.name}", prepared)
     start_again(is_kept)

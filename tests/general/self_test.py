@@ -2,10 +2,10 @@
 (NO, 00). The device has none that could fail.
 """
 
-from tests.common.vocabulary import CC, command, CONTINUE_SESSION, DECRYPT, ENCRYPT, frames, number
-from tests.common.vocabulary import Teller, wrong
+from tests.common.steps import Steps
+from tests.common.vocabulary import CC, command, frames, number, wrong
 
-tpm = Teller(__name__, __doc__, starts=False)
+tpm = Steps(__name__, __doc__, starts=False)
 says = tpm.raw
 
 BOTH = [command(CC.SelfTest, number(it, 1)) for it in (0, 1)]
@@ -21,7 +21,5 @@ says(case, command(CC.SelfTest, frames.area(frames.entry()) + b"\1", frames.SESS
 session = tpm.start("An HMAC session with AES", aes=True)
 tpm("TPM2_SelfTest with it").self_test(1, session)
 tpm.refused("A wrong hmac: BAD_AUTH/s1", wrong(tpm.self_test(1, session)))
-for attribute, words in ((DECRYPT, "decrypted"), (ENCRYPT, "encrypted")):
-    said = tpm(f"Nothing can be {words}: ATTRIBUTES/s1")
-    said.refused(tpm.self_test(1, session).but_entry(1, attributes=CONTINUE_SESSION | attribute))
+tpm.encrypts_nothing(lambda: tpm.self_test(1, session))
 tpm("Nothing has changed: TPM2_PCR_Read").read_pcr(16)

@@ -2,22 +2,18 @@
 what is kept anyway, CLEAR (0000), or PCR 0 to 15, STATE (0001).
 """
 
-from tests.common.vocabulary import CC, CLEAR, command, CONTINUE_SESSION, DECRYPT, ENCRYPT, frames
-from tests.common.vocabulary import number, RH_OWNER, STATE, Teller, Use, wrong
+from tests.common.steps import Steps
+from tests.common.vocabulary import CC, CLEAR, command, frames, number, RH_OWNER, STATE, Use, wrong
 
-tpm = Teller(__name__, __doc__, starts=False)
+tpm = Steps(__name__, __doc__, starts=False)
 says = tpm.raw
 
 
-def shutdown(kind):
-    return command(CC.Shutdown, number(kind, 2))
-
-
-says("Before TPM2_Startup, of both kinds: INITIALIZE", shutdown(CLEAR), shutdown(STATE))
+tpm.says("Before TPM2_Startup, of both kinds: INITIALIZE", *map(tpm.shutting_down, (CLEAR, STATE)))
 tpm.startup()
 case = "Without a type, and with one byte of it: INSUFFICIENT/p1"
 says(case, *(command(CC.Shutdown, bytes(it)) for it in (0, 1)))
-says("Of no type that there is: VALUE/p1", *(shutdown(it) for it in (2, 0x100, 0xFFFF)))
+tpm.says("Of no type that there is: VALUE/p1", *map(tpm.shutting_down, (2, 0x100, 0xFFFF)))
 says("A byte behind it: SIZE", command(CC.Shutdown, bytes(3)))
 case = "A password, as there is nothing to authorize: HANDLE/s1"
 says(case, command(CC.Shutdown, frames.area(frames.entry()) + number(STATE, 2), frames.SESSIONS))
@@ -26,29 +22,21 @@ tpm.power()
 case = "None of these has saved a state: TPM2_Startup(STATE): VALUE/p1"
 says(case, command(CC.Startup, number(STATE, 2)))
 
-
 tpm.startup()
-says("TPM2_Shutdown(CLEAR): SUCCESS", shutdown(CLEAR))
-says("TPM2_Shutdown(STATE), and once more: SUCCESS", shutdown(STATE), shutdown(STATE))
+tpm("TPM2_Shutdown(CLEAR)").shutting_down(CLEAR)
+tpm.says("TPM2_Shutdown(STATE), and once more: SUCCESS", *map(tpm.shutting_down, (STATE, STATE)))
 says("It does not stop the device: TPM2_GetRandom: SUCCESS", tpm.random(2).buffer())
 tpm("TPM2_PCR_Reset").reset(b"")
 case = "Nor can it be started again without a power cycle: INITIALIZE"
 says(case, command(CC.Startup, number(CLEAR, 2)))
 tpm.chapter("The last one counts.")
-says("TPM2_Shutdown(STATE): SUCCESS", shutdown(STATE))
-says("TPM2_Shutdown(CLEAR): SUCCESS", shutdown(CLEAR))
-tpm.power()
-tpm("TPM2_Startup(STATE): VALUE/p1").starting(STATE)
-tpm.start_up("TPM2_Startup(CLEAR)")
-says("TPM2_Shutdown(CLEAR): SUCCESS", shutdown(CLEAR))
-says("TPM2_Shutdown(STATE): SUCCESS", shutdown(STATE))
-tpm.power()
-tpm.start_up("TPM2_Startup(STATE)", STATE)
+tpm("TPM2_Shutdown(STATE)").shutting_down(STATE)
+tpm("TPM2_Shutdown(CLEAR)").shutting_down(CLEAR)
+tpm.resumes_not()
+tpm("TPM2_Shutdown(CLEAR)").shutting_down(CLEAR)
+tpm.saves_and_resumes()
 tpm.chapter("A state is restored once.")
-tpm.power()
-tpm("TPM2_Startup(STATE): VALUE/p1").starting(STATE)
-tpm.start_up("TPM2_Startup(CLEAR)")
-
+tpm.resumes_not()
 
 tpm.chapter("With sessions, which authorize nothing here.")
 tpm('ownerAuth is "owner"').change_auth(RH_OWNER, b"owner", b"")
@@ -57,15 +45,9 @@ policy = tpm.policy("A policy session")
 tpm("TPM2_Shutdown(CLEAR) with one").shutting_down(CLEAR, session)
 tpm("TPM2_Shutdown(STATE) with both").shutting_down(STATE, policy, session)
 tpm.refused("With a wrong hmac, of CLEAR: BAD_AUTH/s1", wrong(tpm.shutting_down(CLEAR, session)))
-for attribute, words in ((DECRYPT, "decrypted"), (ENCRYPT, "encrypted")):
-    tpm.refused(
-        f"Nothing can be {words}: ATTRIBUTES/s1",
-        tpm.shutting_down(CLEAR, session).but_entry(1, attributes=CONTINUE_SESSION | attribute),
-    )
-tpm.power()
-tpm.start_up("The one of STATE was accepted: TPM2_Startup(STATE)", STATE)
+tpm.encrypts_nothing(lambda: tpm.shutting_down(CLEAR, session))
+tpm.resumes("The one of STATE was accepted: TPM2_Startup(STATE)")
 session = tpm.start("Another session", RH_OWNER)
 tpm("It ends with its use").shutting_down(STATE, Use(session, attributes=0))
 tpm("It is gone: REFERENCE_S0").shutting_down(CLEAR, session)
-tpm.power()
-tpm.start_up("TPM2_Startup(STATE)", STATE)
+tpm.resumes()

@@ -17,22 +17,14 @@ case = "Before TPM2_Startup: INITIALIZE"
 says(case, *(on_handle(code, RH_LOCKOUT, parameters) for code, parameters in COMMANDS))
 tpm.startup()
 tpm.chapter("By the empty password, which lockoutAuth is on a new device.")
-for code, parameters in COMMANDS:
-    says(
-        "Both: SUCCESS" if code == LOCK_RESET else "SUCCESS",
-        on_handle(code, RH_LOCKOUT, parameters),
-    )
+says("Both: SUCCESS", on_handle(LOCK_RESET, RH_LOCKOUT))
+says("SUCCESS", on_handle(PARAMETERS, RH_LOCKOUT, THREE))
 
 tpm.chapter("The handle.")
 says("None: INSUFFICIENT/h1", *(command(code, b"") for code, _ in COMMANDS))
-says(
-    "That of another hierarchy, of TPM_RH_NULL, and of PCR 0: VALUE/h1",
-    *(
-        on_handle(code, handle, parameters)
-        for code, parameters in COMMANDS
-        for handle in (RH_OWNER, RH_PLATFORM, RH_NULL, 0)
-    ),
-)
+case = "That of another hierarchy, of TPM_RH_NULL, and of PCR 0: VALUE/h1"
+others = RH_OWNER, RH_PLATFORM, RH_NULL, 0
+says(case, *(on_handle(code, it, parameters) for code, parameters in COMMANDS for it in others))
 case = "Without sessions: AUTH_MISSING"
 says(case, *(command(code, number(RH_LOCKOUT, 4) + parameters) for code, parameters in COMMANDS))
 
@@ -42,18 +34,9 @@ for place in (1, 2, 3):
     says(case, *(on_handle(PARAMETERS, RH_LOCKOUT, THREE[: 4 * place - it]) for it in (4, 1)))
 case = "A byte behind them: SIZE"
 says(case, *(on_handle(code, RH_LOCKOUT, parameters + b"\0") for code, parameters in COMMANDS))
-says(
-    "All values are good ones: SUCCESS",
-    *(
-        on_handle(PARAMETERS, RH_LOCKOUT, frames.attack_parameters(*it))
-        for it in (
-            (0, 0, 0),
-            (0xFFFF_FFFF, 0xFFFF_FFFF, 0xFFFF_FFFF),
-            (0, 0xFFFF_FFFF, 1),
-            (3, 1000, 1),
-        )
-    ),
-)
+most = 0xFFFF_FFFF
+good = (0, 0, 0), (most, most, most), (0, most, 1), (3, 1000, 1)
+tpm.says("All values are good ones: SUCCESS", *(tpm.attack_parameters(*it) for it in good))
 
 tpm.chapter("By sessions.")
 tpm('lockoutAuth is "lockout"').change_auth(RH_LOCKOUT, b"lockout", b"")
@@ -64,11 +47,9 @@ for session, words in ((unbound, "The first one"), (bound, "The second one")):
     tpm(f"{words}: TPM2_DictionaryAttackParameters").attack_parameters(3, 1000, 1, session)
 tpm("Both in one command").lock_reset(bound, unbound)
 for attribute, words in ((DECRYPT, "decrypted"), (ENCRYPT, "encrypted")):
-    tpm.refused(
-        f"Nothing can be {words}: ATTRIBUTES/s1",
-        tpm.lock_reset(unbound).but_entry(1, attributes=attribute),
-        tpm.attack_parameters(3, 1000, 1, unbound).but_entry(1, attributes=attribute),
-    )
+    prepared = tpm.lock_reset(unbound), tpm.attack_parameters(3, 1000, 1, unbound)
+    said = tpm(f"Nothing can be {words}: ATTRIBUTES/s1")
+    said.refused(*(it.but_entry(1, attributes=attribute) for it in prepared))
 policy = tpm.policy("A policy session")
 said = tpm("No policy authorizes TPM_RH_LOCKOUT: AUTH_UNAVAILABLE")
 said.refused(tpm.lock_reset(policy), tpm.attack_parameters(3, 1000, 1, policy))

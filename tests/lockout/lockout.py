@@ -5,38 +5,45 @@ forgiven. A new device has maxTries 3, recoveryTime 1,000 seconds, and lockoutRe
 seconds.
 """
 
-from tests.common.vocabulary import area, BY_VALUE, CC, FIRST, HERE, NvAttribute, ObjectAttribute
-from tests.common.vocabulary import policy, RH_OWNER, sealed, SECOND, SHA256, Teller, THIRD
+from tests.common.steps import AFTER_AUTH_VALUE, PROTECTED, Steps
+from tests.common.vocabulary import area, BY_VALUE, CC, FIRST, NvAttribute, ObjectAttribute
+from tests.common.vocabulary import RH_OWNER, sealed, SECOND, SHA256, THIRD
 
 PIN, SECRET = b"2468", b"a secret"
 
+FIVE = b"0", b"1", b"2", b"3", b"4"
+
 # The objects, one of which is protected.
-PROTECTED, FREE = 0x8000_0000, 0x8000_0001
+GUARDED, FREE = 0x8000_0000, 0x8000_0001
 
-tpm = Teller(__name__, __doc__)
+tpm = Steps(__name__, __doc__)
 
 
-def right(what, index=FIRST):
+def right(what, index=FIRST, after=0):
+    if after:
+        tpm.wait(after)
     tpm.read(what, index, SECRET, PIN)
 
 
-def wrong(what, *passwords, index=FIRST):
-    commands = [tpm.reading(index, 8, it) for it in passwords or (b"0000",)]
-    tpm.fails(f"{what}: AUTH_FAIL/s1", *commands)
+def reads(words, passwords, index, after):
+    if after:
+        tpm.wait(after)
+    tpm.fails(words, *(tpm.reading(index, 8, it) for it in passwords))
 
 
-def locked(what, *passwords, index=FIRST):
-    commands = [tpm.reading(index, 8, it) for it in passwords or (PIN,)]
-    tpm.fails(f"{what}: LOCKOUT", *commands)
+def wrong(what, *passwords, index=FIRST, after=0):
+    reads(f"{what}: AUTH_FAIL/s1", passwords or (b"0000",), index, after)
+
+
+def locked(what, *passwords, index=FIRST, after=0):
+    reads(f"{what}: LOCKOUT", passwords or (PIN,), index, after)
 
 
 def opened(what, wait):
     """It is locked until so many milliseconds have passed, and not one less."""
     tpm.chapter(what)
-    tpm.wait(wait - 1)
-    locked(f"{wait - 1:,} milliseconds later")
-    tpm.wait(1)
-    right("One more")
+    locked(f"{wait - 1:,} milliseconds later", after=wait - 1)
+    right("One more", after=1)
 
 
 def lock():
@@ -44,30 +51,22 @@ def lock():
     wrong("Three wrong passwords", b"0000", b"1111", b"2222")
 
 
-ONLY_PASSWORD = policy.after_auth_value(SHA256, bytes(32))
-said = tpm('An NV index with the value "2468"')
-said.define(area(FIRST, BY_VALUE | NvAttribute.POLICYREAD, auth_policy=ONLY_PASSWORD), auth=PIN)
-tpm("It is written").writing(FIRST, SECRET)
+said, only_password = tpm('An NV index with the value "2468"'), AFTER_AUTH_VALUE[SHA256]
+public = area(FIRST, BY_VALUE | NvAttribute.POLICYREAD, auth_policy=only_password)
+said.written(public, SECRET, auth=PIN)
 said = tpm("Another one, which only the owner can write")
-said.define(area(SECOND, NvAttribute.AUTHREAD | NvAttribute.OWNERWRITE), auth=PIN)
-tpm("It is written").writing(SECOND, SECRET, by=RH_OWNER)
-tpm.define("One with TPMA_NV_NO_DA", area(THIRD, BY_VALUE | NvAttribute.NO_DA), auth=PIN)
-tpm("It is written").writing(THIRD, SECRET)
+owners = area(SECOND, NvAttribute.AUTHREAD | NvAttribute.OWNERWRITE)
+said.written(owners, SECRET, auth=PIN, by=RH_OWNER)
+free = area(THIRD, BY_VALUE | NvAttribute.NO_DA)
+tpm.written("One with TPMA_NV_NO_DA", free, SECRET, auth=PIN)
 
 
 def sealed_objects():
     """They are gone after a power cycle."""
-    handles = [
-        tpm.create_primary(
-            f"A sealed object {words} noDA",
-            RH_OWNER,
-            sealed(attributes=HERE | ObjectAttribute.USER_WITH_AUTH | more),
-            user_auth=PIN,
-            data=SECRET,
-        )
-        for words, more in (("without", 0), ("with", ObjectAttribute.NO_DA))
-    ]
-    assert handles == [PROTECTED, FREE]
+    for words, handle, more in (("without", GUARDED, 0), ("with", FREE, ObjectAttribute.NO_DA)):
+        said, template = tpm(f"A sealed object {words} noDA"), sealed(attributes=PROTECTED | more)
+        made = said.owned(template, user_auth=PIN, data=SECRET)
+        assert made == handle
 
 
 sealed_objects()
@@ -79,11 +78,10 @@ wrong("Two more: the empty one, and one with a byte too many", b"", PIN + b"1")
 locked("The right one comes too late")
 locked("So does every other", b"0000", b"")
 locked("All protected entities are locked: another NV index", index=SECOND)
-tpm("A sealed object: LOCKOUT").unsealing(PROTECTED)
-tpm("That with a wrong password: LOCKOUT").unsealing(PROTECTED, b"x")
-tpm("What is not authorized is not: its public area").public(PROTECTED)
+tpm("A sealed object: LOCKOUT").unsealing(GUARDED)
+tpm("That with a wrong password: LOCKOUT").unsealing(GUARDED, b"x")
+tpm("What is not authorized is not: its public area").public(GUARDED)
 tpm("TPM2_PCR_Reset").reset(b"")
-
 
 opened("The last try was just now. It is forgiven after recoveryTime.", 1_000_000)
 tpm.chapter("One try is forgiven, and two are not.")
@@ -91,58 +89,42 @@ wrong("So one more is one too many")
 locked("The right password")
 opened("And again.", 1_000_000)
 tpm.chapter("A counted try starts the time anew.")
-tpm.wait(999_999)
-wrong("The third one, a millisecond before one would have been forgiven")
-tpm.wait(1)
-locked("In that millisecond it was not")
-tpm.wait(999_998)
-locked("One before the end")
-tpm.wait(1)
-right("At the end")
+wrong("The third one, a millisecond before one would have been forgiven", after=999_999)
+locked("In that millisecond it was not", after=1)
+locked("One before the end", after=999_998)
+right("At the end", after=1)
 tpm.chapter("A try that is answered LOCKOUT is not counted, and starts no time anew.")
 wrong("The third one")
-tpm.wait(500_000)
-locked("Wrong ones in the middle of the time", b"0000", b"1111", b"2222", b"3333")
-tpm.wait(499_999)
-locked("The right one, a millisecond before the end")
-tpm.wait(1)
-right("At the end")
-
+locked("Wrong ones in the middle of the time", b"0000", b"1111", b"2222", b"3333", after=500_000)
+locked("The right one, a millisecond before the end", after=499_999)
+right("At the end", after=1)
 
 tpm.chapter("Several tries at once, and the rest of the time.")
 wrong("The third one")
 said = tpm("TPM2_DictionaryAttackParameters with maxTries 1: all three have to be forgiven now")
 said.set_protection(1, 1000, 1000)
-tpm.wait(1_500_000)
-locked("One and a half times recoveryTime later: two are left")
-tpm.wait(1_499_999)
-locked("A millisecond before three times recoveryTime: one is left, as the half has counted")
-tpm.wait(1)
-right("Then")
+locked("One and a half times recoveryTime later: two are left", after=1_500_000)
+case = "A millisecond before three times recoveryTime: one is left, as the half has counted"
+locked(case, after=1_499_999)
+right("Then", after=1)
 tpm.set_protection("maxTries is 3 again", 3, 1000, 1000)
 lock()
 tpm.set_protection("And 1", 1, 1000, 1000)
-tpm.wait(2_999_999)
-locked("Two are forgiven at once, and the third is not")
-tpm.wait(1)
-right("It is")
+locked("Two are forgiven at once, and the third is not", after=2_999_999)
+right("It is", after=1)
 tpm.set_protection("maxTries is 3 again", 3, 1000, 1000)
 wrong("A wrong password")
-tpm.wait(4_294_967_295)
-right("More time than a try needs is not kept for later ones")
+right("More time than a try needs is not kept for later ones", after=4_294_967_295)
 lock()
 locked("So three are three")
 tpm.unlocks()
 
-
 tpm.chapter("Where there is no try, no time counts.")
 tpm.wait(999_999)
 lock()
-tpm.wait(1)
-locked("A millisecond after the last try, and 1,000 seconds after the last before")
+locked("A millisecond after the last try, and 1,000 seconds after the last before", after=1)
 opened("That millisecond has counted.", 999_999)
 tpm.unlocks()
-
 
 tpm.chapter("Time passes with every command, refused ones too.")
 lock()
@@ -153,18 +135,14 @@ tpm.raw("The empty buffer: COMMAND_SIZE", b"")
 tpm.wait(333_333)
 tpm("TPM2_GetRandom").random(2)
 locked("999,999 milliseconds have passed")
-tpm.wait(1)
-right("One more")
+right("One more", after=1)
 tpm.unlocks()
-
 
 tpm.chapter("A power cycle takes no try back, and starts the time anew.")
 lock()
-tpm.wait(999_999)
-locked("A millisecond before the end")
+locked("A millisecond before the end", after=999_999)
 tpm.power_cycle()
-tpm.wait(1)
-locked("After TPM2_Startup, in that millisecond")
+locked("After TPM2_Startup, in that millisecond", after=1)
 opened("The time counts from the power cycle on.", 999_999)
 tpm.chapter("It counts before TPM2_Startup too.")
 wrong("The third one")
@@ -174,8 +152,7 @@ tpm("TPM2_GetRandom: INITIALIZE").random(2)
 tpm.wait(599_999)
 tpm.startup()
 locked("A millisecond before the end")
-tpm.wait(1)
-right("At the end")
+right("At the end", after=1)
 tpm.chapter("Tries are kept at once: power that is cut after each of them saves none.")
 tpm.unlocks()
 for what in ("The first", "The second", "The third"):
@@ -190,8 +167,7 @@ tpm.chapter("TPM2_DictionaryAttackParameters starts the time anew, and takes no 
 lock()
 tpm.wait(999_999)
 tpm.set_protection("The same values as before", 3, 1000, 1000)
-tpm.wait(1)
-locked("A millisecond later")
+locked("A millisecond later", after=1)
 opened("From there on.", 999_999)
 tpm.chapter("A new recoveryTime counts from there on.")
 wrong("The third one")
@@ -199,15 +175,14 @@ tpm.set_protection("recoveryTime is one second", 3, 1, 1000)
 opened("One second.", 1_000)
 tpm.set_protection("The longest recoveryTime", 3, 0xFFFF_FFFF, 1000)
 wrong("The third one")
-tpm.wait(4_294_967_295)
-locked("4,294,967 seconds are nothing to it")
+locked("4,294,967 seconds are nothing to it", after=4_294_967_295)
 tpm.chapter("A larger maxTries opens at once.")
 tpm.set_protection("maxTries is 4", 4, 1000, 1000)
 right("The right one")
 wrong("The fourth one")
 locked("The right one")
 tpm.set_protection("The largest maxTries", 0xFFFF_FFFF, 1000, 1000)
-wrong("Five more", b"0", b"1", b"2", b"3", b"4")
+wrong("Five more", *FIVE)
 right("The right one")
 tpm.set_protection("maxTries is 5, and there are nine", 5, 1000, 1000)
 locked("The right one")
@@ -224,16 +199,14 @@ wrong("One more")
 locked("The right one")
 tpm.unlocks()
 
-
 tpm.chapter("With recoveryTime 0 the protection is off: no try is counted, and none locks.")
 lock()
 locked("The right one")
 tpm.set_protection("recoveryTime is 0", 3, 0, 1000)
 right("The right one")
-wrong("Wrong ones are AUTH_FAIL still", b"0", b"1", b"2", b"3", b"4")
+wrong("Wrong ones are AUTH_FAIL still", *FIVE)
 right("The right one")
-tpm.wait(4_294_967_295)
-right("With time")
+right("With time", after=4_294_967_295)
 tpm.set_protection("recoveryTime is 1,000 again: the tries of before are there", 3, 1000, 1)
 locked("The right one")
 opened("The three of before, and no more.", 1_000_000)
@@ -241,9 +214,8 @@ tpm.unlocks()
 tpm.chapter("With maxTries 0 everything that is protected is locked, without a try.")
 tpm.set_protection("maxTries is 0", 0, 1000, 1000)
 locked("The right one, and a wrong one", PIN, b"0")
-tpm("The object: LOCKOUT").unsealing(PROTECTED)
-tpm.wait(4_294_967_295)
-locked("No time opens it")
+tpm("The object: LOCKOUT").unsealing(GUARDED)
+locked("No time opens it", after=4_294_967_295)
 tpm.unlocks()
 locked("Nor does TPM2_DictionaryAttackLockReset")
 tpm.set_protection("But with recoveryTime 0 it is off", 0, 0, 1000)
@@ -252,14 +224,12 @@ wrong("A wrong one")
 tpm.set_protection("The values of a new device", 3, 1000, 1000)
 right("The right one")
 
-
 tpm.chapter("noDA and TPMA_NV_NO_DA: no try is counted.")
 said = tpm("Five wrong passwords of an index: BAD_AUTH/s1")
-said.fails(*(tpm.reading(THIRD, 8, it) for it in (b"0", b"1", b"2", b"3", b"4")))
-said = tpm("Five of an object: BAD_AUTH/s1")
-said.fails(*(tpm.unsealing(FREE, it) for it in (b"0", b"1", b"2", b"3", b"4")))
+said.fails(*(tpm.reading(THIRD, 8, it) for it in FIVE))
+tpm.fails("Five of an object: BAD_AUTH/s1", *(tpm.unsealing(FREE, it) for it in FIVE))
 said = tpm("Five of TPM_RH_OWNER: BAD_AUTH/s1")
-said.fails(*(tpm.change_auth(RH_OWNER, b"x", it) for it in (b"0", b"1", b"2", b"3", b"4")))
+said.fails(*(tpm.change_auth(RH_OWNER, b"x", it) for it in FIVE))
 right("What is protected is open")
 lock()
 locked("It is locked")
@@ -268,7 +238,6 @@ tpm.unseal("Nor is the object with noDA", FREE, SECRET)
 tpm("Nor is TPM_RH_OWNER").change_auth(RH_OWNER, b"", b"")
 tpm("A wrong one of them is as before: BAD_AUTH/s1").unsealing(FREE, b"0")
 tpm.unlocks()
-
 
 tpm.chapter("The order of the checks: what comes before LOCKOUT, and what behind it.")
 session = tpm.policy("A policy session")

@@ -4,16 +4,17 @@ TPM_RH_LOCKOUT at the start. Every other wrong entry is BAD_AUTH. Each such try 
 for lockoutRecovery.
 """
 
-from tests.common.vocabulary import area, BY_VALUE, CC, FIRST, frames, on_handle, RH_LOCKOUT
-from tests.common.vocabulary import RH_OWNER, sized, Teller, wrong
+from tests.common.vocabulary import area, BY_VALUE, CC, FIRST, frames, RH_LOCKOUT, RH_OWNER, Teller
+from tests.common.vocabulary import wrong
 
 LOCKOUT = b"lockout"
 
 tpm = Teller(__name__, __doc__, tries=True)
 
 
-def by_password(handle, password):
-    return on_handle(CC.HierarchyChangeAuth, handle, sized(b"x"), [frames.entry(hmac=password)])
+def change(handle, *means):
+    """To the value that it has."""
+    return tpm.change_auth(handle, tpm.auth_value(handle), *means)
 
 
 tpm.script.wait_each_time()
@@ -25,32 +26,28 @@ unbound = tpm.start("One that is bound to nothing")
 to_owner = tpm.start("One that is bound to TPM_RH_OWNER", RH_OWNER)
 
 tpm.chapter("On TPM_RH_LOCKOUT itself.")
-tpm.raw(
-    "A wrong password: another one, the empty one, and ownerAuth: AUTH_FAIL/s1",
-    *(by_password(RH_LOCKOUT, it) for it in (b"wrong", b"", b"owner", b"lockou", b"lockout\0\1")),
-)
+said = tpm("A wrong password: another one, the empty one, and ownerAuth: AUTH_FAIL/s1")
+others = b"wrong", b"", b"owner", b"lockou", b"lockout\0\1"
+said.says(*(tpm.change_auth(RH_LOCKOUT, b"x", it) for it in others))
 tpm.refused(
     "A wrong hmac, of the session that is bound to nothing, of the one bound to TPM_RH_OWNER, and "
     "of those bound to TPM_RH_LOCKOUT: AUTH_FAIL/s1",
-    *(wrong(tpm.change_auth(RH_LOCKOUT, LOCKOUT, it)) for it in (unbound, to_owner, bound, early)),
+    *(wrong(change(RH_LOCKOUT, it)) for it in (unbound, to_owner, bound, early)),
 )
 said = tpm("No hmac where the session has no key of its own: AUTH_FAIL/s1")
-said.refused(tpm.change_auth(RH_LOCKOUT, LOCKOUT, unbound).but_entry(1, hmac=b""))
+said.refused(change(RH_LOCKOUT, unbound).but_entry(1, hmac=b""))
 for session, words in (
     (unbound, "Right hmacs: bound to nothing"),
     (to_owner, "Bound to TPM_RH_OWNER"),
     (bound, "Bound to TPM_RH_LOCKOUT"),
     (early, "Bound to it before its value was set"),
 ):
-    tpm(words).change_auth(RH_LOCKOUT, LOCKOUT, session)
-tpm.accepted("The right password", tpm.change_auth(RH_LOCKOUT, LOCKOUT, LOCKOUT))
+    tpm.does(words, change(RH_LOCKOUT, session))
+tpm.accepted("The right password", change(RH_LOCKOUT, LOCKOUT))
 
 tpm.chapter("On entities that nothing protects, through a session bound to TPM_RH_LOCKOUT.")
-tpm.refused(
-    "A wrong hmac on TPM_RH_OWNER, whose value is in the key too: AUTH_FAIL/s1",
-    wrong(tpm.change_auth(RH_OWNER, b"owner", bound)),
-    wrong(tpm.change_auth(RH_OWNER, b"owner", early)),
-)
+said = tpm("A wrong hmac on TPM_RH_OWNER, whose value is in the key too: AUTH_FAIL/s1")
+said.refused(wrong(change(RH_OWNER, bound)), wrong(change(RH_OWNER, early)))
 tpm.refused("On PCR 16: AUTH_FAIL/s1", wrong(tpm.reset(bound)), wrong(tpm.reset(early)))
 said = tpm("On TPM_RH_NULL, by TPM2_PCR_Event: AUTH_FAIL/s1")
 said.refused(wrong(tpm.event(b"abc", bound, pcr=frames.RH_NULL)))
@@ -60,49 +57,35 @@ tpm("On PCR 16").reset(bound)
 
 tpm.chapter("In an entry that authorizes nothing.")
 tpm.refused("Behind a password: AUTH_FAIL/s2", wrong(tpm.reset(b"", bound), 2))
-tpm.refused(
-    "Behind two right entries: AUTH_FAIL/s3",
-    wrong(tpm.reset(b"", to_owner, bound), 3),
-    wrong(tpm.reset(to_owner, unbound, early), 3),
-)
+said = tpm("Behind two right entries: AUTH_FAIL/s3")
+behind_two = tpm.reset(b"", to_owner, bound), tpm.reset(to_owner, unbound, early)
+said.refused(*(wrong(it, 3) for it in behind_two))
 said = tpm("Of TPM2_GetRandom: AUTH_FAIL/s1")
 said.refused(wrong(tpm.random(4, bound)), wrong(tpm.random(4, bound, to_owner)))
-tpm.refused(
-    "Of TPM2_StartAuthSession, as the second: AUTH_FAIL/s2",
-    wrong(
-        tpm.prepare(CC.StartAuthSession, *frames.start_auth_session(bytes(16)), to_owner, bound), 2
-    ),
-)
+start = frames.start_auth_session(bytes(16))
+starting = tpm.prepare(CC.StartAuthSession, *start, to_owner, bound)
+tpm.refused("Of TPM2_StartAuthSession, as the second: AUTH_FAIL/s2", wrong(starting, 2))
 tpm("Right ones").reset(to_owner, bound, early)
 
 tpm.chapter("Entries that are no try at it.")
-tpm.refused(
-    "A wrong hmac on TPM_RH_OWNER, bound to it or to nothing: BAD_AUTH/s1",
-    wrong(tpm.change_auth(RH_OWNER, b"owner", to_owner)),
-    wrong(tpm.change_auth(RH_OWNER, b"owner", unbound)),
-)
-tpm.raw("lockoutAuth as the password of TPM_RH_OWNER: BAD_AUTH/s1", by_password(RH_OWNER, LOCKOUT))
+said = tpm("A wrong hmac on TPM_RH_OWNER, bound to it or to nothing: BAD_AUTH/s1")
+said.refused(wrong(change(RH_OWNER, to_owner)), wrong(change(RH_OWNER, unbound)))
+tpm("lockoutAuth as the password of TPM_RH_OWNER: BAD_AUTH/s1").change_auth(RH_OWNER, b"x", LOCKOUT)
 said = tpm("A wrong hmac beside a right one of a session bound to TPM_RH_LOCKOUT: BAD_AUTH/s1")
 said.refused(wrong(tpm.reset(to_owner, bound)))
 tpm.refused("Behind it: BAD_AUTH/s2", wrong(tpm.reset(bound, to_owner), 2))
-tpm.refused(
-    "The second entry of TPM_RH_LOCKOUT's own command, where the first is right: BAD_AUTH/s2",
-    wrong(tpm.change_auth(RH_LOCKOUT, LOCKOUT, bound, to_owner), 2),
-)
-tpm.refused(
-    "Of two wrong entries the first is answered, here the one that is no such try: BAD_AUTH/s1",
-    wrong(wrong(tpm.reset(to_owner, bound)), 2),
-)
+case = "The second entry of TPM_RH_LOCKOUT's own command, where the first is right: BAD_AUTH/s2"
+tpm.refused(case, wrong(change(RH_LOCKOUT, bound, to_owner), 2))
+case = "Of two wrong entries the first is answered, here the one that is no such try: BAD_AUTH/s1"
+tpm.refused(case, wrong(wrong(tpm.reset(to_owner, bound)), 2))
 tpm.refused("And here the one that is: AUTH_FAIL/s1", wrong(wrong(tpm.reset(bound, to_owner)), 2))
 
 tpm.chapter("A binding of the start counts, whatever has become of the value.")
 tpm.accepted('lockoutAuth is "another"', tpm.change_auth(RH_LOCKOUT, b"another", LOCKOUT))
-tpm.refused(
-    "A wrong hmac on PCR 16 through the session that was bound to its old value: AUTH_FAIL/s1",
-    wrong(tpm.reset(bound)),
-)
+case = "A wrong hmac on PCR 16 through the session that was bound to its old value: AUTH_FAIL/s1"
+tpm.refused(case, wrong(tpm.reset(bound)))
 tpm("On TPM_RH_LOCKOUT it has the new value in its key").change_auth(RH_LOCKOUT, b"", bound)
-tpm.raw("lockoutAuth is empty: a wrong password: AUTH_FAIL/s1", by_password(RH_LOCKOUT, b"x"))
+tpm("lockoutAuth is empty: a wrong password: AUTH_FAIL/s1").change_auth(RH_LOCKOUT, b"x", b"x")
 said = tpm("A wrong hmac of the session that is bound to nothing: AUTH_FAIL/s1")
 said.refused(tpm.change_auth(RH_LOCKOUT, b"", unbound).but_entry(1, hmac=b"\0"))
 tpm("No hmac of it").change_auth(RH_LOCKOUT, b"", unbound)
@@ -111,7 +94,9 @@ tpm("No hmac of it").change_auth(RH_LOCKOUT, b"", unbound)
 tpm.script.pause = 0
 
 
-def right(what):
+def right(what, after=0):
+    if after:
+        tpm.wait(after)
     tpm(what).lock_reset(LOCKOUT)
 
 
@@ -119,16 +104,16 @@ def wrong_password(what):
     tpm(f"{what}: AUTH_FAIL/s1").lock_reset(b"wrong")
 
 
-def closed(what, *passwords):
+def closed(what, *passwords, after=0):
+    if after:
+        tpm.wait(after)
     tpm.fails(f"{what}: LOCKOUT", *(tpm.lock_reset(it) for it in passwords or (LOCKOUT,)))
 
 
 def closed_for(what, milliseconds):
     tpm.chapter(what)
-    tpm.wait(milliseconds - 1)
-    closed(f"{milliseconds - 1:,} milliseconds later")
-    tpm.wait(1)
-    right("One more")
+    closed(f"{milliseconds - 1:,} milliseconds later", after=milliseconds - 1)
+    right("One more", after=1)
 
 
 tpm.chapter("One wrong try closes lockoutAuth for lockoutRecovery, to the millisecond.")
@@ -137,44 +122,33 @@ said.set_protection(3, 1000, 1000)
 tpm.accepted('lockoutAuth is "lockout"', tpm.change_auth(RH_LOCKOUT, LOCKOUT, b""))
 wrong_password("A wrong password of TPM2_DictionaryAttackLockReset")
 closed("The right one, and others", LOCKOUT, b"wrong", b"")
-tpm.fails(
-    "Of the other commands: TPM2_DictionaryAttackParameters and TPM2_HierarchyChangeAuth: "
-    "LOCKOUT",
-    tpm.attack_parameters(3, 1000, 1000, LOCKOUT),
-    tpm.change_auth(RH_LOCKOUT, b"x", LOCKOUT),
+said = tpm(
+    "Of the other commands: TPM2_DictionaryAttackParameters and TPM2_HierarchyChangeAuth: LOCKOUT"
 )
+said.fails(tpm.attack_parameters(3, 1000, 1000), tpm.change_auth(RH_LOCKOUT, b"x", LOCKOUT))
 said = tpm("A session that is bound to nothing, one that is bound to it, and a wrong hmac: LOCKOUT")
 said.fails(tpm.lock_reset(unbound), tpm.lock_reset(bound), wrong(tpm.lock_reset(unbound)))
-tpm.fails(
-    "One that is bound to it and authorizes PCR 16, and one that authorizes nothing: LOCKOUT",
-    tpm.reset(bound),
-    tpm.random(2, bound),
-    tpm.reset(b"", bound),
-)
+case = "One that is bound to it and authorizes PCR 16, and one that authorizes nothing: LOCKOUT"
+tpm.fails(case, tpm.reset(bound), tpm.random(2, bound), tpm.reset(b"", bound))
 tpm("A session that is bound to another entity").reset(to_owner)
 closed_for("It opens. Wrong tries while it was closed have not closed it anew.", 1_000_000)
 tpm.chapter("In the middle of the time.")
 wrong_password("A wrong one")
-tpm.wait(500_000)
-closed("Another wrong one", b"wrong")
+closed("Another wrong one", b"wrong", after=500_000)
 closed_for("The time goes on.", 500_000)
 tpm.chapter("At a wrong hmac it closes too.")
 tpm.fails("Of PCR 16, bound to it: AUTH_FAIL/s1", wrong(tpm.reset(bound)))
 closed("The right password")
-tpm.wait(1_000_000)
-right("Later")
+right("Later", after=1_000_000)
 tpm.fails("Behind a password: AUTH_FAIL/s2", wrong(tpm.reset(b"", bound), 2))
 closed("The right password")
 closed_for("It opens.", 1_000_000)
 
-
 tpm.chapter("A power cycle opens nothing, and starts the time anew.")
 wrong_password("A wrong one")
-tpm.wait(999_999)
-closed("A millisecond before the end")
+closed("A millisecond before the end", after=999_999)
 tpm.power_cycle()
-tpm.wait(1)
-closed("After TPM2_Startup, in that millisecond")
+closed("After TPM2_Startup, in that millisecond", after=1)
 closed_for("The time counts from the power cycle on.", 999_999)
 tpm.chapter("It counts before TPM2_Startup too.")
 wrong_password("A wrong one")
@@ -183,12 +157,10 @@ tpm.wait(1_000_000)
 tpm.startup()
 right("It is over")
 
-
 tpm.chapter("With lockoutRecovery 0 no time opens it, but the next reset.")
 tpm("lockoutRecovery is 0").attack_parameters(3, 1000, 0, LOCKOUT)
 wrong_password("A wrong one")
-tpm.wait(4_294_967_295)
-closed("The right one, after the longest time that one command can take")
+closed("The right one, after the longest time that one command can take", after=4_294_967_295)
 tpm.power_cycle()
 right("Behind a power cycle and TPM2_Startup(CLEAR)")
 wrong_password("A wrong one")
@@ -197,7 +169,6 @@ tpm.power_cycle()
 tpm("lockoutRecovery is 1 second").attack_parameters(3, 1000, 1, LOCKOUT)
 wrong_password("A wrong one")
 closed_for("It opens.", 1_000)
-
 
 tpm.chapter("lockoutAuth and other protected entities have nothing to do with each other.")
 tpm.define("An NV index", area(FIRST, BY_VALUE), auth=b"pin")
@@ -234,11 +205,9 @@ tpm("Nor is maxTries 0").attack_parameters(0, 1000, 1, LOCKOUT)
 right("The right one")
 tpm("Of the index: LOCKOUT").writing(FIRST, b"x")
 
-
 tpm.chapter("The longest lockoutRecovery.")
 tpm("It is FFFFFFFF").attack_parameters(3, 1000, 0xFFFF_FFFF, LOCKOUT)
 wrong_password("A wrong one")
-tpm.wait(4_294_967_295)
-closed("4,294,967 seconds are nothing to it")
+closed("4,294,967 seconds are nothing to it", after=4_294_967_295)
 tpm.power_cycle()
 closed("A reset does not open it, as it has a time")

@@ -2,25 +2,20 @@
 1 one wrong entry locks, and the right one is refused then, whichever command the try was made by.
 """
 
+from tests.common.steps import PROTECTED, Steps
 from tests.common.vocabulary import area, bits, BY_POLICY, BY_VALUE, CC, counter, extended, FIFTH
-from tests.common.vocabulary import FIRST, FOURTH, HERE, hmac_key, LOCKS, ObjectAttribute, policy
-from tests.common.vocabulary import RH_OWNER, sealed, SECOND, SHA256, storage_key, STORES, Teller
-from tests.common.vocabulary import THIRD, Use, wrong
+from tests.common.vocabulary import FIRST, FOURTH, hmac_key, LOCKS, policy, sealed, SECOND, SHA256
+from tests.common.vocabulary import storage_key, STORES, THIRD, wrong
+
 
 PIN, DATA = b"pin", b"data"
-PROTECTED = HERE | ObjectAttribute.USER_WITH_AUTH
 PARENT, SEALED, KEY = range(0x8000_0000, 0x8000_0003)
 
 # The policy of an index whose value may be changed by who knows it.
-CHANGING = policy.after_auth_value(
-    SHA256, policy.after_command_code(SHA256, bytes(32), CC.NV_ChangeAuth)
-)
+CHANGING = policy.after_command_code(SHA256, bytes(32), CC.NV_ChangeAuth)
+CHANGING = policy.after_auth_value(SHA256, CHANGING)
 
-tpm = Teller(__name__, __doc__)
-
-
-def unlock(what="TPM2_DictionaryAttackLockReset"):
-    tpm(what).lock_reset()
+tpm = Steps(__name__, __doc__)
 
 
 def tries(name, prepare, outcome="SUCCESS"):
@@ -33,7 +28,7 @@ def tries(name, prepare, outcome="SUCCESS"):
     tpm.fails("Wrong: AUTH_FAIL/s1", wrong(prepare()))
     tpm.fails("Right: LOCKOUT", prepare())
     tpm("TPM2_Unseal of another entity: LOCKOUT").unsealing(SEALED)
-    unlock()
+    tpm.unlocks()
 
 
 def change_auth():
@@ -41,10 +36,8 @@ def change_auth():
 
     def prepare():
         tpm.restarts(told)
-        code = tpm.command_code(told, CC.NV_ChangeAuth)
-        tpm.says("TPM2_PolicyCommandCode: SUCCESS", code)
-        tpm("TPM2_PolicyAuthValue").auth_value_told(told)
-        return tpm.changing_auth(FIFTH, PIN, Use(told, demand=policy.AUTH_VALUE))
+        tpm("TPM2_PolicyCommandCode").command_code(told, CC.NV_ChangeAuth)
+        return tpm.changing_auth(FIFTH, PIN, tpm.by_value(told))
 
     tries("NV_ChangeAuth, by a policy that asks for the value", prepare)
     tpm("The session is flushed").flush(told)
@@ -53,7 +46,7 @@ def change_auth():
 tpm.set_protection("TPM2_DictionaryAttackParameters: maxTries is 1", 1, 1000, 1000)
 
 handles = [
-    tpm.create_primary(f"{words} without noDA", RH_OWNER, template, user_auth=PIN, data=data)
+    tpm.owned(f"{words} without noDA", template, user_auth=PIN, data=data)
     for words, template, data in (
         ("A storage key", storage_key(attributes=PROTECTED | STORES), b""),
         ("A sealed object", sealed(attributes=PROTECTED), DATA),
@@ -69,7 +62,6 @@ tries("HMAC", lambda: tpm.hmac(KEY, DATA, SHA256))
 tries("Unseal of an HMAC key", lambda: tpm.unsealing(KEY), "ATTRIBUTES/h1")
 session = tpm.policy("A policy session")
 tries("PolicySecret of an object", lambda: tpm.secret(session, PIN, of=SEALED))
-
 
 tpm.chapter("NV indices.")
 for words, public in (
@@ -104,19 +96,14 @@ first = tpm.start("A session that is bound to the sealed object", SEALED)
 second = tpm.start("One that is bound to an index", FIRST)
 third = tpm.start("One that is bound to nothing")
 tpm.set_protection("maxTries is 2", 2, 1000, 1000)
-both = wrong(wrong(tpm.reset(first, second, third)), 2)
-tpm.fails("The first two are wrong: AUTH_FAIL/s1", both)
+tpm.fails("The first two are wrong: AUTH_FAIL/s1", wrong(wrong(tpm.reset(first, second, third)), 2))
 tpm("It is not locked: all three").reset(first, second, third)
-unlock()
-behind = wrong(tpm.reset(third, first, second), 2)
-tpm.fails("The second of three: AUTH_FAIL/s2", behind)
+tpm.unlocks()
+tpm.fails("The second of three: AUTH_FAIL/s2", wrong(tpm.reset(third, first, second), 2))
 tpm("It is not locked: all three").reset(first, second, third)
 tpm.fails("The third of three: AUTH_FAIL/s3", wrong(tpm.reset(third, first, second), 3))
 tpm("It is locked: LOCKOUT").reset(third, first, second)
-unlock()
-tpm.fails(
-    "The first is wrong and no try, and the others are: BAD_AUTH/s1",
-    wrong(wrong(wrong(tpm.reset(third, first, second)), 2), 3),
-    wrong(wrong(wrong(tpm.reset(third, first, second)), 2), 3),
-)
+tpm.unlocks()
+said = tpm("The first is wrong and no try, and the others are: BAD_AUTH/s1")
+said.fails(*(wrong(wrong(wrong(tpm.reset(third, first, second)), 2), 3) for _ in range(2)))
 tpm("It is not locked").reset(third, first, second)

@@ -5,16 +5,17 @@ others.
 """
 
 from dataclasses import dataclass
+from functools import partial
 from typing import Callable
 
-from tests.common.vocabulary import area, BY_POLICY, BY_VALUE, FIRST, HERE, NvAttribute
-from tests.common.vocabulary import ObjectAttribute, policy, RH_LOCKOUT, RH_OWNER, sealed, SECOND
-from tests.common.vocabulary import SHA256, Teller, Use, wrong
+from tests.common.steps import AFTER_AUTH_VALUE, in_plain, PROTECTED, Steps, with_value
+from tests.common.vocabulary import area, BY_POLICY, BY_VALUE, FIRST, NvAttribute, policy
+from tests.common.vocabulary import RH_LOCKOUT, RH_OWNER, sealed, SECOND, SHA256, wrong
 
 PIN, DATA, OWNER, LOCKOUT = b"pin", b"a secret", b"owner", b"lockout"
-DEMANDING = policy.after_auth_value(SHA256, bytes(32))
+DEMANDING = AFTER_AUTH_VALUE[SHA256]
 
-tpm = Teller(__name__, __doc__)
+tpm = Steps(__name__, __doc__)
 
 
 @dataclass
@@ -44,35 +45,18 @@ def ways(handle, use):
     bound_policy = tpm.policy("One that is bound to the entity", bind=handle)
     sessions = unbound, to_owner, bound, to_lockout, told, bound_policy
 
-    def value():
-        tpm("TPM2_PolicyAuthValue").auth_value_told(told)
-
-    def password():
-        tpm("TPM2_PolicyPassword").password_told(told)
-
+    by_lockout = "One that is bound to TPM_RH_LOCKOUT: the entity's value is in the key"
+    value, password = partial(tpm.by_value, told), partial(tpm.by_password, told)
+    on_owner = "The session that is bound to the entity, on TPM_RH_OWNER"
     return sessions, (
         Way("The password", lambda: use(PIN)),
         Way("An HMAC session that is bound to nothing", lambda: use(unbound)),
         Way("One that is bound to TPM_RH_OWNER", lambda: use(to_owner)),
         Way("One that is bound to the entity", lambda: use(bound)),
-        Way(
-            "One that is bound to TPM_RH_LOCKOUT: the entity's value is in the key",
-            lambda: use(to_lockout),
-        ),
-        Way(
-            "A policy session with TPM2_PolicyAuthValue",
-            lambda: use(Use(told, demand=policy.AUTH_VALUE)),
-            tell=value,
-        ),
-        Way(
-            "A policy session with TPM2_PolicyPassword",
-            lambda: use(Use(told, demand=policy.PASSWORD)),
-            tell=password,
-        ),
-        Way(
-            "The session that is bound to the entity, on TPM_RH_OWNER",
-            lambda: tpm.change_auth(RH_OWNER, OWNER, bound),
-        ),
+        Way(by_lockout, lambda: use(to_lockout)),
+        Way("A policy session with TPM2_PolicyAuthValue", lambda: use(with_value(told)), 1, value),
+        Way("A policy session with TPM2_PolicyPassword", lambda: use(in_plain(told)), 1, password),
+        Way(on_owner, lambda: tpm.change_auth(RH_OWNER, OWNER, bound)),
         Way("On PCR 16", lambda: tpm.reset(bound)),
         Way("Where it authorizes nothing, alone", lambda: tpm.random(2, bound)),
         Way("And behind a password", lambda: tpm.reset(b"", bound), place=2),
@@ -115,8 +99,8 @@ def check(name, handle, use):
     tpm("Bound to TPM_RH_LOCKOUT, on PCR 16").reset(to_lockout)
     said = tpm("Bound to the entity, on TPM_RH_LOCKOUT: lockoutAuth is what is tried there")
     said.lock_reset(bound)
-    for session in sessions:
-        tpm("It is flushed" if session is sessions[0] else "").flush(session)
+    tpm("It is flushed").flush(unbound)
+    tpm.flushes("", *sessions[1:])
 
 
 def policy_without_value():
@@ -126,24 +110,19 @@ def policy_without_value():
     tpm.define("An index with this policy", area(SECOND, BY_POLICY, auth_policy=digest))
     session = tpm.policy("A policy session")
 
-    def use():
+    def use(session):
         tpm("TPM2_PolicyLocality of locality 0").locality(session, 1)
         return tpm.writing(SECOND, DATA, session)
 
-    tpm.accepted("TPM2_NV_Write", use())
-    tpm.refused("With an hmac that is not asked for: BAD_AUTH/s1", wrong(use()))
+    tpm.accepted("TPM2_NV_Write", use(session))
+    tpm.refused("With an hmac that is not asked for: BAD_AUTH/s1", wrong(use(session)))
     tpm.restarts(session)
     tpm.refused("A try at another entity: AUTH_FAIL/s1", tpm.writing(FIRST, DATA, b"x"))
-    tpm.accepted("It is open still", use())
+    tpm.accepted("It is open still", use(session))
     tpm.unlocks()
     bound = tpm.policy("A policy session that is bound to the other entity", bind=FIRST)
-
-    def bound_use():
-        tpm("TPM2_PolicyLocality of locality 0").locality(bound, 1)
-        return tpm.writing(SECOND, DATA, bound)
-
-    tpm.accepted("TPM2_NV_Write", bound_use())
-    tpm.refused("A wrong hmac: a try at the other entity: AUTH_FAIL/s1", wrong(bound_use()))
+    tpm.accepted("TPM2_NV_Write", use(bound))
+    tpm.refused("A wrong hmac: a try at the other entity: AUTH_FAIL/s1", wrong(use(bound)))
     tpm("It is locked: LOCKOUT").writing(SECOND, DATA, bound)
     tpm.unlocks()
     tpm("The index is undefined").undefining(SECOND, OWNER)
@@ -155,15 +134,9 @@ tpm.set_protection("TPM2_DictionaryAttackParameters: maxTries is 1", 1, 1000, 10
 tpm('lockoutAuth is "lockout"').change_auth(RH_LOCKOUT, LOCKOUT, b"")
 tpm('ownerAuth is "owner"').change_auth(RH_OWNER, OWNER, b"")
 said = tpm("An NV index, with a policy that asks for its value")
-said.define(area(FIRST, BY_VALUE | BY_POLICY, auth_policy=DEMANDING), auth=PIN)
-tpm("It is written").writing(FIRST, DATA)
-SEALED = tpm.create_primary(
-    "A sealed object, with the same policy",
-    RH_OWNER,
-    sealed(attributes=HERE | ObjectAttribute.USER_WITH_AUTH, auth_policy=DEMANDING),
-    user_auth=PIN,
-    data=DATA,
-)
+said.written(area(FIRST, BY_VALUE | BY_POLICY, auth_policy=DEMANDING), DATA, auth=PIN)
+template = sealed(attributes=PROTECTED, auth_policy=DEMANDING)
+SEALED = tpm.owned("A sealed object, with the same policy", template, user_auth=PIN, data=DATA)
 check("the NV index", FIRST, lambda use: tpm.writing(FIRST, DATA, use))
 check("the object", SEALED, lambda use: tpm.unsealing(SEALED, use))
 policy_without_value()
@@ -184,5 +157,4 @@ said = tpm("The first session on it: what that was bound to was protected: AUTH_
 said.refused(wrong(tpm.writing(SECOND, DATA, bound)))
 tpm("Locked or not, the second session").writing(SECOND, DATA, free)
 tpm.unlocks()
-for session in (bound, free):
-    tpm("It is flushed").flush(session)
+tpm.flushes("It is flushed", bound, free)

@@ -2,9 +2,9 @@
 the owner, the platform, the index itself and another one. By passwords, which a policy is not.
 """
 
-from tests.common.vocabulary import area, bits, BY_POLICY, BY_VALUE, counter, extended, FIRST
-from tests.common.vocabulary import frames, LOCKS, nv, NvAttribute, RH_OWNER, RH_PLATFORM, SECOND
-from tests.common.vocabulary import Teller, THIRD
+from tests.common.vocabulary import area, bits, BY_POLICY, BY_VALUE, counter, extended, FIRST, LOCKS
+from tests.common.vocabulary import nv, NvAttribute, RH_ENDORSEMENT, RH_LOCKOUT, RH_NULL, RH_OWNER
+from tests.common.vocabulary import RH_PLATFORM, RS_PW, SECOND, Teller, THIRD
 
 # What an index allows by one attribute for writing and one for reading, and who then may.
 ALLOWED = (
@@ -14,8 +14,13 @@ ALLOWED = (
     (NvAttribute.POLICYWRITE, NvAttribute.POLICYREAD, "policy"),
 )
 
-tpm = Teller(__name__, __doc__, starts=False)
-ASKERS = (("The owner", RH_OWNER, "owner"), ("The platform", RH_PLATFORM, "platform"))
+ASKERS = (
+    ("The owner", RH_OWNER, "owner"),
+    ("The platform", RH_PLATFORM, "platform"),
+    ("The index itself", None, "index"),
+)
+
+tpm = Teller(__name__, __doc__)
 
 
 def refusal(asker, allowed):
@@ -25,36 +30,26 @@ def refusal(asker, allowed):
     return "AUTH_UNAVAILABLE" if asker == "index" else "NV_AUTHORIZATION"
 
 
-def comes_to(what, outcome, prepared):
-    if outcome == "SUCCESS":
-        tpm.does(what, prepared)
-    else:
-        tpm.fails(f"{what}: {outcome}", prepared)
-
-
 def each_asker(what, allowed, prepare):
-    for words, handle, asker in (*ASKERS, ("The index itself", None, "index")):
-        comes_to(f"{words}, {what}", refusal(asker, allowed), prepare(handle))
+    for words, handle, asker in ASKERS:
+        tpm.comes_to(f"{words}, {what}: {refusal(asker, allowed)}", prepare(handle))
     # Another index authorizes by its own attributes, and may not ask for this one.
     tpm.fails(f"Another index that can be written, {what}: NV_AUTHORIZATION", prepare(SECOND))
 
 
-tpm.startup()
 tpm.define("Another index, which can be used by its value", area(SECOND, BY_VALUE), auth=b"b")
 tpm("It is written").writing(SECOND, b"other...")
 for write, read, allowed in ALLOWED:
     tpm.chapter(f"{write.name} alone.")
     # All changes ask for the same attribute.
-    attribute = write
     for name, make, change in (
         ("An ordinary index", area, lambda it, by: tpm.writing(it, b"x", by=by)),
         ("A counter", counter, tpm.incrementing),
         ("Bits", bits, lambda it, by: tpm.setting(it, 1, by=by)),
         ("One that is extended", extended, lambda it, by: tpm.extending(it, b"x", by=by)),
     ):
-        public = make(FIRST, attribute | nv.READS | LOCKS)
-        what = f"{name} with {attribute.name} and all that allow to read"
-        tpm.define(what, public, auth=b"a")
+        said = tpm(f"{name} with {write.name} and all that allow to read")
+        said.define(make(FIRST, write | nv.READS | LOCKS), auth=b"a")
         each_asker("TPM2_NV_WriteLock", allowed, lambda by: tpm.write_locking(FIRST, by=by))
         tpm.power_cycle()
         each_asker("its change", allowed, lambda by: change(FIRST, by=by))
@@ -62,17 +57,16 @@ for write, read, allowed in ALLOWED:
         tpm("It is undefined").undefining(FIRST)
 for write, read, allowed in ALLOWED:
     tpm.chapter(f"{read.name} alone.")
-    attribute = read
-    public = area(FIRST, attribute | nv.WRITES | LOCKS)
-    tpm.define(f"{attribute.name}, and all that allow to write", public, auth=b"a")
+    public = area(FIRST, read | nv.WRITES | LOCKS)
+    tpm.define(f"{read.name}, and all that allow to write", public, auth=b"a")
     tpm("TPM2_NV_Write").writing(FIRST, b"written.")
     each_asker("TPM2_NV_Read", allowed, lambda by: tpm.reading(FIRST, 8, by=by))
     session = tpm.policy("A policy session")
     each_asker("TPM2_PolicyNV", allowed, lambda by: tpm.comparing(session, FIRST, b"w", by=by))
     tpm("It is flushed").flush(session)
     session = tpm.policy("Another, to be told TPM2_PolicySecret")
-    case = "TPM2_PolicySecret of the index"
-    comes_to(case, refusal("index", allowed), tpm.secret(session, tpm.auth_value(FIRST), of=FIRST))
+    said = tpm(f"TPM2_PolicySecret of the index: {refusal('index', allowed)}")
+    said.secret(session, tpm.auth_value(FIRST), of=FIRST)
     tpm("It is flushed").flush(session)
     each_asker("TPM2_NV_ReadLock", allowed, lambda by: tpm.read_locking(FIRST, by=by))
     tpm("It is undefined").undefining(FIRST)
@@ -88,25 +82,15 @@ tpm("Nor with a wrong one: AUTH_FAIL/s1").reading(FIRST, 1, b"a", by=SECOND)
 
 tpm.chapter("authHandle and nvIndex of other kinds.")
 right = tpm.reading(SECOND, 8)
-for what, place, handles in (
-    (
-        "authHandle: TPM_RH_NULL, TPM_RH_LOCKOUT, TPM_RH_ENDORSEMENT, TPM_RS_PW, PCR 0, an "
-        "object and a session",
-        1,
-        (
-            *(frames.RH_NULL, frames.RH_LOCKOUT, frames.RH_ENDORSEMENT, frames.RS_PW),
-            *(0, 0x8000_0000, 0x0300_0000),
-        ),
-    ),
-    (
-        "nvIndex: the owner, the platform, PCR 1, an object and a session",
-        2,
-        (RH_OWNER, RH_PLATFORM, 1, 0x8000_0000, 0x0200_0000),
-    ),
-):
-    handles = [[it, SECOND] if place == 1 else [SECOND, it] for it in handles]
-    wrong = [right.but(handles=it) for it in handles]
-    tpm.fails(f"{what}: VALUE/h{place}", *wrong)
+others = RH_NULL, RH_LOCKOUT, RH_ENDORSEMENT, RS_PW, 0, 0x8000_0000, 0x0300_0000
+tpm.fails(
+    "authHandle: TPM_RH_NULL, TPM_RH_LOCKOUT, TPM_RH_ENDORSEMENT, TPM_RS_PW, PCR 0, an object and "
+    "a session: VALUE/h1",
+    *(right.but(handles=[it, SECOND]) for it in others),
+)
+case = "nvIndex: the owner, the platform, PCR 1, an object and a session: VALUE/h2"
+others = RH_OWNER, RH_PLATFORM, 1, 0x8000_0000, 0x0200_0000
+tpm.fails(case, *(right.but(handles=[SECOND, it]) for it in others))
 tpm("An index is undefined").undefining(FIRST)
 tpm.fails("authHandle that is not defined: HANDLE/h1", right.but(handles=[FIRST, SECOND]))
 tpm.fails("nvIndex that is not: HANDLE/h2", right.but(handles=[SECOND, FIRST]))

@@ -8,7 +8,7 @@ from tests.common.vocabulary import THIRD
 
 CLEARED = NvAttribute.CLEAR_STCLEAR
 
-tpm = Teller(__name__, __doc__, starts=False)
+tpm = Teller(__name__, __doc__)
 
 
 def set_bits(what, index, more, value):
@@ -16,7 +16,6 @@ def set_bits(what, index, more, value):
     tpm.read(f"It is {value:X}", index, number(value, 8), by=RH_OWNER)
 
 
-tpm.startup()
 tpm.chapter("Bits.")
 tpm.define("TPM2_NV_DefineSpace (attributes 00020022)", bits(FIRST, BY_OWNER))
 tpm("TPM2_NV_Read before the first bit: NV_UNINITIALIZED").reading(FIRST, 8, by=RH_OWNER)
@@ -35,14 +34,13 @@ said = tpm("Seven bytes, and none: INSUFFICIENT/p1")
 said.fails(wrong.but(parameters=bytes(7)), wrong.but(parameters=b""))
 tpm.fails("Nine bytes: SIZE", wrong.but(parameters=bytes(9)))
 
-for index, (algorithm, name) in zip((THIRD, THIRD + 1), HASHES):
+for index, (algorithm, name) in enumerate(HASHES, THIRD):
     tpm.chapter(f"An index that is extended, of {name}.")
-    zeros = bytes(digest_bytes(algorithm))
-    size = len(zeros)
+    size = digest_bytes(algorithm)
     said = tpm(f"TPM2_NV_DefineSpace (attributes 00020042), of {size} bytes")
     said.define(extended(index, BY_OWNER, algorithm=algorithm))
     tpm("TPM2_NV_Read before the first: NV_UNINITIALIZED").reading(index, size, by=RH_OWNER)
-    value = zeros
+    value = bytes(size)
     for what, data in (
         ('TPM2_NV_Extend by "abc", itself and not its digest', b"abc"),
         ("By no bytes", b""),
@@ -64,14 +62,15 @@ tpm.power_cycle()
 tpm.read("TPM2_NV_Read of the first", FIRST, b"\xff" * 8, by=RH_OWNER)
 tpm("Of the second: NV_UNINITIALIZED").reading(SECOND, 8, by=RH_OWNER)
 set_bits("TPM2_NV_SetBits of 2 in the second", SECOND, 2, 2)
-tpm.read("The last one goes on", THIRD + 1, value, by=RH_OWNER)
-tpm('TPM2_NV_Extend by "next"').extending(THIRD + 1, b"next", by=RH_OWNER)
-tpm.read("It is the digest of both", THIRD + 1, digest(algorithm, value + b"next"), by=RH_OWNER)
-tpm("It is undefined").undefining(THIRD + 1)
+tpm.read("The last one goes on", index, value, by=RH_OWNER)
+tpm('TPM2_NV_Extend by "next"').extending(index, b"next", by=RH_OWNER)
+tpm.read("It is the digest of both", index, digest(algorithm, value + b"next"), by=RH_OWNER)
+tpm("It is undefined").undefining(index)
 said = tpm("And defined so that each start clears it")
-said.define(extended(THIRD + 1, BY_OWNER | CLEARED, algorithm=algorithm))
-once = digest(algorithm, zeros + b"next")
+said.define(extended(index, BY_OWNER | CLEARED, algorithm=algorithm))
+once = digest(algorithm, bytes(size) + b"next")
 for what in ('TPM2_NV_Extend by "next"', "After the next start, the same"):
-    tpm(what).extending(THIRD + 1, b"next", by=RH_OWNER)
-    tpm.read("It is the digest of zeros and the data", THIRD + 1, once, by=RH_OWNER)
+    tpm(what).extending(index, b"next", by=RH_OWNER)
+    tpm.read("It is the digest of zeros and the data", index, once, by=RH_OWNER)
+
     tpm.power_cycle()

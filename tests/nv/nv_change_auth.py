@@ -2,12 +2,12 @@
 takes a policy with TPM2_PolicyCommandCode of this very command.
 """
 
-from tests.common.vocabulary import area, AUTH_VALUE, BY_OWNER, BY_POLICY, BY_VALUE, CC
-from tests.common.vocabulary import CONTINUE_SESSION, DECRYPT, digest_bytes, FIRST, HASHES, number
-from tests.common.vocabulary import NvAttribute, PASSWORD, policy, RH_OWNER, RH_PLATFORM, SECOND
-from tests.common.vocabulary import SHA1, SHA256, sized, Teller, THIRD, Use, zeros
+from tests.common.steps import AFTER_AUTH_VALUE, Steps, with_value
+from tests.common.vocabulary import area, BY_OWNER, BY_POLICY, BY_VALUE, CC, DECRYPTS, digest_bytes
+from tests.common.vocabulary import FIRST, HASHES, LOCKS, number, NvAttribute, policy, RH_OWNER
+from tests.common.vocabulary import RH_PLATFORM, SECOND, SHA1, SHA256, sized, THIRD, Use, zeros
 
-tpm = Teller(__name__, __doc__, starts=False)
+tpm = Steps(__name__, __doc__, tries=True)
 
 
 def changing_policy(algorithm=SHA256, before=None):
@@ -16,13 +16,9 @@ def changing_policy(algorithm=SHA256, before=None):
     return policy.after_command_code(algorithm, old, CC.NV_ChangeAuth)
 
 
-def told(session, what="TPM2_PolicyCommandCode of TPM2_NV_ChangeAuth"):
-    tpm.comes_to(what, tpm.command_code(session, CC.NV_ChangeAuth))
+def told(session):
+    tpm("TPM2_PolicyCommandCode of TPM2_NV_ChangeAuth").command_code(session, CC.NV_ChangeAuth)
 
-
-tpm.startup()
-tpm.script.allow_tries()
-AFTER_AUTH_VALUE = policy.after_auth_value(SHA256, bytes(32))
 
 tpm.chapter("Without the policy.")
 said = tpm("An index with this policy, that can be used by its value")
@@ -61,19 +57,16 @@ tpm.undefines(FIRST)
 
 tpm.chapter("A digest that is right, and no TPM2_PolicyCommandCode in it.")
 said = tpm("An index whose policy is TPM2_PolicyAuthValue")
-said.define(area(FIRST, BY_POLICY, auth_policy=AFTER_AUTH_VALUE), auth=b"old")
+said.define(area(FIRST, BY_POLICY, auth_policy=AFTER_AUTH_VALUE[SHA256]), auth=b"old")
 session = tpm.policy("A policy session")
-tpm("TPM2_PolicyAuthValue").auth_value_told(session)
-by_value = Use(session, demand=AUTH_VALUE)
-tpm("TPM2_NV_Write by it: what is no ADMIN role asks for no code").writing(FIRST, b"x", by_value)
-tpm("TPM2_PolicyAuthValue").auth_value_told(session)
-said = tpm("TPM2_NV_ChangeAuth: POLICY_FAIL/s1")
-said.changing_auth(FIRST, b"new", Use(session, demand=AUTH_VALUE))
+said = tpm("TPM2_NV_Write by it: what is no ADMIN role asks for no code")
+said.writing(FIRST, b"x", tpm.by_value(session))
+by_value = tpm.by_value(session)
+tpm("TPM2_NV_ChangeAuth: POLICY_FAIL/s1").changing_auth(FIRST, b"new", by_value)
 tpm.undefines(FIRST)
-tpm.define(
-    "One whose policy is TPM2_PolicyCommandCode of TPM2_NV_Write",
-    area(FIRST, BY_POLICY, auth_policy=policy.after_command_code(SHA256, bytes(32), CC.NV_Write)),
-)
+said = tpm("One whose policy is TPM2_PolicyCommandCode of TPM2_NV_Write")
+for_writing = policy.after_command_code(SHA256, bytes(32), CC.NV_Write)
+said.define(area(FIRST, BY_POLICY, auth_policy=for_writing))
 tpm.restarts(session)
 tpm("TPM2_PolicyCommandCode of TPM2_NV_Write").command_code(session, CC.NV_Write)
 tpm("TPM2_NV_ChangeAuth: POLICY_CC/s1").changing_auth(FIRST, b"new", session)
@@ -86,15 +79,11 @@ tpm.restarts(session)
 tpm.undefines(FIRST)
 
 tpm.chapter("No attribute has to allow it, and no lock forbids it.")
-locks = NvAttribute.WRITE_STCLEAR | NvAttribute.READ_STCLEAR
 said = tpm("An index that the owner alone uses")
-said.define(area(FIRST, BY_OWNER | locks, auth_policy=changing_policy()), auth=b"old")
-for what, prepared in (
-    ("TPM2_NV_Write", tpm.writing(FIRST, b"x", by=RH_OWNER)),
-    ("TPM2_NV_WriteLock", tpm.write_locking(FIRST, by=RH_OWNER)),
-    ("TPM2_NV_ReadLock", tpm.read_locking(FIRST, by=RH_OWNER)),
-):
-    tpm.does(what, prepared)
+said.define(area(FIRST, BY_OWNER | LOCKS, auth_policy=changing_policy()), auth=b"old")
+tpm("TPM2_NV_Write").writing(FIRST, b"x", by=RH_OWNER)
+tpm("TPM2_NV_WriteLock").write_locking(FIRST, by=RH_OWNER)
+tpm("TPM2_NV_ReadLock").read_locking(FIRST, by=RH_OWNER)
 told(session)
 tpm("TPM2_NV_ChangeAuth").changing_auth(FIRST, b"new", session)
 tpm.undefines(FIRST)
@@ -118,11 +107,9 @@ for algorithm, name in HASHES:
     said.fails(wrong.but(parameters=sized(bytes(33))), wrong.but(parameters=number(33, 2)))
     tpm.fails("A byte behind it: SIZE", wrong.but(parameters=sized(b"a") + b"\0"))
     if algorithm == SHA1:
-        tpm.fails(
-            "21 and 32 bytes: SIZE/p1",
-            tpm.changing_auth(FIRST, b"a" * 21, session),
-            tpm.changing_auth(FIRST, b"a" * 32, session),
-        )
+        longer = (tpm.changing_auth(FIRST, b"a" * it, session) for it in (21, 32))
+        tpm.fails("21 and 32 bytes: SIZE/p1", *longer)
+
     tpm(f"{size} bytes").changing_auth(FIRST, b"a" * size, session)
     tpm("TPM2_NV_Write by it").writing(FIRST, b"x")
     told(session)
@@ -131,44 +118,36 @@ for algorithm, name in HASHES:
     tpm.undefines(FIRST)
 
 tpm.chapter("A policy that asks for the old value too. The response shows the new one.")
-BOTH = changing_policy(before=AFTER_AUTH_VALUE)
+BOTH = changing_policy(before=AFTER_AUTH_VALUE[SHA256])
 tpm.define("An index", area(FIRST, BY_VALUE, auth_policy=BOTH), auth=b"old")
 aes = tpm.policy("A policy session with AES", aes=True)
 
 
-def both_told(demand):
-    prepare = tpm.auth_value_told if demand == AUTH_VALUE else tpm.password_told
-    name = "TPM2_PolicyAuthValue" if demand == AUTH_VALUE else "TPM2_PolicyPassword"
-    tpm.comes_to(name, prepare(aes))
+def both_told(tell=tpm.by_value, **choices):
+    use = tell(aes, **choices)
     told(aes)
+    return use
 
 
-both_told(AUTH_VALUE)
-tpm.fails(
-    "A wrong hmac: AUTH_FAIL/s1",
-    tpm.changing_auth(FIRST, b"new", Use(aes, demand=AUTH_VALUE)).but_entry(1, hmac=bytes(32)),
-)
+wrong = tpm.changing_auth(FIRST, b"new", both_told()).but_entry(1, hmac=bytes(32))
+tpm.fails("A wrong hmac: AUTH_FAIL/s1", wrong)
 said = tpm("By an hmac, whose key has the old value; that of the response has the new one")
-said.changing_auth(FIRST, b"new", Use(aes, demand=AUTH_VALUE))
-both_told(AUTH_VALUE)
-said = tpm("With the new value encrypted")
-said.changing_auth(FIRST, b"hidden", Use(aes, CONTINUE_SESSION | DECRYPT, demand=AUTH_VALUE))
+said.changing_auth(FIRST, b"new", with_value(aes))
+tpm("With the new value encrypted").changing_auth(FIRST, b"hidden", both_told(attributes=DECRYPTS))
 tpm("TPM2_NV_Write by it").writing(FIRST, b"x")
-both_told(PASSWORD)
+use = both_told(tpm.by_password)
 said = tpm("By a wrong password: AUTH_FAIL/s1")
-said.fails(tpm.changing_auth(FIRST, b"new", Use(aes, demand=PASSWORD)).but_entry(1, hmac=b"x"))
-tpm("By the right one").changing_auth(FIRST, b"open", Use(aes, demand=PASSWORD))
+said.fails(tpm.changing_auth(FIRST, b"new", use).but_entry(1, hmac=b"x"))
+tpm("By the right one").changing_auth(FIRST, b"open", Use(aes, demand=use.demand))
 tpm("TPM2_NV_Write by it").writing(FIRST, b"x")
 
 tpm.chapter("A session that was bound to the index is so while it has the value of then.")
 bound = tpm.start("An HMAC session that is bound to it", bind=FIRST)
 tpm("TPM2_NV_Write by it").writing(FIRST, b"y", bound)
-both_told(AUTH_VALUE)
 said = tpm("TPM2_NV_ChangeAuth, with this session beside the one that authorizes")
-said.changing_auth(FIRST, b"another", Use(aes, demand=AUTH_VALUE), bound)
+said.changing_auth(FIRST, b"another", both_told(), bound)
 tpm("TPM2_NV_Write: the new value is in the hmac's key").writing(FIRST, b"z", bound)
-both_told(AUTH_VALUE)
-tpm("Back to the value of then").changing_auth(FIRST, b"open", Use(aes, demand=AUTH_VALUE))
+tpm("Back to the value of then").changing_auth(FIRST, b"open", both_told())
 tpm("TPM2_NV_Write: it is bound again").writing(FIRST, b"x", bound)
 
 tpm.chapter("Handles.")

@@ -5,14 +5,13 @@ had, so that none has a value twice. Index 01000002 has the attributes 00020012.
 from tests.common.vocabulary import area, BY_OWNER, counter, FIRST, FOURTH, number, NvAttribute
 from tests.common.vocabulary import RH_OWNER, SECOND, SHA1, Teller, THIRD
 
-tpm = Teller(__name__, __doc__, starts=False)
+tpm = Teller(__name__, __doc__)
 
 
 def count(what, index, value, times=1):
     """Increments a counter so often, and reads it."""
-    buffers = [tpm.incrementing(index, by=RH_OWNER) for _ in range(times)]
-    for each in buffers:
-        tpm.does(what if each is buffers[0] else "", each)
+    for words in (what, *[""] * (times - 1)):
+        tpm(words).incrementing(index, by=RH_OWNER)
     tpm.read(f"It is {value}", index, number(value, 8), by=RH_OWNER)
 
 
@@ -25,7 +24,6 @@ def define_again(what, index):
     define(what, index)
 
 
-tpm.startup()
 define("TPM2_NV_DefineSpace of 01000002", SECOND)
 assert tpm.publics[SECOND].attributes == 0x0002_0012
 said = tpm("TPM2_NV_Read before the first TPM2_NV_Increment: NV_UNINITIALIZED")
@@ -79,9 +77,9 @@ define_again("01000001 again", FIRST)
 count("TPM2_NV_Increment: the ordinary index does not matter", FIRST, 12)
 
 tpm.chapter("Locked until the next start.")
-lockable = counter(FOURTH, BY_OWNER | NvAttribute.WRITE_STCLEAR)
 tpm("TPM2_NV_UndefineSpace").undefining(FOURTH)
-tpm.define("A counter with WRITE_STCLEAR", lockable)
+lockable = BY_OWNER | NvAttribute.WRITE_STCLEAR
+tpm.define("A counter with WRITE_STCLEAR", counter(FOURTH, lockable))
 count("TPM2_NV_Increment", FOURTH, 13)
 tpm("TPM2_NV_WriteLock").write_locking(FOURTH, by=RH_OWNER)
 tpm("TPM2_NV_Increment: NV_LOCKED").incrementing(FOURTH, by=RH_OWNER)

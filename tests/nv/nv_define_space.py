@@ -2,11 +2,13 @@
 many indices there can be.
 """
 
+import itertools
+
+from tpmsim.model import nv_commands
 from tpmsim.standard.nv import Type
 from tests.common.vocabulary import area, bits, BY_OWNER, counter, digest_bytes, extended, FIRST
 from tests.common.vocabulary import frames, HASHES, number, nv, NvAttribute, RH_ENDORSEMENT
 from tests.common.vocabulary import RH_LOCKOUT, RH_NULL, RH_OWNER, RH_PLATFORM, SHA1, sized, Teller
-from tpmsim.model import nv_commands
 
 CREATED = NvAttribute.PLATFORMCREATE
 
@@ -32,17 +34,12 @@ def raw(text):
 
 def handles():
     tpm.chapter("Who defines indices: the owner and the platform.")
-    for what, handles in (
-        (
-            "TPM_RH_ENDORSEMENT, TPM_RH_LOCKOUT, TPM_RH_NULL and TPM_RS_PW",
-            (RH_ENDORSEMENT, RH_LOCKOUT, RH_NULL, frames.RS_PW),
-        ),
-        (
-            "PCR 0, an index, objects and sessions",
-            (0, FIRST, 0x8000_0000, 0x8100_0000, 0x0200_0000),
-        ),
-    ):
-        tpm.fails(f"{what}: VALUE/h1", *(tpm.defining(area(), b"", by=it) for it in handles))
+    case = "TPM_RH_ENDORSEMENT, TPM_RH_LOCKOUT, TPM_RH_NULL and TPM_RS_PW: VALUE/h1"
+    others = RH_ENDORSEMENT, RH_LOCKOUT, RH_NULL, frames.RS_PW
+    tpm.fails(case, *(tpm.defining(area(), b"", by=it) for it in others))
+    others = 0, FIRST, 0x8000_0000, 0x8100_0000, 0x0200_0000
+    case = "PCR 0, an index, objects and sessions: VALUE/h1"
+    tpm.fails(case, *(tpm.defining(area(), b"", by=it) for it in others))
     tpm.fails("Without sessions: AUTH_MISSING", tpm.defining(area()).but(entries=[]))
     fitting("By the owner", area())
     case = "By the platform, with PLATFORMCREATE"
@@ -106,19 +103,15 @@ said.fails(raw(empty + sized(text + b"\0")), raw(empty + sized(text[:-2]) + text
 tpm.fails("A byte behind publicInfo: SIZE", raw(empty + good + b"\0"))
 unfitting(
     "nvIndex that is no handle of an index: VALUE/p2",
-    *(area(it) for it in (0, 0x0000_0001, 0x0200_0001, RH_OWNER, 0x8100_0001, 0xFFFF_FFFF)),
+    *map(area, (0, 0x0000_0001, 0x0200_0001, RH_OWNER, 0x8100_0001, 0xFFFF_FFFF)),
 )
-for what, code, at, bad in (
-    ("nameAlg: SHA-384, NULL and none", "HASH/p2", 4, (0x000C, 0x0010, 0)),
-    ("Reserved attributes 8, 9 and 20 to 24", "RESERVED_BITS/p2", 6, (1 << 8, 1 << 9)),
+reserved = (1 << 8, 1 << 9, *(BY_OWNER | 1 << it for it in range(20, 25)))
+for words, at, size, bad in (
+    ("nameAlg: SHA-384, NULL and none: HASH/p2", 4, 2, (0x000C, 0x0010, 0)),
+    ("Reserved attributes 8, 9 and 20 to 24: RESERVED_BITS/p2", 6, 4, reserved),
 ):
-    size = 2 if at == 4 else 4
-    texts = [text[:at] + number(it, size) + text[at + size :] for it in bad]
-    if at == 6:
-        texts += [
-            text[:at] + number(BY_OWNER | 1 << it, 4) + text[at + size :] for it in range(20, 25)
-        ]
-    tpm.fails(f"{what}: {code}", *(raw(empty + sized(it)) for it in texts))
+    texts = (text[:at] + number(it, size) + text[at + size :] for it in bad)
+    tpm.fails(words, *(raw(empty + sized(it)) for it in texts))
 said = tpm("authPolicy of 33 bytes: SIZE/p2")
 said.fails(*(raw(empty + sized(area(auth_policy=it).text)) for it in (bytes(33), b"p" * 33)))
 said = tpm("A wrong nvIndex is found before a wrong nameAlg, as they are read in order: VALUE/p2")
@@ -128,27 +121,18 @@ handles()
 sizes()
 
 tpm.chapter("Types.")
-unfitting(
-    "Every type but ordinary 0, counter 1, bits 2 and extend 4, whatever the size: "
-    "ATTRIBUTES/p2",
-    *(area(kind=it) for it in range(16) if it not in list(Type)),
-)
+case = "Every type but ordinary 0, counter 1, bits 2 and extend 4, whatever the size: ATTRIBUTES/p2"
+unfitting(case, *(area(kind=it) for it in range(16) if it not in list(Type)))
 tpm.chapter("Attributes.")
 unfitting(
     "POLICY_DELETE, WRITELOCKED, GLOBALLOCK, ORDERLY, READLOCKED and WRITTEN: ATTRIBUTES/p2",
     *(area(attributes=BY_OWNER | it) for it in NvAttribute if it & nv_commands.NOT_DEFINED),
 )
-unfitting(
-    "No attribute that allows to write: ATTRIBUTES/p2",
-    area(attributes=0),
-    *(area(attributes=it) for it in NvAttribute if it & nv.READS),
-    area(attributes=nv.READS),
-)
-unfitting(
-    "None that allows to read: ATTRIBUTES/p2",
-    *(area(attributes=it) for it in NvAttribute if it & nv.WRITES),
-    area(attributes=nv.WRITES),
-)
+case = "No attribute that allows to write: ATTRIBUTES/p2"
+reads = 0, *(it for it in NvAttribute if it & nv.READS), nv.READS
+unfitting(case, *(area(attributes=it) for it in reads))
+writes = *(it for it in NvAttribute if it & nv.WRITES), nv.WRITES
+unfitting("None that allows to read: ATTRIBUTES/p2", *(area(attributes=it) for it in writes))
 clears = NvAttribute.CLEAR_STCLEAR
 unfitting("A counter with CLEAR_STCLEAR: ATTRIBUTES/p2", counter(attributes=BY_OWNER | clears))
 for make, name in ((bits, "Bits"), (extended, "An index that is extended,")):
@@ -163,7 +147,6 @@ for each in NvAttribute:
 every = nv.NAMED & ~nv_commands.NOT_DEFINED & ~CREATED & ~nv.of_type(nv.TYPE_MASK)
 fitting("All of these", area(attributes=every))
 
-
 tpm.chapter("Numbers of indices.")
 for each in (0x0100_0000, 0x0140_0001, 0x01C0_0000, 0x01FF_FFFF):
     fitting(f"{each:08X}", area(each))
@@ -172,14 +155,12 @@ unfitting("The same, or with anything else in it: NV_DEFINED", area(), counter()
 unfitting("Also by the platform: NV_DEFINED", area(attributes=BY_OWNER | CREATED), by=RH_PLATFORM)
 tpm("It is undefined").undefining(FIRST)
 
-
 tpm.chapter("There are at most 64 indices, by whomever they are defined.")
 every = range(FIRST, FIRST + 64)
+words = {FIRST: "64 of them, of eight bytes", FIRST + 32: "The 33rd of them"}
 for index in every:
-    by = RH_PLATFORM if index % 2 else RH_OWNER
-    public = area(index, BY_OWNER | (CREATED if index % 2 else 0))
-    words = {FIRST: "64 of them, of eight bytes", FIRST + 32: "The 33rd of them"}
-    tpm.define(words.get(index, ""), public, by=by)
+    by, created = (RH_PLATFORM, CREATED) if index % 2 else (RH_OWNER, 0)
+    tpm.define(words.get(index, ""), area(index, BY_OWNER | created), by=by)
 case = "A 65th, of eight bytes or of none: NV_SPACE"
 unfitting(case, area(0x0100_0100), area(0x0100_0100, size=0))
 unfitting("One that is there: NV_DEFINED", area(FIRST + 1))
@@ -194,32 +175,26 @@ for index in (*every, 0x0100_0100):
         what = "All are undefined" if index == FIRST else ""
         tpm(what).undefining(index, by=by)
 
-
 tpm.chapter("All have at most 16,384 bytes, whether they are written or not.")
 every = range(FIRST, FIRST + 8)
-values = {it: bytes([it & 0xFF]) * 2048 for it in every}
+halves = list(itertools.product(every, (0, 1024)))
 for index in every:
     tpm.define("" if index > FIRST else "Eight of 2,048 bytes", area(index, size=2048))
 unfitting("A ninth, of a byte: NV_SPACE", area(FIRST + 8, size=1))
-for index in every:
-    for half in (0, 1024):
-        what = "All are written, each in two halves" if (index, half) == (FIRST, 0) else ""
-        part = values[index][half : half + 1024]
-        tpm(what).writing(index, part, offset=half)
+for index, half in halves:
+    what = "All are written, each in two halves" if (index, half) == (FIRST, 0) else ""
+    tpm(what).writing(index, bytes([index & 0xFF]) * 1024, offset=half)
 unfitting("Another one, of a byte: NV_SPACE", area(FIRST + 8, size=1))
 tpm("The second is undefined").undefining(FIRST + 1)
 unfitting("One of 2,049 bytes: SIZE/p2", area(FIRST + 8, size=2049))
-for index in (FIRST + 8, FIRST + 9):
-    what = "Two of 1,024 bytes are defined" if index == FIRST + 8 else ""
-    tpm.define(what, area(index, size=1024))
+tpm.define("Two of 1,024 bytes are defined", area(FIRST + 8, size=1024))
+tpm.define("", area(FIRST + 9, size=1024))
 unfitting("One of a byte: NV_SPACE", area(FIRST + 1, size=1))
 tpm.define("One of no bytes", area(FIRST + 1, size=0))
-for index in every:
-    if index == FIRST + 1:
-        continue
-    for half in (0, 1024):
+for index, half in halves:
+    if index != FIRST + 1:
         what = "The others read as written" if (index, half) == (FIRST, 0) else ""
-        tpm.read(what, index, values[index][half : half + 1024], offset=half)
+        tpm.read(what, index, bytes([index & 0xFF]) * 1024, offset=half)
 tpm("The last one is undefined").undefining(FIRST + 9)
 unfitting("One of 1,025 bytes: NV_SPACE", area(FIRST + 9, size=1025))
 tpm.define("One of 1,016", area(FIRST + 9, size=1016))

@@ -4,20 +4,14 @@
 
 from tests.common.vocabulary import area, BY_VALUE, FIRST, RH_OWNER, Teller
 
-tpm = Teller(__name__, __doc__, starts=False)
-PUBLIC = area(FIRST, BY_VALUE)
+tpm = Teller(__name__, __doc__)
+PUBLIC, WHOLE = area(FIRST, BY_VALUE), b"aBCD\xff\xff\xffz"
 
-
-tpm.startup()
-
-# The command is the one that these hex digits spell.
-prepared = tpm.defining(PUBLIC, auth=b"a")
-wanted = (
+defining = tpm.defining(PUBLIC, auth=b"a")
+assert defining.buffer() == bytes.fromhex(
     "8002 0000002E 0000012A 40000001 00000009 40000009 0000 01 0000"
     "0001 61 000E 01000001 000B 00040004 0000 0008"
 )
-assert prepared.buffer() == bytes.fromhex(wanted), prepared.buffer().hex()
-defining = prepared
 
 tpm.define("TPM2_NV_DefineSpace by the owner, whose value is empty", PUBLIC, auth=b"a")
 tpm.fails("The same again: NV_DEFINED", defining)
@@ -45,30 +39,21 @@ for what, data, offset in (
     ("No bytes, behind the last", b"", 8),
 ):
     tpm(what).writing(FIRST, data, offset=offset)
-WHOLE = b"aBCD\xff\xff\xffz"
 tpm.read("TPM2_NV_Read", FIRST, WHOLE)
-for what, size, offset in (
-    ("A piece", 3, 1),
-    ("The last byte", 1, 7),
-    ("No bytes", 0, 0),
-    ("No bytes, behind the last", 0, 8),
-):
-    tpm.read(what, FIRST, WHOLE[offset : offset + size], offset=offset)
+tpm.read("A piece", FIRST, WHOLE[1:4], offset=1)
+tpm.read("The last byte", FIRST, WHOLE[7:], offset=7)
+tpm.read("No bytes", FIRST, b"")
+tpm.read("No bytes, behind the last", FIRST, b"", offset=8)
+AT_END, FAR = ((1, 8), (0, 9)), (1024, 0xFFFF)
 tpm.fails(
     "TPM2_NV_Read past the end: of nine bytes, of eight at 1, of one at 8, of none at 9, and of "
     "1,024 at FFFF: NV_RANGE",
-    *(
-        tpm.reading(FIRST, size, offset=offset)
-        for size, offset in ((9, 0), (8, 1), (1, 8), (0, 9), (1024, 0xFFFF))
-    ),
+    *(tpm.reading(FIRST, size, offset=at) for size, at in ((9, 0), (8, 1), *AT_END, FAR)),
 )
 tpm.fails(
     "TPM2_NV_Write past the end: of nine bytes, of one at 8, and of none at 9 and at FFFF: "
     "NV_RANGE",
-    *(
-        tpm.writing(FIRST, bytes(size), offset=offset)
-        for size, offset in ((9, 0), (1, 8), (0, 9), (0, 0xFFFF))
-    ),
+    *(tpm.writing(FIRST, bytes(size), offset=at) for size, at in ((9, 0), *AT_END, (0, 0xFFFF))),
 )
 
 tpm.chapter("Passwords, and the owner, who has neither OWNERWRITE nor OWNERREAD.")
@@ -86,7 +71,6 @@ tpm.startup()
 tpm.read("TPM2_NV_Read", FIRST, WHOLE)
 tpm.is_now("TPM2_NV_ReadPublic", FIRST)
 tpm("TPM2_NV_UndefineSpace by the owner").undefining(FIRST)
-gone = tpm.index_public(FIRST)
-tpm.fails("TPM2_NV_ReadPublic: HANDLE/h1", gone)
+tpm("TPM2_NV_ReadPublic: HANDLE/h1").index_public(FIRST)
 tpm.define("It is defined again, and empty", PUBLIC)
 tpm("TPM2_NV_Read: NV_UNINITIALIZED").reading(FIRST, 8)

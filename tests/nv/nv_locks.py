@@ -3,7 +3,10 @@ written; WRITE_STCLEAR and READ_STCLEAR lock it until the next start. CLEAR_STCL
 written at each start.
 """
 
-from tests.common.vocabulary import area, bits, BY_OWNER, CC, extended, FIRST, frames, NvAttribute
+import contextlib
+from functools import partial
+
+from tests.common.vocabulary import area, bits, BY_OWNER, CLEAR, extended, FIRST, NvAttribute
 from tests.common.vocabulary import RH_OWNER, SECOND, Teller
 
 DEFINE, WRITE_CLEAR = NvAttribute.WRITEDEFINE, NvAttribute.WRITE_STCLEAR
@@ -13,10 +16,7 @@ READ_LOCKED = NvAttribute.READLOCKED
 DATA = b"8 bytes."
 
 tpm = Teller(__name__, __doc__)
-
-
-def start():
-    tpm.power_cycle()
+start = tpm.power_cycle
 
 
 def write(what="TPM2_NV_Write", index=FIRST):
@@ -31,16 +31,22 @@ def read_lock(what="TPM2_NV_ReadLock"):
     tpm(what).read_locking(FIRST, by=RH_OWNER)
 
 
-def not_written(what="TPM2_NV_Write", outcome="NV_LOCKED"):
-    tpm(f"{what}: {outcome}").writing(FIRST, DATA, by=RH_OWNER)
+def not_read(words="TPM2_NV_Read: NV_LOCKED"):
+    tpm(words).reading(FIRST, 8, by=RH_OWNER)
 
 
-def read(what="TPM2_NV_Read"):
-    tpm.read(what, FIRST, DATA, by=RH_OWNER)
+not_written = partial(write, "TPM2_NV_Write: NV_LOCKED")
+without_data = partial(not_read, "TPM2_NV_Read: NV_UNINITIALIZED")
+read = partial(tpm.read, "TPM2_NV_Read", FIRST, DATA, by=RH_OWNER)
 
 
-def not_read(what="TPM2_NV_Read", outcome="NV_LOCKED"):
-    tpm(f"{what}: {outcome}").reading(FIRST, 8, by=RH_OWNER)
+def takes(*steps):
+    for step in steps:
+        step()
+
+
+def is_now(what, cleared=0):
+    tpm.is_now(what, FIRST, cleared=cleared)
 
 
 def define(attributes, make=area):
@@ -48,95 +54,66 @@ def define(attributes, make=area):
     tpm.define(f"With {names or 'none of these'}", make(FIRST, BY_OWNER | attributes))
 
 
-def undefine():
+@contextlib.contextmanager
+def defined(attributes, make=area):
+    define(attributes, make)
+    yield
     tpm("It is undefined").undefining(FIRST)
 
 
 tpm.chapter("What may be locked: neither attribute says what the other does.")
 for attributes in (0, CLEARED, READ_CLEAR, READ_CLEAR | CLEARED):
-    define(attributes)
-    tpm("TPM2_NV_WriteLock: ATTRIBUTES/h2").write_locking(FIRST, by=RH_OWNER)
-    undefine()
+    with defined(attributes):
+        write_lock("TPM2_NV_WriteLock: ATTRIBUTES/h2")
 for attributes in (0, CLEARED, DEFINE, WRITE_CLEAR, DEFINE | WRITE_CLEAR):
-    define(attributes)
-    tpm("TPM2_NV_ReadLock: ATTRIBUTES/h2").read_locking(FIRST, by=RH_OWNER)
-    undefine()
-
+    with defined(attributes):
+        read_lock("TPM2_NV_ReadLock: ATTRIBUTES/h2")
 
 tpm.chapter("WRITEDEFINE.")
 for more in (0, WRITE_CLEAR):
-    define(DEFINE | more)
-    write()
-    write_lock()
-    tpm.is_now("It has WRITELOCKED", FIRST)
-    not_written()
-    read()
-    write_lock("TPM2_NV_WriteLock again")
-    start()
-    tpm.is_now("It is locked after a start, too", FIRST)
-    not_written()
-    read()
-    undefine()
+    with defined(DEFINE | more):
+        takes(write, write_lock)
+        is_now("It has WRITELOCKED")
+        takes(not_written, read)
+        write_lock("TPM2_NV_WriteLock again")
+        start()
+        is_now("It is locked after a start, too")
+        takes(not_written, read)
 
 tpm.chapter("WRITEDEFINE, locked before it is written: only until the next start.")
-define(DEFINE)
-write_lock()
-not_written()
-not_read(outcome="NV_UNINITIALIZED")
-start()
-tpm.is_now("It is not locked any more", FIRST, cleared=WRITE_LOCKED)
-write()
-start()
-tpm.is_now("What was not locked is not", FIRST)
-write("TPM2_NV_Write again")
-undefine()
-
+with defined(DEFINE):
+    takes(write_lock, not_written, without_data, start)
+    is_now("It is not locked any more", WRITE_LOCKED)
+    takes(write, start)
+    is_now("What was not locked is not")
+    write("TPM2_NV_Write again")
 
 tpm.chapter("WRITE_STCLEAR.")
-for writes_before in (True, False):
-    define(WRITE_CLEAR)
-    if writes_before:
-        write()
-    write_lock()
-    not_written()
-    start()
-    tpm.is_now("After a start it is open", FIRST, cleared=WRITE_LOCKED)
-    write()
-    read()
-    undefine()
+for before in ([write], []):
+    with defined(WRITE_CLEAR):
+        takes(*before, write_lock, not_written, start)
+        is_now("After a start it is open", WRITE_LOCKED)
+        takes(write, read)
 
 tpm.chapter("READ_STCLEAR.")
-define(READ_CLEAR)
-read_lock("TPM2_NV_ReadLock before it is written")
-tpm.is_now("It has READLOCKED", FIRST)
-not_read("TPM2_NV_Read: that it is locked is found before that it is not written")
-write("TPM2_NV_Write, which this lock does not mind")
-not_read()
-read_lock("TPM2_NV_ReadLock again")
-start()
-tpm.is_now("After a start it is open", FIRST, cleared=READ_LOCKED)
-read()
-read_lock()
-not_read()
-undefine()
+with defined(READ_CLEAR):
+    read_lock("TPM2_NV_ReadLock before it is written")
+    is_now("It has READLOCKED")
+    not_read("TPM2_NV_Read: that it is locked is found before that it is not written: NV_LOCKED")
+    write("TPM2_NV_Write, which this lock does not mind")
+    not_read()
+    read_lock("TPM2_NV_ReadLock again")
+    start()
+    is_now("After a start it is open", READ_LOCKED)
+    takes(read, read_lock, not_read)
 
 tpm.chapter("Both, and each without the other.")
-define(WRITE_CLEAR | READ_CLEAR)
-write()
-read_lock()
-write_lock()
-not_read()
-not_written()
-start()
-tpm.is_now("After a start both are open", FIRST, cleared=WRITE_LOCKED | READ_LOCKED)
-write_lock()
-read()
-start()
-tpm.is_now("After a start", FIRST, cleared=WRITE_LOCKED)
-read_lock()
-write()
-undefine()
-
+with defined(WRITE_CLEAR | READ_CLEAR):
+    takes(write, read_lock, write_lock, not_read, not_written, start)
+    is_now("After a start both are open", WRITE_LOCKED | READ_LOCKED)
+    takes(write_lock, read, start)
+    is_now("After a start", WRITE_LOCKED)
+    takes(read_lock, write)
 
 tpm.chapter("CLEAR_STCLEAR: the data go with each start.")
 for make, change, name in (
@@ -144,75 +121,51 @@ for make, change, name in (
     (bits, lambda: tpm.setting(FIRST, 5, by=RH_OWNER), "TPM2_NV_SetBits"),
     (extended, lambda: tpm.extending(FIRST, DATA, by=RH_OWNER), "TPM2_NV_Extend"),
 ):
-    define(CLEARED, make)
-    tpm.does(name, change())
-    start()
-    tpm.is_now("It is not written", FIRST, cleared=WRITTEN)
-    not_read(outcome="NV_UNINITIALIZED")
-    tpm.does(name, change())
-    tpm.is_now("It is written", FIRST)
-    undefine()
+    with defined(CLEARED, make):
+        tpm.does(name, change())
+        start()
+        is_now("It is not written", WRITTEN)
+        without_data()
+        tpm.does(name, change())
+        is_now("It is written")
 
 tpm.chapter("What was written partly before is not there in the next first write.")
-define(CLEARED)
-tpm("TPM2_NV_Write of two bytes").writing(FIRST, b"ab", by=RH_OWNER)
-start()
-tpm("TPM2_NV_Write at 6").writing(FIRST, b"yz", offset=6, by=RH_OWNER)
-tpm.read("TPM2_NV_Read", FIRST, b"\xff" * 6 + b"yz", by=RH_OWNER)
-undefine()
+with defined(CLEARED):
+    tpm("TPM2_NV_Write of two bytes").writing(FIRST, b"ab", by=RH_OWNER)
+    start()
+    tpm("TPM2_NV_Write at 6").writing(FIRST, b"yz", offset=6, by=RH_OWNER)
+    tpm.read("TPM2_NV_Read", FIRST, b"\xff" * 6 + b"yz", by=RH_OWNER)
 
 tpm.chapter("CLEAR_STCLEAR with WRITEDEFINE: as it is not written any more, it is open.")
-define(CLEARED | DEFINE)
-write()
-write_lock()
-not_written()
-start()
-tpm.is_now("It has neither WRITTEN nor WRITELOCKED", FIRST, cleared=WRITTEN | WRITE_LOCKED)
-write()
-undefine()
+with defined(CLEARED | DEFINE):
+    takes(write, write_lock, not_written, start)
+    is_now("It has neither WRITTEN nor WRITELOCKED", WRITTEN | WRITE_LOCKED)
+    write()
 
 tpm.chapter("With all of them.")
-define(CLEARED | DEFINE | WRITE_CLEAR | READ_CLEAR)
-write()
-write_lock()
-read_lock()
-not_written()
-not_read()
-start()
-tpm.is_now("It is as it was defined", FIRST, cleared=WRITTEN | WRITE_LOCKED | READ_LOCKED)
-not_read(outcome="NV_UNINITIALIZED")
-write()
-read()
-undefine()
-
+with defined(CLEARED | DEFINE | WRITE_CLEAR | READ_CLEAR):
+    takes(write, write_lock, read_lock, not_written, not_read, start)
+    is_now("It is as it was defined", WRITTEN | WRITE_LOCKED | READ_LOCKED)
+    takes(without_data, write, read)
 
 tpm.chapter("It is TPM2_Startup that opens, not the power; what is not started cannot be asked.")
-define(WRITE_CLEAR | READ_CLEAR | CLEARED)
-write()
-write_lock()
-tpm.power()
-tpm("TPM2_NV_ReadPublic: INITIALIZE").index_public(FIRST)
-tpm.power_cycle()
-tpm.is_now("After two power cycles and a start", FIRST, cleared=WRITTEN | WRITE_LOCKED)
-write()
-said = tpm("TPM2_Startup(CLEAR) on a device that is started: INITIALIZE")
-said.raw(frames.command(CC.Startup, frames.number(0, 2)))
-tpm.is_now("Changes nothing", FIRST)
-undefine()
-
+with defined(WRITE_CLEAR | READ_CLEAR | CLEARED):
+    takes(write, write_lock, tpm.power)
+    tpm("TPM2_NV_ReadPublic: INITIALIZE").index_public(FIRST)
+    start()
+    is_now("After two power cycles and a start", WRITTEN | WRITE_LOCKED)
+    write()
+    tpm("TPM2_Startup(CLEAR) on a device that is started: INITIALIZE").starting(CLEAR)
+    is_now("Changes nothing")
 
 tpm.chapter("A lock is that of one index.")
 define(WRITE_CLEAR | READ_CLEAR)
 tpm.define("Another one", area(SECOND, BY_OWNER | WRITE_CLEAR | READ_CLEAR))
-write()
-write_lock()
-read_lock()
+takes(write, write_lock, read_lock)
 write("TPM2_NV_Write of the other", SECOND)
 tpm.read("TPM2_NV_Read of it", SECOND, DATA, by=RH_OWNER)
-not_written()
-not_read()
+takes(not_written, not_read)
 tpm("TPM2_NV_UndefineSpace of what is locked").undefining(FIRST)
 define(WRITE_CLEAR | READ_CLEAR)
-tpm.is_now("It is open when it is defined again", FIRST)
-write()
-read()
+is_now("It is open when it is defined again")
+takes(write, read)

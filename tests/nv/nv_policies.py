@@ -2,20 +2,16 @@
 an index authorize what is asked of it.
 """
 
-from tests.common.vocabulary import area, AUTH_VALUE, BY_OWNER, BY_POLICY, CC, CONTINUE_SESSION
-from tests.common.vocabulary import DECRYPT, digest, digest_bytes, ENCRYPT, FIRST, HASHES, LOCKS, nv
-from tests.common.vocabulary import NvAttribute, PASSWORD, policy, RH_OWNER, SECOND, selection, SHA1
-from tests.common.vocabulary import SHA256, Teller, THIRD, Use, zeros
+from tests.common.steps import AFTER_AUTH_VALUE, Steps, with_value
+from tests.common.vocabulary import area, BY_OWNER, BY_POLICY, CC, DECRYPTS, digest, ENCRYPTS, FIRST
+from tests.common.vocabulary import HASHES, LOCKS, nv, NvAttribute, others_in, policy, RH_OWNER
+from tests.common.vocabulary import SECOND, selection, SHA1, SHA256, THIRD, Use, zeros
 
 DATA = b"8 bytes."
 POLICYWRITE, POLICYREAD = NvAttribute.POLICYWRITE, NvAttribute.POLICYREAD
+BY_KNOWING = AFTER_AUTH_VALUE[SHA256]
 
-tpm = Teller(__name__, __doc__, tries=True)
-
-
-def after_auth_value(algorithm=SHA256):
-    return policy.after_auth_value(algorithm, bytes(digest_bytes(algorithm)))
-
+tpm = Steps(__name__, __doc__, tries=True)
 
 # Every command that an index can authorize, on itself, and whether it asks for what allows to read.
 COMMANDS = (
@@ -29,6 +25,7 @@ COMMANDS = (
 
 LOCKING = tuple(it for it in COMMANDS if it[0].endswith("Lock"))
 USES = tuple(it for it in COMMANDS if it not in LOCKING)
+CHOSEN = [(SHA256, [10])]
 
 
 def by_code_and_pcrs():
@@ -36,32 +33,27 @@ def by_code_and_pcrs():
         "One policy with two branches: who knows the value writes, and everybody reads while PCR "
         "10 has its value of now."
     )
-    chosen = [(SHA256, [10])]
-    to_write = policy.after_command_code(SHA256, after_auth_value(), CC.NV_Write)
+    to_write = policy.after_command_code(SHA256, BY_KNOWING, CC.NV_Write)
     values = digest(SHA256, bytes(32))
-    to_read = policy.after_pcr(SHA256, bytes(32), selection(*chosen), values)
+    to_read = policy.after_pcr(SHA256, bytes(32), selection(*CHOSEN), values)
     to_read = policy.after_command_code(SHA256, to_read, CC.NV_Read)
     either = policy.after_or(SHA256, [to_write, to_read])
     tpm.define("The index", area(FIRST, BY_POLICY, auth_policy=either), auth=b"a")
     session = tpm.policy("A policy session")
 
-    def or_told():
-        tpm("TPM2_PolicyOR of both").branches(session, to_write, to_read)
-
     def writer():
-        tpm("TPM2_PolicyAuthValue").auth_value_told(session)
+        use = tpm.by_value(session)
         tpm("TPM2_PolicyCommandCode of TPM2_NV_Write").command_code(session, CC.NV_Write)
-        or_told()
+        tpm("TPM2_PolicyOR of both").branches(session, to_write, to_read)
+        return use
 
-    def reader():
-        tpm("TPM2_PolicyPCR of PCR 10").pcrs(session, chosen)
+    def reader(words="TPM2_PolicyOR of both"):
+        tpm("TPM2_PolicyPCR of PCR 10").pcrs(session, CHOSEN)
         tpm("TPM2_PolicyCommandCode of TPM2_NV_Read").command_code(session, CC.NV_Read)
-        or_told()
+        tpm(words).branches(session, to_write, to_read)
 
-    by_value = lambda: Use(session, demand=AUTH_VALUE)
-    writer()
-    tpm("TPM2_NV_Read by the writer's: POLICY_CC/s1").reading(FIRST, 8, by_value())
-    tpm("TPM2_NV_Write").writing(FIRST, DATA, by_value())
+    tpm("TPM2_NV_Read by the writer's: POLICY_CC/s1").reading(FIRST, 8, writer())
+    tpm("TPM2_NV_Write").writing(FIRST, DATA, with_value(session))
     reader()
     tpm("TPM2_NV_Write by the reader's: POLICY_CC/s1").writing(FIRST, DATA, session)
     tpm.read("TPM2_NV_Read", FIRST, DATA, session)
@@ -69,13 +61,10 @@ def by_code_and_pcrs():
     tpm("PCR 10 is extended").event(b"program", b"", pcr=10)
     tpm("TPM2_NV_Read: PCR_CHANGED").reading(FIRST, 8, session)
     tpm.restarts(session)
-    tpm("TPM2_PolicyPCR of PCR 10").pcrs(session, chosen)
-    tpm("TPM2_PolicyCommandCode of TPM2_NV_Read").command_code(session, CC.NV_Read)
-    tpm("TPM2_PolicyOR: VALUE/p1").branches(session, to_write, to_read)
+    reader("TPM2_PolicyOR: VALUE/p1")
     tpm("TPM2_NV_Read: POLICY_FAIL/s1").reading(FIRST, 8, session)
     tpm.restarts(session)
-    writer()
-    tpm("TPM2_NV_Write is as before").writing(FIRST, DATA[::-1], by_value())
+    tpm("TPM2_NV_Write is as before").writing(FIRST, DATA[::-1], writer())
     tpm.undefines(FIRST)
     tpm("The session is flushed").flush(session)
 
@@ -84,35 +73,26 @@ told = tpm.policy("A session that TPM2_PolicyNV and TPM2_PolicySecret are told t
 
 for algorithm, name in HASHES:
     tpm.chapter(f"TPM2_PolicyAuthValue and TPM2_PolicyPassword, of {name}.")
-    public = area(FIRST, BY_POLICY, algorithm=algorithm, auth_policy=after_auth_value(algorithm))
+    public = area(FIRST, BY_POLICY, algorithm=algorithm, auth_policy=AFTER_AUTH_VALUE[algorithm])
     tpm.define("An index that a policy alone may use", public, auth=b"a")
     tpm("TPM2_NV_Write by the password: AUTH_UNAVAILABLE").writing(FIRST, DATA)
     tpm("By the owner: NV_AUTHORIZATION").writing(FIRST, DATA, by=RH_OWNER)
     session = tpm.policy("A policy session", algorithm=algorithm)
     tpm("Without an assertion: POLICY_FAIL/s1").writing(FIRST, DATA, session)
-    for demand, name, prepare in (
-        (AUTH_VALUE, "TPM2_PolicyAuthValue", tpm.auth_value_told),
-        (PASSWORD, "TPM2_PolicyPassword", tpm.password_told),
-    ):
-        use = lambda: Use(session, demand=demand)
-        tpm.comes_to(name, prepare(session))
-        wrong = tpm.writing(FIRST, DATA, use())
-        tpm.fails("TPM2_NV_Write by a wrong value: AUTH_FAIL/s1", wrong.but_entry(1, hmac=b"wrong"))
-        tpm("TPM2_NV_Write").writing(FIRST, DATA, use())
+    for tell in (tpm.by_value, tpm.by_password):
+        use = tell(session)
+        wrong = others_in(tpm.writing(FIRST, DATA, use), 1)
+        tpm.fails("TPM2_NV_Write by a wrong value: AUTH_FAIL/s1", wrong)
+        tpm("TPM2_NV_Write").writing(FIRST, DATA, Use(session, demand=use.demand))
         tpm.digest_is("It counts once", session, zeros(session))
-        tpm("TPM2_NV_Read: POLICY_FAIL/s1").reading(FIRST, 8, use())
-        tpm.comes_to(name, prepare(session))
-        tpm.read("TPM2_NV_Read", FIRST, DATA, use())
+        tpm("TPM2_NV_Read: POLICY_FAIL/s1").reading(FIRST, 8, Use(session, demand=use.demand))
+        tpm.read("TPM2_NV_Read", FIRST, DATA, tell(session))
     tpm.undefines(FIRST)
     other = tpm.policy("A session of the other hash", algorithm=SHA1 + SHA256 - algorithm)
     tpm.define("The index again", public, auth=b"a")
-    tpm("TPM2_PolicyAuthValue").auth_value_told(other)
-    said = tpm("TPM2_NV_Write by it: POLICY_FAIL/s1")
-    said.writing(FIRST, DATA, Use(other, demand=AUTH_VALUE))
+    tpm("TPM2_NV_Write by it: POLICY_FAIL/s1").writing(FIRST, DATA, tpm.by_value(other))
     tpm.undefines(FIRST)
-    for each in (session, other):
-        tpm("A session is flushed").flush(each)
-
+    tpm.flushes("A session is flushed", session, other)
 
 tpm.chapter("Which attribute lets what authorize: the others do not.")
 session = tpm.policy("A policy session")
@@ -122,13 +102,10 @@ for what, attributes in (
     ("POLICYREAD and what allows all others to write", POLICYREAD | nv.WRITES & ~POLICYWRITE),
 ):
     writes = bool(attributes & POLICYWRITE)
-    public = area(FIRST, attributes | LOCKS, auth_policy=after_auth_value())
-    tpm.define(what, public, auth=b"a")
+    tpm.define(what, area(FIRST, attributes | LOCKS, auth_policy=BY_KNOWING), auth=b"a")
     for name, is_reading, prepare in COMMANDS:
         if is_reading == writes:
-            tpm("TPM2_PolicyAuthValue").auth_value_told(session)
-            said = tpm(f"{name} by the policy: AUTH_UNAVAILABLE")
-            said.fails(prepare(Use(session, demand=AUTH_VALUE)))
+            tpm.fails(f"{name} by the policy: AUTH_UNAVAILABLE", prepare(tpm.by_value(session)))
             tpm.restarts(session)
         else:
             tpm.fails(f"{name} by the password: AUTH_UNAVAILABLE", prepare(b"a"))
@@ -146,21 +123,18 @@ tpm("TPM2_PolicyRestart of the session that was told").restart(told)
 tpm.undefines(FIRST)
 
 tpm.chapter("With all attributes and a policy, each way is open.")
-public = area(FIRST, nv.WRITES | nv.READS | LOCKS, auth_policy=after_auth_value())
+public = area(FIRST, nv.WRITES | nv.READS | LOCKS, auth_policy=BY_KNOWING)
 tpm.define("The index", public, auth=b"a")
 for name, _, prepare in USES + LOCKING:
-    tpm("TPM2_PolicyAuthValue").auth_value_told(session)
-    tpm.does(f"{name} by the policy", prepare(Use(session, demand=AUTH_VALUE)))
-for each in (session, hmac):
-    tpm("A session is flushed").flush(each)
+    tpm.does(f"{name} by the policy", prepare(tpm.by_value(session)))
+tpm.flushes("A session is flushed", session, hmac)
 tpm.undefines(FIRST)
 
 by_code_and_pcrs()
 
 tpm.chapter("TPM2_PolicyLocality: written from locality 1 alone.")
-auth_policy = policy.after_locality(SHA256, bytes(32), 0b10)
-public = area(FIRST, POLICYWRITE | NvAttribute.OWNERREAD, auth_policy=auth_policy)
-tpm.define("The index", public)
+from_1 = policy.after_locality(SHA256, bytes(32), 0b10)
+tpm.define("The index", area(FIRST, POLICYWRITE | NvAttribute.OWNERREAD, auth_policy=from_1))
 session = tpm.policy("A policy session")
 tpm("TPM2_PolicyLocality").locality(session, 0b10)
 tpm("TPM2_NV_Write at locality 0: LOCALITY").writing(FIRST, DATA, session)
@@ -171,45 +145,35 @@ tpm.read("TPM2_NV_Read by the owner", FIRST, DATA, by=RH_OWNER)
 tpm.undefines(FIRST)
 tpm("The session is flushed").flush(session)
 
-
 tpm.chapter("A policy session that is bound to the index. The first write ends no key of it.")
-tpm.define("The index", area(FIRST, BY_POLICY, auth_policy=after_auth_value()), auth=b"a")
+tpm.define("The index", area(FIRST, BY_POLICY, auth_policy=BY_KNOWING), auth=b"a")
 session = tpm.policy("The session, with AES", bind=FIRST, aes=True)
-for what, attributes in (
-    ("TPM2_NV_Write, with the value in both keys", CONTINUE_SESSION),
-    ("Once more, with its data encrypted", CONTINUE_SESSION | DECRYPT),
-):
-    tpm("TPM2_PolicyAuthValue").auth_value_told(session)
-    tpm(what).writing(FIRST, DATA, Use(session, attributes, demand=AUTH_VALUE))
-tpm("TPM2_PolicyPassword").password_told(session)
-use = Use(session, CONTINUE_SESSION | ENCRYPT, demand=PASSWORD)
-tpm.read("TPM2_NV_Read by the password, with what is read encrypted", FIRST, DATA, use)
-tpm("TPM2_PolicyAuthValue").auth_value_told(session)
-tpm("It ends with the command").writing(FIRST, DATA, Use(session, 0, demand=AUTH_VALUE))
+tpm("TPM2_NV_Write, with the value in both keys").writing(FIRST, DATA, tpm.by_value(session))
+tpm("Once more, with its data encrypted").writing(FIRST, DATA, tpm.by_value(session, DECRYPTS))
+said = tpm("TPM2_NV_Read by the password, with what is read encrypted")
+said.read(FIRST, DATA, tpm.by_password(session, ENCRYPTS))
+tpm("It ends with the command").writing(FIRST, DATA, tpm.by_value(session, 0))
 tpm("It is no more: REFERENCE_H0").get_digest(session)
 tpm.undefines(FIRST)
 
-
 tpm.chapter("The policy is that of the index that authorizes, and of no other entity.")
-auth_policy = after_auth_value()
-tpm.define("An index", area(FIRST, BY_POLICY | BY_OWNER, auth_policy=auth_policy), auth=b"a")
-said = tpm("Another one with the same")
-said.define(area(SECOND, BY_POLICY, auth_policy=auth_policy), auth=b"a")
+tpm.define("An index", area(FIRST, BY_POLICY | BY_OWNER, auth_policy=BY_KNOWING), auth=b"a")
+tpm.define("Another one with the same", area(SECOND, BY_POLICY, auth_policy=BY_KNOWING), auth=b"a")
 tpm.define("A third one with another", area(THIRD, BY_POLICY, auth_policy=bytes(32)), auth=b"a")
 session = tpm.policy("A policy session")
-by_value = lambda: Use(session, demand=AUTH_VALUE)
 tpm("The third, whose policy is zeros, asks for no assertion").writing(THIRD, DATA, session)
-tpm("TPM2_PolicyAuthValue").auth_value_told(session)
-tpm("The third by another digest: POLICY_FAIL/s1").writing(THIRD, DATA, by_value())
-tpm("The first, by the second: NV_AUTHORIZATION").writing(FIRST, DATA, by_value(), by=SECOND)
-tpm("The first, by the owner: AUTH_UNAVAILABLE").writing(FIRST, DATA, by_value(), by=RH_OWNER)
-tpm("The first, by itself").writing(FIRST, DATA, by_value())
+tpm("The third by another digest: POLICY_FAIL/s1").writing(THIRD, DATA, tpm.by_value(session))
+for words, asker in (
+    ("The first, by the second: NV_AUTHORIZATION", SECOND),
+    ("The first, by the owner: AUTH_UNAVAILABLE", RH_OWNER),
+    ("The first, by itself", FIRST),
+):
+    tpm(words).writing(FIRST, DATA, with_value(session), by=asker)
 trial = tpm.trial("A trial session")
 tpm("TPM2_PolicyAuthValue").auth_value_told(trial)
 tpm("By it: ATTRIBUTES/s1").writing(FIRST, DATA, trial)
 tpm("Also where nothing can: ATTRIBUTES/s1").writing(FIRST, DATA, trial, by=RH_OWNER)
 tpm("The first is undefined: its policy is nobody's").undefining(FIRST)
-tpm("TPM2_PolicyAuthValue").auth_value_told(session)
-tpm("The second").writing(SECOND, DATA, by_value())
+tpm("The second").writing(SECOND, DATA, tpm.by_value(session))
 said = tpm("TPM2_NV_Write through the session, which then returns to its start")
 said.writing(THIRD, DATA, session)

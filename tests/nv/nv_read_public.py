@@ -2,22 +2,18 @@
 with the attributes of now, and the Name, which is nameAlg and the digest of the public area.
 """
 
-from tests.common.vocabulary import area, BY_OWNER, BY_VALUE, CONTINUE_SESSION, counter, digest
-from tests.common.vocabulary import digest_bytes, ENCRYPT, extended, FIRST, frames, HASHES, LOCKS
-from tests.common.vocabulary import number, NvAttribute, RH_NULL, RH_OWNER, SECOND, sized, Teller
-from tests.common.vocabulary import Use
+from tests.common.vocabulary import area, BY_OWNER, BY_VALUE, counter, DECRYPTS, digest
+from tests.common.vocabulary import digest_bytes, extended, FIRST, HASHES, LOCKS, number
+from tests.common.vocabulary import NvAttribute, RH_NULL, RH_OWNER, SECOND, sized, Teller, Use
 
-tpm = Teller(__name__, __doc__, starts=False)
+tpm = Teller(__name__, __doc__)
 
-tpm.startup()
 tpm.chapter("Each fact of a public area, in both hash algorithms.")
 for algorithm, name in HASHES:
-    size = digest_bytes(algorithm)
+    auth_policy = b"p" * digest_bytes(algorithm)
+    with_policy = area(FIRST, algorithm=algorithm, auth_policy=auth_policy)
     for what, public in (
-        (
-            f"An index of {name} with a policy",
-            area(FIRST, algorithm=algorithm, auth_policy=b"p" * size),
-        ),
+        (f"An index of {name} with a policy", with_policy),
         ("One of no bytes", area(0x01FF_FFFF, algorithm=algorithm, size=0)),
         ("A counter", counter(FIRST, algorithm=algorithm)),
         ("One that is extended", extended(FIRST, algorithm=algorithm)),
@@ -39,6 +35,7 @@ for what, prepared in (
     ("TPM2_NV_WriteLock", tpm.write_locking(FIRST, by=RH_OWNER)),
 ):
     tpm.does(what, prepared)
+
     tpm.is_now("TPM2_NV_ReadPublic", FIRST)
     names.add(tpm.names[FIRST])
 assert len(names) == 3
@@ -51,12 +48,10 @@ tpm.define("Another index", area(SECOND, BY_VALUE), auth=b"a")
 plain = tpm.start("A session that is bound to nothing", bind=RH_NULL)
 encrypting = tpm.start("One that is bound to the other index, with AES", bind=SECOND, aes=True)
 tpm.is_now("With both", SECOND, plain, encrypting)
-tpm.is_now("The public area encrypted", SECOND, Use(encrypting, CONTINUE_SESSION | ENCRYPT), plain)
+tpm.is_now("The public area encrypted", SECOND, encrypting.encrypting, plain)
 tpm("With a password: HANDLE/s1").index_public(SECOND, b"a")
-tpm.fails(
-    "With decrypt, where no parameter is: ATTRIBUTES/s1",
-    tpm.index_public(SECOND, plain).but_entry(1, attributes=CONTINUE_SESSION | frames.DECRYPT),
-)
+said = tpm("With decrypt, where no parameter is: ATTRIBUTES/s1")
+said.fails(tpm.index_public(SECOND, plain).but_entry(1, attributes=DECRYPTS))
 tpm.fails(
     "A wrong hmac, which is no try of the index's value, but the session's key was made of that: "
     "AUTH_FAIL/s1",

@@ -2,10 +2,10 @@
 changes, is in the hmacs and in what a session is bound to.
 """
 
-from tests.common.vocabulary import area, bits, BY_OWNER, BY_VALUE, CC, CONTINUE_SESSION, counter
-from tests.common.vocabulary import DECRYPT, DECRYPTS, ENCRYPT, ENCRYPTS, extended, FIRST, flipped
-from tests.common.vocabulary import FOURTH, frames, LOCKS, NvAttribute, RH_NULL, RH_OWNER, SECOND
-from tests.common.vocabulary import SHA1, SHA256, Teller, THIRD, Use
+from tests.common.vocabulary import area, bits, BY_OWNER, BY_VALUE, CC, counter, DECRYPTS, ENCRYPTS
+from tests.common.vocabulary import extended, FIFTH, FIRST, FOURTH, frames, HASHES, LOCKS
+from tests.common.vocabulary import NvAttribute, RH_NULL, RH_OWNER, SECOND, SHA256, Teller, THIRD
+from tests.common.vocabulary import wrong_in
 
 DATA = b"8 bytes."
 
@@ -30,16 +30,13 @@ def sent_again():
     tpm.define("TPM2_NV_DefineSpace", area(FIRST, BY_VALUE), auth=b"a")
     tpm("TPM2_NV_Write by the password").writing(FIRST, DATA)
     nonce = tpm.nonce()
-    handles, parameters = frames.start_auth_session(nonce)
-    start = tpm.prepare(CC.StartAuthSession, handles, parameters)
-    seed = b"the start's own"
+    start = tpm.prepare(CC.StartAuthSession, *frames.start_auth_session(nonce))
 
     def start_session(what):
         """Each time with the same bytes and the same random bytes."""
         tpm.chapter(f"{what}.")
-        tpm.script.entropy(seed)
-        response = tpm.says("TPM2_StartAuthSession: SUCCESS", start)
-        answer = tpm.received(start, response)
+        tpm.script.entropy(b"the start's own")
+        answer = tpm.received(start, tpm.says("TPM2_StartAuthSession: SUCCESS", start))
         return tpm.started(answer, nonce, RH_NULL, SHA256, frames.SE_HMAC)
 
     session = start_session("A session that is bound to nothing")
@@ -60,7 +57,7 @@ def sent_again():
 
 
 tpm.chapter("A session that is bound to nothing: the value of the index is the key.")
-for algorithm, name in ((SHA256, "SHA-256"), (SHA1, "SHA-1")):
+for algorithm, name in reversed(HASHES):
     session = tpm.start(f"A session of {name}", algorithm=algorithm)
     for index, make, change in (
         (FIRST, area, lambda: tpm.writing(FIRST, DATA, session)),
@@ -72,10 +69,9 @@ for algorithm, name in ((SHA256, "SHA-256"), (SHA1, "SHA-1")):
         tpm.define("TPM2_NV_DefineSpace by it, with its empty hmac", public, session, auth=b"a")
         tpm.does("The first change", change())
         tpm.does("The second", change())
-        wrong = change()
-        said = tpm("A wrong hmac: AUTH_FAIL/s1")
-        said.fails(wrong.but_entry(1, hmac=flipped(wrong.entries[0].hmac)))
-        tpm.fails("None: AUTH_FAIL/s1", wrong.but_entry(1, hmac=b""))
+        prepared = change()
+        tpm.fails("A wrong hmac: AUTH_FAIL/s1", wrong_in(prepared))
+        tpm.fails("None: AUTH_FAIL/s1", prepared.but_entry(1, hmac=b""))
         tpm("TPM2_NV_Read").reading(index, 8, session)
         tpm("TPM2_NV_WriteLock").write_locking(index, session)
         tpm("TPM2_NV_ReadLock").read_locking(index, session)
@@ -83,7 +79,6 @@ for algorithm, name in ((SHA256, "SHA-256"), (SHA1, "SHA-1")):
         tpm("TPM2_NV_Read: NV_LOCKED").reading(index, 8, session)
         tpm("TPM2_NV_UndefineSpace").undefining(index, session)
     flush(session)
-
 
 tpm.chapter("An hmac of before the index was written names another index.")
 tpm.define("An index", area(FIRST, BY_VALUE), auth=b"a")
@@ -94,17 +89,13 @@ tpm.fails("By the session, as it was prepared before: AUTH_FAIL/s1", before)
 tpm("With the Name of now").writing(FIRST, DATA, session)
 tpm.define("Another index with the same value", area(SECOND, BY_VALUE), auth=b"a")
 prepared = tpm.writing(FIRST, DATA, session)
-tpm.fails(
-    "An hmac for the first, sent with the handle of the second: AUTH_FAIL/s1",
-    prepared.but(handles=[FIRST, SECOND]),
-    prepared.but(handles=[SECOND, FIRST]),
-    prepared.but(handles=[SECOND, SECOND]),
-)
+said = tpm("An hmac for the first, sent with the handle of the second: AUTH_FAIL/s1")
+others = [FIRST, SECOND], [SECOND, FIRST], [SECOND, SECOND]
+said.fails(*(prepared.but(handles=it) for it in others))
 tpm.fails("With other data: AUTH_FAIL/s1", prepared.but(parameters=frames.nv_write(DATA, 1)))
 tpm.does("As it was prepared", prepared)
 flush(session)
 undefine(FIRST, SECOND)
-
 
 tpm.chapter(
     "A session that is bound to an index before its first write. The command's hmac is without "
@@ -130,96 +121,87 @@ tpm.define("Another index", area(SECOND, BY_VALUE | NvAttribute.NO_DA), auth=b"b
 session = tpm.start("A session that is bound to the first", bind=FIRST)
 tpm("TPM2_NV_Write of the second").writing(SECOND, DATA, session)
 tpm("TPM2_NV_Write of the first").writing(FIRST, DATA, session)
-said = tpm("A wrong hmac on the second, which has NO_DA, is a try at the first: AUTH_FAIL/s1")
-said.fails(tpm.writing(SECOND, DATA, session).but_entry(1, hmac=bytes(32)))
+
+
+def is_wrong(words, prepared):
+    tpm.fails(words, prepared.but_entry(1, hmac=bytes(32)))
+
+
+case = "A wrong hmac on the second, which has NO_DA, is a try at the first: AUTH_FAIL/s1"
+is_wrong(case, tpm.writing(SECOND, DATA, session))
 other = tpm.start("A session that is bound to the second", bind=SECOND)
-said = tpm("A wrong hmac by it on the second is none: BAD_AUTH/s1")
-said.fails(tpm.writing(SECOND, DATA, other).but_entry(1, hmac=bytes(32)))
-said = tpm("On the first it is: AUTH_FAIL/s1")
-said.fails(tpm.writing(FIRST, DATA, other).but_entry(1, hmac=bytes(32)))
-said = tpm("A wrong hmac by the first session on TPM_RH_OWNER: AUTH_FAIL/s1")
-said.fails(tpm.undefining(FIRST, session).but_entry(1, hmac=bytes(32)))
-said = tpm("And by the second: BAD_AUTH/s1")
-said.fails(tpm.undefining(FIRST, other).but_entry(1, hmac=bytes(32)))
+is_wrong("A wrong hmac by it on the second is none: BAD_AUTH/s1", tpm.writing(SECOND, DATA, other))
+is_wrong("On the first it is: AUTH_FAIL/s1", tpm.writing(FIRST, DATA, other))
+case = "A wrong hmac by the first session on TPM_RH_OWNER: AUTH_FAIL/s1"
+is_wrong(case, tpm.undefining(FIRST, session))
+is_wrong("And by the second: BAD_AUTH/s1", tpm.undefining(FIRST, other))
 tpm("A wrong password of the second: BAD_AUTH/s1").reading(SECOND, 1, b"x")
 tpm("Of the first: AUTH_FAIL/s1").reading(FIRST, 1, b"x")
 flush(session, other)
 undefine(FIRST, SECOND)
-
 
 tpm.chapter("Parameters that are encrypted.")
 tpm('ownerAuth becomes "owner"').change_auth(RH_OWNER, b"owner", b"")
 owner = tpm.start("A session that is bound to TPM_RH_OWNER, with AES", bind=RH_OWNER, aes=True)
 for index, make in ((FIRST, area), (SECOND, extended), (THIRD, bits), (FOURTH, counter)):
     what = "TPM2_NV_DefineSpace with auth encrypted" if index == FIRST else ""
-    tpm.define(what, make(index, BY_VALUE), Use(owner, DECRYPTS), auth=b"hidden")
+    tpm.define(what, make(index, BY_VALUE), owner.decrypting, auth=b"hidden")
 tpm("The value is the one that was sent: TPM2_NV_Write").writing(FIRST, b"x")
 session = tpm.start("A session that is bound to the first index, with AES", bind=FIRST, aes=True)
 plain = tpm.start("One that is bound to nothing, with AES", aes=True)
 for name, use in (("the bound session", session), ("the other", plain)):
-    said = tpm(f"TPM2_NV_Write with its data encrypted by {name}")
-    said.writing(FIRST, DATA, Use(use, DECRYPTS))
-    tpm.read("TPM2_NV_Read with its answer encrypted", FIRST, DATA, Use(use, ENCRYPTS))
-    tpm("TPM2_NV_Extend").extending(SECOND, DATA, Use(use, DECRYPTS))
-    tpm.is_now("TPM2_NV_ReadPublic", SECOND, Use(use, ENCRYPTS))
+    tpm(f"TPM2_NV_Write with its data encrypted by {name}").writing(FIRST, DATA, use.decrypting)
+    tpm.read("TPM2_NV_Read with its answer encrypted", FIRST, DATA, use.encrypting)
+    tpm("TPM2_NV_Extend").extending(SECOND, DATA, use.decrypting)
+    tpm.is_now("TPM2_NV_ReadPublic", SECOND, use.encrypting)
 said = tpm("The password authorizes, and a session beside it encrypts")
-said.writing(FIRST, b"8 others", b"hidden", Use(session, DECRYPTS))
-tpm.read("So in TPM2_NV_Read", FIRST, b"8 others", b"hidden", Use(owner, ENCRYPTS))
-said = tpm("One session authorizes, another encrypts")
-said.read(FIRST, b"8 others", plain, Use(owner, ENCRYPTS))
-tpm("No bytes to encrypt").writing(FIRST, b"", Use(session, DECRYPTS), offset=3)
+said.writing(FIRST, b"8 others", b"hidden", session.decrypting)
+tpm.read("So in TPM2_NV_Read", FIRST, b"8 others", b"hidden", owner.encrypting)
+tpm.read("One session authorizes, another encrypts", FIRST, b"8 others", plain, owner.encrypting)
+tpm("No bytes to encrypt").writing(FIRST, b"", session.decrypting, offset=3)
 whole = bytes(range(256)) * 4
 said = tpm("An index of 1,024 bytes")
-said.define(area(0x0100_0005, BY_VALUE, size=1024), Use(owner, DECRYPTS), auth=b"long")
-said = tpm("TPM2_NV_Write of 1,024 bytes that are encrypted")
-said.writing(0x0100_0005, whole, Use(session, DECRYPTS))
-tpm.read("TPM2_NV_Read", 0x0100_0005, whole, Use(session, ENCRYPTS))
-read = tpm.reading(FIRST, 8, Use(session, 1))
-write = tpm.writing(FIRST, DATA, Use(session, 1))
-for what, attribute, commands in (
-    (
-        "decrypt, where the first parameter is no sized buffer or none: TPM2_NV_Read, "
-        "TPM2_NV_SetBits, TPM2_NV_Increment, TPM2_NV_WriteLock and TPM2_NV_UndefineSpace",
-        DECRYPT,
-        (
-            read,
-            tpm.setting(THIRD, 1, Use(session, 1)),
-            tpm.incrementing(FOURTH, Use(session, 1)),
-            tpm.write_locking(FIRST, Use(session, 1)),
-            tpm.undefining(FIRST, Use(owner, 1)),
-        ),
-    ),
-    (
-        "encrypt, where nothing is answered: TPM2_NV_Write, TPM2_NV_Extend and "
-        "TPM2_NV_DefineSpace",
-        ENCRYPT,
-        (
-            write,
-            tpm.extending(SECOND, DATA, Use(session, 1)),
-            tpm.defining(area(0x0100_0006), Use(owner, 1)),
-        ),
-    ),
-):
-    said = tpm(f"{what}: ATTRIBUTES/s1")
-    said.fails(*(it.but_entry(1, attributes=CONTINUE_SESSION | attribute) for it in commands))
-none = tpm.start("A session without AES", bind=FIRST)
-tpm.fails(
-    "It cannot encrypt: SYMMETRIC/s1",
-    tpm.writing(FIRST, DATA, none).but_entry(1, attributes=DECRYPTS),
-    tpm.reading(FIRST, 8, none).but_entry(1, attributes=ENCRYPTS),
-)
-said = tpm("Data that are cut, and decrypted: INSUFFICIENT/p1")
-said.prepare(CC.NV_Write, [FIRST, FIRST], b"\0\4abc", Use(session, DECRYPTS))
-flush(session, plain, none, owner)
-undefine(FIRST, SECOND, THIRD, FOURTH, 0x0100_0005)
-tpm("ownerAuth is empty again").change_auth(RH_OWNER, b"", b"owner")
+said.define(area(FIFTH, BY_VALUE, size=1024), owner.decrypting, auth=b"long")
+tpm("TPM2_NV_Write of 1,024 bytes that are encrypted").writing(FIFTH, whole, session.decrypting)
+tpm.read("TPM2_NV_Read", FIFTH, whole, session.encrypting)
 
+
+def decrypts(prepared):
+    return prepared.but_entry(1, attributes=DECRYPTS)
+
+
+def encrypts(prepared):
+    return prepared.but_entry(1, attributes=ENCRYPTS)
+
+
+read = tpm.reading(FIRST, 8, session)
+write = tpm.writing(FIRST, DATA, session)
+tpm.fails(
+    "decrypt, where the first parameter is no sized buffer or none: TPM2_NV_Read, "
+    "TPM2_NV_SetBits, TPM2_NV_Increment, TPM2_NV_WriteLock and TPM2_NV_UndefineSpace: "
+    "ATTRIBUTES/s1",
+    *map(decrypts, (read, tpm.setting(THIRD, 1, session), tpm.incrementing(FOURTH, session))),
+    *map(decrypts, (tpm.write_locking(FIRST, session), tpm.undefining(FIRST, owner))),
+)
+tpm.fails(
+    "encrypt, where nothing is answered: TPM2_NV_Write, TPM2_NV_Extend and TPM2_NV_DefineSpace: "
+    "ATTRIBUTES/s1",
+    *map(encrypts, (write, tpm.extending(SECOND, DATA, session))),
+    encrypts(tpm.defining(area(0x0100_0006), owner)),
+)
+none = tpm.start("A session without AES", bind=FIRST)
+said = tpm("It cannot encrypt: SYMMETRIC/s1")
+said.fails(decrypts(tpm.writing(FIRST, DATA, none)), encrypts(tpm.reading(FIRST, 8, none)))
+said = tpm("Data that are cut, and decrypted: INSUFFICIENT/p1")
+said.prepare(CC.NV_Write, [FIRST, FIRST], b"\0\4abc", session.decrypting)
+flush(session, plain, none, owner)
+undefine(FIRST, SECOND, THIRD, FOURTH, FIFTH)
+tpm("ownerAuth is empty again").change_auth(RH_OWNER, b"", b"owner")
 
 tpm.chapter("TPM2_StartAuthSession and TPM2_PolicySecret of an index.")
 tpm.define("An index", area(FIRST, BY_VALUE), auth=b"a")
-handles, parameters = frames.start_auth_session(bytes(16), FIRST)
-start = tpm.prepare(CC.StartAuthSession, handles, parameters)
-tpm.fails("Bound to what is not there: HANDLE/h2", start.but(handles=[RH_NULL, SECOND]))
+start = tpm.prepare(CC.StartAuthSession, *frames.start_auth_session(bytes(16), SECOND))
+tpm.fails("Bound to what is not there: HANDLE/h2", start)
 session = tpm.start("A session that is bound to the index", bind=FIRST)
 secret = tpm.policy("A policy session")
 tpm("TPM2_PolicySecret of the index by the session").secret(secret, session, of=FIRST)

@@ -3,91 +3,60 @@ with many faults, of which one after the other is repaired. What is answered is 
 left.
 """
 
-from tpmsim.standard import area as entries_area, handle_kinds
+from tpmsim.standard import handle_kinds
+from tests.common.order import ABSENT_SESSION, OrderTeller
 from tests.common.vocabulary import area, bits, BY_OWNER, BY_POLICY, BY_VALUE, CC, command, counter
-from tests.common.vocabulary import DECRYPT, Entry, extended, frames, LOCKS, number, NvAttribute
-from tests.common.vocabulary import others_in, policy, RH_LOCKOUT, RH_OWNER, RH_PLATFORM, SHA1
-from tests.common.vocabulary import sized, Teller, Use
+from tests.common.vocabulary import DECRYPT, extended, frames, LOCKS, number, NvAttribute, others_in
+from tests.common.vocabulary import policy, RH_LOCKOUT, RH_OWNER, RH_PLATFORM, SHA1, sized, Use
 
 ORDINARY, COUNTER, BITS, EXTENDED = range(0x0100_0001, 0x0100_0005)
 LOCKED_ORDINARY, LOCKED_COUNTER, READ_LOCKED, UNWRITTEN = range(0x0100_0011, 0x0100_0015)
 BY_OTHERS, PLATFORMS, CHANGED, NEW = range(0x0100_0021, 0x0100_0025)
-ABSENT, ABSENT_SESSION = 0x0100_0099, Entry(0x0200_000F, b"", 1, b"")
+UNREAD, ABSENT = 0x0100_0031, 0x0100_0099
 VALUE = b"a"
 
-tpm = Teller(__name__, __doc__, tries=True)
+tpm = OrderTeller(__name__, __doc__, tries=True)
 
 
 def handles_in_order(code, handles):
     """Each handle cut, of another kind, and absent, with no handle behind it that is right."""
     for place, handle in enumerate(handles, 1):
         before = b"".join(number(it, 4) for it in handles[: place - 1])
+        is_of_kind = handle_kinds.IS_OF_KIND[code.handles[place - 1].kind]
         for what, outcome, text in (
             ("Half of it", f"INSUFFICIENT/h{place}", b"\1\0"),
             ("Of another kind", f"VALUE/h{place}", number(RH_LOCKOUT, 4)),
             ("One that is not there", f"HANDLE/h{place}", number(ABSENT, 4)),
             ("One that is not there", "REFERENCE_H2", number(0x0300_000F, 4)),
         ):
-            absent = int.from_bytes(text, "big")
-            is_of_kind = handle_kinds.IS_OF_KIND[code.handles[place - 1].kind]
-            if len(text) == 4 and absent != RH_LOCKOUT and not is_of_kind(absent):
-                continue
-            said = tpm(f"Handle {place}. {what}, and no sessions: {outcome}")
-            said.raw(command(code, before + text, frames.NO_SESSIONS))
+            if what != "One that is not there" or is_of_kind(int.from_bytes(text, "big")):
+                words = f"Handle {place}. {what}, and no sessions: {outcome}"
+                tpm.raw(words, command(code, before + text))
 
 
 def general_refusals(code, handles, cut, uses):
     """Up to the parameters, which are `cut` in all of these."""
     handles_in_order(code, handles)
-    text = b"".join(number(it, 4) for it in handles)
-    if code.authorized:
-        tpm.raw("No sessions: AUTH_MISSING", command(code, text + cut))
-    said = tpm("An area of eight bytes: AUTHSIZE")
-    said.raw(command(code, text + entries_area(bytes(8)) + cut, frames.SESSIONS))
-    prepared = tpm.prepare(code, handles, cut, *uses)
-    last = len(uses)
-    said = tpm(f"A wrong first entry, and the last one is not there: REFERENCE_S{last - 1}")
-    said.refused(prepared.but(entries=[*others_in(prepared, 1).entries[:-1], ABSENT_SESSION]))
     is_first = handle_kinds.IS_OF_KIND[code.handles[0].kind]
-    if code.authorized and is_first(BY_OTHERS) and code != CC.NV_ChangeAuth:
-        unavailable = tpm.prepare(code, [BY_OTHERS, *handles[1:]], cut, *uses)
-        said = tpm("Both entries are wrong, on an index that no password can use: AUTH_UNAVAILABLE")
-        said.refused(others_in(unavailable, 1, last))
-    if last > 1:
-        refused = "AUTH_FAIL/s1" if handle_kinds.is_index(handles[0]) else "BAD_AUTH/s1"
-        tpm.refused(f"Both entries are wrong: {refused}", others_in(prepared, 1, last))
-    tpm.refused(f"The last one is: BAD_AUTH/s{last}", others_in(prepared, last))
+    closed = BY_OTHERS if code.authorized and is_first(BY_OTHERS) else None
+    both = "AUTH_FAIL/s1" if handle_kinds.is_index(handles[0]) else "BAD_AUTH/s1"
+    tpm.refuses_entries(code, handles, cut, uses, closed, both)
 
 
-def in_order(code, uses, *cases):
-    """What is left: each with the handles and the parameters."""
-    for what, outcome, handles, parameters in cases:
-        uses_now = [tpm.auth_value(handles[0]), *uses[1:]] if uses else []
-        prepared = tpm.prepare(code, handles, parameters, *uses_now)
-        if outcome == "SUCCESS":
-            tpm.does(what, prepared)
-        else:
-            tpm.refused(f"{what}: {outcome}", prepared)
-
-
-def changes(code, name, index, locked, parameters, faults=(), ranges=()):
+def changes(code, what, index, locked, parameters, faults=(), ranges=()):
     """One of the four commands that change an index: `locked` is of another type."""
-    tpm.chapter(f"{name}.")
+    tpm.chapter(f"TPM2_{code.name}{what}.")
     uses = [VALUE, Use(session, 1 | DECRYPT) if code.takes_sized else Use(session)]
     general_refusals(code, [index, index], parameters[:-1] or b"\0", uses)
     open_one = ORDINARY if index != ORDINARY else COUNTER
     out = ranges[-1][1] if ranges else parameters
-    in_order(
+    by_owner = [RH_OWNER, locked]
+    tpm.in_order(
         code,
         uses,
-        *((what, outcome, [RH_OWNER, locked], text) for what, outcome, text in faults),
-        ("A byte behind the rest", "SIZE", [RH_OWNER, locked], out + b"\0"),
-        (
-            "By the owner, who may not, of a locked index",
-            "NV_AUTHORIZATION",
-            [RH_OWNER, locked],
-            out,
-        ),
+        *((what, outcome, by_owner, text) for what, outcome, text in faults),
+        ("A byte behind the rest", "SIZE", by_owner, out + b"\0"),
+        ("By the owner, who may not, of a locked index", "NV_AUTHORIZATION", by_owner, out),
         ("By another index", "NV_AUTHORIZATION", [ORDINARY, locked], out),
         ("By the index itself", "NV_LOCKED", [locked, locked], out),
         ("One that is open, of another type", "ATTRIBUTES/h2", [open_one, open_one], out),
@@ -109,7 +78,7 @@ def define_space():
     def defined(index=ORDINARY, attributes=BY_VALUE, size=2048):
         return sized(area(index, attributes, size, algorithm=SHA1).text)
 
-    in_order(
+    tpm.in_order(
         code,
         uses,
         case("auth is cut", "INSUFFICIENT/p1", b"", b"\0\1"),
@@ -136,72 +105,67 @@ def define_space():
 
 def change_auth():
     tpm.chapter("TPM2_NV_ChangeAuth, with newAuth encrypted by another session.")
-    code = CC.NV_ChangeAuth
     told = tpm.policy("A policy session of SHA-1", algorithm=SHA1)
-    hides = Use(session, 1 | DECRYPT)
-    new = sized(b"a" * 21)
-    handles_in_order(code, [CHANGED])
+    hides, cut = Use(session, 1 | DECRYPT), sized(b"a" * 21)[:-1]
+    handles_in_order(CC.NV_ChangeAuth, [CHANGED])
+    tpm.refused("No sessions: AUTH_MISSING", tpm.prepare(CC.NV_ChangeAuth, [CHANGED], cut))
 
-    def prepared(parameters, *uses, index=CHANGED):
-        return tpm.prepare(code, [index], parameters, *uses)
+    def prepared(parameters=cut, first=None, index=CHANGED):
+        uses = first or Use(told, shows_empty_key=True), hides
+        return tpm.prepare(CC.NV_ChangeAuth, [index], parameters, *uses)
 
-    def refused(words, each):
-        tpm.refused(words, each)
+    def both_wrong(words, **choices):
+        tpm.refused(words, others_in(prepared(**choices), 1, 2))
 
-    cut = new[:-1]
-    refused("No sessions: AUTH_MISSING", prepared(cut))
-    both = prepared(cut, Use(told, shows_empty_key=True), hides)
-    refused(
-        "The last entry is not there: REFERENCE_S1",
-        both.but(entries=[others_in(both, 1).entries[0], ABSENT_SESSION]),
-    )
-    trial = tpm.trial("A trial session")
-    refused(
-        "A trial session, on an index without a policy: ATTRIBUTES/s1",
-        others_in(prepared(cut, Use(trial, shows_empty_key=True), hides, index=ORDINARY), 1, 2),
-    )
-    refused("A password: AUTH_UNAVAILABLE", others_in(prepared(cut, VALUE, hides), 1, 2))
-    refused(
-        "A policy session, on an index without a policy: AUTH_UNAVAILABLE",
-        others_in(prepared(cut, Use(told, shows_empty_key=True), hides, index=ORDINARY), 1, 2),
-    )
+    both = prepared()
+    absent = both.but(entries=[others_in(both, 1).entries[0], ABSENT_SESSION])
+    tpm.refused("The last entry is not there: REFERENCE_S1", absent)
+    trial = Use(tpm.trial("A trial session"), shows_empty_key=True)
+    case = "A trial session, on an index without a policy: ATTRIBUTES/s1"
+    both_wrong(case, first=trial, index=ORDINARY)
+    both_wrong("A password: AUTH_UNAVAILABLE", first=VALUE)
+    both_wrong("A policy session, on an index without a policy: AUTH_UNAVAILABLE", index=ORDINARY)
     tpm("TPM2_PolicyPCR of no PCRs").pcrs(told, [])
-    tpm("TPM2_PolicyCommandCode of TPM2_NV_Write").command_code(told, CC.NV_Write)
-    tpm("TPM2_PolicyLocality of locality 1").locality(told, 2)
-    tpm("A PCR is extended").event(b"", b"")
-
-    def all_wrong():
-        return others_in(prepared(cut, Use(told, shows_empty_key=True), hides), 1, 2)
-
-    refused("A PCR has changed, and another code is recorded: PCR_CHANGED", all_wrong())
-    tpm.restarts(told)
-    tpm("TPM2_PolicyCommandCode of TPM2_NV_Write").command_code(told, CC.NV_Write)
-    tpm("TPM2_PolicyLocality of locality 1").locality(told, 2)
-    refused("Another code, and another locality: POLICY_CC/s1", all_wrong())
-    tpm.restarts(told)
-    tpm("TPM2_PolicyLocality of locality 1").locality(told, 2)
-    refused("No code, and another locality: POLICY_FAIL/s1", all_wrong())
-    tpm("TPM2_PolicyCommandCode of TPM2_NV_ChangeAuth").command_code(told, CC.NV_ChangeAuth)
-    refused("Another locality, and another digest: LOCALITY", all_wrong())
-    tpm.locality_is(1)
-    refused("Another digest: POLICY_FAIL/s1", all_wrong())
-    tpm.restarts(told)
-    tpm("TPM2_PolicyCommandCode of TPM2_NV_ChangeAuth").command_code(told, CC.NV_ChangeAuth)
-    refused("Both hmacs are wrong: BAD_AUTH/s1", all_wrong())
-    refused(
-        "The last one is: BAD_AUTH/s2",
-        others_in(prepared(cut, Use(told, shows_empty_key=True), hides), 2),
-    )
-    for what, outcome, parameters in (
-        ("newAuth is cut", "INSUFFICIENT/p1", cut),
-        ("It has 33 bytes", "SIZE/p1", sized(bytes(33)) + b"\0"),
-        ("A byte behind it", "SIZE", new + b"\0"),
-        ("21 bytes", "SIZE/p1", new),
+    policy_in_order(told, both_wrong)
+    tpm.refused("The last one is: BAD_AUTH/s2", others_in(prepared(), 2))
+    for words, parameters in (
+        ("newAuth is cut: INSUFFICIENT/p1", cut),
+        ("It has 33 bytes: SIZE/p1", sized(bytes(33)) + b"\0"),
+        ("A byte behind it: SIZE", sized(b"a" * 21) + b"\0"),
+        ("21 bytes: SIZE/p1", sized(b"a" * 21)),
     ):
-        refused(f"{what}: {outcome}", prepared(parameters, Use(told, shows_empty_key=True), hides))
-    good = prepared(sized(b"a" * 20), Use(told, shows_empty_key=True), hides)
-    tpm.does("With nothing wrong", good)
+        tpm.refused(words, prepared(parameters))
+    tpm.does("With nothing wrong", prepared(sized(b"a" * 20)))
     tpm.locality_is(0)
+
+
+def policy_in_order(told, both_wrong):
+    """What a policy session was told, and what its two entries come to, both of which are wrong."""
+
+    def tell_code(code):
+        tpm(f"TPM2_PolicyCommandCode of TPM2_{code.name}").command_code(told, code)
+
+    def tell_locality():
+        tpm("TPM2_PolicyLocality of locality 1").locality(told, 2)
+
+    tell_code(CC.NV_Write)
+    tell_locality()
+    tpm("A PCR is extended").event(b"", b"")
+    both_wrong("A PCR has changed, and another code is recorded: PCR_CHANGED")
+    tpm.restarts(told)
+    tell_code(CC.NV_Write)
+    tell_locality()
+    both_wrong("Another code, and another locality: POLICY_CC/s1")
+    tpm.restarts(told)
+    tell_locality()
+    both_wrong("No code, and another locality: POLICY_FAIL/s1")
+    tell_code(CC.NV_ChangeAuth)
+    both_wrong("Another locality, and another digest: LOCALITY")
+    tpm.locality_is(1)
+    both_wrong("Another digest: POLICY_FAIL/s1")
+    tpm.restarts(told)
+    tell_code(CC.NV_ChangeAuth)
+    both_wrong("Both hmacs are wrong: BAD_AUTH/s1")
 
 
 def policy_nv():
@@ -215,7 +179,7 @@ def policy_nv():
     def case(what, outcome, parameters, index=READ_LOCKED, by=RH_OWNER):
         return what, outcome, [by, index, told.handle], parameters
 
-    in_order(
+    tpm.in_order(
         code,
         uses,
         case("operandB is cut", "INSUFFICIENT/p1", operand[:-1]),
@@ -234,8 +198,8 @@ def policy_nv():
     )
 
 
+CHANGING = policy.after_command_code(SHA1, bytes(20), CC.NV_ChangeAuth)
 tpm.chapter("Indices: of each type, some that are locked, and the rest of the bytes.")
-UNREAD = 0x0100_0031
 for index, public in enumerate(
     (
         area(ORDINARY, BY_VALUE),
@@ -248,12 +212,7 @@ for index, public in enumerate(
         area(UNWRITTEN, BY_VALUE | LOCKS),
         area(UNREAD, BY_VALUE),
         area(BY_OTHERS, BY_OWNER | BY_POLICY),
-        area(
-            CHANGED,
-            BY_VALUE | NvAttribute.NO_DA,
-            algorithm=SHA1,
-            auth_policy=policy.after_command_code(SHA1, bytes(20), CC.NV_ChangeAuth),
-        ),
+        area(CHANGED, BY_VALUE | NvAttribute.NO_DA, algorithm=SHA1, auth_policy=CHANGING),
         *(area(0x0100_0041 + it, BY_VALUE, size=2000) for it in range(8)),
     )
 ):
@@ -261,12 +220,9 @@ for index, public in enumerate(
 said = tpm("One of the platform's")
 said.define(area(PLATFORMS, BY_VALUE | NvAttribute.PLATFORMCREATE), auth=VALUE, by=RH_PLATFORM)
 tpm("The ordinary one is written").writing(ORDINARY, b"8 bytes.")
-for index, lock in (
-    (LOCKED_ORDINARY, tpm.write_locking),
-    (LOCKED_COUNTER, tpm.write_locking),
-    (READ_LOCKED, tpm.read_locking),
-):
-    tpm.does("Some are locked" if index == LOCKED_ORDINARY else "", lock(index))
+tpm("Some are locked").write_locking(LOCKED_ORDINARY)
+tpm("").write_locking(LOCKED_COUNTER)
+tpm("").read_locking(READ_LOCKED)
 session = tpm.start("A session with AES, that is bound to TPM_RH_OWNER", bind=RH_OWNER, aes=True)
 
 define_space()
@@ -274,14 +230,13 @@ define_space()
 tpm.chapter("TPM2_NV_UndefineSpace.")
 code, uses = CC.NV_UndefineSpace, [b"", Use(session)]
 general_refusals(code, [RH_OWNER, PLATFORMS], b"\0", uses)
-in_order(
+tpm.in_order(
     code,
     uses,
     ("A byte behind the area", "SIZE", [RH_OWNER, PLATFORMS], b"\0"),
     ("An index of the platform's", "NV_AUTHORIZATION", [RH_OWNER, PLATFORMS], b""),
     ("With nothing wrong", "SUCCESS", [RH_PLATFORM, PLATFORMS], b""),
 )
-
 
 tpm.chapter("TPM2_NV_ReadPublic, with a session that authorizes nothing.")
 general_refusals(CC.NV_ReadPublic, [ORDINARY], b"\0", [Use(session)])
@@ -290,41 +245,24 @@ tpm("A byte behind the handle: SIZE").prepare(CC.NV_ReadPublic, wrong_size, b"\0
 tpm.is_now("With nothing wrong", ORDINARY, session)
 
 LONG = sized(bytes(1025))
-changes(
-    CC.NV_Write,
-    "TPM2_NV_Write, with data encrypted",
-    ORDINARY,
-    LOCKED_COUNTER,
-    frames.nv_write(b"8 bytes."),
-    [
-        ("data of 1,025 bytes", "SIZE/p1", LONG + b"\0"),
-        ("offset is cut", "INSUFFICIENT/p2", sized(b"x") + b"\0"),
-    ],
-    [("Past the end", frames.nv_write(b"x", 9))],
+faults = (
+    ("data of 1,025 bytes", "SIZE/p1", LONG + b"\0"),
+    ("offset is cut", "INSUFFICIENT/p2", sized(b"x") + b"\0"),
 )
-changes(CC.NV_Increment, "TPM2_NV_Increment", COUNTER, LOCKED_ORDINARY, b"")
-changes(
-    CC.NV_SetBits,
-    "TPM2_NV_SetBits",
-    BITS,
-    LOCKED_ORDINARY,
-    number(5, 8),
-    [("bits are cut", "INSUFFICIENT/p1", bytes(7))],
-)
-changes(
-    CC.NV_Extend,
-    "TPM2_NV_Extend, with data encrypted",
-    EXTENDED,
-    LOCKED_COUNTER,
-    sized(b"abc"),
-    [("data are cut", "INSUFFICIENT/p1", b"\0\3ab"), ("1,025 bytes", "SIZE/p1", LONG + b"\0")],
-)
+whole, ranges = frames.nv_write(b"8 bytes."), [("Past the end", frames.nv_write(b"x", 9))]
+what = ", with data encrypted"
+changes(CC.NV_Write, what, ORDINARY, LOCKED_COUNTER, whole, faults, ranges)
+changes(CC.NV_Increment, "", COUNTER, LOCKED_ORDINARY, b"")
+faults = [("bits are cut", "INSUFFICIENT/p1", bytes(7))]
+changes(CC.NV_SetBits, "", BITS, LOCKED_ORDINARY, number(5, 8), faults)
+faults = [("data are cut", "INSUFFICIENT/p1", b"\0\3ab"), ("1,025 bytes", "SIZE/p1", LONG + b"\0")]
+changes(CC.NV_Extend, what, EXTENDED, LOCKED_COUNTER, sized(b"abc"), faults)
 
 tpm.chapter("TPM2_NV_Read.")
 code, uses = CC.NV_Read, [VALUE, Use(session)]
 general_refusals(code, [ORDINARY, ORDINARY], b"\0", uses)
 far = frames.nv_read(1025, 9)
-in_order(
+tpm.in_order(
     code,
     uses,
     ("size is cut", "INSUFFICIENT/p1", [RH_OWNER, READ_LOCKED], far[:1]),
@@ -339,12 +277,11 @@ in_order(
     ("With nothing wrong", "SUCCESS", [ORDINARY, ORDINARY], frames.nv_read(8)),
 )
 
-
-for code, name in ((CC.NV_WriteLock, "TPM2_NV_WriteLock"), (CC.NV_ReadLock, "TPM2_NV_ReadLock")):
-    tpm.chapter(f"{name}.")
+for code in (CC.NV_WriteLock, CC.NV_ReadLock):
+    tpm.chapter(f"TPM2_{code.name}.")
     uses = [VALUE, Use(session)]
     general_refusals(code, [ORDINARY, ORDINARY], b"\0", uses)
-    in_order(
+    tpm.in_order(
         code,
         uses,
         ("A byte behind the area", "SIZE", [RH_OWNER, ORDINARY], b"\0"),

@@ -2,16 +2,14 @@
 parent alone can load. Nothing of it stays in the device.
 """
 
-from tpmsim.standard import aes, Fields
-from tests.common.vocabulary import ALG_NULL, CC, CONTINUE_SESSION, DECRYPT, digest, ENCRYPT, frames
-from tests.common.vocabulary import HERE, hmac_key, mac, number, ObjectAttribute, OPEN, Public
-from tests.common.vocabulary import RH_ENDORSEMENT, RH_NULL, RH_OWNER, RH_PLATFORM, sealed, SHA1
-from tests.common.vocabulary import SHA256, storage_key, STORES, SYMCIPHER, Teller, Use
 from tpmsim.model import object_rules
+from tpmsim.standard import aes, Fields
+from tests.common.steps import aes_key, GENERATED, HIERARCHIES, PROTECTED, RESTRICTED_KEY, Steps
+from tests.common.vocabulary import ALG_NULL, CC, digest, ENCRYPT, frames, HASHES, hmac_key, mac
+from tests.common.vocabulary import number, ObjectAttribute, RH_ENDORSEMENT, RH_OWNER, RH_PLATFORM
+from tests.common.vocabulary import sealed, SHA1, SHA256, storage_key, STORES, Use
 
-ORIGIN = ObjectAttribute.SENSITIVE_DATA_ORIGIN
-
-tpm = Teller(__name__, __doc__)
+tpm = Steps(__name__, __doc__)
 refused = tpm.says
 
 
@@ -20,53 +18,28 @@ def under(handle, *uses):
 
 
 tpm.chapter("parentHandle.")
-refused(
-    "No object's handle: TPM_RH_OWNER, TPM_RH_NULL, PCR 0, an NV index, sessions: VALUE/h1",
-    *map(under, (RH_OWNER, RH_NULL, 0, 0x0100_0000, 0x0200_0000, 0x0300_0000, 0x7F00_0000)),
-)
-case = "A transient object, while there is none: REFERENCE_H0"
-refused(case, *map(under, (0x8000_0000, 0x8000_0007, 0x8000_0008, 0x80FF_FFFF)))
-case = "A persistent object, while there is none: HANDLE/h1"
-refused(case, *map(under, (0x8100_0000, 0x8180_0000, 0x81FF_FFFF)))
-said = tpm('A storage key, whose value is "parent"')
-parent = said.create_primary(RH_OWNER, storage_key(), user_auth=b"parent")
+transient = 0x8000_0000, 0x8000_0007, 0x8000_0008, 0x80FF_FFFF
+persistent = 0x8100_0000, 0x8180_0000, 0x81FF_FFFF
+tpm.refuses_others(under, 0x7F00_0000, transient=transient, persistent=persistent)
+parent = tpm.owned('A storage key, whose value is "parent"', storage_key(), user_auth=b"parent")
 case = "Another number is still not there: REFERENCE_H0"
 refused(case, *(under(it, b"parent") for it in (0x8000_0001, 0x8000_0007, 0x8001_0000)))
-said = tpm("It has to be authorized: no sessions (tag 8001): AUTH_MISSING")
-said.raw(frames.command(CC.Create, number(parent, 4)))
+tpm.needs_entries(CC.Create, parent)
 refused("By another password: BAD_AUTH/s1", under(parent, b"Parent"))
-guarded = tpm.create_primary(
-    "A storage key without noDA",
-    RH_OWNER,
-    storage_key(attributes=HERE | STORES | ObjectAttribute.USER_WITH_AUTH),
-)
-refused("By another password: AUTH_FAIL/s1", under(guarded, b"Parent"))
-tpm.create("By the right one, the empty one", guarded, sealed(), data=b"x")
-tpm.flush_objects("It is flushed", guarded)
+with tpm.held("A storage key without noDA", storage_key(attributes=PROTECTED | STORES)) as guarded:
+    refused("By another password: AUTH_FAIL/s1", under(guarded, b"Parent"))
+    tpm.create("By the right one, the empty one", guarded, sealed(), data=b"x")
 
 tpm.chapter("Not every object is a parent: that has to be a restricted key to decrypt.")
 for what, public, data in (
     ("Sealed data", sealed(), b"x"),
     ("An HMAC key", hmac_key(), b"key"),
-    (
-        "A restricted HMAC key",
-        hmac_key(attributes=HERE | OPEN | ObjectAttribute.RESTRICTED),
-        b"key",
-    ),
-    (
-        "An AES key to decrypt, which is not restricted",
-        Public(SYMCIPHER, SHA256, HERE | OPEN | ObjectAttribute.DECRYPT),
-        bytes(16),
-    ),
-    (
-        "One to encrypt and decrypt",
-        Public(SYMCIPHER, SHA256, HERE | OPEN | ObjectAttribute.DECRYPT | ObjectAttribute.SIGN),
-        bytes(16),
-    ),
+    ("A restricted HMAC key", RESTRICTED_KEY, b"key"),
+    ("An AES key to decrypt, which is not restricted", aes_key(ObjectAttribute.DECRYPT), bytes(16)),
+    ("One to encrypt and decrypt", aes_key(), bytes(16)),
 ):
-    handle = tpm.create_primary(what, RH_OWNER, public, data=data)
-    refused("As a parent: TYPE/h1", under(handle))
-    tpm.flush_objects("It is flushed", handle)
+    with tpm.held(what, public, data=data) as handle:
+        refused("As a parent: TYPE/h1", under(handle))
 
 tpm.chapter("What is created is new, as its seed is drawn: the same template twice.")
 first = tpm.create("Sealed data", parent, sealed(), data=b"secret")
@@ -79,16 +52,16 @@ tpm.chapter(
     "The random bytes are drawn from the front: a key, where none is given, then the seed, and "
     "then the first block of the cipher, which stands in the private area. Here they are 00 to ff."
 )
-tpm.script.entropy(bytes(range(256)))
 RANDOM = bytes(range(256))
+tpm.script.entropy(RANDOM)
 for what, public, data, key_bytes in (
     ("Sealed data: a seed of 32 bytes, and the first block", sealed(), b"data", 0),
     ("nameAlg SHA-1: a seed of 20 bytes", sealed(SHA1), b"data", 0),
-    ("An HMAC key of SHA-256", hmac_key(attributes=HERE | OPEN | ORIGIN), b"", 32),
-    ("Of SHA-1", hmac_key(attributes=HERE | OPEN | ORIGIN, scheme=SHA1), b"", 20),
-    ("Of scheme NULL", hmac_key(attributes=HERE | OPEN | ORIGIN, scheme=ALG_NULL), b"", 32),
-    ("Of scheme NULL, and nameAlg SHA-1", hmac_key(SHA1, HERE | OPEN | ORIGIN, ALG_NULL), b"", 20),
-    ("Of SHA-256, and nameAlg SHA-1", hmac_key(SHA1, HERE | OPEN | ORIGIN), b"", 32),
+    ("An HMAC key of SHA-256", hmac_key(attributes=GENERATED), b"", 32),
+    ("Of SHA-1", hmac_key(attributes=GENERATED, scheme=SHA1), b"", 20),
+    ("Of scheme NULL", hmac_key(attributes=GENERATED, scheme=ALG_NULL), b"", 32),
+    ("Of scheme NULL, and nameAlg SHA-1", hmac_key(SHA1, GENERATED, ALG_NULL), b"", 20),
+    ("Of SHA-256, and nameAlg SHA-1", hmac_key(SHA1, GENERATED), b"", 32),
     ("A storage key", storage_key(), b"", 16),
     ("A storage key, and nameAlg SHA-1", storage_key(SHA1), b"", 16),
 ):
@@ -113,29 +86,17 @@ tpm.chapter(
     "are the most that are drawn. What is answered is the longest of a creation, too."
 )
 tpm.script.entropy(RANDOM)
-prepared = tpm.child(
-    parent,
-    hmac_key(attributes=HERE | OPEN | ORIGIN, auth_policy=bytes(32), unique=bytes(32)),
-    long[0],
-    Use(long[1], DECRYPT | CONTINUE_SESSION),
-    Use(long[2], ENCRYPT),
-    user_auth=b"a" * 32,
-    outside_info=b"o" * 34,
-    pcrs=16 * [(SHA256, range(24))],
-)
+longest = {"user_auth": b"a" * 32, "outside_info": b"o" * 34}
+template = hmac_key(attributes=GENERATED, auth_policy=bytes(32), unique=bytes(32))
+uses, pcrs = (long[0], long[1].decrypting, Use(long[2], ENCRYPT)), 16 * [(SHA256, range(24))]
+prepared = tpm.child(parent, template, *uses, **longest, pcrs=pcrs)
 said = tpm("TPM2_Create with three sessions, of which the last ends: SUCCESS")
-response = said.raw(prepared.buffer())
-tpm.received(prepared, response)
+tpm.received(prepared, said.raw(prepared.buffer()))
 assert [it.nonce_tpm for it in long] == [RANDOM[at : at + 32] for at in (80, 112, 144)]
 
 tpm.chapter("The creation data, their hash and the ticket.")
 proofs = {RH_OWNER: 0x80, RH_ENDORSEMENT: 0xA0, RH_PLATFORM: 0xC0}
-for hierarchy, name in (
-    (RH_OWNER, "TPM_RH_OWNER"),
-    (RH_ENDORSEMENT, "TPM_RH_ENDORSEMENT"),
-    (RH_PLATFORM, "TPM_RH_PLATFORM"),
-    (RH_NULL, "TPM_RH_NULL"),
-):
+for hierarchy, name in HIERARCHIES:
     handle = tpm.create_primary(f"A parent in {name}", hierarchy, storage_key())
     made = tpm.create("TPM2_Create", handle, sealed(), data=b"secret", outside_info=b"label")
     ticket_hierarchy, ticket = tpm.ticket
@@ -157,28 +118,17 @@ for what, pcrs in (
     ("PCR 17 of the SHA-1 bank, and PCR 0 of the SHA-256 bank", [(SHA1, [17]), (SHA256, [0])]),
     ("All of both", [(SHA1, range(24)), (SHA256, range(24))]),
 ):
-    for algorithm in (SHA1, SHA256):
-        tpm.create(
-            f"{what}, hashed by {'SHA-1' if algorithm == SHA1 else 'SHA-256'}, which is nameAlg",
-            parent,
-            sealed(algorithm),
-            data=b"secret",
-            pcrs=pcrs,
-        )
+    for algorithm, hash_name in HASHES:
+        said = tpm(f"{what}, hashed by {hash_name}, which is nameAlg")
+        said.create(parent, sealed(algorithm), data=b"secret", pcrs=pcrs)
 tpm.locality_is(3)
 tpm.create("From locality 3, which is bit 3", parent, sealed(), data=b"secret")
 assert tpm.creation_data[4 + 34] == 1 << 3
 tpm.locality_is(0)
 
 tpm.chapter("Sizes.")
-tpm.create(
-    "The longest of all: 128 bytes of data, 32 bytes of userAuth and of authPolicy",
-    parent,
-    sealed(auth_policy=bytes(32)),
-    user_auth=b"a" * 32,
-    data=b"d" * 128,
-    outside_info=b"o" * 34,
-)
+said = tpm("The longest of all: 128 bytes of data, 32 bytes of userAuth and of authPolicy")
+said.create(parent, sealed(auth_policy=bytes(32)), **longest, data=b"d" * 128)
 refused("129 bytes of data: SIZE/p1", tpm.child(parent, sealed(), data=bytes(129)))
 case = "35 bytes of outsideInfo: SIZE/p3"
 refused(case, tpm.child(parent, sealed(), data=b"x", outside_info=bytes(35)))

@@ -3,115 +3,99 @@ takes a persistent one away. A persistent object outlives power cycles, has a ha
 on, and is used as the transient one was.
 """
 
-from tpmsim.standard import on_handles
-from tests.common.vocabulary import area, CC, command, frames, HERE, hmac_key, number
-from tests.common.vocabulary import ObjectAttribute, OPEN, RH_ENDORSEMENT, RH_LOCKOUT, RH_NULL
-from tests.common.vocabulary import RH_OWNER, RH_PLATFORM, sealed, SHA256, STATE, storage_key
-from tests.common.vocabulary import STORES, Teller, Use, wrong
+from tpmsim.model.capability import HANDLES
+from tests.common.steps import PROTECTED, Steps
+from tests.common.vocabulary import (
+    area,
+    CC,
+    command,
+    DECRYPT,
+    ENCRYPT,
+    hmac_key,
+    number,
+    ObjectAttribute,
+)
+from tests.common.vocabulary import RH_ENDORSEMENT, RH_LOCKOUT, RH_NULL, RH_OWNER, RH_PLATFORM
+from tests.common.vocabulary import sealed, SHA256, storage_key, wrong
 
 # The handles of persistent objects: the owner's are below 81800000, the platform's from there on.
 FIRST, OWNERS_LAST, PLATFORMS_FIRST, LAST = 0x8100_0000, 0x817F_FFFF, 0x8180_0000, 0x81FF_FFFF
-OTHER = 0x8100_0001
+OTHER, THIRD = 0x8100_0001, 0x8100_0002
 
-ENCRYPTING = frames.CONTINUE_SESSION | frames.ENCRYPT
+# How many persistent objects there may be.
+MOST = 16
 
-# The capability of TPM2_GetCapability, and how many persistent objects there may be.
-HANDLES, MOST = 1, 16
+CLEARED = storage_key(attributes=storage_key().attributes | ObjectAttribute.ST_CLEAR)
 
-ST_CLEAR = HERE | OPEN | STORES | ObjectAttribute.ST_CLEAR
-
-tpm = Teller(__name__, __doc__, starts=False)
-says = tpm.raw
-
-
-def evict(asker, handle, wanted):
-    return on_handles(CC.EvictControl, [asker, handle], number(wanted, 4))
+tpm = Steps(__name__, __doc__)
 
 
 def fails(words, *commands):
     """By the password: who asks, the object, and the persistent handle."""
-    says(words, *(evict(*it) for it in commands))
-
-
-def primary(what, hierarchy, template=None):
-    return tpm.create_primary(what, hierarchy, template or storage_key())
+    tpm.says(words, *(tpm.evicting(*it, b"") for it in commands))
 
 
 def kept_handles(what, *handles):
     """All persistent objects, as TPM2_GetCapability lists them."""
-    listed = number(len(handles), 4) + b"".join(number(it, 4) for it in handles)
-    given = tpm(what).capability(HANDLES, FIRST, 64)
-    assert given == b"\0" + number(HANDLES, 4) + listed, what
+    tpm.lists(what, HANDLES, FIRST, 64, handles)
 
 
 def handles_and_parameter(owners):
     tpm.chapter("The handles and the parameter.")
     handles = number(RH_OWNER, 4) + number(owners, 4)
-    says("No handle: INSUFFICIENT/h1", command(CC.EvictControl, b""))
+    tpm.raw("No handle: INSUFFICIENT/h1", command(CC.EvictControl, b""))
     case = "Who has no persistent objects: VALUE/h1"
     fails(case, *((it, owners, FIRST) for it in (RH_ENDORSEMENT, RH_LOCKOUT, RH_NULL, 0, owners)))
-    says("No object: INSUFFICIENT/h2", command(CC.EvictControl, handles[:4]))
+    tpm.raw("No object: INSUFFICIENT/h2", command(CC.EvictControl, handles[:4]))
     fails(
         "What is no object: PCR 0, an NV index, a session, and a hierarchy: VALUE/h2",
         *((RH_OWNER, it, FIRST) for it in (0, 0x0100_0000, 0x0200_0000, 0x0300_0000, RH_OWNER)),
     )
     fails("A transient object that is not there: REFERENCE_H1", (RH_OWNER, 0x8000_0007, FIRST))
     fails("A persistent object that is not there: HANDLE/h2", (RH_OWNER, FIRST, FIRST))
-    says("Without sessions: AUTH_MISSING", command(CC.EvictControl, handles + number(FIRST, 4)))
-    wrong_password = [frames.entry(hmac=b"x")]
-    case = "A wrong password, and no parameter: BAD_AUTH/s1"
-    says(case, on_handles(CC.EvictControl, [RH_OWNER, owners], b"", wrong_password))
-    says(
-        "The parameter cut: INSUFFICIENT/p1",
-        *(on_handles(CC.EvictControl, [RH_OWNER, owners], bytes([0x81] * it)) for it in (0, 3)),
-    )
+    tpm.raw("Without sessions: AUTH_MISSING", command(CC.EvictControl, handles + number(FIRST, 4)))
+
+    def evicting(parameters, password=b""):
+        return tpm.prepare(CC.EvictControl, [RH_OWNER, owners], parameters, password)
+
+    tpm.says("A wrong password, and no parameter: BAD_AUTH/s1", evicting(b"", b"x"))
+    tpm.says("The parameter cut: INSUFFICIENT/p1", evicting(b""), evicting(b"\x81" * 3))
     fails(
         "It is no handle of a persistent object: VALUE/p1",
         *((RH_OWNER, owners, it) for it in (0, owners, 0x8200_0000, 0x0100_0000, 0xFFFF_FFFF)),
     )
-    case = "That, and a byte behind it: VALUE/p1"
-    says(case, on_handles(CC.EvictControl, [RH_OWNER, owners], number(owners, 4) + b"\0"))
-    case = "A byte behind a right one: SIZE"
-    says(case, on_handles(CC.EvictControl, [RH_OWNER, owners], number(FIRST, 4) + b"\0"))
+    tpm.says("That, and a byte behind it: VALUE/p1", evicting(number(owners, 4) + b"\0"))
+    tpm.says("A byte behind a right one: SIZE", evicting(number(FIRST, 4) + b"\0"))
 
 
 def in_order():
     """Each refusal, where those behind it would stand too."""
     tpm.chapter("The checks in their order; each command has the later faults too.")
-    owners = primary("An object of the owner", RH_OWNER)
-    clears = primary("One with stClear", RH_OWNER, storage_key(attributes=ST_CLEAR))
-    endorsements = primary("One of the endorsement hierarchy", RH_ENDORSEMENT)
-    platforms = primary("One of the platform", RH_PLATFORM)
-    case = "One of the platform with stClear"
-    platforms_clears = primary(case, RH_PLATFORM, storage_key(attributes=ST_CLEAR))
-    nulls = primary("One of TPM_RH_NULL with stClear", RH_NULL, storage_key(attributes=ST_CLEAR))
+    owners = tpm.owned("An object of the owner", storage_key())
+    clears = tpm.owned("One with stClear", CLEARED)
+    said = tpm("One of the endorsement hierarchy")
+    endorsements = said.create_primary(RH_ENDORSEMENT, storage_key())
+    platforms = tpm.create_primary("One of the platform", RH_PLATFORM, storage_key())
+    platforms_clears = tpm.create_primary("One of the platform with stClear", RH_PLATFORM, CLEARED)
+    nulls = tpm.create_primary("One of TPM_RH_NULL with stClear", RH_NULL, CLEARED)
     handles_and_parameter(owners)
 
     tpm.chapter("The hierarchy of the object.")
-    fails(
-        "The platform has its own alone: HIERARCHY/h2",
-        *((RH_PLATFORM, it, FIRST) for it in (owners, clears, endorsements, nulls)),
-        *((RH_PLATFORM, it, LAST) for it in (owners, clears, endorsements, nulls)),
-    )
-    fails(
-        "The owner has the platform's not, and those of TPM_RH_NULL not: HIERARCHY/h2",
-        *((RH_OWNER, it, FIRST) for it in (platforms, platforms_clears, nulls)),
-        *((RH_OWNER, it, LAST) for it in (platforms, platforms_clears, nulls)),
-    )
+    case = "The platform has its own alone: HIERARCHY/h2"
+    others = owners, clears, endorsements, nulls
+    fails(case, *((RH_PLATFORM, it, at) for at in (FIRST, LAST) for it in others))
+    case = "The owner has the platform's not, and those of TPM_RH_NULL not: HIERARCHY/h2"
+    others = platforms, platforms_clears, nulls
+    fails(case, *((RH_OWNER, it, at) for at in (FIRST, LAST) for it in others))
     tpm.chapter("stClear, and a wrong range.")
     fails(
         "An object that a start takes away cannot stay: ATTRIBUTES/h2",
-        (RH_OWNER, clears, FIRST),
-        (RH_OWNER, clears, LAST),
-        (RH_PLATFORM, platforms_clears, LAST),
-        (RH_PLATFORM, platforms_clears, FIRST),
+        *((RH_OWNER, clears, it) for it in (FIRST, LAST)),
+        *((RH_PLATFORM, platforms_clears, it) for it in (LAST, FIRST)),
     )
     tpm.chapter("The range of handles.")
-    fails(
-        "The owner's ends at 817FFFFF: RANGE/p1",
-        *((RH_OWNER, owners, it) for it in (PLATFORMS_FIRST, LAST)),
-        *((RH_OWNER, endorsements, it) for it in (PLATFORMS_FIRST, LAST)),
-    )
+    case, all_owners = "The owner's ends at 817FFFFF: RANGE/p1", (owners, endorsements)
+    fails(case, *((RH_OWNER, it, at) for it in all_owners for at in (PLATFORMS_FIRST, LAST)))
     case = "The platform's begins behind it: RANGE/p1"
     fails(case, *((RH_PLATFORM, platforms, it) for it in (FIRST, OWNERS_LAST)))
     return owners, endorsements, platforms
@@ -134,39 +118,31 @@ def borders(owners, endorsements, platforms):
     fails("The owner's by a handle of the platform: RANGE/p1", (RH_OWNER, FIRST, LAST))
     fails(
         "By another handle, whether there is something or not: HANDLE/h2",
-        (RH_OWNER, FIRST, OWNERS_LAST),
-        (RH_OWNER, FIRST, OTHER),
-        (RH_PLATFORM, FIRST, LAST),
-        (RH_PLATFORM, FIRST, OTHER),
+        *((RH_OWNER, FIRST, it) for it in (OWNERS_LAST, OTHER)),
+        *((RH_PLATFORM, FIRST, it) for it in (LAST, OTHER)),
         (RH_PLATFORM, LAST, PLATFORMS_FIRST),
     )
-    fails(
-        "A handle that is taken: NV_DEFINED",
-        (RH_OWNER, owners, FIRST),
-        (RH_OWNER, endorsements, FIRST),
-        (RH_PLATFORM, platforms, LAST),
-    )
+    by_owner = (RH_OWNER, owners, FIRST), (RH_OWNER, endorsements, FIRST)
+    fails("A handle that is taken: NV_DEFINED", *by_owner, (RH_PLATFORM, platforms, LAST))
     tpm.remove("The owner takes the last one away", RH_OWNER, OWNERS_LAST)
     tpm("It is gone: HANDLE/h1").public(OWNERS_LAST)
     kept_handles("Three are left", FIRST, PLATFORMS_FIRST, LAST)
     tpm.remove("The platform takes away what is the owner's", RH_PLATFORM, FIRST)
-    tpm.remove("And its own", RH_PLATFORM, PLATFORMS_FIRST)
-    tpm.remove("And its own", RH_PLATFORM, LAST)
+    for handle in (PLATFORMS_FIRST, LAST):
+        tpm.remove("And its own", RH_PLATFORM, handle)
     kept_handles("None")
     fails("None is there: HANDLE/h2", (RH_PLATFORM, LAST, LAST), (RH_OWNER, FIRST, FIRST))
 
 
-tpm.startup()
 borders(*in_order())
 tpm.power_cycle()
 
 tpm.chapter("Sixteen persistent objects, and no more.")
-transient = primary("An object of the owner", RH_OWNER)
-platforms = primary("And one of the platform", RH_PLATFORM)
+transient = tpm.owned("An object of the owner", storage_key())
+platforms = tpm.create_primary("And one of the platform", RH_PLATFORM, storage_key())
 handles = [FIRST + 3 * it for it in range(MOST - 1)] + [LAST]
 for handle in handles[:-1]:
-    words = "Fifteen of the owner" if handle == FIRST else ""
-    tpm.keep(words, RH_OWNER, transient, handle)
+    tpm.keep("Fifteen of the owner" if handle == FIRST else "", RH_OWNER, transient, handle)
 tpm.keep("One of the platform", RH_PLATFORM, platforms, LAST)
 kept_handles("They are there, and the transient ones beside them", *handles)
 case = "One more, of either: NV_SPACE"
@@ -175,48 +151,40 @@ fails("At a handle that is taken: NV_DEFINED", (RH_OWNER, transient, FIRST))
 fails("In the wrong range: RANGE/p1", (RH_OWNER, transient, LAST))
 tpm.chapter("They take no place of a transient object, and no NV index takes one of theirs.")
 for count in range(6):
-    primary("Six more transient ones" if not count else "", RH_OWNER)
+    tpm.create_primary("Six more transient ones" if not count else "", RH_OWNER, storage_key())
 tpm("The ninth: OBJECT_MEMORY").primary(RH_OWNER, storage_key())
 tpm.define("An NV index", area(size=2048))
 tpm("It is undefined").undefining(0x0100_0001)
 tpm.remove("One is taken away", RH_OWNER, handles[5])
 tpm.keep("There is a place for another", RH_OWNER, transient, OTHER)
-kept_handles("They ascend", *sorted({*handles, OTHER} - {handles[5]}))
+handles = sorted({*handles, OTHER} - {handles[5]})
+kept_handles("They ascend", *handles)
 tpm.power_cycle()
-kept_handles("A power cycle later", *sorted({*handles, OTHER} - {handles[5]}))
-for handle in sorted({*handles, OTHER} - {handles[5]}):
-    words = "The platform takes all away" if handle == FIRST else ""
-    tpm.remove(words, RH_PLATFORM, handle)
+kept_handles("A power cycle later", *handles)
+for handle in handles:
+    tpm.remove("The platform takes all away" if handle == FIRST else "", RH_PLATFORM, handle)
 kept_handles("None")
 
-
 tpm.chapter("A persistent object is what the transient one was.")
-root = primary("A storage key", RH_OWNER)
+root = tpm.owned("A storage key", storage_key())
 public, qualified = tpm.read_public("TPM2_ReadPublic of it", root)
 tpm.keep("It stays as 81000000", RH_OWNER, root, FIRST)
 assert tpm.read_public("The same public area and names", FIRST) == (public, qualified)
 tpm.flush_objects("The transient one is flushed", root)
 tpm("The persistent one cannot be: VALUE/p1").flush(FIRST)
-secret = tpm.create(
-    "TPM2_Create under the persistent one",
-    FIRST,
-    sealed(attributes=HERE | ObjectAttribute.USER_WITH_AUTH),
-    user_auth=b"pin",
-    data=b"a secret",
-)
-handle = tpm.load("TPM2_Load", FIRST, secret)
+said = tpm("TPM2_Create under the persistent one")
+handle = said.below(FIRST, sealed(attributes=PROTECTED), user_auth=b"pin", data=b"a secret")
 below = tpm.read_public("Its qualified name is of the parent's", handle)
 tpm.keep("It stays as 81000001", RH_OWNER, handle, OTHER)
 assert tpm.read_public("It is the same there", OTHER) == below
 said = tpm("An HMAC key of the endorsement hierarchy")
 mac_key = said.create_primary(RH_ENDORSEMENT, hmac_key(), user_auth=b"mac", data=b"a key")
 session = tpm.start("A session that is bound to it", mac_key)
-tpm.keep("It stays as 81000002", RH_OWNER, mac_key, 0x8100_0002)
+tpm.keep("It stays as 81000002", RH_OWNER, mac_key, THIRD)
 first = tpm("TPM2_HMAC by it").hmac(mac_key, b"data", SHA256, session)
 tpm.flush_objects("The transient one is flushed", mac_key)
 said = tpm("The session is bound to the persistent one too, as both have one Name")
-second = said.hmac(0x8100_0002, b"data", SHA256, session)
-assert first == second
+assert said.hmac(THIRD, b"data", SHA256, session) == first
 
 tpm.chapter("After a power cycle.")
 tpm.power()
@@ -224,48 +192,36 @@ tpm("Before TPM2_Startup: INITIALIZE").public(OTHER)
 tpm.startup()
 tpm.unseal("TPM2_Unseal by the password", OTHER, b"a secret", b"pin")
 session = tpm.start("A session that is bound to it, with AES", OTHER, aes=True)
-tpm.unseal("TPM2_Unseal by it, encrypted", OTHER, b"a secret", Use(session, ENCRYPTING))
+tpm.unseal("TPM2_Unseal by it, encrypted", OTHER, b"a secret", session.encrypting)
 tpm.fails("A wrong hmac: AUTH_FAIL/s1", wrong(tpm.unsealing(OTHER, session)))
 tpm("A wrong password: AUTH_FAIL/s1").unsealing(OTHER, b"nip")
 policy = tpm.policy("A policy session")
 tpm.accepted("TPM2_PolicySecret of it", tpm.secret(policy, b"pin", of=OTHER))
-made = tpm.create("TPM2_Create under 81000000", FIRST, sealed(), data=b"another")
-handle = tpm.load("TPM2_Load", FIRST, made)
+handle = tpm.below("TPM2_Create under 81000000", FIRST, sealed(), data=b"another")
 tpm.unseal("TPM2_Unseal", handle, b"another")
 tpm("A third wrong password locks: AUTH_FAIL/s1").unsealing(OTHER, b"nip")
 tpm("The right one: LOCKOUT").unsealing(OTHER, b"pin")
 tpm.unlocks()
 
-# Through TPM2_Shutdown.
-tpm("TPM2_Shutdown(STATE)").shutting_down(STATE)
-tpm.power()
-tpm.start_up("TPM2_Startup(STATE)", STATE)
-
+tpm.saves_and_resumes()
 tpm.unseal("It is there", OTHER, b"a secret", b"pin")
 tpm("What was loaded is not: REFERENCE_H0").public(handle)
 
-
 tpm.chapter("TPM2_EvictControl by sessions.")
-handle = primary("An object of the owner", RH_OWNER)
+handle = tpm.owned("An object of the owner", storage_key())
 wanted = 0x8100_0003
 tpm('ownerAuth is "owner"').change_auth(RH_OWNER, b"owner", b"")
 session = tpm.start("An HMAC session, bound to TPM_RH_OWNER", RH_OWNER, aes=True)
-evicting = tpm.evicting(RH_OWNER, handle, wanted, session)
-tpm.fails("A wrong hmac: BAD_AUTH/s1", wrong(evicting))
+tpm.fails("A wrong hmac: BAD_AUTH/s1", wrong(tpm.evicting(RH_OWNER, handle, wanted, session)))
 tpm.keep("The right one", RH_OWNER, handle, wanted, session)
 tpm.remove("It takes it away again", RH_OWNER, wanted, session)
-tpm.fails(
-    "Nothing can be encrypted or decrypted: ATTRIBUTES/s1",
-    *(
-        tpm.evicting(RH_OWNER, handle, wanted, session).but_entry(1, attributes=it)
-        for it in (frames.DECRYPT, frames.ENCRYPT)
-    ),
-)
+prepared = (tpm.evicting(RH_OWNER, handle, wanted, session) for _ in range(2))
+bent = (it.but_entry(1, attributes=bit) for it, bit in zip(prepared, (DECRYPT, ENCRYPT)))
+tpm.fails("Nothing can be encrypted or decrypted: ATTRIBUTES/s1", *bent)
 policy = tpm.policy("A policy session")
-said = tpm("No policy authorizes a hierarchy: AUTH_UNAVAILABLE")
-said.evicting(RH_OWNER, handle, wanted, policy)
+tpm("No policy authorizes a hierarchy: AUTH_UNAVAILABLE").evicting(RH_OWNER, handle, wanted, policy)
 tpm("ownerAuth is empty").change_auth(RH_OWNER, b"", b"owner")
-for kept in (FIRST, OTHER, 0x8100_0002):
+for kept in (FIRST, OTHER, THIRD):
     tpm.remove("All are taken away" if kept == FIRST else "", RH_OWNER, kept)
 tpm("They are gone: HANDLE/h1").public(FIRST)
 kept_handles("None")

@@ -8,29 +8,26 @@ from tests.common.vocabulary import CC, command, frames, hmac_key, number, RH_NU
 from tests.common.vocabulary import storage_key, Teller
 
 FIRST, PLACES = 0x8000_0000, 8
+NEEDLESS = "The storage key, which nothing under it needs any more"
 
 tpm = Teller(__name__, __doc__)
 
 
-def flush(handle):
-    return command(CC.FlushContext, number(handle, 4))
-
-
-def place_of(handle):
-    return handle - FIRST
+def is_at(place, handle):
+    assert handle == FIRST + place
 
 
 ABSENT = (0x8000_0000, 0x8000_0007, 0x8000_0008, 0x8000_0010, 0x8001_0000, 0x80FF_FFFF)
-tpm.raw("While there is no object: HANDLE/p1", *map(flush, ABSENT))
-tpm.raw("A persistent object is not flushed: VALUE/p1", *map(flush, (0x8100_0000, 0x81FF_FFFF)))
+tpm.says("While there is no object: HANDLE/p1", *map(tpm.flush, ABSENT))
+tpm.says(
+    "A persistent object is not flushed: VALUE/p1", *map(tpm.flush, (0x8100_0000, 0x81FF_FFFF))
+)
 parent = tpm.create_primary("A storage key, 80000000", RH_OWNER, storage_key())
 made = tpm.create("TPM2_Create of sealed data", parent, sealed(), data=b"secret")
 for place in range(1, PLACES):
-    handle = tpm.load("" if place > 1 else "It is loaded seven times", parent, made)
-    assert place_of(handle) == place
-full = tpm.primary(RH_OWNER, storage_key())
-tpm.says("A ninth object: OBJECT_MEMORY", full)
-tpm.raw("Numbers past the eight: HANDLE/p1", *map(flush, ABSENT[2:]))
+    is_at(place, tpm.load("" if place > 1 else "It is loaded seven times", parent, made))
+tpm("A ninth object: OBJECT_MEMORY").primary(RH_OWNER, storage_key())
+tpm.says("Numbers past the eight: HANDLE/p1", *map(tpm.flush, ABSENT[2:]))
 said = tpm("With sessions (tag 8002): AUTH_CONTEXT")
 said.raw(command(CC.FlushContext, frames.area(frames.entry()) + number(parent, 4), frames.SESSIONS))
 tpm.raw("Three bytes of a handle: INSUFFICIENT/p1", command(CC.FlushContext, b"\x80\0\0"))
@@ -39,26 +36,23 @@ tpm.raw("A byte behind it: SIZE", command(CC.FlushContext, number(parent, 4) + b
 tpm.chapter("In any order. The lowest place that is free is taken first.")
 for places in ((7,), (0,), (3, 1), (2, 5, 4), (6, 0, 7)):
     for place in places:
-        if place == 0:
-            tpm.flush_objects("The storage key, which nothing under it needs any more", FIRST)
-        else:
-            tpm.flush_objects(f"8000000{place}", FIRST + place)
-        tpm.raw("Once more: HANDLE/p1", flush(FIRST + place))
+        words = f"8000000{place}" if place else NEEDLESS
+        tpm.flush_objects(words, FIRST + place)
+        tpm("Once more: HANDLE/p1").flush(FIRST + place)
         tpm("It is no more: REFERENCE_H0").public(FIRST + place)
     for place in sorted(places):
         said = tpm(f"TPM2_CreatePrimary: it is 8000000{place}")
-        handle = said.create_primary(RH_NULL, hmac_key(), data=b"key")
-        assert place_of(handle) == place
+        is_at(place, said.create_primary(RH_NULL, hmac_key(), data=b"key"))
     tpm("And no more: OBJECT_MEMORY").primary(RH_NULL, hmac_key(), data=b"key")
 
 tpm.chapter("All of them.")
 tpm.flush_objects("From the last to the first", *range(FIRST + 7, FIRST - 1, -1))
-tpm.raw("There is none: HANDLE/p1", *map(flush, range(FIRST, FIRST + PLACES)))
+tpm.says("There is none: HANDLE/p1", *map(tpm.flush, range(FIRST, FIRST + PLACES)))
 tpm.chapter("A refused command leaves an object where it is, and a place free.")
 parent = tpm.create_primary("A storage key, 80000000", RH_OWNER, storage_key())
 tpm("TPM2_CreatePrimary by a wrong password: BAD_AUTH/s1").primary(RH_OWNER, sealed(), b"x")
 said = tpm("TPM2_Load with another private area: INTEGRITY/p1")
 said.loading(parent, replace(made, private=bytes(60)))
 tpm("80000001 is not there: REFERENCE_H0").public(FIRST + 1)
-assert place_of(tpm.load("TPM2_Load takes it", parent, made)) == 1
+is_at(1, tpm.load("TPM2_Load takes it", parent, made))
 tpm.unseal("TPM2_Unseal", FIRST + 1, b"secret")

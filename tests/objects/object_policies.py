@@ -2,29 +2,25 @@
 What it was told is held against the command and the device, and it counts for one command.
 """
 
-from tests.common.vocabulary import ALG_NULL, AUTH_VALUE, CC, command_hash, CONTINUE_SESSION
-from tests.common.vocabulary import DECRYPT, digest, ENCRYPT, HERE, hmac_key, name_of
-from tests.common.vocabulary import ObjectAttribute, PASSWORD, policy, RH_ENDORSEMENT, RH_OWNER
-from tests.common.vocabulary import sealed, selection, SHA1, SHA256, storage_key, Teller, Use, zeros
+from tests.common.steps import AFTER_AUTH_VALUE, in_plain, Steps, with_value
+from tests.common.vocabulary import ALG_NULL, CC, CONTINUE_SESSION, DECRYPT, digest, ENCRYPT, HASHES
+from tests.common.vocabulary import HERE, hmac_key, name_of, ObjectAttribute, others_in, policy
+from tests.common.vocabulary import RH_ENDORSEMENT, RH_OWNER, sealed, selection, SHA1, SHA256
+from tests.common.vocabulary import storage_key, Use, zeros
 
 NO_DA, USER = ObjectAttribute.NO_DA, ObjectAttribute.USER_WITH_AUTH
 PCR_16 = [(SHA256, [16])]
 SECRET, PIN = b"secret", b"pin"
+ENCRYPTING = CONTINUE_SESSION | ENCRYPT
 
-tpm = Teller(__name__, __doc__, tries=True)
-parent = tpm.create_primary("A storage key", RH_OWNER, storage_key())
+tpm = Steps(__name__, __doc__, tries=True)
+parent = tpm.owned("A storage key", storage_key())
 
 
 def sealed_by(what, auth_policy, algorithm=SHA256, attributes=HERE | NO_DA, user_auth=PIN):
     """An object that this policy authorizes."""
-    made = tpm.create(
-        f"{what}: TPM2_Create",
-        parent,
-        sealed(algorithm, attributes, auth_policy=auth_policy),
-        user_auth=user_auth,
-        data=SECRET,
-    )
-    return tpm.load("TPM2_Load", parent, made)
+    template = sealed(algorithm, attributes, auth_policy=auth_policy)
+    return tpm.below(f"{what}: TPM2_Create", parent, template, user_auth=user_auth, data=SECRET)
 
 
 def start_again(session):
@@ -32,31 +28,19 @@ def start_again(session):
     tpm.digest_is("TPM2_PolicyGetDigest: zeros", session, zeros(session))
 
 
-AFTER_AUTH_VALUE = {
-    algorithm: policy.after_auth_value(algorithm, bytes(size))
-    for algorithm, size in ((SHA1, 20), (SHA256, 32))
-}
-
-# A demand for the authorization value.
-
-for algorithm, hash_name in ((SHA256, "SHA-256"), (SHA1, "SHA-1")):
-    tpm.chapter(
-        f"TPM2_PolicyPassword and TPM2_PolicyAuthValue, which make one digest, of {hash_name}."
-    )
-    handle = sealed_by('Sealed data whose value is "pin"', AFTER_AUTH_VALUE[algorithm], algorithm)
+def demands(algorithm, handle):
+    """Of an object whose value is "pin", by a session that is bound to nothing."""
     session = tpm.policy("A policy session", algorithm=algorithm)
     tpm("Nothing is asserted: POLICY_FAIL/s1").unsealing(handle, session)
 
     tpm.chapter("TPM2_PolicyPassword: the hmac is the value itself, and is answered empty.")
-    tpm("TPM2_PolicyPassword").password_told(session)
-    by_password = Use(session, demand=PASSWORD)
+    by_password = tpm.by_password(session)
     right = tpm.unsealing(handle, by_password)
     said = tpm("An empty hmac, as the value is not empty: BAD_AUTH/s1")
     said.refused(right.but_entry(1, hmac=b""))
     said = tpm("Another value: BAD_AUTH/s1")
     said.refused(*(right.but_entry(1, hmac=it) for it in (b"pi", b"pin1", b"\0pin", bytes(32))))
-    said = tpm("An hmac with the value in its key: BAD_AUTH/s1")
-    said.unsealing(handle, Use(session, demand=AUTH_VALUE))
+    tpm("An hmac with the value in its key: BAD_AUTH/s1").unsealing(handle, with_value(session))
     tpm.unseal("The value, in plain, with continueSession", handle, SECRET, by_password)
     start_again(session)
     tpm("Once more: POLICY_FAIL/s1").unsealing(handle, by_password)
@@ -65,101 +49,104 @@ for algorithm, hash_name in ((SHA256, "SHA-256"), (SHA1, "SHA-1")):
     tpm.accepted("The value, and zeros behind it", padded)
 
     tpm.chapter("TPM2_PolicyAuthValue: the value is in the key of the hmac and of the answer's.")
-    tpm("TPM2_PolicyAuthValue").auth_value_told(session)
-    by_value = Use(session, demand=AUTH_VALUE)
+    by_value = tpm.by_value(session)
     tpm("The value in plain: BAD_AUTH/s1").unsealing(handle, by_password)
-    tpm("An empty hmac: BAD_AUTH/s1").unsealing(handle, Use(session))
+    tpm("An empty hmac: BAD_AUTH/s1").unsealing(handle, session)
     tpm("One of an empty key: BAD_AUTH/s1").unsealing(handle, Use(session, shows_empty_key=True))
     tpm.unseal("With continueSession", handle, SECRET, by_value)
     start_again(session)
     tpm("Once more: POLICY_FAIL/s1").unsealing(handle, by_value)
 
+    later_counts(algorithm, session, by_value, by_password)
+
+    tpm.chapter("Without continueSession the session ends.")
+    tpm.unseal("By the password", handle, SECRET, tpm.by_password(session, 0))
+    tpm("It is no more: REFERENCE_H0").get_digest(session)
+
+
+def later_counts(algorithm, session, by_value, by_password):
     tpm.chapter("Of the two the later one counts.")
-    VALUE, PLAIN = "TPM2_PolicyAuthValue", "TPM2_PolicyPassword"
-    for first, last, use, names in (
-        (tpm.auth_value_told, tpm.password_told, by_password, (VALUE, PLAIN)),
-        (tpm.password_told, tpm.auth_value_told, by_value, (PLAIN, VALUE)),
+    twice = policy.after_auth_value(algorithm, AFTER_AUTH_VALUE[algorithm])
+    for first, last, use, other in (
+        (tpm.by_value, tpm.by_password, by_password, by_value),
+        (tpm.by_password, tpm.by_value, by_value, by_password),
     ):
-        twice = policy.after_auth_value(algorithm, AFTER_AUTH_VALUE[algorithm])
         double = sealed_by("An object with both in its policy", twice, algorithm)
-        tpm.comes_to(names[0], first(session))
-        tpm.comes_to(names[1], last(session))
-        other = by_value if use is by_password else by_password
+        first(session)
+        last(session)
         tpm("What the first asks for: BAD_AUTH/s1").unsealing(double, other)
         tpm.unseal("What the second asks for", double, SECRET, use)
         tpm.flush_objects("The object is flushed", double)
 
-    tpm.chapter("Without continueSession the session ends.")
-    tpm("TPM2_PolicyPassword").password_told(session)
-    tpm.unseal("By the password", handle, SECRET, Use(session, 0, demand=PASSWORD))
-    tpm("It is no more: REFERENCE_H0").get_digest(session)
 
+def demands_of_bound(algorithm, handle):
     tpm.chapter("A session that is bound to the object.")
     session = tpm.policy("The object is bind", bind=handle, algorithm=algorithm, aes=True)
     tpm("TPM2_PolicyAuthValue: it is in the key, bound or not").auth_value_told(session)
-    tpm("An hmac without the value in its key: BAD_AUTH/s1").unsealing(handle, Use(session))
-    tpm.unseal("With it", handle, SECRET, Use(session, demand=AUTH_VALUE))
+    tpm("An hmac without the value in its key: BAD_AUTH/s1").unsealing(handle, session)
+    tpm.unseal("With it", handle, SECRET, with_value(session))
     tpm.chapter("As a further entry it authorizes nothing, and has an hmac whatever is asked for.")
     tpm("TPM2_PolicyPassword").password_told(session)
     beside = tpm.random(2, session)
     tpm.refused("The password there: BAD_AUTH/s1", beside.but_entry(1, hmac=PIN))
     tpm.accepted("The hmac, and it keeps what it was told", beside)
     tpm.digest_is("TPM2_PolicyGetDigest", session, AFTER_AUTH_VALUE[algorithm])
-    hidden = Use(session, CONTINUE_SESSION | ENCRYPT, demand=PASSWORD)
+    hidden = in_plain(session, ENCRYPTING)
     tpm.unseal("TPM2_Unseal by the password, with outData encrypted", handle, SECRET, hidden)
-    tpm("TPM2_PolicyAuthValue").auth_value_told(session)
-    hidden = Use(session, CONTINUE_SESSION | ENCRYPT, demand=AUTH_VALUE)
+    hidden = tpm.by_value(session, ENCRYPTING)
     tpm.unseal("By the hmac, with outData encrypted", handle, SECRET, hidden)
-    tpm("TPM2_PolicyPassword").password_told(session)
-    tpm.unseal("By the password", handle, SECRET, Use(session, 0, demand=PASSWORD))
+    tpm.unseal("By the password", handle, SECRET, tpm.by_password(session, 0))
     tpm.flush_objects("The object is flushed", handle)
 
+
+def demands_of_no_value(algorithm):
     tpm.chapter("An object whose value is empty.")
     handle = sealed_by("Sealed data", AFTER_AUTH_VALUE[algorithm], algorithm, user_auth=b"")
     session = tpm.policy("A policy session", algorithm=algorithm)
-    for what, told in (
-        ("TPM2_PolicyPassword", tpm.password_told),
-        ("TPM2_PolicyAuthValue", tpm.auth_value_told),
-    ):
-        tpm.comes_to(what, told(session))
-        tpm.unseal("With an empty hmac, which is answered by one", handle, SECRET, Use(session))
+    for told in (tpm.by_password, tpm.by_value):
+        told(session)
+        tpm.unseal("With an empty hmac, which is answered by one", handle, SECRET, session)
     tpm("TPM2_PolicyAuthValue").auth_value_told(session)
-    shown = Use(session, shows_empty_key=True, demand=AUTH_VALUE)
+    shown = with_value(session, shows_empty_key=True)
     tpm.unseal("With the hmac of an empty key, and it is answered by one", handle, SECRET, shown)
-    tpm("TPM2_PolicyPassword").password_told(session)
+    by_password = tpm.by_password(session)
     tpm("That, where the password is asked for: BAD_AUTH/s1").unsealing(handle, shown)
-    by_password = tpm.unsealing(handle, Use(session, demand=PASSWORD))
-    tpm.accepted("Three zeros, as the password", by_password.but_entry(1, hmac=bytes(3)))
+    three_zeros = tpm.unsealing(handle, by_password).but_entry(1, hmac=bytes(3))
+    tpm.accepted("Three zeros, as the password", three_zeros)
     tpm("The session is flushed").flush(session)
     tpm.flush_objects("The object is flushed", handle)
 
-# Without a demand.
+
+for algorithm, hash_name in reversed(HASHES):
+    tpm.chapter(
+        f"TPM2_PolicyPassword and TPM2_PolicyAuthValue, which make one digest, of {hash_name}."
+    )
+    handle = sealed_by('Sealed data whose value is "pin"', AFTER_AUTH_VALUE[algorithm], algorithm)
+    demands(algorithm, handle)
+    demands_of_bound(algorithm, handle)
+    demands_of_no_value(algorithm)
 
 tpm.chapter("A policy that asks for no value: the key of the hmac is the session's alone.")
 AFTER_CODE = policy.after_command_code(SHA256, bytes(32), CC.Unseal)
 handle = sealed_by("An object for TPM2_Unseal alone", AFTER_CODE)
 session = tpm.policy("A session that is bound to nothing")
 tpm("TPM2_PolicyCommandCode").command_code(session, CC.Unseal)
-tpm("By the value: BAD_AUTH/s1").unsealing(handle, Use(session, demand=PASSWORD))
-said = tpm("By an hmac with the value in its key: BAD_AUTH/s1")
-said.unsealing(handle, Use(session, demand=AUTH_VALUE))
+tpm("By the value: BAD_AUTH/s1").unsealing(handle, in_plain(session))
+tpm("By an hmac with the value in its key: BAD_AUTH/s1").unsealing(handle, with_value(session))
 tpm.unseal("By an empty hmac, as the key is empty", handle, SECRET, session)
 tpm("TPM2_PolicyCommandCode").command_code(session, CC.Unseal)
 tpm.unseal("By one of the empty key", handle, SECRET, Use(session, shows_empty_key=True))
-bound = tpm.policy(
-    "A session that is bound to TPM_RH_ENDORSEMENT, with AES", bind=RH_ENDORSEMENT, aes=True
-)
+case = "A session that is bound to TPM_RH_ENDORSEMENT, with AES"
+bound = tpm.policy(case, bind=RH_ENDORSEMENT, aes=True)
 tpm("TPM2_PolicyCommandCode").command_code(bound, CC.Unseal)
 tpm.refused("An empty hmac: BAD_AUTH/s1", tpm.unsealing(handle, bound).but_entry(1, hmac=b""))
 said = tpm("The hmac by the session's key; outData is encrypted, with the value in that key")
-said.unseal(handle, SECRET, Use(bound, CONTINUE_SESSION | ENCRYPT))
+said.unseal(handle, SECRET, bound.encrypting)
 tpm("TPM2_PolicyCommandCode").command_code(bound, CC.Unseal)
 tpm.unseal("Beside another session", handle, SECRET, bound, session)
 tpm("TPM2_PolicyCommandCode").command_code(bound, CC.Unseal)
 tpm.unseal("The other authorizes nothing, and keeps what it was told", handle, SECRET, bound)
 tpm.flush_objects("The object is flushed", handle)
-
-# The conditions.
 
 tpm.chapter("Each condition of a use in its order: all of them fail, and one is put right.")
 
@@ -172,29 +159,24 @@ def tell_all(session, cp_hash, code=CC.Unseal, localities=1):
     tpm("TPM2_PolicyLocality").locality(session, localities)
 
 
-def told_all(algorithm, values_digest, code=CC.Unseal, localities=1):
-    told = bytes(20 if algorithm == SHA1 else 32)
-    told = policy.after_pcr(algorithm, told, selection(*PCR_16), values_digest)
-    told = policy.after_command_code(algorithm, told, code)
-    told = policy.after_secret(algorithm, told, name_of(RH_ENDORSEMENT), b"")
-    return policy.after_locality(algorithm, told, localities)
+def tell_anew(session, *told):
+    tpm.restarts(session)
+    tell_all(session, *told)
 
 
 PCR_16_DIGEST = digest(SHA256, bytes(32))
-right = told_all(SHA256, PCR_16_DIGEST)
+AFTER_PCR_16 = policy.after_pcr(SHA256, bytes(32), selection(*PCR_16), PCR_16_DIGEST)
+right = policy.after_command_code(SHA256, AFTER_PCR_16, CC.Unseal)
+right = policy.after_secret(SHA256, right, name_of(RH_ENDORSEMENT), b"")
+right = policy.after_locality(SHA256, right, 1)
 handle = sealed_by("An object with a policy of all of it", right)
-said = tpm("An object that has no policy")
-without = said.create_primary(RH_OWNER, sealed(), user_auth=PIN, data=SECRET)
-wrong_hash = bytes([7]) * 32
-
-
-def cp_hash_of(handle, algorithm=SHA256):
-    return command_hash(algorithm, CC.Unseal, [tpm.names[handle]], b"")
+without = tpm.owned("An object that has no policy", sealed(), user_auth=PIN, data=SECRET)
+right_hash, wrong_hash = tpm.cp_hash(tpm.unsealing(handle)), bytes([7]) * 32
 
 
 def wrong(handle, session):
     """With an hmac that is wrong, too, which is compared last."""
-    return tpm.unsealing(handle, Use(session)).but_entry(1, hmac=b"wrong")
+    return others_in(tpm.unsealing(handle, session), 1)
 
 
 trial = tpm.trial("A trial session")
@@ -208,35 +190,28 @@ tell_all(session, wrong_hash, CC.Load, 2)
 tpm("PCR 16 is reset").reset(b"")
 tpm.refused("An object that has no policy: AUTH_UNAVAILABLE", wrong(without, session))
 tpm.refused("The PCRs have changed: PCR_CHANGED", wrong(handle, session))
-tpm.restarts(session)
-tell_all(session, wrong_hash, CC.Load, 2)
+tell_anew(session, wrong_hash, CC.Load, 2)
 tpm.refused("Another command code: POLICY_CC/s1", wrong(handle, session))
-tpm.restarts(session)
-tell_all(session, wrong_hash, CC.Unseal, 2)
+tell_anew(session, wrong_hash, CC.Unseal, 2)
 tpm.refused("Another cpHash: POLICY_FAIL/s1", wrong(handle, session))
-tpm.restarts(session)
-tell_all(session, cp_hash_of(handle), CC.Unseal, 2)
+tell_anew(session, right_hash, CC.Unseal, 2)
 tpm.refused("Another locality: LOCALITY", wrong(handle, session))
 tpm.locality_is(1)
 tpm.refused("From that locality: another digest: POLICY_FAIL/s1", wrong(handle, session))
 tpm.locality_is(0)
-tpm.restarts(session)
-tell_all(session, cp_hash_of(handle))
+tell_anew(session, right_hash)
 tpm.refused("A wrong hmac: BAD_AUTH/s1", wrong(handle, session))
 tpm.unseal("With nothing wrong", handle, SECRET, session)
 
 tpm.chapter("Each of them alone.")
-tell_all(session, cp_hash_of(handle))
+tell_all(session, right_hash)
 tpm("PCR 16 is reset").reset(b"")
 tpm("The PCRs have changed: PCR_CHANGED").unsealing(handle, session)
-tpm.restarts(session)
-tell_all(session, wrong_hash)
+tell_anew(session, wrong_hash)
 tpm("The cpHash is of another command: POLICY_FAIL/s1").unsealing(handle, session)
-tpm.restarts(session)
-tell_all(session, cp_hash_of(without))
+tell_anew(session, tpm.cp_hash(tpm.unsealing(without)))
 tpm("Of another object: POLICY_FAIL/s1").unsealing(handle, session)
-tpm.restarts(session)
-tell_all(session, cp_hash_of(handle))
+tell_anew(session, right_hash)
 for locality in (1, 2, 3, 4):
     tpm.locality_is(locality)
     tpm("From another locality: LOCALITY").unsealing(handle, session)
@@ -244,7 +219,7 @@ tpm.locality_is(0)
 tpm.unseal("From locality 0", handle, SECRET, session)
 tpm("The same assertions in another order: first the code").command_code(session, CC.Unseal)
 tpm("Then the PCRs").pcrs(session, PCR_16)
-tpm("TPM2_PolicySecret").secret(session, cp_hash=cp_hash_of(handle))
+tpm("TPM2_PolicySecret").secret(session, cp_hash=right_hash)
 tpm("TPM2_PolicyLocality").locality(session, 1)
 tpm("It is another digest: POLICY_FAIL/s1").unsealing(handle, session)
 
@@ -253,21 +228,19 @@ sha1 = tpm.policy("A session with SHA-1", algorithm=SHA1)
 tpm("TPM2_PolicyPassword").password_told(sha1)
 thirty_two = sealed_by("An object with nameAlg SHA-256", AFTER_AUTH_VALUE[SHA256])
 twenty = sealed_by("One with SHA-1", AFTER_AUTH_VALUE[SHA1], SHA1)
-tpm("The first: POLICY_FAIL/s1").unsealing(thirty_two, Use(sha1, demand=PASSWORD))
-tpm.unseal("The second", twenty, SECRET, Use(sha1, demand=PASSWORD))
+tpm("The first: POLICY_FAIL/s1").unsealing(thirty_two, in_plain(sha1))
+tpm.unseal("The second", twenty, SECRET, in_plain(sha1))
 tpm.restarts(session)
 tpm("TPM2_PolicyPassword in the session with SHA-256").password_told(session)
-tpm("The second: POLICY_FAIL/s1").unsealing(twenty, Use(session, demand=PASSWORD))
-tpm.unseal("The first", thirty_two, SECRET, Use(session, demand=PASSWORD))
+tpm("The second: POLICY_FAIL/s1").unsealing(twenty, in_plain(session))
+tpm.unseal("The first", thirty_two, SECRET, in_plain(session))
 tpm.flush_objects("All are flushed", handle, without, thirty_two, twenty)
 tpm("A session, too").flush(sha1)
 
 tpm.chapter("TPM2_PolicyPCR, a change, another assertion, and then the use.")
-after = policy.after_auth_value(
-    SHA256, policy.after_pcr(SHA256, bytes(32), selection(*PCR_16), PCR_16_DIGEST)
-)
+after = policy.after_auth_value(SHA256, AFTER_PCR_16)
 handle = sealed_by("An object with PCR 16 and TPM2_PolicyPassword in its policy", after)
-by_password = Use(session, demand=PASSWORD)
+by_password = in_plain(session)
 tpm("TPM2_PolicyPCR").pcrs(session, PCR_16)
 tpm("PCR 16 is reset, to what it was").reset(b"")
 tpm("TPM2_PolicyPassword").password_told(session)
@@ -279,21 +252,15 @@ tpm("TPM2_PolicyPassword").password_told(session)
 tpm.unseal("Without a change between them", handle, SECRET, by_password)
 tpm.flush_objects("It is flushed", handle)
 
-# What else can be authorized, and by what.
-
 tpm.chapter("userWithAuth: what its absence and its presence mean.")
 FOR_HMAC = policy.after_command_code(SHA256, bytes(32), CC.HMAC)
 for what, attributes, by_value in (
     ("Without userWithAuth", NO_DA, False),
     ("With userWithAuth", NO_DA | USER, True),
 ):
-    handle = tpm.create_primary(
-        f"{what}: an HMAC key with a policy",
-        RH_OWNER,
-        hmac_key(attributes=HERE | attributes, auth_policy=FOR_HMAC),
-        user_auth=PIN,
-        data=b"key",
-    )
+    said = tpm(f"{what}: an HMAC key with a policy")
+    template = hmac_key(attributes=HERE | attributes, auth_policy=FOR_HMAC)
+    handle = said.owned(template, user_auth=PIN, data=b"key")
     plain = tpm.start("An HMAC session")
     bound = tpm.start("One that is bound to it", bind=handle)
     for words, use in (("By the password", PIN), ("By the one", plain), ("By the other", bound)):
@@ -306,61 +273,48 @@ for what, attributes, by_value in (
     tpm("TPM2_Unseal by this policy: POLICY_CC/s1").unsealing(handle, session)
     tpm("TPM2_HMAC by this policy").hmac(handle, b"text", ALG_NULL, session)
     tpm("Once more: POLICY_FAIL/s1").hmac(handle, b"text", ALG_NULL, session)
-    for each in (plain, bound):
-        tpm("An HMAC session is flushed").flush(each)
+    tpm.flushes("An HMAC session is flushed", plain, bound)
     tpm.flush_objects("The object is flushed", handle)
 
 tpm.chapter("A parent with a policy, by which its children are created and loaded.")
-PARENT_POLICY = policy.after_auth_value(SHA256, bytes(32))
-guarded = tpm.create_primary(
-    "A storage key with TPM2_PolicyAuthValue as its policy",
-    RH_OWNER,
-    storage_key(auth_policy=PARENT_POLICY, attributes=storage_key().attributes & ~USER),
-    user_auth=b"parent",
-)
+said = tpm("A storage key with TPM2_PolicyAuthValue as its policy")
+without_user = storage_key().attributes & ~USER
+for_policy = storage_key(attributes=without_user, auth_policy=AFTER_AUTH_VALUE[SHA256])
+guarded = said.owned(for_policy, user_auth=b"parent")
 tpm("TPM2_Create by the password: AUTH_UNAVAILABLE").child(guarded, sealed(), data=b"x")
-by_value = Use(session, demand=AUTH_VALUE)
-tpm("TPM2_PolicyAuthValue").auth_value_told(session)
-made = tpm.create("TPM2_Create by the policy", guarded, sealed(), by_value, data=SECRET)
+said = tpm("TPM2_Create by the policy")
+made = said.create(guarded, sealed(), tpm.by_value(session), data=SECRET)
 aes = tpm.policy("A policy session with AES", aes=True)
-tpm("TPM2_PolicyAuthValue").auth_value_told(aes)
-hidden = Use(aes, DECRYPT | ENCRYPT, demand=AUTH_VALUE)
+hidden = tpm.by_value(aes, DECRYPT | ENCRYPT)
 said = tpm("TPM2_Load by the policy, with inPrivate and name encrypted")
 child = said.load(guarded, made, hidden)
 tpm.unseal("TPM2_Unseal", child, SECRET)
 tpm.flush_objects("Both are flushed", child, guarded)
 
 tpm.chapter("noDA: whether a wrong entry counts as a try.")
-for what, attributes, outcome in (
-    ("With noDA", NO_DA, "BAD_AUTH/s1"),
-    ("Without noDA", 0, "AUTH_FAIL/s1"),
-):
+TRIES = (("With noDA", NO_DA, "BAD_AUTH/s1"), ("Without noDA", 0, "AUTH_FAIL/s1"))
+for what, attributes, outcome in TRIES:
     handle = sealed_by(what, AFTER_AUTH_VALUE[SHA256], attributes=HERE | USER | attributes)
     tpm(f"A wrong password: {outcome}").unsealing(handle, b"nip")
     plain = tpm.start("An HMAC session")
     said = tpm(f"A wrong hmac: {outcome}")
     said.refused(tpm.unsealing(handle, plain).but_entry(1, hmac=bytes(32)))
-    tpm("TPM2_PolicyPassword").password_told(session)
+    by_password = tpm.by_password(session)
     said = tpm(f"A wrong password, by the policy: {outcome}")
-    said.refused(tpm.unsealing(handle, Use(session, demand=PASSWORD)).but_entry(1, hmac=b"nip"))
+    said.refused(tpm.unsealing(handle, by_password).but_entry(1, hmac=b"nip"))
     tpm.restarts(session)
-    tpm("TPM2_PolicyAuthValue").auth_value_told(session)
-    tpm.refused(
-        f"A wrong hmac, by the policy: {outcome}",
-        tpm.unsealing(handle, Use(session, demand=AUTH_VALUE)).but_entry(1, hmac=bytes(32)),
-    )
-    tpm.unseal("The right one", handle, SECRET, Use(session, demand=AUTH_VALUE))
-    tpm("TPM2_PolicyPassword").password_told(session)
+    by_value = tpm.by_value(session)
+    said = tpm(f"A wrong hmac, by the policy: {outcome}")
+    said.refused(tpm.unsealing(handle, by_value).but_entry(1, hmac=bytes(32)))
+    tpm.unseal("The right one", handle, SECRET, with_value(session))
+    by_password = tpm.by_password(session)
     tpm("TPM2_PolicyCommandCode").command_code(session, CC.Unseal)
     said = tpm("What is refused before it is compared is no try: POLICY_FAIL/s1")
-    said.refused(tpm.unsealing(handle, Use(session, demand=PASSWORD)).but_entry(1, hmac=b"nip"))
+    said.refused(tpm.unsealing(handle, by_password).but_entry(1, hmac=b"nip"))
     tpm.restarts(session)
     tpm("The HMAC session is flushed").flush(plain)
     tpm.flush_objects("The object is flushed", handle)
-for what, attributes, outcome in (
-    ("With noDA", NO_DA, "BAD_AUTH/s1"),
-    ("Without noDA", 0, "AUTH_FAIL/s1"),
-):
+for what, attributes, outcome in TRIES:
     case = f"{what}, and a policy without a demand"
     handle = sealed_by(case, AFTER_CODE, attributes=HERE | attributes)
     bound = tpm.policy("A policy session that is bound to it", bind=handle)
@@ -372,28 +326,23 @@ for what, attributes, outcome in (
         tpm("TPM2_PolicyCommandCode").command_code(each, CC.Unseal)
         tpm.refused(f"{words}: {code}", tpm.unsealing(handle, each).but_entry(1, hmac=bytes(32)))
         tpm.unseal("The right one", handle, SECRET, each)
-    for each in (bound, unbound):
-        tpm("A session is flushed").flush(each)
+    tpm.flushes("A session is flushed", bound, unbound)
     tpm.flush_objects("The object is flushed", handle)
-
-# TPM2_PolicySecret by a policy.
 
 tpm.chapter("TPM2_PolicySecret of an object, authorized by the very session that it is told to.")
 handle = sealed_by("An object with TPM2_PolicyAuthValue as its policy", AFTER_AUTH_VALUE[SHA256])
-tpm("TPM2_PolicyAuthValue").auth_value_told(session)
-told = tpm.secret(session, Use(session, demand=AUTH_VALUE), of=handle)
+told = tpm.secret(session, tpm.by_value(session), of=handle)
 tpm.accepted("TPM2_PolicySecret, first asserted, and then the session starts again", told)
 start_again(session)
 other = tpm.policy("Another session")
 tpm("TPM2_PolicyAuthValue in the first").auth_value_told(session)
 said = tpm("TPM2_PolicySecret to the other, authorized by the first")
-said.secret(other, Use(session, demand=AUTH_VALUE), of=handle)
+said.secret(other, with_value(session), of=handle)
 start_again(session)
 wanted = policy.after_secret(SHA256, bytes(32), tpm.names[handle], b"")
 tpm.digest_is("The other has the Name of the object in its digest", other, wanted)
 tpm("TPM2_PolicyPassword in the first").password_told(session)
-said = tpm("It ends with the command that asserts in it")
-said.secret(session, Use(session, 0, demand=PASSWORD), of=handle)
+tpm("It ends with the command that asserts in it").secret(session, in_plain(session, 0), of=handle)
 tpm("It is no more: REFERENCE_H0").get_digest(session)
 target = sealed_by("An object with that secret as its policy", wanted)
 tpm.unseal("TPM2_Unseal of it by the other session", target, SECRET, other)
@@ -401,7 +350,6 @@ start_again(other)
 tpm("Once more: POLICY_FAIL/s1").unsealing(target, other)
 trial = tpm.trial("A trial session")
 tpm("TPM2_PolicyAuthValue in the other").auth_value_told(other)
-said = tpm("TPM2_PolicySecret to the trial session")
-said.secret(trial, Use(other, demand=AUTH_VALUE), of=handle)
+tpm("TPM2_PolicySecret to the trial session").secret(trial, with_value(other), of=handle)
 tpm.digest_is("It is the same digest", trial, wanted)
 tpm("By the trial session itself: ATTRIBUTES/s1").secret(trial, trial, of=handle)

@@ -4,22 +4,21 @@ TPM2_PolicySecret.
 """
 
 from tpmsim.standard import policy_secret, start_auth_session
-from tests.common.vocabulary import ALG_NULL, CC, command, HERE, hmac_key, number, ObjectAttribute
-from tests.common.vocabulary import policy, RH_ENDORSEMENT, RH_OWNER, sealed, SHA1, SHA256
-from tests.common.vocabulary import storage_key, Teller, Use, zeros
+from tests.common.steps import PROTECTED, Steps
+from tests.common.vocabulary import ALG_NULL, CC, command, HASHES, HERE, hmac_key, number, policy
+from tests.common.vocabulary import RH_ENDORSEMENT, RH_NULL, RH_OWNER, sealed, SHA1, SHA256
+from tests.common.vocabulary import storage_key, Use, zeros
 
-PROTECTED = HERE | ObjectAttribute.USER_WITH_AUTH
 SECRET, PIN = b"secret", b"pin"
 
-tpm = Teller(__name__, __doc__, tries=True)
-parent = tpm.create_primary("A storage key", RH_OWNER, storage_key())
+tpm = Steps(__name__, __doc__, tries=True)
+parent = tpm.owned("A storage key", storage_key())
 said = tpm('TPM2_Create of sealed data, whose value is "pin"')
 made = said.create(parent, sealed(), user_auth=PIN, data=SECRET)
 handle = tpm.load("TPM2_Load", parent, made)
-said = tpm("Other sealed data with the same value")
-twin = said.create_primary(RH_OWNER, sealed(), user_auth=PIN, data=SECRET)
+twin = tpm.owned("Other sealed data with the same value", sealed(), user_auth=PIN, data=SECRET)
 
-for algorithm, hash_name in ((SHA256, "SHA-256"), (SHA1, "SHA-1")):
+for algorithm, hash_name in reversed(HASHES):
     tpm.chapter(f"Sessions with {hash_name}.")
     unbound = tpm.start("One that is bound to nothing", algorithm=algorithm)
     bound = tpm.start("One that is bound to the object", bind=handle, algorithm=algorithm)
@@ -63,26 +62,21 @@ for algorithm, hash_name in ((SHA256, "SHA-256"), (SHA1, "SHA-1")):
     tpm("The session that is bound to it lives on").reset(bound)
     tpm("But there is no object: REFERENCE_H0").prepare(CC.Unseal, [handle], b"", bound)
     said = tpm("Another object takes the place of one")
-    stranger = said.create_primary(RH_OWNER, sealed(), user_auth=PIN, data=b"x")
+    stranger = said.owned(sealed(), user_auth=PIN, data=b"x")
     assert stranger in (handle, again)
     tpm.unseal("To that it is not bound, and the value is in the key", stranger, b"x", bound)
     handle = tpm.load("TPM2_Load of the object", parent, made)
     assert handle != stranger
     tpm.unseal("To this it is bound: its key is the session's alone", handle, SECRET, bound)
     tpm.flush_objects("The other is flushed", stranger)
-    for each in (unbound, bound, owner):
-        tpm("A session is flushed").flush(each)
+    tpm.flushes("A session is flushed", unbound, bound, owner)
 
 tpm.chapter("TPM2_StartAuthSession: bind is an object.")
-
-
-def starting(bind):
-    return tpm.prepare(CC.StartAuthSession, *start_auth_session(bytes(16), bind))
-
-
+start = tpm.prepare(CC.StartAuthSession, *start_auth_session(bytes(16)))
 said = tpm("One that is not there: REFERENCE_H1")
-said.says(*map(starting, (0x8000_0006, 0x8000_0007, 0x8000_0008, 0x80FF_FFFF)))
-tpm.says("A persistent one: HANDLE/h2", starting(0x8100_0000))
+absent = 0x8000_0006, 0x8000_0007, 0x8000_0008, 0x80FF_FFFF
+said.says(*(start.but(handles=[RH_NULL, it]) for it in absent))
+tpm.says("A persistent one: HANDLE/h2", start.but(handles=[RH_NULL, 0x8100_0000]))
 for what, public, data in (
     ("A storage key", storage_key(), b""),
     ("An HMAC key with nameAlg SHA-1", hmac_key(SHA1), b"key"),
@@ -95,8 +89,7 @@ for what, public, data in (
     tpm("TPM2_PCR_Reset by the session").reset(Use(session, 0))
 
 tpm.chapter("A wrong entry is a try where it uses the value of an object without noDA.")
-said = tpm("Such an object")
-guarded = said.create_primary(RH_OWNER, sealed(attributes=PROTECTED), user_auth=PIN, data=SECRET)
+guarded = tpm.owned("Such an object", sealed(attributes=PROTECTED), user_auth=PIN, data=SECRET)
 plain = tpm.start("A session that is bound to nothing")
 to_guarded = tpm.start("One that is bound to this object", bind=guarded)
 to_open = tpm.start("One that is bound to an object with noDA", bind=handle)
@@ -106,30 +99,19 @@ def wrong(prepared):
     return prepared.but_entry(1, hmac=bytes(32))
 
 
-for what, target, cases in (
-    (
-        "of that object",
-        guarded,
-        ((plain, "AUTH_FAIL"), (to_guarded, "AUTH_FAIL"), (to_open, "AUTH_FAIL")),
-    ),
-    (
-        "of the object with noDA",
-        handle,
-        ((plain, "BAD_AUTH"), (to_guarded, "AUTH_FAIL"), (to_open, "BAD_AUTH")),
-    ),
-    (
-        "of TPM_RH_OWNER",
-        RH_OWNER,
-        ((plain, "BAD_AUTH"), (to_guarded, "AUTH_FAIL"), (to_open, "BAD_AUTH")),
-    ),
+sessions = {
+    "bound to nothing": plain,
+    "bound to the first object": to_guarded,
+    "bound to the one with noDA": to_open,
+}
+for what, prepare, tries in (
+    ("of that object", lambda it: tpm.unsealing(guarded, it), (plain, to_guarded, to_open)),
+    ("of the object with noDA", lambda it: tpm.unsealing(handle, it), (to_guarded,)),
+    ("of TPM_RH_OWNER", lambda it: tpm.change_auth(RH_OWNER, b"", it), (to_guarded,)),
 ):
-    for (session, outcome), name in zip(
-        cases, ("bound to nothing", "bound to the first object", "bound to the one with noDA")
-    ):
-        if target == RH_OWNER:
-            prepared = tpm.change_auth(RH_OWNER, b"", session)
-        else:
-            prepared = tpm.unsealing(target, session)
+    for name, session in sessions.items():
+        outcome = "AUTH_FAIL" if session in tries else "BAD_AUTH"
+        prepared = prepare(session)
         said = tpm(f"The authorization {what}, by the session that is {name}: {outcome}/s1")
         said.refused(wrong(prepared))
         tpm.accepted("The right one", prepared)
@@ -142,11 +124,10 @@ said.refused(wrong(tpm.random(1, to_open)))
 tpm.flush_objects("The object is flushed", guarded)
 said = tpm("It is still a try of the session that was bound to it: AUTH_FAIL/s1")
 said.refused(wrong(tpm.random(1, to_guarded)))
-for each in (plain, to_guarded, to_open):
-    tpm("A session is flushed").flush(each)
+tpm.flushes("A session is flushed", plain, to_guarded, to_open)
 
 tpm.chapter("TPM2_PolicySecret with an object as authHandle.")
-for algorithm, hash_name in ((SHA256, "SHA-256"), (SHA1, "SHA-1")):
+for algorithm, hash_name in reversed(HASHES):
     said = tpm(f"An object with nameAlg {hash_name}")
     key = said.create_primary(RH_ENDORSEMENT, hmac_key(algorithm), user_auth=PIN, data=b"key")
     session = tpm.policy("A policy session")
@@ -167,23 +148,19 @@ for algorithm, hash_name in ((SHA256, "SHA-256"), (SHA1, "SHA-1")):
     told = policy.after_secret(SHA256, told, tpm.names[key], b"")
     tpm.digest_is("The digest goes on", session, told)
     said = tpm("An object with this policy: TPM2_Create")
-    made = said.create(parent, sealed(attributes=HERE, auth_policy=told), data=SECRET)
-    target = tpm.load("TPM2_Load", parent, made)
+    target = said.below(parent, sealed(attributes=HERE, auth_policy=told), data=SECRET)
     tpm.flush_objects("The key is flushed", key)
     tpm.unseal("TPM2_Unseal: what was shown counts", target, SECRET, session)
     said = tpm("The key is no more: REFERENCE_H0")
     said.prepare(CC.PolicySecret, [key, session.handle], policy_secret(), b"")
     tpm.flush_objects("The object is flushed", target)
-    for each in (session, bound):
-        tpm("A session is flushed").flush(each)
+    tpm.flushes("A session is flushed", session, bound)
 
 tpm.chapter("Three sessions at once.")
 first, second, third = (tpm.start("One with AES", bind=it, aes=True) for it in (handle, twin, 10))
 said = tpm("The first authorizes, the second encrypts")
-said.unseal(handle, SECRET, first, Use(second, 0x41), third)
-key = tpm.create_primary(
-    "An HMAC key", RH_OWNER, hmac_key(), third, Use(first, 0x21), Use(second, 0x41), data=b"k"
-)
+said.unseal(handle, SECRET, first, second.encrypting, third)
+key = tpm.owned("An HMAC key", hmac_key(), third, first.decrypting, second.encrypting, data=b"k")
 said = tpm("The second authorizes, the third decrypts, and the first encrypts")
-said.hmac(key, b"text", ALG_NULL, second, Use(third, 0x21), Use(first, 0x41))
+said.hmac(key, b"text", ALG_NULL, second, third.decrypting, first.encrypting)
 tpm.flush_objects("All are flushed", key, handle, twin, parent)

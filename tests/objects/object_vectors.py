@@ -10,7 +10,7 @@ answers, which the model gives, are compared with them.
 import hashlib
 import hmac
 
-from tpmsim.standard import aes, CC, command, number, on_handle, RH_OWNER, selection, sized
+from tpmsim.standard import aes, CC, command, entry, number, on_handle, RH_OWNER, selection, sized
 from tests.common.script import Script
 
 # The device of a script is manufactured with the bytes 00 to ff, eight pieces of 32: the seeds of
@@ -42,6 +42,18 @@ def step(name, value):
     return value
 
 
+def creation(kind, name, above, outside_info):
+    """What is answered of it: the data, with no PCRs and locality 0 (bit 0), their hash and the
+    ticket. `above` is the algorithm, the Name and the qualified name of the parent.
+    """
+    algorithm, *names = above
+    data = selection() + sized(sha256(b"")) + b"\x01" + algorithm
+    data += b"".join(map(sized, (*names, outside_info)))
+    data_hash = step(f"{kind} creationHash", sha256(data))
+    digest = step(f"{kind} ticket digest", hmac_sha256(OWNER_PROOF, b"\x80\x21", name, data_hash))
+    return sized(data) + sized(data_hash) + b"\x80\x21" + OWNER + sized(digest)
+
+
 script = Script(
     "tests/objects/object_vectors.tpm",
     "A primary storage key of TPM_RH_OWNER and sealed data under it. Each number of them is "
@@ -62,25 +74,15 @@ public = template[:-2] + sized(unique)
 name = step("primary Name", SHA256_NUMBER + sha256(public))
 qualified_name = step("primary qualified name", SHA256_NUMBER + sha256(OWNER, name))
 
-# Its creation: no PCRs, locality 0 (bit 0), and the hierarchy in place of a parent.
-creation_data = selection() + sized(sha256(b"")) + b"\x01" + bytes.fromhex("0010")
-creation_data += sized(OWNER) + sized(OWNER) + sized(b"first")
-creation_hash = step("primary creationHash", sha256(creation_data))
-proof_text = b"\x80\x21" + name + creation_hash
-digest = step("primary ticket digest", hmac_sha256(OWNER_PROOF, proof_text))
-ticket = b"\x80\x21" + OWNER + sized(digest)
+# The hierarchy stands in place of a parent.
+created = creation("primary", name, (bytes.fromhex("0010"), OWNER, OWNER), b"first")
 
-answer = script.command(
-    'TPM2_CreatePrimary of a storage key, whose value is "owner key": SUCCESS',
-    on_handle(
-        CC.CreatePrimary,
-        RH_OWNER,
-        sized(in_sensitive) + sized(template) + sized(b"first") + selection(),
-    ),
-)
+given = sized(in_sensitive) + sized(template)
+words = 'TPM2_CreatePrimary of a storage key, whose value is "owner key": SUCCESS'
+creating = on_handle(CC.CreatePrimary, RH_OWNER, given + sized(b"first") + selection())
+answer = script.command(words, creating)
 assert answer[10:14] == number(0x8000_0000, 4)
-parameters = sized(public) + sized(creation_data) + sized(creation_hash) + ticket + sized(name)
-assert answer[18:-5] == parameters
+assert answer[18:-5] == sized(public) + created + sized(name)
 answer = script.command("TPM2_ReadPublic: SUCCESS", command(CC.ReadPublic, number(0x8000_0000, 4)))
 assert answer[10:] == sized(public) + sized(name) + sized(qualified_name)
 
@@ -91,12 +93,12 @@ random = bytes(range(0x40, 0x40 + 64))
 data = b"what is sealed"
 in_sensitive = sized(b"pin\0\0") + sized(data)
 template = bytes.fromhex("0008 000B 00000452 0000 0010 0000")
-parent_seed, parent_name, parent_qualified_name = seed_value, name, qualified_name
+parent_seed, above = seed_value, (SHA256_NUMBER, name, qualified_name)
 seed_value, iv = random[:32], random[32:48]
 unique = step("sealed unique", sha256(seed_value, data))
 public = template[:-2] + sized(unique)
 name = step("sealed Name", SHA256_NUMBER + sha256(public))
-qualified_name = step("sealed qualified name", SHA256_NUMBER + sha256(parent_qualified_name, name))
+qualified_name = step("sealed qualified name", SHA256_NUMBER + sha256(above[2], name))
 sensitive = step(
     "sealed TPMT_SENSITIVE", bytes.fromhex("0008") + sized(b"pin") + sized(seed_value) + sized(data)
 )
@@ -106,36 +108,21 @@ integrity_key = step("INTEGRITY key", kdfa(parent_seed, b"INTEGRITY", b"", b"", 
 integrity = step("sealed integrity", hmac_sha256(integrity_key, protected, name))
 private = step("sealed private area", sized(integrity) + protected)
 
-creation_data = selection() + sized(sha256(b"")) + b"\x01" + SHA256_NUMBER
-creation_data += sized(parent_name) + sized(parent_qualified_name) + sized(b"")
-creation_hash = step("sealed creationHash", sha256(creation_data))
-digest = step("sealed ticket digest", hmac_sha256(OWNER_PROOF, b"\x80\x21", name, creation_hash))
-ticket = b"\x80\x21" + OWNER + sized(digest)
+created = creation("sealed", name, above, b"")
 
 
-def by_password(code, handle, parameters, password):
-    body = number(handle, 4) + number(9 + len(password), 4)
-    body += bytes.fromhex("40000009 0000 01") + sized(password) + parameters
-    return command(code, body, 0x8002)
+def by_password(code, handle, parameters, password=b"owner key"):
+    return on_handle(code, handle, parameters, [entry(hmac=password)])
 
 
 script.chapter("The random bytes are 40, 41, 42 and so on.")
 script.entropy(random)
-answer = script.command(
-    'TPM2_Create of sealed data, whose value is "pin": SUCCESS',
-    by_password(
-        CC.Create,
-        0x8000_0000,
-        sized(in_sensitive) + sized(template) + sized(b"") + selection(),
-        b"owner key",
-    ),
-)
-parameters = sized(private) + sized(public) + sized(creation_data) + sized(creation_hash) + ticket
-assert answer[14:-5] == parameters
-answer = script.command(
-    "TPM2_Load: SUCCESS",
-    by_password(CC.Load, 0x8000_0000, sized(private) + sized(public), b"owner key"),
-)
+given = sized(in_sensitive) + sized(template) + sized(b"") + selection()
+words = 'TPM2_Create of sealed data, whose value is "pin": SUCCESS'
+answer = script.command(words, by_password(CC.Create, 0x8000_0000, given))
+assert answer[14:-5] == sized(private) + sized(public) + created
+loading = by_password(CC.Load, 0x8000_0000, sized(private) + sized(public))
+answer = script.command("TPM2_Load: SUCCESS", loading)
 assert answer[10:14] == number(0x8000_0001, 4) and answer[18:-5] == sized(name)
 answer = script.command("TPM2_ReadPublic: SUCCESS", command(CC.ReadPublic, number(0x8000_0001, 4)))
 assert answer[10:] == sized(public) + sized(name) + sized(qualified_name)

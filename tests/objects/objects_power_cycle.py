@@ -3,17 +3,10 @@ owner's, the endorsement and the platform hierarchy stay, and so the same primar
 made again. The null hierarchy has a new seed and a new proof after each TPM2_Startup(CLEAR).
 """
 
-from tests.common.vocabulary import CC, frames, hmac_key, number, RH_ENDORSEMENT, RH_NULL, RH_OWNER
-from tests.common.vocabulary import RH_PLATFORM, sealed, SHA1, storage_key, Teller
+from tests.common.steps import HIERARCHIES, Steps
+from tests.common.vocabulary import hmac_key, RH_NULL, RH_OWNER, sealed, SHA1, STATE, storage_key
 
-NAMES = (
-    (RH_OWNER, "TPM_RH_OWNER"),
-    (RH_ENDORSEMENT, "TPM_RH_ENDORSEMENT"),
-    (RH_PLATFORM, "TPM_RH_PLATFORM"),
-    (RH_NULL, "TPM_RH_NULL"),
-)
-
-tpm = Teller(__name__, __doc__, starts=False)
+tpm = Steps(__name__, __doc__, starts=False)
 
 
 def start(what, seed):
@@ -25,22 +18,20 @@ def start(what, seed):
 def primaries():
     """The Name of a storage key in each hierarchy, and a child that was created under each."""
     names, children = {}, {}
-    for hierarchy, name in NAMES:
-        handle = tpm.create_primary(f"A storage key in {name}", hierarchy, storage_key())
-        names[hierarchy] = tpm.names[handle]
-        said = tpm("TPM2_Create of sealed data")
-        children[hierarchy] = said.create(handle, sealed(), data=b"secret")
-        tpm.flush_objects("It is flushed", handle)
+    for hierarchy, name in HIERARCHIES:
+        with tpm.held(f"A storage key in {name}", storage_key(), hierarchy=hierarchy) as handle:
+            names[hierarchy] = tpm.names[handle]
+            said = tpm("TPM2_Create of sealed data")
+            children[hierarchy] = said.create(handle, sealed(), data=b"secret")
     return names, children
 
 
 def tickets():
     """The tickets of a creation, by two hierarchies."""
     found = {}
-    for hierarchy, name in (NAMES[0], NAMES[3]):
-        handle = tpm.create_primary(f"A key in {name}", hierarchy, hmac_key(), data=b"key")
-        found[hierarchy] = tpm.ticket
-        tpm.flush_objects("It is flushed", handle)
+    for hierarchy, name in (HIERARCHIES[0], HIERARCHIES[3]):
+        with tpm.held(f"A key in {name}", hmac_key(), hierarchy=hierarchy, data=b"key"):
+            found[hierarchy] = tpm.ticket
     return found
 
 
@@ -49,37 +40,35 @@ names, children = primaries()
 first_tickets = tickets()
 handles = [
     tpm.create_primary(f"An object in {name}", hierarchy, hmac_key(SHA1), data=b"key")
-    for hierarchy, name in NAMES
+    for hierarchy, name in HIERARCHIES
 ]
 tpm.power()
 tpm("Before TPM2_Startup: INITIALIZE").public(handles[0])
 tpm.chapter("A refused TPM2_Startup draws nothing, and starts nothing.")
 tpm.script.entropy(bytes(range(128, 192)))
-said = tpm("TPM2_Startup(STATE), while no state is saved: VALUE/p1")
-said.raw(frames.command(CC.Startup, number(1, 2)))
+tpm("TPM2_Startup(STATE), while no state is saved: VALUE/p1").starting(STATE)
 start("The second start, with other random bytes.", bytes(range(64, 128)))
 tpm.forget(*handles)
 tpm.says("The objects are gone: REFERENCE_H0", *map(tpm.public, handles))
 tpm.says("They cannot be flushed: HANDLE/p1", *map(tpm.flush, handles))
 
 again, _ = primaries()
-for hierarchy, _ in NAMES:
+for hierarchy, _ in HIERARCHIES:
     assert (again[hierarchy] == names[hierarchy]) == (hierarchy != RH_NULL)
 second_tickets = tickets()
 assert first_tickets[RH_OWNER] == second_tickets[RH_OWNER]
 assert first_tickets[RH_NULL] != second_tickets[RH_NULL]
 
 tpm.chapter("What was created before the power cycle is loaded under the same primary object.")
-for hierarchy, name in NAMES:
-    handle = tpm.create_primary(f"The storage key in {name}", hierarchy, storage_key())
-    loading = tpm.loading(handle, children[hierarchy])
-    if hierarchy == RH_NULL:
-        tpm.says("TPM2_Load: it is another one: INTEGRITY/p1", loading)
-    else:
-        child = tpm.load("TPM2_Load", handle, children[hierarchy])
-        tpm.unseal("TPM2_Unseal", child, b"secret")
-        tpm.flush_objects("It is flushed", child)
-    tpm.flush_objects("The parent is flushed", handle)
+for hierarchy, name in HIERARCHIES:
+    said = tpm(f"The storage key in {name}")
+    with said.held(storage_key(), hierarchy=hierarchy, flushed="The parent is flushed") as handle:
+        made = children[hierarchy]
+        if hierarchy == RH_NULL:
+            tpm("TPM2_Load: it is another one: INTEGRITY/p1").loading(handle, made)
+            continue
+        with tpm.loaded("TPM2_Load", handle, made) as child:
+            tpm.unseal("TPM2_Unseal", child, b"secret")
 
 tpm.power()
 start("The third start, with the random bytes of the first.", bytes(range(64)))

@@ -10,45 +10,34 @@ from tests.common.vocabulary import sealed, selection, SHA256, storage_key, Tell
 CHOSEN = [(SHA256, [10])]
 SECRET = b"the secret"
 
-tpm = Teller(__name__, __doc__, starts=False)
+tpm = Teller(__name__, __doc__)
 
 
 def measured():
-    event = tpm.event(b"program", b"", pcr=10)
-    tpm.accepted('PCR 10 is extended by an event, "program"', event)
+    tpm.accepted('PCR 10 is extended by an event, "program"', tpm.event(b"program", b"", pcr=10))
 
 
-def extend(pcr, value=b"\1" * 32):
-    parameters = digests((SHA256, value))
-    return tpm.prepare(CC.PCR_Extend, [pcr], parameters, b"")
-
-
-def asserts(what, session):
-    tpm(what).pcrs(session, CHOSEN)
+def extend(pcr):
+    return tpm.prepare(CC.PCR_Extend, [pcr], digests((SHA256, b"\1" * 32)), b"")
 
 
 def policy_session(what="A policy session"):
     session = tpm.policy(what)
-    asserts("TPM2_PolicyPCR", session)
+    tpm("TPM2_PolicyPCR").pcrs(session, CHOSEN)
     return session
 
 
-tpm.startup()
 measured()
 trial = tpm.trial("A trial session")
-asserts("TPM2_PolicyPCR", trial)
+tpm("TPM2_PolicyPCR").pcrs(trial, CHOSEN)
 value = digest(SHA256, bytes(32) + digest(SHA256, b"program"))
 AUTH_POLICY = policy.after_pcr(SHA256, bytes(32), selection(*CHOSEN), digest(SHA256, value))
 tpm.digest_is("TPM2_PolicyGetDigest: it will be the authPolicy", trial, AUTH_POLICY)
 tpm("The trial session is flushed").flush(trial)
 parent = tpm.create_primary("A storage key", RH_OWNER, storage_key())
-made = tpm.create(
-    "TPM2_Create of sealed data with this authPolicy, and without userWithAuth",
-    parent,
-    sealed(attributes=HERE | ObjectAttribute.NO_DA, auth_policy=AUTH_POLICY),
-    data=SECRET,
-    pcrs=CHOSEN,
-)
+said = tpm("TPM2_Create of sealed data with this authPolicy, and without userWithAuth")
+template = sealed(attributes=HERE | ObjectAttribute.NO_DA, auth_policy=AUTH_POLICY)
+made = said.create(parent, template, data=SECRET, pcrs=CHOSEN)
 handle = tpm.load("TPM2_Load", parent, made)
 
 tpm.chapter("PCR 10 is as it was.")
@@ -57,22 +46,22 @@ plain = tpm.start("An HMAC session")
 tpm("By it: AUTH_UNAVAILABLE").unsealing(handle, plain)
 session = tpm.policy("A policy session")
 tpm("Before TPM2_PolicyPCR: POLICY_FAIL/s1").unsealing(handle, session)
-asserts("TPM2_PolicyPCR", session)
+tpm("TPM2_PolicyPCR").pcrs(session, CHOSEN)
 tpm.unseal("TPM2_Unseal", handle, SECRET, session)
 tpm.digest_is("What was asserted counts once: the digest is zeros", session, zeros(session))
 tpm("TPM2_Unseal again: POLICY_FAIL/s1").unsealing(handle, session)
-asserts("TPM2_PolicyPCR again", session)
+tpm("TPM2_PolicyPCR again").pcrs(session, CHOSEN)
 tpm.unseal("TPM2_Unseal", handle, SECRET, session)
 
 tpm.chapter("PCR 10 is extended between the assertion and its use.")
-asserts("TPM2_PolicyPCR", session)
+tpm("TPM2_PolicyPCR").pcrs(session, CHOSEN)
 tpm.says("TPM2_PCR_Extend of PCR 10: SUCCESS", extend(10))
 tpm("TPM2_Unseal: PCR_CHANGED").unsealing(handle, session)
 tpm("And again: PCR_CHANGED").unsealing(handle, session)
 tpm.digest_is("The policy digest is as it was", session, AUTH_POLICY)
 tpm("TPM2_PolicyPCR in this session: PCR_CHANGED").pcrs(session, CHOSEN)
 tpm.restarts(session)
-asserts("TPM2_PolicyPCR, which makes another digest", session)
+tpm("TPM2_PolicyPCR, which makes another digest").pcrs(session, CHOSEN)
 tpm("TPM2_Unseal: POLICY_FAIL/s1").unsealing(handle, session)
 other = policy_session("Nor can a new session")
 tpm("TPM2_Unseal: POLICY_FAIL/s1").unsealing(handle, other)
@@ -96,15 +85,15 @@ for what, prepared in (
     ("TPM2_PCR_Reset of PCR 16", tpm.reset(b"")),
     ("TPM2_PCR_Event into PCR 0", tpm.event(b"", b"", pcr=0)),
 ):
-    asserts("TPM2_PolicyPCR", session)
+    tpm("TPM2_PolicyPCR").pcrs(session, CHOSEN)
     tpm.accepted(what, prepared)
     tpm("TPM2_Unseal: PCR_CHANGED").unsealing(handle, session)
     tpm.restarts(session)
-    asserts("TPM2_PolicyPCR", session)
+    tpm("TPM2_PolicyPCR").pcrs(session, CHOSEN)
     tpm.unseal("TPM2_Unseal", handle, SECRET, session)
 
 tpm.chapter("What changes no PCR does not.")
-asserts("TPM2_PolicyPCR", session)
+tpm("TPM2_PolicyPCR").pcrs(session, CHOSEN)
 tpm.accepted("TPM2_PCR_Extend on TPM_RH_NULL", extend(RH_NULL))
 tpm("TPM2_PCR_Extend of PCR 10 by no digest").prepare(CC.PCR_Extend, [10], digests(), b"")
 tpm.says("Of PCR 17, which is refused here: LOCALITY", extend(17))
@@ -113,7 +102,7 @@ tpm("TPM2_GetRandom beside the session").random(2, session)
 tpm.unseal("TPM2_Unseal", handle, SECRET, session)
 
 tpm.chapter("Somebody extends PCR 10 in the moment between: the session of another caller.")
-asserts("TPM2_PolicyPCR", session)
+tpm("TPM2_PolicyPCR").pcrs(session, CHOSEN)
 own = tpm.start("A session of the other", bind=RH_OWNER)
 tpm("TPM2_PCR_Extend by it").prepare(CC.PCR_Extend, [10], digests((SHA256, bytes(32))), own)
 tpm("TPM2_Unseal: PCR_CHANGED").unsealing(handle, session)

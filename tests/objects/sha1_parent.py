@@ -4,39 +4,33 @@ The hierarchy comes from the parent.
 """
 
 from tpmsim.standard import Fields
-from tests.common.vocabulary import CC, digest, digest_bytes, hmac_key, number, ObjectAttribute
-from tests.common.vocabulary import OPEN, policy, RH_ENDORSEMENT, RH_NULL, RH_OWNER, RH_PLATFORM
-from tests.common.vocabulary import sealed, SHA1, SHA256, storage_key, STORES, Teller
+from tests.common.steps import HIERARCHIES, Steps
+from tests.common.vocabulary import CC, digest, digest_bytes, HASHES, HERE, hmac_key, NAMES, number
+from tests.common.vocabulary import ObjectAttribute, OPEN, policy, RH_ENDORSEMENT, RH_NULL, RH_OWNER
+from tests.common.vocabulary import RH_PLATFORM, sealed, SHA1, SHA256, storage_key, STORES
 
-tpm = Teller(__name__, __doc__)
-ALGORITHMS = ((SHA1, "SHA-1"), (SHA256, "SHA-256"))
+tpm = Steps(__name__, __doc__)
 
 
 def qualified(above, name, algorithm):
     return number(algorithm, 2) + digest(algorithm, above + name)
 
 
-for parent_algorithm, parent_hash in ALGORITHMS:
+for parent_algorithm, parent_hash in HASHES:
     tpm.chapter(f"A parent with nameAlg {parent_hash}.")
-    said = tpm("TPM2_CreatePrimary")
-    parent = said.create_primary(RH_OWNER, storage_key(parent_algorithm), user_auth=b"parent")
+    parent = tpm.owned("TPM2_CreatePrimary", storage_key(parent_algorithm), user_auth=b"parent")
     _, above = tpm.read_public("TPM2_ReadPublic", parent)
     assert above == qualified(number(RH_OWNER, 4), tpm.names[parent], parent_algorithm)
-    for algorithm, hash_name in ALGORITHMS:
+    for algorithm, hash_name in HASHES:
         with_policy = sealed(algorithm, auth_policy=bytes(digest_bytes(algorithm)))
         for what, public, data in (
             ("sealed data", with_policy, b"secret"),
             ("an HMAC key", hmac_key(algorithm, scheme=SHA1), b"key"),
             ("a storage key", storage_key(algorithm), b""),
         ):
-            made = tpm.create(
-                f"TPM2_Create of {what} with nameAlg {hash_name}",
-                parent,
-                public,
-                user_auth=b"child",
-                data=data,
-                pcrs=[(SHA1, [0]), (SHA256, [0])],
-            )
+            said = tpm(f"TPM2_Create of {what} with nameAlg {hash_name}")
+            pcrs = [(SHA1, [0]), (SHA256, [0])]
+            made = said.create(parent, public, user_auth=b"child", data=data, pcrs=pcrs)
             # integrity is by the parent's hash algorithm, and the first block always of 16 bytes.
             fields = Fields(made.private)
             assert len(fields.sized()) == digest_bytes(parent_algorithm)
@@ -47,41 +41,35 @@ for parent_algorithm, parent_hash in ALGORITHMS:
             assert fields.sized() == digest(algorithm, bytes(52))
             assert fields.take(3) == b"\1" + number(parent_algorithm, 2)
             assert (fields.sized(), fields.sized()) == (tpm.names[parent], above)
-            child = tpm.load("TPM2_Load", parent, made)
-            public, answered = tpm.read_public("TPM2_ReadPublic", child)
-            assert answered == qualified(above, public.name, algorithm)
-            tpm.flush_objects("It is flushed", child)
+            with tpm.loaded("TPM2_Load", parent, made) as child:
+                public, answered = tpm.read_public("TPM2_ReadPublic", child)
+                assert answered == qualified(above, public.name, algorithm)
     tpm.flush_objects("The parent is flushed", parent)
 
 tpm.chapter("Children of children: four storage keys under one another, and sealed data.")
-chain = [tpm.create_primary("The primary key", RH_OWNER, storage_key(SHA1))]
-above = [number(RH_OWNER, 4)]
-_, answered = tpm.read_public("TPM2_ReadPublic", chain[0])
-above.append(answered)
+chain = [tpm.owned("The primary key", storage_key(SHA1))]
+_, above = tpm.read_public("TPM2_ReadPublic", chain[0])
 links = []
 for place, algorithm in enumerate((SHA256, SHA1, SHA1, SHA256), 1):
-    name = "SHA-1" if algorithm == SHA1 else "SHA-256"
-    said = tpm(f"TPM2_Create of a storage key with {name}")
-    made = said.create(chain[-1], storage_key(algorithm), user_auth=b"%d" % place)
-    links.append(made)
-    chain.append(tpm.load("TPM2_Load", chain[-1], made))
+    said = tpm(f"TPM2_Create of a storage key with {NAMES[algorithm]}")
+    links.append(said.create(chain[-1], storage_key(algorithm), user_auth=b"%d" % place))
+    chain.append(tpm.load("TPM2_Load", chain[-1], links[-1]))
     public, answered = tpm.read_public("TPM2_ReadPublic", chain[-1])
-    assert answered == qualified(above[-1], public.name, algorithm)
-    above.append(answered)
+    above = qualified(above, public.name, algorithm)
+    assert answered == above
 leaf = tpm.create("TPM2_Create of sealed data", chain[-1], sealed(SHA1), data=b"deep")
 handle = tpm.load("TPM2_Load", chain[-1], leaf)
 tpm.unseal("TPM2_Unseal", handle, b"deep")
 _, answered = tpm.read_public("TPM2_ReadPublic", handle)
-assert answered == qualified(above[-1], leaf.public.name, SHA1)
+assert answered == qualified(above, leaf.public.name, SHA1)
 said = tpm("It is loaded under its own parent alone: INTEGRITY/p1")
 said.says(*(tpm.loading(it, leaf) for it in chain[:-1]))
 tpm.flush_objects("The parents are flushed", *chain)
 tpm.unseal("What was under them stays", handle, b"deep")
-_, again = tpm.read_public("And keeps its qualified name", handle)
-assert again == answered
+assert tpm.read_public("And keeps its qualified name", handle)[1] == answered
 tpm.flush_objects("It is flushed", handle)
 tpm.chapter("All of it once more, from the primary key on.")
-parent = tpm.create_primary("The primary key", RH_OWNER, storage_key(SHA1))
+parent = tpm.owned("The primary key", storage_key(SHA1))
 for made in links:
     child = tpm.load("TPM2_Load of the next one", parent, made)
     tpm.flush_objects("Its parent is flushed", parent)
@@ -91,11 +79,8 @@ tpm.unseal("TPM2_Unseal", handle, b"deep")
 tpm.flush_objects("Both are flushed", handle, parent)
 
 tpm.chapter("What is under a parent is in its hierarchy: the ticket, and the qualified name.")
-for hierarchy, name in (
-    (RH_PLATFORM, "TPM_RH_PLATFORM"),
-    (RH_ENDORSEMENT, "TPM_RH_ENDORSEMENT"),
-    (RH_NULL, "TPM_RH_NULL"),
-):
+for hierarchy in (RH_PLATFORM, RH_ENDORSEMENT, RH_NULL):
+    name = dict(HIERARCHIES)[hierarchy]
     primary = tpm.create_primary(f"A parent in {name}", hierarchy, storage_key(SHA1))
     made = tpm.create("TPM2_Create of a storage key under it", primary, storage_key())
     assert tpm.ticket[0] == hierarchy
@@ -112,30 +97,21 @@ for hierarchy, name in (
 
 tpm.chapter("fixedTPM: what is under a parent without it is without it, down to the last.")
 movable = storage_key(attributes=OPEN | STORES)
-primary = tpm.create_primary("A parent without fixedTPM", RH_OWNER, movable)
+primary = tpm.owned("A parent without fixedTPM", movable)
 inner = storage_key(SHA1, attributes=OPEN | STORES | ObjectAttribute.FIXED_PARENT)
-made = tpm.create("TPM2_Create of a storage key with fixedParent", primary, inner)
-child = tpm.load("TPM2_Load", primary, made)
+child = tpm.below("TPM2_Create of a storage key with fixedParent", primary, inner)
 said = tpm("TPM2_Create under that, with fixedTPM and fixedParent: ATTRIBUTES/p2")
 said.child(child, sealed(), data=b"leaf")
-leaf = tpm.create("With neither of them", child, sealed(attributes=OPEN), data=b"leaf")
-handle = tpm.load("TPM2_Load", child, leaf)
+handle = tpm.below("With neither of them", child, sealed(attributes=OPEN), data=b"leaf")
 tpm.unseal("TPM2_Unseal", handle, b"leaf")
 tpm.flush_objects("They are flushed", primary, child, handle)
 
 tpm.chapter("A policy of SHA-1.")
-parent = tpm.create_primary("A parent with SHA-256", RH_OWNER, storage_key())
-made = tpm.create(
-    "Sealed data with nameAlg SHA-1 and a policy: TPM2_Create",
-    parent,
-    sealed(
-        SHA1,
-        attributes=sealed().attributes & ~ObjectAttribute.USER_WITH_AUTH,
-        auth_policy=policy.after_command_code(SHA1, bytes(20), CC.Unseal),
-    ),
-    data=b"secret",
-)
-handle = tpm.load("TPM2_Load", parent, made)
+parent = tpm.owned("A parent with SHA-256", storage_key())
+for_unseal = policy.after_command_code(SHA1, bytes(20), CC.Unseal)
+template = sealed(SHA1, HERE | ObjectAttribute.NO_DA, auth_policy=for_unseal)
+said = tpm("Sealed data with nameAlg SHA-1 and a policy: TPM2_Create")
+handle = said.below(parent, template, data=b"secret")
 session = tpm.policy("A policy session with SHA-1", algorithm=SHA1)
 tpm("TPM2_PolicyCommandCode").command_code(session, CC.Unseal)
 tpm.unseal("TPM2_Unseal", handle, b"secret", session)

@@ -1,0 +1,53 @@
+"""A teller of the order of refusals: each command has many faults, of which one after the other is
+repaired, and what is answered is the first that is left.
+"""
+
+from collections.abc import Sequence
+
+from tpmsim.caller import Means
+from tpmsim.standard import area, CC, command, Entry, number, SESSIONS
+from tests.common.teller import others_in, Teller
+
+ABSENT_SESSION = Entry(0x0200_000F, b"", 1, b"")
+
+
+class OrderTeller(Teller):
+    def refuses_entries(
+        self,
+        code: CC,
+        handles: Sequence[int],
+        cut: bytes,
+        uses: Sequence[Means],
+        closed: int | None = None,
+        both: str = "BAD_AUTH/s1",
+    ) -> None:
+        """The authorization area, the entries, and their hmacs, with parameters that are `cut`. No
+        password can use the index that is `closed`. `both` is what two wrong entries come to.
+        """
+        text, last = b"".join(number(it, 4) for it in handles), len(uses)
+        if code.authorized:
+            self.raw("No sessions: AUTH_MISSING", command(code, text + cut))
+        eight_bytes = command(code, text + area(bytes(8)) + cut, SESSIONS)
+        self.raw("An area of eight bytes: AUTHSIZE", eight_bytes)
+        prepared = self.prepare(code, handles, cut, *uses)
+        words = f"A wrong first entry, and the last one is not there: REFERENCE_S{last - 1}"
+        entries = [*others_in(prepared, 1).entries[:-1], ABSENT_SESSION]
+        self.refused(words, prepared.but(entries=entries))
+        if closed:
+            words = "Both entries are wrong, on an index that no password can use: AUTH_UNAVAILABLE"
+            unavailable = self.prepare(code, [closed, *handles[1:]], cut, *uses)
+            self.refused(words, others_in(unavailable, 1, last))
+        if last > 1:
+            self.refused(f"Both entries are wrong: {both}", others_in(prepared, 1, last))
+        self.refused(f"The last one is: BAD_AUTH/s{last}", others_in(prepared, last))
+
+    def in_order(
+        self, code: CC, uses: Sequence[Means], *cases: tuple[str, str, Sequence[int], bytes]
+    ) -> None:
+        """What is left, each with its outcome, the handles and the parameters. The value of the
+        first handle authorizes it.
+        """
+        for what, outcome, handles, parameters in cases:
+            by_value = self.auth_value(handles[0])
+            prepared = self.prepare(code, handles, parameters, by_value, *uses[1:])
+            self.comes_to(f"{what}: {outcome}", prepared)
