@@ -25,10 +25,6 @@ def again():
     return zeros(session)
 
 
-def lists(words, *those):
-    tpm.says(words, *(tpm.branches(session, *it) for it in those))
-
-
 def texts(words, *those):
     tpm.texts(words, CC.PolicyOR, session, *those)
 
@@ -71,7 +67,7 @@ for session in tpm.each_session():
             again()
             joins(f"{what}, which a trial session does not look at", *branches)
         else:
-            lists(f"{what}: VALUE/p1", branches)
+            tpm(f"{what}: VALUE/p1").branches(session, *branches)
             tpm.digest_is("Its digest is as it was", session, zeros(session))
 
     current = again()

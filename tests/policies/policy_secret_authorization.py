@@ -3,8 +3,9 @@ handle, in a password or an HMAC session, as any other command. Of the policy se
 asked.
 """
 
-from tests.common.vocabulary import HASHES, name_of, policy, RH_ENDORSEMENT, RH_LOCKOUT, RH_OWNER
-from tests.common.vocabulary import RH_PLATFORM, SHA1, SHA256, Teller, Use, wrong_in, zeros
+from tests.common.policy_teller import PolicyTeller
+from tests.common.vocabulary import HASHES, RH_ENDORSEMENT, RH_LOCKOUT, RH_OWNER, RH_PLATFORM, SHA1
+from tests.common.vocabulary import SHA256, Use, wrong_in
 
 VALUES = (
     (RH_OWNER, "TPM_RH_OWNER", b"owner"),
@@ -13,7 +14,7 @@ VALUES = (
     (RH_LOCKOUT, "TPM_RH_LOCKOUT", b"lockout"),
 )
 
-tpm = Teller(__name__, __doc__, tries=True)
+tpm = PolicyTeller(__name__, __doc__, tries=True)
 
 
 tpm.script.wait_each_time()
@@ -22,14 +23,15 @@ for handle, name, value in VALUES:
 target = tpm.policy("The policy session, with AES", aes=True)
 trial = tpm.trial("And a trial session, of SHA-1", algorithm=SHA1)
 unbound = tpm.start("An HMAC session that is bound to nothing")
-after = {it.handle: zeros(it) for it in (target, trial)}
 
 
 def accepted(what, session, *uses, of, **parameters):
     tpm.accepted(what, tpm.secret(session, *uses, of=of, **parameters))
-    policy_ref = parameters.get("policy_ref", b"")
-    old = after[session.handle]
-    after[session.handle] = policy.after_secret(session.algorithm, old, name_of(of), policy_ref)
+
+
+def digests():
+    for session in (target, trial):
+        tpm.digest_is("The digest", session)
 
 
 for handle, name, value in VALUES:
@@ -39,38 +41,25 @@ for handle, name, value in VALUES:
     for session in (target, trial):
         accepted("The right password", session, value, of=handle)
         accepted("And with zeros behind it", session, value + b"\0\0", of=handle)
-        tpm.refused(
-            f"Wrong passwords: none, fewer bytes, more, and that of another: {code}",
-            *(
-                tpm.secret(session, it, of=handle)
-                for it in (b"", value[:-1], value + b"x", b"another")
-            ),
-        )
+        case = f"Wrong passwords: none, fewer bytes, more, and that of another: {code}"
+        wrong = b"", value[:-1], value + b"x", b"another"
+        tpm.refused(case, *(tpm.secret(session, it, of=handle) for it in wrong))
         accepted("By the session that is bound to it", session, bound, of=handle)
         tpm.refused(f"A wrong hmac of it: {code}", wrong_in(tpm.secret(session, bound, of=handle)))
         accepted("By the session that is bound to nothing", session, unbound, of=handle)
-        tpm.refused(
-            f"A wrong hmac of it, and none: {code}",
-            wrong_in(tpm.secret(session, unbound, of=handle)),
-            tpm.secret(session, unbound, of=handle).but_entry(1, hmac=b""),
-        )
+        right = tpm.secret(session, unbound, of=handle)
+        none = tpm.secret(session, unbound, of=handle).but_entry(1, hmac=b"")
+        tpm.refused(f"A wrong hmac of it, and none: {code}", wrong_in(right), none)
     right = tpm.secret(target, bound, of=handle)
     said = tpm(f"The right hmac, and another policy session than it is of: {code}")
     said.refused(right.but(handles=[handle, trial.handle]))
     said = tpm(f"Another policyRef than it is of: {code}")
     said.refused(right.but(parameters=tpm.secret(target, policy_ref=b"r").parameters))
-    case = "As the first entry it decrypts nonceTPM"
-    accepted(case, target, Use(bound, 0x21), of=handle, nonce_tpm=target.nonce_tpm)
-    accepted(
-        "It ends, and decrypts and encrypts, though there is nothing to encrypt",
-        target,
-        Use(bound, 0x60),
-        of=handle,
-        nonce_tpm=target.nonce_tpm,
-        policy_ref=b"reference",
-    )
-    for session in (target, trial):
-        tpm.digest_is("The digest", session, after[session.handle])
+    case, given = "As the first entry it decrypts nonceTPM", dict(nonce_tpm=target.nonce_tpm)
+    accepted(case, target, Use(bound, 0x21), of=handle, **given)
+    case = "It ends, and decrypts and encrypts, though there is nothing to encrypt"
+    accepted(case, target, Use(bound, 0x60), of=handle, **given, policy_ref=b"reference")
+    digests()
 
 tpm.chapter("A PCR, whose value is empty.")
 for algorithm, hash_name in HASHES:
@@ -81,8 +70,7 @@ for algorithm, hash_name in HASHES:
     accepted("By it on another, PCR 8", target, bound, of=8)
 accepted("By the session that is bound to nothing, with no hmac", trial, unbound, of=7)
 tpm.refused("A password: BAD_AUTH/s1", tpm.secret(target, b"x", of=7))
-for session in (target, trial):
-    tpm.digest_is("The digest", session, after[session.handle])
+digests()
 
 tpm.chapter("With further entries.")
 bound = tpm.start("An HMAC session that is bound to TPM_RH_LOCKOUT", RH_LOCKOUT, algorithm=SHA1)
@@ -104,5 +92,4 @@ said = tpm("A wrong hmac of it, where the first entry is of TPM_RH_LOCKOUT: BAD_
 said.refused(wrong_in(tpm.secret(target, b"lockout", owned, of=RH_LOCKOUT), 2))
 case = "A right one, on TPM_RH_OWNER: it has the session's key alone, and no authorization value"
 accepted(case, target, b"owner", owned, of=RH_OWNER)
-for session in (target, trial):
-    tpm.digest_is("The digest", session, after[session.handle])
+digests()
