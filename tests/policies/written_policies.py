@@ -5,14 +5,8 @@ other policies. tests/python/policy_audit.sh tells tools/audit.py these policies
 from tests.common.vocabulary import AUTH_VALUE, BY_OWNER, CC, digest, HERE, name_of, number
 from tests.common.vocabulary import NvAttribute, ObjectAttribute, PASSWORD, policy, RH_ENDORSEMENT
 from tests.common.vocabulary import RH_OWNER, selection, SHA1, SHA256, Use
-from tests.sessions.grounds_caller import (
-    AFTER_AUTH_VALUE,
-    PIN,
-    SECRET,
-    ZEROS,
-    GroundsCaller,
-    after_code,
-)
+from tests.sessions.grounds_caller import after_code, AFTER_AUTH_VALUE, GroundsCaller, PIN, SECRET
+from tests.sessions.grounds_caller import ZEROS
 
 USER = ObjectAttribute.USER_WITH_AUTH
 CHOSEN = [(SHA256, [7, 11])]

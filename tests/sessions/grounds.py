@@ -10,23 +10,10 @@ from tests.common.vocabulary import AUTH_VALUE, BY_OWNER, BY_PLATFORM, BY_POLICY
 from tests.common.vocabulary import name_of, NvAttribute, ObjectAttribute, PASSWORD, policy
 from tests.common.vocabulary import RH_ENDORSEMENT, RH_LOCKOUT, RH_NULL, RH_OWNER, RH_PLATFORM
 from tests.common.vocabulary import sealed, SHA1, SHA256, Use
-from tests.sessions.grounds_caller import (
-    AFTER_AUTH_VALUE,
-    AFTER_LOCALITY_1,
-    AFTER_PCR_16,
-    AT_LOCALITY_1,
-    DATA,
-)
-from tests.sessions.grounds_caller import (
-    OWNER,
-    PCR_16,
-    PIN,
-    SECRET,
-    ZEROS,
-    GroundsCaller,
-    after_code,
-)
-from tests.sessions.grounds_caller import after_equal_data, after_secret
+from tests.sessions.grounds_caller import after_code, after_equal_data, AFTER_AUTH_VALUE
+from tests.sessions.grounds_caller import AFTER_LOCALITY_1, AFTER_PCR_16, after_secret
+from tests.sessions.grounds_caller import AT_LOCALITY_1, DATA, GroundsCaller, OWNER, PCR_16, PIN
+from tests.sessions.grounds_caller import SECRET, ZEROS
 
 USER = ObjectAttribute.USER_WITH_AUTH
 KEPT = 0x8100_0001
@@ -60,9 +47,8 @@ class Entity:
 
 def hierarchy(handle):
     name, value = HIERARCHIES[handle]
-    return Entity(
-        name, handle, "TPM2_HierarchyChangeAuth", lambda by: tpm.change_auth(handle, value, by)
-    )
+    change = lambda by: tpm.change_auth(handle, value, by)
+    return Entity(name, handle, "TPM2_HierarchyChangeAuth", change)
 
 
 def entities():
@@ -113,20 +99,6 @@ def at_null(*uses):
 # Policies.
 
 
-@dataclass(frozen=True)
-class Condition:
-    """What a policy asks for: its digest; what a session is told before it authorizes a command,
-    as assertions and the words of them; and what is demanded, and from where the command comes.
-    """
-
-    words: str
-    auth_policy: bytes
-    told: str
-    assertions: Callable
-    demand: str = None
-    locality: int = 0
-
-
 def uses_of(handle, index):
     """A command on an object that a policy authorizes, and two on an index."""
     return (
@@ -142,104 +114,45 @@ def with_policy(auth_policy):
     return handle, tpm.index("", BY_POLICY, auth_policy)
 
 
-def conditions():
-    """In the order of docs/table/policies.md."""
-    branches = AFTER_PCR_16, AFTER_AUTH_VALUE
-    either = policy.after_or(SHA256, branches)
-    one_to_three, three_or_four = 0b01110, 0b11000
-    at_three = policy.after_locality(
-        SHA256, policy.after_locality(SHA256, ZEROS, one_to_three), three_or_four
-    )
-    compared = tpm.written_index("An index that TPM2_PolicyNV looks at", BY_OWNER)
+def condition(words, auth_policy, told, *assertions, demand=None, locality=0):
+    """What a policy asks for: a session is told the assertions, of which some are of the command
+    that it then authorizes; and what is demanded, and from where the command comes.
+    """
+    tpm.chapter(words)
+    handle, index = with_policy(auth_policy)
+    if locality:
+        tpm.locality_is(locality)
+    for name, prepare in uses_of(handle, index):
+        prepared = prepare(Use(session, demand=demand))
+        tpm.asserts(f"{told}, and {name}", *(it(prepared) for it in assertions))
+        tpm.does("", prepared)
+    if locality:
+        tpm.locality_is(0)
+    tpm.flushed(handle)
 
-    def pcrs(session, _):
-        return [tpm.pcrs(session, PCR_16)]
 
-    def value(session, _):
-        return [tpm.auth_value_told(session)]
+def pcr_16(_):
+    return tpm.pcrs(session, PCR_16)
 
-    def or_behind(first):
-        return lambda session, prepared: [
-            *first(session, prepared),
-            tpm.branches(session, *branches),
-        ]
 
-    def secret_of(handle, uses_cp_hash=False, **parameters):
-        def told(session, prepared):
-            cp_hash = tpm.cp_hash(prepared) if uses_cp_hash else b""
-            value = tpm.auth_value(handle)
-            return [tpm.secret(session, value, of=handle, cp_hash=cp_hash, **parameters)]
+def value(_):
+    return tpm.auth_value_told(session)
 
-        return told
 
-    return (
-        Condition(
-            "TPM2_PolicyPCR: no PCR has changed between the assertion and the command.",
-            AFTER_PCR_16,
-            "TPM2_PolicyPCR of PCR 16",
-            pcrs,
-        ),
-        Condition(
-            "TPM2_PolicyOR of two branches. The first one: PCR 16 is as it was.",
-            either,
-            "TPM2_PolicyPCR of PCR 16, TPM2_PolicyOR",
-            or_behind(pcrs),
-        ),
-        Condition(
-            "TPM2_PolicyOR of the same branches. The second one: the value is known.",
-            either,
-            "TPM2_PolicyAuthValue, TPM2_PolicyOR",
-            or_behind(value),
-            AUTH_VALUE,
-        ),
-        Condition(
-            "TPM2_PolicyAuthValue: the value of the entity is in the key of the hmac.",
-            AFTER_AUTH_VALUE,
-            "TPM2_PolicyAuthValue",
-            value,
-            AUTH_VALUE,
-        ),
-        Condition(
-            "TPM2_PolicyPassword: the hmac is the value of the entity in plain.",
-            AFTER_AUTH_VALUE,
-            "TPM2_PolicyPassword",
-            lambda session, _: [tpm.password_told(session)],
-            PASSWORD,
-        ),
-        Condition(
-            "TPM2_PolicyLocality: the command comes from locality 1.",
-            AFTER_LOCALITY_1,
-            "TPM2_PolicyLocality of 1",
-            lambda session, _: [tpm.locality(session, AT_LOCALITY_1)],
-            locality=1,
-        ),
-        Condition(
-            "TPM2_PolicyLocality twice: the command comes from what both have, locality 3.",
-            at_three,
-            "TPM2_PolicyLocality of 1 to 3, of 3 and 4",
-            lambda session, _: [tpm.locality(session, it) for it in (one_to_three, three_or_four)],
-            locality=3,
-        ),
-        Condition(
-            "TPM2_PolicySecret of the owner, with a policyRef: its value was known.",
-            after_secret(name_of(RH_OWNER), REF),
-            "TPM2_PolicySecret",
-            secret_of(RH_OWNER, policy_ref=REF),
-        ),
-        Condition(
-            "TPM2_PolicySecret of the persistent object. It records a cpHash: the command has just "
-            "this one.",
-            after_secret(tpm.name(KEPT)),
-            "TPM2_PolicySecret with the cpHash of the command",
-            secret_of(KEPT, uses_cp_hash=True),
-        ),
-        Condition(
-            "TPM2_PolicyNV: an index held what it was compared with.",
-            after_equal_data(tpm.name(compared)),
-            "TPM2_PolicyNV",
-            lambda session, _: [tpm.comparing(session, compared, DATA, by=RH_OWNER)],
-        ),
-    )
+def password(_):
+    return tpm.password_told(session)
+
+
+def localities(allowed):
+    return lambda _: tpm.locality(session, allowed)
+
+
+def secret_of_owner(_):
+    return tpm.secret(session, OWNER, of=RH_OWNER, policy_ref=REF)
+
+
+def secret_of_kept(prepared):
+    return tpm.secret(session, PIN, of=KEPT, cp_hash=tpm.cp_hash(prepared))
 
 
 found = entities()
@@ -313,19 +226,39 @@ tpm.unseal("TPM2_Unseal by the policy", both, SECRET, session)
 tpm.unseal("And by the password", both, SECRET, PIN)
 tpm.flushed(both)
 
-for condition in conditions():
-    # An object and an index are authorized under a condition.
-    tpm.chapter(condition.words)
-    handle, index = with_policy(condition.auth_policy)
-    if condition.locality:
-        tpm.locality_is(condition.locality)
-    for name, prepare in uses_of(handle, index):
-        prepared = prepare(Use(session, demand=condition.demand))
-        tpm.asserts(f"{condition.told}, and {name}", *condition.assertions(session, prepared))
-        tpm.does("", prepared)
-    if condition.locality:
-        tpm.locality_is(0)
-    tpm.flushed(handle)
+# In the order of docs/table/policies.md.
+BRANCHES = AFTER_PCR_16, AFTER_AUTH_VALUE
+EITHER = policy.after_or(SHA256, BRANCHES)
+ONE_TO_THREE, THREE_OR_FOUR = 0b01110, 0b11000
+AT_THREE = policy.after_locality(
+    SHA256, policy.after_locality(SHA256, ZEROS, ONE_TO_THREE), THREE_OR_FOUR
+)
+compared = tpm.written_index("An index that TPM2_PolicyNV looks at", BY_OWNER)
+either = lambda _: tpm.branches(session, *BRANCHES)
+equal = lambda _: tpm.comparing(session, compared, DATA, by=RH_OWNER)
+words = "TPM2_PolicyPCR: no PCR has changed between the assertion and the command."
+condition(words, AFTER_PCR_16, "TPM2_PolicyPCR of PCR 16", pcr_16)
+words = "TPM2_PolicyOR of two branches. The first one: PCR 16 is as it was."
+condition(words, EITHER, "TPM2_PolicyPCR of PCR 16, TPM2_PolicyOR", pcr_16, either)
+words = "TPM2_PolicyOR of the same branches. The second one: the value is known."
+told = "TPM2_PolicyAuthValue, TPM2_PolicyOR"
+condition(words, EITHER, told, value, either, demand=AUTH_VALUE)
+words = "TPM2_PolicyAuthValue: the value of the entity is in the key of the hmac."
+condition(words, AFTER_AUTH_VALUE, "TPM2_PolicyAuthValue", value, demand=AUTH_VALUE)
+words = "TPM2_PolicyPassword: the hmac is the value of the entity in plain."
+condition(words, AFTER_AUTH_VALUE, "TPM2_PolicyPassword", password, demand=PASSWORD)
+words, told = "TPM2_PolicyLocality: the command comes from locality 1.", "TPM2_PolicyLocality of 1"
+condition(words, AFTER_LOCALITY_1, told, localities(AT_LOCALITY_1), locality=1)
+words = "TPM2_PolicyLocality twice: the command comes from what both have, locality 3."
+told = "TPM2_PolicyLocality of 1 to 3, of 3 and 4"
+condition(words, AT_THREE, told, *map(localities, (ONE_TO_THREE, THREE_OR_FOUR)), locality=3)
+words = "TPM2_PolicySecret of the owner, with a policyRef: its value was known."
+condition(words, after_secret(name_of(RH_OWNER), REF), "TPM2_PolicySecret", secret_of_owner)
+words = "TPM2_PolicySecret of the persistent object. It records a cpHash: the command has just this"
+told = "TPM2_PolicySecret with the cpHash of the command"
+condition(f"{words} one.", after_secret(tpm.name(KEPT)), told, secret_of_kept)
+words = "TPM2_PolicyNV: an index held what it was compared with."
+condition(words, after_equal_data(tpm.name(compared)), "TPM2_PolicyNV", equal)
 
 tpm.chapter("What is demanded, with other keys and other values.")
 handle = tpm.sealed_object("An object whose policy is either of the two", AFTER_AUTH_VALUE)
@@ -389,8 +322,7 @@ tpm(f"{name} by it").changing_auth(index, PIN, Use(session, demand=PASSWORD))
 
 
 tpm.chapter("All at once: a PCR, a locality, a command, a cpHash and the value.")
-auth_policy = AFTER_PCR_16
-auth_policy = policy.after_locality(SHA256, auth_policy, AT_LOCALITY_1)
+auth_policy = policy.after_locality(SHA256, AFTER_PCR_16, AT_LOCALITY_1)
 auth_policy = policy.after_command_code(SHA256, auth_policy, CC.NV_Write)
 auth_policy = policy.after_secret(SHA256, auth_policy, name_of(RH_OWNER), b"")
 auth_policy = policy.after_auth_value(SHA256, auth_policy)

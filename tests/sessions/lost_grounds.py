@@ -9,23 +9,10 @@ from tests.common.vocabulary import AUTH_VALUE, BY_OWNER, BY_POLICY, BY_VALUE, C
 from tests.common.vocabulary import frames, HERE, name_of, NvAttribute, ObjectAttribute, PASSWORD
 from tests.common.vocabulary import policy, RH_ENDORSEMENT, RH_LOCKOUT, RH_NULL, RH_OWNER
 from tests.common.vocabulary import RH_PLATFORM, sealed, SHA1, SHA256, Use
-from tests.sessions.grounds_caller import (
-    AFTER_AUTH_VALUE,
-    AFTER_LOCALITY_1,
-    AFTER_PCR_16,
-    AT_LOCALITY_1,
-    DATA,
-)
-from tests.sessions.grounds_caller import (
-    OWNER,
-    PCR_16,
-    PIN,
-    SECRET,
-    ZEROS,
-    GroundsCaller,
-    after_code,
-)
-from tests.sessions.grounds_caller import after_equal_data, after_secret
+from tests.sessions.grounds_caller import after_code, after_equal_data, AFTER_AUTH_VALUE
+from tests.sessions.grounds_caller import AFTER_LOCALITY_1, AFTER_PCR_16, after_secret
+from tests.sessions.grounds_caller import AT_LOCALITY_1, DATA, GroundsCaller, OWNER, PCR_16, PIN
+from tests.sessions.grounds_caller import SECRET, ZEROS
 
 USER = ObjectAttribute.USER_WITH_AUTH
 AFTER_UNSEAL = after_code(CC.Unseal)
