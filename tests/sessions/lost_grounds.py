@@ -44,24 +44,19 @@ def other_texts(index, unbound):
     other = tpm.written_index("Another index, with the same attributes", BY_OWNER | BY_VALUE)
     right = tpm.writing(index, DATA, unbound)
     entry = right.entries[0]
-    for what, *bent in (
-        (
-            "Another hmac: by its last bit, by its first byte, and half of it",
-            right.but_entry(1, hmac=flipped(entry.hmac)),
-            right.but_entry(1, hmac=flipped(entry.hmac, 0)),
-            right.but_entry(1, hmac=entry.hmac[:16]),
-        ),
-        (
-            "Another nonceCaller, and none",
-            right.but_entry(1, nonce=flipped(entry.nonce)),
-            right.but_entry(1, nonce=b""),
-        ),
+    hmacs = flipped(entry.hmac), flipped(entry.hmac, 0), entry.hmac[:16]
+    case = "Another hmac: by its last bit, by its first byte, and half of it: AUTH_FAIL/s1"
+    lost(case, *(right.but_entry(1, hmac=it) for it in hmacs))
+    nonces = flipped(entry.nonce), b""
+    case = "Another nonceCaller, and none: AUTH_FAIL/s1"
+    lost(case, *(right.but_entry(1, nonce=it) for it in nonces))
+    for what, bent in (
         ("Other attributes: the session ends", right.but_entry(1, attributes=ENDS)),
         ("Other parameters", right.but(parameters=frames.nv_write(DATA[::-1]))),
         ("Another handle, which has another Name", right.but(handles=[other, other])),
         ("Another command, TPM2_NV_Increment", right.but(code=CC.NV_Increment)),
     ):
-        lost(f"{what}: AUTH_FAIL/s1", *bent)
+        lost(f"{what}: AUTH_FAIL/s1", bent)
     tpm.does("Right, by the nonceTPM that is the same since the first", right)
 
 
@@ -147,8 +142,8 @@ def other_cp_hashes(session):
     before = tpm.cp_hash(writing())
 
     def asserts(words, cp_hash):
-        told = tpm.secret(session, OWNER, of=RH_OWNER, cp_hash=cp_hash)
-        tpm.does(f"TPM2_PolicySecret with the cpHash of {words}", told)
+        said = tpm(f"TPM2_PolicySecret with the cpHash of {words}")
+        said.secret(session, OWNER, of=RH_OWNER, cp_hash=cp_hash)
 
     asserts("TPM2_NV_Write of the first one", before)
     lost("Other parameters: POLICY_FAIL/s1", tpm.writing(first, DATA[::-1], session))
@@ -172,37 +167,31 @@ def other_digests(session):
     handle = tpm.sealed_object("An object with a policy of four assertions", auth_policy)
     use = lambda: tpm.unsealing(handle, session)
     restart = tpm.restart(session)
-
-    def secret(of=RH_OWNER, policy_ref=b"disk"):
-        value = tpm.auth_value(of)
-        return tpm.secret(session, value, of=of, policy_ref=policy_ref)
-
-    def nv(operation=EQUAL):
-        return tpm.comparing(session, compared, DATA, operation=operation, by=RH_OWNER)
-
-    pcrs, localities = tpm.pcrs(session, PCR_16), tpm.locality(session, AT_LOCALITY_0_OR_1)
-    all_localities = tpm.locality(session, ALL_LOCALITIES)
+    pcr_16, pcr_23 = (tpm.pcrs(session, [(SHA256, [it])]) for it in (16, 23))
+    two, all_of_them = (tpm.locality(session, it) for it in (AT_LOCALITY_0_OR_1, ALL_LOCALITIES))
+    secret, other_ref = (
+        tpm.secret(session, OWNER, of=RH_OWNER, policy_ref=it) for it in (b"disk", b"tape")
+    )
+    other_value = tpm.secret(session, policy_ref=b"disk")
+    equal, at_least = (
+        tpm.comparing(session, compared, DATA, operation=it, by=RH_OWNER)
+        for it in (EQUAL, AT_LEAST)
+    )
     lost("Nothing is asserted: POLICY_FAIL/s1", use())
     for what, *told in (
-        (
-            "PCR 23 in place of PCR 16, both zeros",
-            tpm.pcrs(session, [(SHA256, [23])]),
-            localities,
-            secret(),
-            nv(),
-        ),
-        ("All localities in place of two", pcrs, all_localities, secret(), nv()),
-        ("The value of another entity", pcrs, localities, secret(of=RH_ENDORSEMENT), nv()),
-        ("Another policyRef", pcrs, localities, secret(policy_ref=b"tape"), nv()),
-        ("At least the data, in place of just them", pcrs, localities, secret(), nv(AT_LEAST)),
-        ("One assertion less", pcrs, localities, secret()),
-        ("One more", pcrs, localities, secret(), nv(), all_localities),
-        ("Another order", localities, pcrs, secret(), nv()),
-        ("Just the policy, and TPM2_PolicyRestart", pcrs, localities, secret(), nv(), restart),
+        ("PCR 23 in place of PCR 16, both zeros", pcr_23, two, secret, equal),
+        ("All localities in place of two", pcr_16, all_of_them, secret, equal),
+        ("The value of another entity", pcr_16, two, other_value, equal),
+        ("Another policyRef", pcr_16, two, other_ref, equal),
+        ("At least the data, in place of just them", pcr_16, two, secret, at_least),
+        ("One assertion less", pcr_16, two, secret),
+        ("One more", pcr_16, two, secret, equal, all_of_them),
+        ("Another order", two, pcr_16, secret, equal),
+        ("Just the policy, and TPM2_PolicyRestart", pcr_16, two, secret, equal, restart),
     ):
         tpm.asserts(what, restart, *told)
         lost("TPM2_Unseal: POLICY_FAIL/s1", use())
-    tpm.asserts("Just the policy", pcrs, localities, secret(), nv())
+    tpm.asserts("Just the policy", pcr_16, two, secret, equal)
     tpm.does("TPM2_Unseal", use())
     lost("Once more: POLICY_FAIL/s1, as it has counted for one command", use())
     tpm.flushed(handle)
