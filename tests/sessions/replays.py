@@ -63,13 +63,16 @@ def again(words, prepared, check="G9"):
     tpm.refused_by(check, words, prepared)
 
 
-def accepted_again(what, prepared):
-    tpm.does(what, prepared)
-
-
 def accepted(what, prepared):
     """Sends a command the first time, and gives it, to be sent again."""
     tpm.does(what, prepared)
+    return prepared
+
+
+def replayed(what, prepared, refusal, check="G9"):
+    """Sends a command the first time, and again."""
+    tpm.does(what, prepared)
+    again(f"The same again: {refusal}", prepared, check)
     return prepared
 
 
@@ -83,8 +86,8 @@ def write(by, data=DATA, index=FIRST):
 def counted_otherwise(session):
     tpm.chapter("LOCKOUTAUTH. A wrong entry closes it for lockoutRecovery.")
     tpm('It is "lockout"').change_auth(RH_LOCKOUT, LOCKOUT_AUTH, b"")
-    first = accepted("TPM2_DictionaryAttackLockReset by the session", tpm.lock_reset(session))
-    again("The same again: AUTH_FAIL/s1", first)
+    case = "TPM2_DictionaryAttackLockReset by the session"
+    first = replayed(case, tpm.lock_reset(session), "AUTH_FAIL/s1")
     tpm.tries_are("It is no failed try", 0)
     again("But lockoutAuth is closed: the same again: LOCKOUT", first)
     again("And the password: LOCKOUT", tpm.lock_reset())
@@ -96,11 +99,10 @@ def counted_otherwise(session):
         "other value is compared."
     )
     bound = tpm.start("TPM2_StartAuthSession", FIRST)
-    first = accepted("TPM2_NV_Write of the index", write(bound))
-    again("The same again: AUTH_FAIL/s1", first)
+    replayed("TPM2_NV_Write of the index", write(bound), "AUTH_FAIL/s1")
     tpm.tries_are("A failed try", 1)
-    first = accepted("TPM2_GetRandom, where it authorizes nothing", tpm.random(2, bound))
-    again("The same again: AUTH_FAIL/s1", first, "G10")
+    case = "TPM2_GetRandom, where it authorizes nothing"
+    replayed(case, tpm.random(2, bound), "AUTH_FAIL/s1", "G10")
     tpm.tries_are("A failed try", 2)
     tpm.unlocks()
     tpm.flushed(bound)
@@ -116,35 +118,23 @@ def other_places(session, to_endorsement):
     )
     aes = tpm.start("A session with AES, bound to TPM_RH_ENDORSEMENT", RH_ENDORSEMENT, aes=True)
     unbound = tpm.start("One without, bound to nothing")
-    for what, outcome, prepare in (
-        (
-            "TPM2_NV_Write, with a session in the second entry",
-            "BAD_AUTH/s2",
-            lambda: tpm.writing(FIRST, DATA, VALUE, to_endorsement),
-        ),
-        (
-            "With one in the second entry, whose key and hmac are empty, and one in the third",
-            "BAD_AUTH/s3",
-            lambda: tpm.writing(FIRST, DATA, VALUE, unbound, to_endorsement),
-        ),
-        (
-            "TPM2_NV_Read, and the session encrypts",
-            "BAD_AUTH/s2",
-            lambda: tpm.reading(FIRST, 8, VALUE, Use(aes, ENCRYPTS)),
-        ),
-    ):
-        again(f"The same again: {outcome}", accepted(what, prepare()), "G10")
+    case = "TPM2_NV_Write, with a session in the second entry"
+    replayed(case, tpm.writing(FIRST, DATA, VALUE, to_endorsement), "BAD_AUTH/s2", "G10")
+    case = "With one in the second entry, whose key and hmac are empty, and one in the third"
+    replayed(case, tpm.writing(FIRST, DATA, VALUE, unbound, to_endorsement), "BAD_AUTH/s3", "G10")
+    case = "TPM2_NV_Read, and the session encrypts"
+    replayed(case, tpm.reading(FIRST, 8, VALUE, Use(aes, ENCRYPTS)), "BAD_AUTH/s2", "G10")
     case = "TPM2_NV_Write, and the session decrypts"
     decrypting = accepted(case, tpm.writing(FIRST, OTHER_DATA, VALUE, Use(aes, DECRYPTS)))
     tpm.does("Other data are written", write(VALUE))
     again("What decrypts again: BAD_AUTH/s2", decrypting, "G10")
     tpm.read("The data are as they were", FIRST, DATA, VALUE)
-    first = accepted("TPM2_GetRandom: the first entry authorizes nothing", tpm.random(2, aes))
-    again("The same again: BAD_AUTH/s1", first, "G10")
+    case = "TPM2_GetRandom: the first entry authorizes nothing"
+    replayed(case, tpm.random(2, aes), "BAD_AUTH/s1", "G10")
     tpm.tries_are("None of these was a failed try", 0)
     case = "TPM2_NV_Write by a session, and another one decrypts"
-    both = accepted(case, tpm.writing(FIRST, DATA, session, Use(aes, DECRYPTS)))
-    again("The same again: AUTH_FAIL/s1, which the first entry refuses", both)
+    both = tpm.writing(FIRST, DATA, session, Use(aes, DECRYPTS))
+    replayed(case, both, "AUTH_FAIL/s1, which the first entry refuses")
     tpm.tries_are("And that is a failed try", 1)
     tpm.unlocks()
     tpm.flushed(aes, unbound)
@@ -153,19 +143,19 @@ def other_places(session, to_endorsement):
 def compared_with_nothing(session):
     tpm.chapter("NOTHING IS COMPARED where key and hmac are empty, and a password has no nonce.")
     first = accepted("TPM2_PCR_Event by an empty hmac", tpm.event(b"event", session))
-    accepted_again("The same again, and PCR 16 is extended twice", first)
+    tpm.does("The same again, and PCR 16 is extended twice", first)
     shown = tpm.event(b"event", Use(session, shows_empty_key=True))
     tpm.does("By an hmac of the empty key", shown)
     again("The same again: BAD_AUTH/s1", shown)
     by_password = accepted("TPM2_NV_Write by the password", write(VALUE))
-    accepted_again("The same again", by_password)
+    tpm.does("The same again", by_password)
 
     tpm.chapter("Parameter encryption has the nonce in its key all the same.")
     aes = tpm.start("A session with AES, bound to nothing", aes=True)
     case = "TPM2_NV_Write by the password, and this session decrypts, whose hmac is empty"
     decrypting = accepted(case, tpm.writing(FIRST, OTHER_DATA, VALUE, Use(aes, DECRYPTS)))
     tpm.read("What was written", FIRST, OTHER_DATA, VALUE)
-    accepted_again("The same again", decrypting)
+    tpm.does("The same again", decrypting)
     answer = tpm("Other bytes were written").reading(FIRST, 8, VALUE)
     assert len(answer) == 10 and answer[2:] not in (OTHER_DATA, DATA)
     tpm.flushed(aes)
@@ -183,20 +173,31 @@ def policy_sessions():
     start = Start("A policy session, bound to TPM_RH_OWNER, which has a key", RH_OWNER, SE_POLICY)
     bound = start.session
     tpm.does("TPM2_NV_Write", write(bound, index=zeros))
-    first = accepted("TPM2_NV_Write, now that it is written", write(bound, index=zeros))
-    again("The same again: BAD_AUTH/s1", first)
+    first = replayed(
+        "TPM2_NV_Write, now that it is written", write(bound, index=zeros), "BAD_AUTH/s1"
+    )
     tpm.restarts(bound)
     again("The same again: BAD_AUTH/s1, as TPM2_PolicyRestart gives no nonce back", first)
     unsent = write(bound, index=zeros)
     tpm.restarts(bound)
     tpm.does("It takes none away either: what was not sent yet", unsent)
 
+    demanded(bound)
+
+    tpm.chapter("And where key and hmac are empty.")
+    unbound = tpm.policy("A policy session, bound to nothing")
+    first = accepted("TPM2_NV_Write of the first index", write(unbound, index=zeros))
+    tpm.does("The same again", first)
+    tpm.flushed(bound, unbound)
+
+
+def demanded(bound):
     tpm.chapter("The same with what TPM2_PolicyAuthValue and TPM2_PolicyPassword demand.")
     said = tpm("An index of their policy")
     value = said.written_index(BY_POLICY | NvAttribute.OWNERWRITE, AFTER_AUTH_VALUE)
     tpm.asserts_value(bound)
-    first = accepted("TPM2_NV_Write", write(Use(bound, demand=AUTH_VALUE), index=value))
-    again("The same again: POLICY_FAIL/s1, as nothing was told", first)
+    by_value = write(Use(bound, demand=AUTH_VALUE), index=value)
+    first = replayed("TPM2_NV_Write", by_value, "POLICY_FAIL/s1, as nothing was told")
     tpm.asserts_value(bound)
     again("The same again: AUTH_FAIL/s1", first)
     tpm.tries_are("The index is protected: a failed try", 1)
@@ -207,16 +208,10 @@ def policy_sessions():
     tpm.restarts(bound)
     tpm.unlocks()
     tpm.asserts_password(bound)
-    first = accepted("TPM2_NV_Write", write(Use(bound, demand=PASSWORD), index=value))
-    again("The same again: POLICY_FAIL/s1, as nothing was told", first)
+    by_password = write(Use(bound, demand=PASSWORD), index=value)
+    first = replayed("TPM2_NV_Write", by_password, "POLICY_FAIL/s1, as nothing was told")
     tpm.asserts_password(bound)
-    accepted_again("The same again|as a password has no nonce", first)
-
-    tpm.chapter("And where key and hmac are empty.")
-    unbound = tpm.policy("A policy session, bound to nothing")
-    first = accepted("TPM2_NV_Write of the first index", write(unbound, index=zeros))
-    accepted_again("The same again", first)
-    tpm.flushed(bound, unbound)
+    tpm.does("The same again|as a password has no nonce", first)
 
 
 # Sessions that begin again.
@@ -233,7 +228,7 @@ def new_names(start):
     again("The same again: AUTH_FAIL/s1", first)
     tpm("It is undefined").undefining(index)
     tpm.define("And defined as it was", public, auth=VALUE)
-    accepted_again("The same again", first)
+    tpm.does("The same again", first)
     tpm.unlocks()
     tpm.flushed(start.session)
 
@@ -248,27 +243,25 @@ def repeated_nonces(start):
     first = write(session, OTHER_DATA)
     with_random("Another, by which the nonce becomes what it was", OTHER_SEED, first)
     with_random("The same again", OTHER_SEED, first)
-    accepted_again("And once more, with random bytes of its own", first)
+    tpm.does("And once more, with random bytes of its own", first)
     again("And once more: AUTH_FAIL/s1", first)
     with_random("TPM2_NV_Write, with the random bytes of before", OTHER_SEED, write(session))
-    accepted_again("The same again, of a nonce that was past", first)
+    tpm.does("The same again, of a nonce that was past", first)
     again("And once more: AUTH_FAIL/s1", first)
     tpm.unlocks()
     tpm.flushed(session)
 
 
 tpm('ownerAuth is "owner"').change_auth(RH_OWNER, OWNER, b"")
-assert FIRST == tpm.index(
-    'An index with AUTHWRITE and AUTHREAD, whose value is "a"', BY_VALUE, value=VALUE
-)
+said = tpm('An index with AUTHWRITE and AUTHREAD, whose value is "a"')
+assert FIRST == said.index(BY_VALUE, value=VALUE)
 tpm.does("It is written, so that its Name stays from here on", write(VALUE))
 
 # An unbound session, and a command of it that was accepted.
 tpm.chapter("A PROTECTED INDEX. It is no index with NO_DA, so each wrong entry is a try.")
 start = Start("TPM2_StartAuthSession of an HMAC session, bound to nothing")
 session = start.session
-first = accepted("TPM2_NV_Write by it, and it goes on", write(session))
-again("The same again: AUTH_FAIL/s1", first)
+first = replayed("TPM2_NV_Write by it, and it goes on", write(session), "AUTH_FAIL/s1")
 tpm.tries_are("That is a failed try", 1)
 tpm.does("A refusal has left the nonce, by which another is accepted", write(session))
 tpm.tries_are("It takes no try away", 1)
@@ -295,12 +288,11 @@ session = start.session
 tpm.chapter("WHAT IS NOT PROTECTED. A wrong entry is no try.")
 openly = tpm.index("An index with NO_DA", BY_VALUE | NvAttribute.NO_DA, value=VALUE)
 tpm.does("", write(VALUE, index=openly))
-for what, prepare in (
-    ("TPM2_NV_Write of it", lambda: write(session, index=openly)),
-    ("TPM2_HierarchyChangeAuth of the owner", lambda: tpm.change_auth(RH_OWNER, OWNER, session)),
-    ("TPM2_PCR_Event by a session with a key", lambda: tpm.event(b"event", to_endorsement)),
-):
-    again("The same again: BAD_AUTH/s1", accepted(what, prepare()))
+replayed("TPM2_NV_Write of it", write(session, index=openly), "BAD_AUTH/s1")
+case = "TPM2_HierarchyChangeAuth of the owner"
+replayed(case, tpm.change_auth(RH_OWNER, OWNER, session), "BAD_AUTH/s1")
+case = "TPM2_PCR_Event by a session with a key"
+replayed(case, tpm.event(b"event", to_endorsement), "BAD_AUTH/s1")
 tpm.tries_are("There is no failed try", 0)
 
 counted_otherwise(start.session)
@@ -316,7 +308,7 @@ session = start.session
 tpm.flushed(session)
 again("The first TPM2_NV_Write again: REFERENCE_S0, as there is no session", first, "G8")
 start.again()
-accepted_again("The first TPM2_NV_Write again", first)
+tpm.does("The first TPM2_NV_Write again", first)
 again("And once more: AUTH_FAIL/s1", first)
 tpm.tries_are("That is a failed try", 1)
 
@@ -326,10 +318,9 @@ tpm.chapter("Other bytes.")
 start.otherwise("With other random bytes", OTHER_SEED)
 again("The first again: AUTH_FAIL/s1", first)
 tpm.flushed(session)
-start.otherwise(
-    "With another nonceCaller, which is in no key of an unbound session", nonce=tpm.nonce()
-)
-accepted_again("The first again", first)
+case = "With another nonceCaller, which is in no key of an unbound session"
+start.otherwise(case, nonce=tpm.nonce())
+tpm.does("The first again", first)
 tpm.unlocks()
 tpm.flushed(session)
 other = tpm.policy("A policy session is started in its place")
@@ -341,11 +332,10 @@ tpm.flushed(other, elsewhere)
 
 tpm.chapter("A bound session, whose key is of its nonceCaller and of the value.")
 bound = Start("TPM2_StartAuthSession, bound to TPM_RH_OWNER", RH_OWNER)
-event = accepted("TPM2_PCR_Event", tpm.event(b"event", bound.session))
-again("The same again: BAD_AUTH/s1", event)
+event = replayed("TPM2_PCR_Event", tpm.event(b"event", bound.session), "BAD_AUTH/s1")
 tpm.flushed(bound.session)
 bound.again()
-accepted_again("The same again", event)
+tpm.does("The same again", event)
 tpm.flushed(bound.session)
 bound.otherwise("With another nonceCaller", nonce=tpm.nonce())
 again("The same again: BAD_AUTH/s1", event)
@@ -356,7 +346,7 @@ again("The same again: BAD_AUTH/s1", event)
 tpm.flushed(bound.session)
 tpm("ownerAuth is as it was").change_auth(RH_OWNER, OWNER, b"other")
 bound.again()
-accepted_again("The same again", event)
+tpm.does("The same again", event)
 tpm.flushed(bound.session)
 
 new_names(start)
@@ -366,20 +356,19 @@ tpm.chapter("A POWER CYCLE ends all sessions.")
 start.again()
 told = tpm.policy("A policy session beside it")
 for kind, words in ((CLEAR, "CLEAR"), (STATE, "STATE")):
-    accepted_again("The first TPM2_NV_Write of the protected index", first)
+    tpm.does("The first TPM2_NV_Write of the protected index", first)
     again("The same again: AUTH_FAIL/s1", first)
     tpm(f"TPM2_Shutdown({words})").shutting_down(kind)
     tpm.power()
     again("The same again: INITIALIZE, as the device is not started", first, "G5")
     tpm.start_up(f"TPM2_Startup({words})", kind)
     again("The same again: REFERENCE_S0, as the session is gone", first, "G8")
-    tpm.refused_by(
-        "G6", "TPM2_PolicyGetDigest of the policy session: REFERENCE_H0", tpm.get_digest(told)
-    )
+    case = "TPM2_PolicyGetDigest of the policy session: REFERENCE_H0"
+    again(case, tpm.get_digest(told), "G6")
     tpm.tries_are("The failed try is kept, and there is no other", 1)
     tpm.unlocks()
     start.again()
-accepted_again("The first TPM2_NV_Write again", first)
+tpm.does("The first TPM2_NV_Write again", first)
 again("And once more: AUTH_FAIL/s1", first)
 tpm.unlocks()
 
@@ -388,19 +377,17 @@ to_endorsement = tpm.start("A session bound to TPM_RH_ENDORSEMENT", RH_ENDORSEME
 tpm.chapter("WITHOUT continueSession a session ends with the use of it.")
 tpm.flushed(start.session)
 start.again()
-last = accepted("TPM2_NV_Write", write(Use(start.session, ENDS)))
-again("The same again: REFERENCE_S0", last, "G8")
+last = replayed("TPM2_NV_Write", write(Use(start.session, ENDS)), "REFERENCE_S0", "G8")
 start.again()
-accepted_again("The same again", last)
+tpm.does("The same again", last)
 again("And once more: REFERENCE_S0", last, "G8")
-for what, outcome, uses in (
-    ("In the second entry", "REFERENCE_S1", [VALUE]),
-    ("In the third entry", "REFERENCE_S2", [VALUE, to_endorsement]),
+for what, outcome, *uses in (
+    ("In the second entry", "REFERENCE_S1", VALUE),
+    ("In the third entry", "REFERENCE_S2", VALUE, to_endorsement),
 ):
     start.again()
-    uses = [*uses, Use(start.session, ENDS)]
-    last = accepted(what, tpm.writing(FIRST, DATA, *uses))
-    again(f"The same again: {outcome}", last, "G8")
+    ending = tpm.writing(FIRST, DATA, *uses, Use(start.session, ENDS))
+    replayed(what, ending, outcome, "G8")
 tpm.tries_are("None of these was a failed try", 0)
 
 
@@ -411,7 +398,7 @@ reset = tpm.reset(to_endorsement, pcr=20)
 again("TPM2_PCR_Reset of PCR 20 from locality 0: LOCALITY", reset, "A1")
 again("The same again: LOCALITY", reset, "A1")
 tpm.locality_is(4)
-accepted_again("The same from locality 4", reset)
+tpm.does("The same from locality 4", reset)
 again("And once more: BAD_AUTH/s1", reset)
 tpm.locality_is(0)
 again("From locality 0: BAD_AUTH/s1", reset)
