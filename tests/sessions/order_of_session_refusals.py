@@ -38,12 +38,9 @@ said = tpm("A bind that is no entity: VALUE/h2")
 said.refused(wrong_in(start([RH_NULL, 0x0200_0000], cut, *uses), 1, 2).but(entries=[absent]))
 said = tpm("A session that is not there, as the first entry: REFERENCE_S0")
 said.refused(start(NULLS, cut, *uses).but(entries=[absent]))
-tpm.refused(
-    "As the second, whose fault comes before the first one's wrong hmac: REFERENCE_S1",
-    wrong_in(start(NULLS, cut, uses[0]), 1).but(
-        entries=[*wrong_in(start(NULLS, cut, uses[0]), 1).entries, absent]
-    ),
-)
+wrong = wrong_in(start(NULLS, cut, uses[0]), 1)
+said = tpm("As the second, whose fault comes before the first one's wrong hmac: REFERENCE_S1")
+said.refused(wrong.but(entries=[*wrong.entries, absent]))
 tpm.refused("Both hmacs: BAD_AUTH/s1", wrong_in(start(NULLS, cut, *uses), 1, 2))
 tpm.refused("The second one's: BAD_AUTH/s2", wrong_in(start(NULLS, cut, *uses), 2))
 said = tpm("The first parameter, which cannot be decrypted: INSUFFICIENT/p1")

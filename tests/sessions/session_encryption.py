@@ -57,22 +57,22 @@ tpm.accepted("TPM2_PCR_Read of PCR 16", tpm.read_pcr(16))
 tpm.chapter("A session that decrypts beside the one that authorizes.")
 other = tpm.start("Another session, bound to TPM_RH_ENDORSEMENT", RH_ENDORSEMENT, aes=True)
 third = tpm.start("A third one, bound to nothing", aes=True, size=32)
-tpm(
+said = tpm(
     "Beside a password: it authorizes nothing, and no authorization value is in any key of it"
-).change_auth(RH_OWNER, b"owner", b"owner", Use(session, DECRYPTS))
+)
+said.change_auth(RH_OWNER, b"owner", b"owner", Use(session, DECRYPTS))
 said = tpm("Beside a password and another session")
 said.change_auth(RH_OWNER, b"owner", b"owner", other, Use(session, DECRYPTS))
 said = tpm("Beside a session: its nonce is in the first entry's hmac")
 said.change_auth(RH_OWNER, b"owner", session, Use(other, DECRYPTS))
-with others_are():
-    left_out = tpm.change_auth(RH_OWNER, b"owner", session, Use(other, DECRYPTS))
-tpm.refused("Where it is left out: BAD_AUTH/s1", left_out)
-with others_are(other, other):
-    twice = tpm.change_auth(RH_OWNER, b"owner", session, Use(other, DECRYPTS))
-tpm.refused("Where it stands twice: BAD_AUTH/s1", twice)
-with others_are(session):
-    own = tpm.change_auth(RH_OWNER, b"owner", session, Use(other, DECRYPTS))
-tpm.refused("Where the first entry's own stands in its place: BAD_AUTH/s1", own)
+for words, *others in (
+    ("Where it is left out: BAD_AUTH/s1",),
+    ("Where it stands twice: BAD_AUTH/s1", other, other),
+    ("Where the first entry's own stands in its place: BAD_AUTH/s1", session),
+):
+    with others_are(*others):
+        wrong = tpm.change_auth(RH_OWNER, b"owner", session, Use(other, DECRYPTS))
+    tpm.refused(words, wrong)
 said = tpm("As the third entry of three")
 said.change_auth(RH_OWNER, b"owner", session, third, Use(other, DECRYPTS))
 said = tpm("As the second entry of three, with a nonce of 32 bytes and an empty key")
@@ -85,13 +85,8 @@ tpm.refused("With its own nonce once more: BAD_AUTH/s1", own)
 right = tpm.event(b"event data", session, Use(other, DECRYPTS), third)
 with others_are(other):
     everywhere = tpm.event(b"event data", session, Use(other, DECRYPTS), third)
-tpm.refused(
-    "The second entry's hmac has no other nonce: BAD_AUTH/s2",
-    right.but(
-        entries=[right.entries[0], everywhere.entries[1], right.entries[2]],
-        parameters=right.parameters,
-    ),
-)
+entries = [right.entries[0], everywhere.entries[1], right.entries[2]]
+tpm.refused("The second entry's hmac has no other nonce: BAD_AUTH/s2", right.but(entries=entries))
 tpm.accepted("Nothing was changed by the refusals", right)
 tpm("It ends as it decrypts").change_auth(RH_OWNER, b"owner", session, Use(other, DECRYPT))
 tpm("And is no more: REFERENCE_S1").change_auth(RH_OWNER, b"owner", session, Use(other, DECRYPTS))
@@ -129,13 +124,11 @@ def changing(parameters, *uses):
     return tpm.prepare(CC.HierarchyChangeAuth, [RH_OWNER], parameters, *uses)
 
 
+cut = b"", b"\0", b"\0\x01", b"\0\x20" + bytes(31), b"\0\x21" + bytes(32), b"\xff\xff"
 tpm.refused(
     "decrypt, and the first parameter is cut: no size, half of it, or fewer bytes, also where it "
     "says too many: INSUFFICIENT/p1",
-    *(
-        changing(it, Use(session, DECRYPTS))
-        for it in (b"", b"\0", b"\0\x01", b"\0\x20" + bytes(31), b"\0\x21" + bytes(32), b"\xff\xff")
-    ),
+    *(changing(it, Use(session, DECRYPTS)) for it in cut),
 )
 said = tpm("Without decrypt a size that says too many is a fault of its own: SIZE/p1")
 said.refused(changing(b"\0\x21" + bytes(32), session), changing(b"\xff\xff", session))
