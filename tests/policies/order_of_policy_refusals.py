@@ -55,9 +55,8 @@ def up_to_hmacs(text):
     refused("A password behind a session whose hmac is wrong: HANDLE/s2", prepared(hmac, b""), 1)
     case = "Reserved attributes behind it: RESERVED_BITS/s2"
     refused(case, prepared(hmac, plain).but_entry(2, attributes=0x98), 1)
-    refused(
-        "audit behind it: ATTRIBUTES/s2", prepared(hmac, plain).but_entry(2, attributes=0x81), 1
-    )
+    case = "audit behind it: ATTRIBUTES/s2"
+    refused(case, prepared(hmac, plain).but_entry(2, attributes=0x81), 1)
     refused("Both hmacs: BAD_AUTH/s1", prepared(hmac, policy), 1, 2)
     refused("The second one's: BAD_AUTH/s2", prepared(hmac, policy), 2)
 
@@ -77,7 +76,7 @@ for code in (CC.PolicyRestart, CC.PolicyAuthValue, CC.PolicyPassword):
 code = CC.PolicyGetDigest
 tpm.chapter("TPM2_PolicyGetDigest with a byte too many.")
 up_to_hmacs(b"\0")
-symmetric(Use(plain, ENCRYPTS))
+symmetric(plain.encrypting)
 says("The byte: SIZE", b"\0")
 ends_well(b"")
 
@@ -123,7 +122,7 @@ tpm("TPM2_PolicyPCR").pcrs(policy, [(SHA256, [0])])
 tpm.accepted("TPM2_PCR_Reset of PCR 16", tpm.reset(b""))
 GIVEN, CUT_DIGEST = sized(bytes(32)), sized(bytes(32))[:-1]
 up_to_hmacs(CUT_DIGEST)
-symmetric(Use(plain, DECRYPTS))
+symmetric(plain.decrypting)
 decrypted("pcrDigest that is cut, and cannot be decrypted: INSUFFICIENT/p1", CUT_DIGEST)
 decrypted("One of 33 bytes, and nothing behind it: SIZE/p1", sized(bytes(33)))
 decrypted("No selection behind it: INSUFFICIENT/p2", GIVEN)
@@ -136,7 +135,7 @@ decrypted("A byte behind it: SIZE", GIVEN + selection((SHA256, [0])) + b"\0")
 decrypted("The PCR that has changed, and a wrong pcrDigest: PCR_CHANGED", GIVEN + selection())
 tpm.restarts(policy)
 decrypted("The pcrDigest: VALUE/p1", GIVEN + selection())
-tpm("No fault is left").pcrs(policy, [], b"", [Use(hmac, DECRYPTS)])
+tpm("No fault is left").pcrs(policy, [], b"", [hmac.decrypting])
 
 tpm.chapter("TPM2_PolicySecret of TPM_RH_LOCKOUT.")
 tpm.script.wait_each_time()
@@ -165,20 +164,20 @@ case = "Behind a policy session: REFERENCE_S1"
 refused(case, secret(CUT, policy).but(entries=[*secret(CUT, policy).entries, ABSENT]))
 refused("A second password behind a wrong one: HANDLE/s2", secret(CUT, b"wrong", b"lockout"))
 case = "decrypt in a session that cannot, behind a wrong password: SYMMETRIC/s2"
-refused(case, secret(CUT, b"wrong", Use(plain, DECRYPTS)))
+refused(case, secret(CUT, b"wrong", plain.decrypting))
 case = "A trial session that is to authorize it, and a wrong hmac behind it: ATTRIBUTES/s1"
 refused(case, secret(CUT, trial, hmac), 1, 2)
 case = "A policy session that is to authorize it, and a wrong hmac behind it: AUTH_UNAVAILABLE"
 refused(case, secret(CUT, policy, hmac), 1, 2)
 case = "A wrong password, and a wrong hmac behind it: AUTH_FAIL/s1"
-refused(case, secret(CUT, b"wrong", Use(hmac, DECRYPTS)), 2)
+refused(case, secret(CUT, b"wrong", hmac.decrypting), 2)
 refused("A wrong hmac, and another behind it: AUTH_FAIL/s1", secret(CUT, hmac, policy), 1, 2)
-refused("The one behind: BAD_AUTH/s2", secret(CUT, b"lockout", Use(policy, DECRYPTS)), 2)
+refused("The one behind: BAD_AUTH/s2", secret(CUT, b"lockout", policy.decrypting), 2)
 
 
 def by_right(words, text):
     """By the right password, and the policy session itself decrypts nonceTPM."""
-    refused(words, secret(text, b"lockout", Use(policy, DECRYPTS)))
+    refused(words, secret(text, b"lockout", policy.decrypting))
 
 
 NONCE = bytes(16)
@@ -201,7 +200,7 @@ faulty["nonce_tpm"] = policy.nonce_tpm
 by_right("Another cpHashA: CPHASH", frames.policy_secret(**faulty))
 faulty["cp_hash"] = CP_HASH
 said = tpm("No fault is left")
-said.accepted(secret(frames.policy_secret(**faulty), b"lockout", Use(policy, DECRYPTS)))
+said.accepted(secret(frames.policy_secret(**faulty), b"lockout", policy.decrypting))
 
 tpm.chapter("In a trial session fewer of them are faults.")
 
@@ -229,7 +228,7 @@ code = CC.PolicyCpHash
 tpm("A cpHash").cp_hash_told(policy, CP_HASH)
 tpm("In the trial session too").cp_hash_told(trial, CP_HASH)
 up_to_hmacs(CUT_DIGEST)
-symmetric(Use(plain, DECRYPTS))
+symmetric(plain.decrypting)
 for what, outcome, text in (
     ("cpHashA that is cut, and cannot be decrypted", "INSUFFICIENT/p1", CUT_DIGEST),
     ("One of 33 bytes, and a byte behind it", "SIZE/p1", sized(bytes(33)) + b"\0"),

@@ -20,10 +20,8 @@ for session in tpm.each_session():
     tpm.digest_is("The digest is the same as that of TPM2_PolicyAuthValue", session, once)
     tpm("TPM2_PolicyAuthValue behind it").auth_value_told(session)
     tpm.digest_is("Also in this order", session, twice)
-    tpm.says(
-        "There are no parameters: a byte behind the handle: SIZE",
-        *(tpm.told(it, session, b"\0") for it in (CC.PolicyAuthValue, CC.PolicyPassword)),
-    )
+    said = tpm("There are no parameters: a byte behind the handle: SIZE")
+    said.says(*(tpm.told(it, session, b"\0") for it in (CC.PolicyAuthValue, CC.PolicyPassword)))
     tpm.digest_is("The digest is as it was", session, twice)
 
     said = tpm("TPM2_PolicyAuthValue with the session itself as an entry")

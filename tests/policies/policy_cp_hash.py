@@ -5,10 +5,10 @@ handles and its parameters. Its parameter is the cpHash of that command, by the 
 import hashlib
 
 from tests.common.policy_teller import PolicyTeller
-from tests.common.vocabulary import area, BY_OWNER, BY_POLICY, CC, DECRYPTS, digest_bytes, FIRST
-from tests.common.vocabulary import flipped, HERE, is_trial, name_of, number, ObjectAttribute
-from tests.common.vocabulary import policy, RH_ENDORSEMENT, RH_OWNER, sealed, SHA1, SHA256, sized
-from tests.common.vocabulary import storage_key, Use, zeros
+from tests.common.vocabulary import area, BY_OWNER, BY_POLICY, CC, digest_bytes, FIRST, flipped
+from tests.common.vocabulary import HERE, is_trial, name_of, number, ObjectAttribute, policy
+from tests.common.vocabulary import RH_ENDORSEMENT, RH_OWNER, sealed, SHA1, SHA256, sized
+from tests.common.vocabulary import storage_key, zeros
 
 tpm = PolicyTeller(__name__, __doc__, tries=True)
 
@@ -71,7 +71,7 @@ one = bytes([1]) * 32
 once = policy.after_cp_hash(SHA256, zeros(session), one)
 for name, choices in (("AES", dict(aes=True)), ("TPM_ALG_XOR", dict(xor=True))):
     other = tpm.start(f"A session, bound to TPM_RH_OWNER, with {name}", RH_OWNER, **choices)
-    tpm("TPM2_PolicyCpHash").cp_hash_told(session, one, Use(other, DECRYPTS))
+    tpm("TPM2_PolicyCpHash").cp_hash_told(session, one, other.decrypting)
     tpm.digest_is("Its digest, of the cpHash in plain", session, once)
     tpm.restarts(session)
 

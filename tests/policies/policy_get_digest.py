@@ -10,10 +10,8 @@ tpm = PolicyTeller(__name__, __doc__)
 for session in tpm.each_session(size=20):
     tpm.digest_is("It begins with zeros", session, zeros(session))
     tpm.digest_is("They are there when asked again", session, zeros(session))
-    tpm.refused(
-        "There are no parameters: a byte behind the handle, and two: SIZE",
-        *(tpm.told(CC.PolicyGetDigest, session, it) for it in (b"\0", b"\0\0")),
-    )
+    said = tpm("There are no parameters: a byte behind the handle, and two: SIZE")
+    said.refused(*(tpm.told(CC.PolicyGetDigest, session, it) for it in (b"\0", b"\0\0")))
     tpm.makes("TPM2_PolicyAuthValue", session, tpm.auth_value_told(session), "The digest of that")
     tpm.makes("TPM2_PolicyAuthValue once more", session, tpm.auth_value_told(session))
     said = tpm("With the session itself as an entry, which authorizes nothing")

@@ -8,9 +8,9 @@ from operator import eq, ge, gt, le, lt, ne
 
 from tests.common.policy_teller import PolicyTeller
 from tests.common.vocabulary import area, bits, BY_OWNER, BY_PLATFORM, BY_POLICY, BY_VALUE, CC
-from tests.common.vocabulary import counter, DECRYPTS, extended, FIFTH, FIRST, flipped, FOURTH
-from tests.common.vocabulary import frames, is_trial, number, NvAttribute, policy, RH_OWNER
-from tests.common.vocabulary import RH_PLATFORM, SECOND, SHA1, SHA256, sized, THIRD, Use, zeros
+from tests.common.vocabulary import counter, extended, FIFTH, FIRST, flipped, FOURTH, frames
+from tests.common.vocabulary import is_trial, number, NvAttribute, policy, RH_OWNER, RH_PLATFORM
+from tests.common.vocabulary import SECOND, SHA1, SHA256, sized, THIRD, Use, zeros
 
 # The operations, and how those compare that are no tests of bits.
 NAMES = (
@@ -152,7 +152,7 @@ def by_sessions(session, trial):
     hmac = tpm.start("An HMAC session that is bound to the index, with AES", bind=FIRST, aes=True)
     tpm.restarts(session)
     tpm("By it").comparing(session, FIRST, b"8", hmac)
-    tpm("With operandB encrypted").comparing(session, FIRST, b"8 bytes.", Use(hmac, DECRYPTS))
+    tpm("With operandB encrypted").comparing(session, FIRST, b"8 bytes.", hmac.decrypting)
     once = after(session, zeros(session), FIRST, b"8", 0, EQ)
     twice = after(session, once, FIRST, b"8 bytes.", 0, EQ)
     tpm.digest_is("What is hashed is plain", session, twice)

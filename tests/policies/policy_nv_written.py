@@ -133,11 +133,9 @@ digest = policy.after_command_code(SHA256, bytes(32), CC.NV_Write)
 digest = policy.after_nv_written(SHA256, digest, NO)
 digest = policy.after_locality(SHA256, digest, 2)
 define("The index", SIXTH, digest)
-tpm.says(
-    "The assertions: SUCCESS",
-    tpm.command_code(session, CC.NV_Write),
-    tpm.written_told(session, NO),
-    tpm.locality(session, 2),
+said = tpm("The assertions: SUCCESS")
+said.says(
+    tpm.command_code(session, CC.NV_Write), tpm.written_told(session, NO), tpm.locality(session, 2)
 )
 writes = tpm.writing(SIXTH, b"data", session)
 tpm.fails("Not written: the locality refuses: LOCALITY", writes)

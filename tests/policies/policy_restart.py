@@ -3,8 +3,7 @@ keeps all else.
 """
 
 from tests.common.policy_teller import PolicyTeller
-from tests.common.vocabulary import CC, digest_bytes, ENCRYPTS, is_trial, RH_OWNER, SHA1, SHA256
-from tests.common.vocabulary import Use, zeros
+from tests.common.vocabulary import CC, digest_bytes, is_trial, RH_OWNER, SHA1, SHA256, Use, zeros
 
 tpm = PolicyTeller(__name__, __doc__)
 PCR_0 = [(SHA256, [0])]
@@ -60,7 +59,7 @@ for algorithm in (SHA1, SHA256):
     said.accepted(tpm.secret(session, nonce_tpm=session.nonce_tpm))
     tpm("TPM2_PolicyRestart by its own hmac").restart(session, session)
     tpm.digest_is("The digest is zeros", session, zeros(session))
-    tpm("TPM2_GetRandom, which it encrypts").random(8, Use(session, ENCRYPTS))
+    tpm("TPM2_GetRandom, which it encrypts").random(8, session.encrypting)
 
 tpm.chapter("Only the session that is named is restarted.")
 other = tpm.policy("Another one")

@@ -16,7 +16,6 @@ VALUES = (
 
 tpm = PolicyTeller(__name__, __doc__, tries=True)
 
-
 tpm.script.wait_each_time()
 for handle, name, value in VALUES:
     tpm.accepted(f'The value of {name} is "{value.decode()}"', tpm.change_auth(handle, value, b""))

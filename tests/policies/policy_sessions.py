@@ -78,11 +78,9 @@ PCR_0 = [(SHA256, [0])]
 
 def tell(session, code, mask, cp_hash):
     """Something of each kind, of which a session takes no other later."""
-    tpm.says(
-        "TPM2_PolicyCommandCode, TPM2_PolicyLocality, TPM2_PolicyPCR: SUCCESS",
-        tpm.command_code(session, code),
-        tpm.locality(session, mask),
-        tpm.pcrs(session, PCR_0),
+    said = tpm("TPM2_PolicyCommandCode, TPM2_PolicyLocality, TPM2_PolicyPCR: SUCCESS")
+    said.says(
+        tpm.command_code(session, code), tpm.locality(session, mask), tpm.pcrs(session, PCR_0)
     )
     tpm.accepted("TPM2_PolicySecret", tpm.secret(session, b"", cp_hash=cp_hash))
 

@@ -90,7 +90,7 @@ for session in (bound, keyed):
     tpm.refused("A reserved attribute: RESERVED_BITS/s1", right.but_entry(1, attributes=0x08))
 for session in (policy, trial):
     said = tpm("decrypt in a session without AES, TPM2_PCR_Event: SYMMETRIC/s1")
-    said.event(b"abc", Use(session, DECRYPTS))
+    said.event(b"abc", session.decrypting)
 said = tpm("A parameter that cannot be decrypted comes behind: AUTH_UNAVAILABLE")
 said.refused(tpm.event(b"abc", Use(bound, DECRYPT)).but(parameters=b"\0"))
 said = tpm("And in a trial session: ATTRIBUTES/s1")

@@ -22,21 +22,12 @@ PLAIN = (
 
 tpm = PolicyTeller(__name__, __doc__, tries=True)
 
-
 tpm.accepted('ownerAuth is "owner"', tpm.change_auth(RH_OWNER, b"owner", b""))
 hmac = tpm.start("An HMAC session, bound to TPM_RH_OWNER, with AES", RH_OWNER, aes=True)
 
 
-def decrypts(**choices):
-    return Use(session, DECRYPTS, **choices)
-
-
-def encrypts():
-    return Use(session, ENCRYPTS)
-
-
 def event(**choices):
-    return tpm.event(b"event data", b"", decrypts(**choices))
+    return tpm.event(b"event data", b"", Use(session, DECRYPTS, **choices))
 
 
 def with_attributes(attributes, commands):
@@ -48,14 +39,14 @@ def as_a_further_entry():
     tpm("TPM2_PolicyAuthValue").auth_value_told(session)
     tpm.accepted("TPM2_PCR_Event by a password, and the data is encrypted by it", event())
     said = tpm("TPM2_HierarchyChangeAuth by a password: its key has no authorization value")
-    said.change_auth(RH_OWNER, b"another", b"owner", decrypts())
+    said.change_auth(RH_OWNER, b"another", b"owner", session.decrypting)
     said = tpm("By an HMAC session, whose hmac has its nonce")
-    said.change_auth(RH_OWNER, b"owner", hmac, decrypts())
-    tpm("TPM2_GetRandom, which it encrypts").random(20, encrypts())
+    said.change_auth(RH_OWNER, b"owner", hmac, session.decrypting)
+    tpm("TPM2_GetRandom, which it encrypts").random(20, session.encrypting)
     tpm("TPM2_GetRandom that it does not encrypt").random(20, hmac, session)
     tpm.digest_is("Its digest is as it was", session)
-    tpm("TPM2_PolicyGetDigest, which it encrypts itself").get_digest(session, encrypts())
-    tpm("And which the HMAC session encrypts").get_digest(session, session, Use(hmac, ENCRYPTS))
+    tpm("TPM2_PolicyGetDigest, which it encrypts itself").get_digest(session, session.encrypting)
+    tpm("And which the HMAC session encrypts").get_digest(session, session, hmac.encrypting)
     right = event()
     tpm.refused(
         "A wrong hmac: by a bit, none, and the attribute taken away: BAD_AUTH/s2",
@@ -66,7 +57,7 @@ def as_a_further_entry():
         valued = event()
     tpm.refused("ownerAuth in its key: BAD_AUTH/s2", valued)
     said = tpm("Parameters that cannot be decrypted: INSUFFICIENT/p1")
-    said.prepare(CC.PCR_Event, [16], b"\0\1", b"", decrypts())
+    said.prepare(CC.PCR_Event, [16], b"\0\1", b"", session.decrypting)
     tpm.accepted("The right one", right)
     tpm.refused("It is of a nonce that is past: BAD_AUTH/s2", right)
     tpm.digest_is("Its digest is as it was", session)
@@ -74,7 +65,7 @@ def as_a_further_entry():
 
 def of_its_own_policy():
     said = tpm("TPM2_PolicyPCR whose digest it decrypts itself|and its digest is of the plain one")
-    said.pcrs(session, [], digest(session.algorithm, b""), [decrypts()])
+    said.pcrs(session, [], digest(session.algorithm, b""), [session.decrypting])
     tpm.digest_is("Its digest", session)
 
     def secret(words, *uses, nonce_tpm=None):
@@ -82,22 +73,22 @@ def of_its_own_policy():
         tpm(words).secret(session, *uses, of=RH_OWNER, nonce_tpm=given)
 
     case = "TPM2_PolicySecret, of which it decrypts nonceTPM itself: the one of before"
-    secret(case, b"owner", decrypts())
+    secret(case, b"owner", session.decrypting)
     case = "And which the HMAC session decrypts, that authorizes"
-    secret(case, Use(hmac, DECRYPTS), session)
+    secret(case, hmac.decrypting, session)
     case = "Decrypted by it, where the HMAC session authorizes and encrypts"
-    secret(case, Use(hmac, ENCRYPTS), decrypts())
+    secret(case, hmac.encrypting, session.decrypting)
     case = "It encrypts, behind a password, and there is nothing to encrypt"
-    secret(case, b"owner", encrypts(), nonce_tpm=b"")
+    secret(case, b"owner", session.encrypting, nonce_tpm=b"")
     tpm.digest_is("Its digest", session)
     if session.kind == SE_POLICY:
         case = "Another nonceTPM, decrypted: NONCE/p1"
-        secret(case, b"owner", decrypts(), nonce_tpm=flipped(session.nonce_tpm))
+        secret(case, b"owner", session.decrypting, nonce_tpm=flipped(session.nonce_tpm))
     tpm.refused(
         "encrypt, where no sized buffer is answered: TPM2_PolicyPCR and TPM2_PolicyRestart: "
         "ATTRIBUTES/s1",
-        tpm.pcrs(session, [], b"", [encrypts()]),
-        tpm.restart(session, encrypts()),
+        tpm.pcrs(session, [], b"", [session.encrypting]),
+        tpm.restart(session, session.encrypting),
     )
     tpm.refused(
         "decrypt, where the first parameter is no sized buffer: TPM2_PolicyOR, "
@@ -132,31 +123,31 @@ for algorithm, hash_name in HASHES:
         said = tpm("With a wrong one, and with a byte: BAD_AUTH/s2")
         said.refused(wrong_in(shown, 2), shown.but_entry(2, hmac=b"\0"))
         tpm.accepted("The right one", shown)
-        tpm("TPM2_GetRandom, which it encrypts without a key").random(8, encrypts())
-        tpm("TPM2_PolicyGetDigest, which it encrypts").get_digest(session, encrypts())
+        tpm("TPM2_GetRandom, which it encrypts without a key").random(8, session.encrypting)
+        tpm("TPM2_PolicyGetDigest, which it encrypts").get_digest(session, session.encrypting)
         tpm.digest_is("Its digest is zeros", session, zeros(session))
         tpm("It is flushed").flush(session)
 
 tpm.chapter("Without AES.")
 plain = tpm.policy("A policy session", bind=RH_OWNER)
-decrypting = tpm.pcrs(plain, [], b"", [Use(plain, DECRYPTS)])
+decrypting = tpm.pcrs(plain, [], b"", [plain.decrypting])
 said = tpm("decrypt and encrypt: SYMMETRIC/s1")
-said.refused(decrypting, tpm.get_digest(plain, Use(plain, ENCRYPTS)))
-tpm("Behind a password: SYMMETRIC/s2").event(b"a", b"", Use(plain, DECRYPTS))
+said.refused(decrypting, tpm.get_digest(plain, plain.encrypting))
+tpm("Behind a password: SYMMETRIC/s2").event(b"a", b"", plain.decrypting)
 
 tpm.chapter("Started beside others, and with others beside it.")
 first = tpm.policy("A policy session, with AES", bind=RH_OWNER, aes=True)
 said = tpm("TPM2_StartAuthSession of another, by which it is encrypted in both directions")
 second = said.start(RH_ENDORSEMENT, kind=SE_TRIAL, aes=True, uses=[Use(first, DECRYPTS | ENCRYPT)])
 said = tpm("Of an HMAC session: the trial session decrypts and the policy session encrypts")
-third = said.start(RH_OWNER, aes=True, uses=[Use(second, DECRYPTS), Use(first, ENCRYPTS)])
+third = said.start(RH_OWNER, aes=True, uses=[second.decrypting, first.encrypting])
 tpm("Three beside a password would be four; two").event(b"a", b"", first, second)
 tpm(
     "TPM2_HierarchyChangeAuth by the HMAC session, with both: the first hmac has the nonce of the "
     "one that decrypts"
-).change_auth(RH_OWNER, b"owner", third, second, Use(first, DECRYPTS))
+).change_auth(RH_OWNER, b"owner", third, second, first.decrypting)
 with tpm.breaking(nonces_of_others=lambda *_: []):
-    left_out = tpm.change_auth(RH_OWNER, b"owner", third, second, Use(first, DECRYPTS))
+    left_out = tpm.change_auth(RH_OWNER, b"owner", third, second, first.decrypting)
 tpm.refused("Where it is left out: BAD_AUTH/s1", left_out)
 
 
@@ -167,12 +158,12 @@ def secret(*uses):
 tpm.accepted(
     "TPM2_PolicySecret in the policy session, which encrypts, and the trial session decrypts: the "
     "first hmac has the nonces of both, in this order",
-    secret(Use(first, ENCRYPTS), Use(second, DECRYPTS)),
+    secret(first.encrypting, second.decrypting),
 )
-tpm.accepted("The other way round", secret(Use(first, DECRYPTS), Use(second, ENCRYPTS)))
+tpm.accepted("The other way round", secret(first.decrypting, second.encrypting))
 tpm.accepted("One does both", secret(second, Use(first, DECRYPTS | ENCRYPT)))
 with tpm.breaking(nonces_of_others=lambda *_: [first.nonce_tpm, second.nonce_tpm]):
-    turned = secret(Use(first, ENCRYPTS), Use(second, DECRYPTS))
+    turned = secret(first.encrypting, second.decrypting)
 tpm.refused("In the other order: BAD_AUTH/s1", turned)
 tpm.restarts(first)
 for it, kind in ((first, SE_POLICY), (second, SE_TRIAL)):

@@ -5,7 +5,7 @@ other policies. tests/python/policy_audit.sh tells tools/audit.py these policies
 from tests.common.vocabulary import AUTH_VALUE, BY_OWNER, CC, digest, HERE, name_of, number
 from tests.common.vocabulary import NvAttribute, ObjectAttribute, PASSWORD, policy, RH_ENDORSEMENT
 from tests.common.vocabulary import RH_OWNER, selection, SHA1, SHA256, Use
-from tests.sessions.grounds_caller import after_code, AFTER_AUTH_VALUE, GroundsCaller, PIN, SECRET
+from tests.sessions.grounds_caller import AFTER_AUTH_VALUE, after_code, GroundsCaller, PIN, SECRET
 from tests.sessions.grounds_caller import ZEROS
 
 USER = ObjectAttribute.USER_WITH_AUTH
@@ -151,7 +151,6 @@ tpm.chapter("The recovery secret still does.")
 asserts("TPM2_PolicySecret", tpm.restart(session), recovery(session), *ends(session))
 tpm.unseal("TPM2_Unseal", disk, SECRET, session)
 
-
 for locality, localities in ((0, LOCALITY_0), (4, LOCALITIES_3_AND_4)):
     tpm.chapter(f"THE UPDATE. From locality {locality}, with a version that is high enough.")
     asserts("TPM2_PolicyLocality, PolicyOR", *from_locality(localities))
@@ -162,7 +161,6 @@ for locality, localities in ((0, LOCALITY_0), (4, LOCALITIES_3_AND_4)):
 tpm.chapter("By the value of the index.")
 asserts("TPM2_PolicySecret", recovery(session, of=index, ref=b""), end)
 tpm.unseal("TPM2_Unseal", key, SECRET, session)
-
 
 tpm.chapter("What is refused. The locality is another.")
 asserts("TPM2_PolicyLocality, PolicyOR", *from_locality(LOCALITIES_3_AND_4))
@@ -190,7 +188,6 @@ for words, compared in other_comparisons():
 asserts("TPM2_PolicyNV", compares(index))
 tpm.unseal("TPM2_Unseal", handle, SECRET, session)
 tpm.flushed(handle)
-
 
 tpm.chapter("A cpHash, which is that of no command.")
 auth_policy = policy.after_cp_hash(SHA256, ZEROS, OF_NO_COMMAND)

@@ -10,7 +10,7 @@ from tests.common.vocabulary import AUTH_VALUE, BY_OWNER, BY_PLATFORM, BY_POLICY
 from tests.common.vocabulary import name_of, NvAttribute, ObjectAttribute, PASSWORD, policy
 from tests.common.vocabulary import RH_ENDORSEMENT, RH_LOCKOUT, RH_NULL, RH_OWNER, RH_PLATFORM
 from tests.common.vocabulary import sealed, SHA1, SHA256, Use
-from tests.sessions.grounds_caller import after_code, after_equal_data, AFTER_AUTH_VALUE
+from tests.sessions.grounds_caller import AFTER_AUTH_VALUE, after_code, after_equal_data
 from tests.sessions.grounds_caller import AFTER_LOCALITY_1, AFTER_PCR_16, after_secret
 from tests.sessions.grounds_caller import AT_LOCALITY_1, DATA, GroundsCaller, OWNER, PCR_16, PIN
 from tests.sessions.grounds_caller import SECRET, ZEROS
@@ -167,7 +167,6 @@ for entity in found[:8]:
     tpm.does(what, entity.prepare(entity.value + bytes(2)))
 tpm("And where it is empty").reset(bytes(32))
 
-
 tpm.chapter(
     "HMAC SESSIONS. The key of the hmac is the session key, which an unbound session has not, "
     "and the value of the entity; but where the session is bound to that very entity its value "
@@ -200,7 +199,6 @@ shown = Use(unbound, shows_empty_key=True)
 tpm.unseal("Or it is the hmac of the empty key", openly, SECRET, shown)
 tpm.unseal("A session that has a key shows it", openly, SECRET, other)
 tpm.flushed(openly, unbound, other)
-
 
 tpm.chapter(
     "POLICY SESSIONS, on objects and NV indices: nothing else has a policy. The session is no "
@@ -281,7 +279,6 @@ for told, demand in ((tpm.asserts_value, AUTH_VALUE), (tpm.asserts_password, PAS
     tpm.unseal("TPM2_Unseal by an empty hmac", openly, SECRET, Use(unbound, demand=demand))
 tpm.flushed(unbound, openly)
 
-
 tpm.chapter(
     "TPM2_PolicyCommandCode: the command is the one that is recorded. So an object and two "
     "indices have each a policy of their own. All three are in the USER role."
@@ -299,7 +296,6 @@ for name, code, prepared in (
     tpm.asserts_code(session, code, name)
     tpm.does(name, prepared())
 tpm.flushed(handle)
-
 
 tpm.chapter(
     "The ADMIN role, in which TPM2_NV_ChangeAuth alone authorizes: the command is recorded. No "
@@ -319,7 +315,6 @@ said.changing_auth(index, b"new", Use(session, demand=AUTH_VALUE))
 tpm.asserts_code(session, code, name)
 tpm.asserts_password(session)
 tpm(f"{name} by it").changing_auth(index, PIN, Use(session, demand=PASSWORD))
-
 
 tpm.chapter("All at once: a PCR, a locality, a command, a cpHash and the value.")
 auth_policy = policy.after_locality(SHA256, AFTER_PCR_16, AT_LOCALITY_1)

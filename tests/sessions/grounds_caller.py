@@ -2,10 +2,10 @@
 indices, whose value is "pin", and the policies that they have.
 """
 
-from tpmsim.caller import HERE, area, sealed
+from tpmsim.caller import area, HERE, sealed
 from tpmsim.model.capability import LOCKOUT_COUNTER, PROPERTIES
-from tpmsim.standard import CC, RH_OWNER, RH_PLATFORM, SHA256, digest, digest_bytes, frames, number
-from tpmsim.standard import policy
+from tpmsim.standard import CC, digest, digest_bytes, frames, number, policy, RH_OWNER, RH_PLATFORM
+from tpmsim.standard import SHA256
 from tests.common.teller import Teller
 
 OWNER, PIN, SECRET, DATA = b"owner", b"pin", b"secret", b"8 bytes."

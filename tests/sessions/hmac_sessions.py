@@ -10,7 +10,6 @@ AUTH = b"owner"
 
 tpm = Teller(__name__, __doc__)
 
-
 tpm.accepted('ownerAuth is "owner" from here on', tpm.change_auth(RH_OWNER, AUTH, b""))
 said = tpm('endorsementAuth is "endorsement"')
 said.accepted(tpm.change_auth(RH_ENDORSEMENT, b"endorsement", b""))

@@ -9,7 +9,7 @@ from tests.common.vocabulary import AUTH_VALUE, BY_OWNER, BY_POLICY, BY_VALUE, C
 from tests.common.vocabulary import frames, HERE, name_of, NvAttribute, ObjectAttribute, PASSWORD
 from tests.common.vocabulary import policy, RH_ENDORSEMENT, RH_LOCKOUT, RH_NULL, RH_OWNER
 from tests.common.vocabulary import RH_PLATFORM, sealed, SHA1, SHA256, Use
-from tests.sessions.grounds_caller import after_code, after_equal_data, AFTER_AUTH_VALUE
+from tests.sessions.grounds_caller import AFTER_AUTH_VALUE, after_code, after_equal_data
 from tests.sessions.grounds_caller import AFTER_LOCALITY_1, AFTER_PCR_16, after_secret
 from tests.sessions.grounds_caller import AT_LOCALITY_1, DATA, GroundsCaller, OWNER, PCR_16, PIN
 from tests.sessions.grounds_caller import SECRET, ZEROS
@@ -222,7 +222,6 @@ for words, attributes, outcome in (
     lost(f"By another password: {outcome}", tpm.writing(index, DATA, b"other"))
     tpm("By the value").writing(index, DATA)
 
-
 tpm.chapter("THE VALUE IS OF NO USE. It is right, in a password and in an HMAC session.")
 closed = tpm.sealed_object("An object without userWithAuth", AFTER_UNSEAL)
 lost("TPM2_Unseal: AUTH_UNAVAILABLE", tpm.unsealing(closed, PIN), tpm.unsealing(closed, hmac))
@@ -282,7 +281,6 @@ tpm.asserts_code(session)
 tpm.unseal("By a policy session", handle, SECRET, session)
 tpm.flushed(trial)
 
-
 tpm.chapter("The entity cannot have a policy (condition 2). No policy is asserted here.")
 lost("An object with an empty authPolicy: AUTH_UNAVAILABLE", tpm.unsealing(openly, session))
 hierarchies = RH_OWNER, RH_ENDORSEMENT, RH_PLATFORM, RH_LOCKOUT
@@ -316,7 +314,6 @@ tpm.asserts_code(session, CC.NV_Read, "TPM2_NV_Read")
 lost("TPM2_NV_Write: POLICY_CC/s1", tpm.writing(index, DATA, session))
 tpm.read("TPM2_NV_Read", index, DATA, session)
 
-
 tpm.chapter("The ADMIN role, and no command is recorded (condition 5), or another.")
 index = tpm.index("An index whose authPolicy is 32 zeros", BY_POLICY, ZEROS)
 lost("TPM2_NV_ChangeAuth: POLICY_FAIL/s1", tpm.changing_auth(index, PIN, session))
@@ -344,7 +341,6 @@ lost("The second one: POLICY_FAIL/s1", tpm.writing(index, DATA, session))
 tpm.restarts(session)
 tpm.flushed(handle)
 
-
 tpm.chapter("The command comes from a locality that is not named (condition 7).")
 handle = tpm.sealed_object("An object whose policy is locality 1", AFTER_LOCALITY_1)
 tpm.asserts("TPM2_PolicyLocality of 1", tpm.locality(session, AT_LOCALITY_1))
@@ -355,7 +351,6 @@ tpm.locality_is(1)
 tpm.unseal("From locality 1", handle, SECRET, session)
 tpm.locality_is(0)
 tpm.flushed(handle)
-
 
 handle = named
 tpm.chapter("The hash of the session is not the nameAlg of the entity (condition 8).")
@@ -388,7 +383,6 @@ tpm.unseal("By none", handle, SECRET, session)
 tpm.flushed(bound)
 undemanding = handle
 
-
 tpm.chapter("TPM2_PolicyPassword: the hmac is not the value in plain.")
 said = tpm("An object with its policy, which is that of TPM2_PolicyAuthValue, too")
 handle = said.sealed_object(AFTER_AUTH_VALUE)
@@ -410,7 +404,6 @@ lost("The value is there in plain: AUTH_FAIL/s1", by_password())
 tpm.does("The value is in the key", by_value())
 demanding = handle
 
-
 # What is right, and refused, as the failed tries of this script lock.
 tpm.chapter("LOCKOUT. Who would compare the value of a protected entity is refused.")
 bound = tpm.start("A session bound to the object", openly)
@@ -428,7 +421,6 @@ for what, by in (("By the password, and by both sessions", PIN), ("", hmac), (""
 tpm.asserts_value(session)
 tpm.does("By the policy that demands the value", use())
 tpm.flushed(bound, demanding, undemanding)
-
 
 tpm.chapter(
     "WHAT IS ASKED ONCE. TPM2_PolicyNV and TPM2_PolicySecret look at data and at a value as "

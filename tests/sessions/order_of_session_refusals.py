@@ -3,14 +3,12 @@ faults one after the other is repaired. What is answered is the first that is le
 docs/table/order_of_refusals.md.
 """
 
-from tests.common.vocabulary import CC, CONTINUE_SESSION, DECRYPTS, ENCRYPT, Entry, frames, number
-from tests.common.vocabulary import RH_NULL, RH_OWNER, sized, Teller, Use, wrong_in
+from tests.common.vocabulary import CC, DECRYPTS, ENCRYPT, Entry, frames, number, RH_NULL, RH_OWNER
+from tests.common.vocabulary import sized, Teller, Use, wrong_in
 
-ENCRYPTS = CONTINUE_SESSION | ENCRYPT
 NULLS = [RH_NULL, RH_NULL]
 
 tpm = Teller(__name__, __doc__)
-
 
 first = tpm.start("A session", RH_OWNER, aes=True)
 second = tpm.start("Another one", RH_OWNER, aes=True)
@@ -25,7 +23,7 @@ def start(handles, parameters, *uses):
     return tpm.prepare(CC.StartAuthSession, handles, parameters, *uses)
 
 
-uses = Use(first, DECRYPTS), Use(second, ENCRYPTS)
+uses = first.decrypting, second.encrypting
 cut, absent = sized(bytes(16))[:-1], Entry(0x0200_0005, b"", 0xFF, b"")
 for words, *handles in (
     ("tpmKey is not TPM_RH_NULL, and bind is not there: VALUE/h1", RH_OWNER, 0x8000_0000),
@@ -59,29 +57,26 @@ def event(text, *uses, pcr=17):
     return tpm.prepare(CC.PCR_Event, [pcr], text, *uses)
 
 
-def decrypts():
-    return Use(second, DECRYPTS)
-
-
 tpm.refused("PCR 24, and no sessions (tag 8001): VALUE/h1", event(b"", pcr=24))
 tpm.refused("No sessions (tag 8001): AUTH_MISSING", event(b""))
 case = "encrypt, as the first answer is no sized buffer, in the second entry: ATTRIBUTES/s2"
-tpm.refused(case, wrong_in(event(b"\0", first, Use(second, ENCRYPTS)), 1, 2))
+tpm.refused(case, wrong_in(event(b"\0", first, second.encrypting), 1, 2))
 case = "The first hmac of two that are wrong: BAD_AUTH/s1"
-tpm.refused(case, wrong_in(event(b"\0", first, decrypts()), 1, 2))
-tpm.refused("A wrong password: BAD_AUTH/s1", wrong_in(event(b"\0", b"x", decrypts()), 2))
-second_wrong = (wrong_in(event(b"\0", it, decrypts()), 2) for it in (first, b""))
+tpm.refused(case, wrong_in(event(b"\0", first, second.decrypting), 1, 2))
+tpm.refused("A wrong password: BAD_AUTH/s1", wrong_in(event(b"\0", b"x", second.decrypting), 2))
+second_wrong = (wrong_in(event(b"\0", it, second.decrypting), 2) for it in (first, b""))
 tpm.refused("The second hmac: BAD_AUTH/s2", *second_wrong)
-tpm.refused("The third hmac: BAD_AUTH/s3", wrong_in(event(b"\0", b"", first, decrypts()), 3))
+tpm.refused("The third hmac: BAD_AUTH/s3", wrong_in(event(b"\0", b"", first, second.decrypting), 3))
 for words, *texts in (
     ("The parameter that is cut: INSUFFICIENT/p1", b"\0", b"\xff\xff"),
     ("One that is too long, and a byte behind it: SIZE/p1", sized(bytes(1025)) + b"\0"),
     ("A byte behind it: SIZE", sized(bytes(1024)) + b"\0"),
     ("The locality: LOCALITY", sized(bytes(1024))),
 ):
-    tpm.refused(words, *(event(it, first, decrypts()) for it in texts))
+    tpm.refused(words, *(event(it, first, second.decrypting) for it in texts))
 tpm.locality_is(3)
-tpm.accepted("From locality 3 no fault is left", event(sized(bytes(1024)), first, decrypts()))
+said = tpm("From locality 3 no fault is left")
+said.accepted(event(sized(bytes(1024)), first, second.decrypting))
 tpm.locality_is(0)
 
 tpm.chapter("TPM2_HierarchyChangeAuth of TPM_RH_OWNER.")

@@ -6,11 +6,10 @@ command of a session has random bytes of its own, where nothing else is said.
 
 from dataclasses import replace
 
-from tests.common.vocabulary import AUTH_VALUE, BY_POLICY, BY_VALUE, CC, CLEAR, DECRYPTS, ENCRYPTS
-from tests.common.vocabulary import ENDS, FIRST, frames, NvAttribute, PASSWORD, RH_ENDORSEMENT
-from tests.common.vocabulary import RH_LOCKOUT, RH_NULL, RH_OWNER, SE_HMAC, SE_POLICY, SHA256, STATE
-from tests.common.vocabulary import Use
-from tests.sessions.grounds_caller import AFTER_AUTH_VALUE, DATA, OWNER, ZEROS, GroundsCaller
+from tests.common.vocabulary import AUTH_VALUE, BY_POLICY, BY_VALUE, CC, CLEAR, ENDS, FIRST, frames
+from tests.common.vocabulary import NvAttribute, PASSWORD, RH_ENDORSEMENT, RH_LOCKOUT, RH_NULL
+from tests.common.vocabulary import RH_OWNER, SE_HMAC, SE_POLICY, SHA256, STATE, Use
+from tests.sessions.grounds_caller import AFTER_AUTH_VALUE, DATA, GroundsCaller, OWNER, ZEROS
 
 VALUE, LOCKOUT_AUTH, OTHER_DATA = b"a", b"lockout", b"to write"
 RECOVERY = 1_000_000  # milliseconds of recoveryTime and lockoutRecovery, as they are at first
@@ -123,9 +122,9 @@ def other_places(session, to_endorsement):
     case = "With one in the second entry, whose key and hmac are empty, and one in the third"
     replayed(case, tpm.writing(FIRST, DATA, VALUE, unbound, to_endorsement), "BAD_AUTH/s3", "G10")
     case = "TPM2_NV_Read, and the session encrypts"
-    replayed(case, tpm.reading(FIRST, 8, VALUE, Use(aes, ENCRYPTS)), "BAD_AUTH/s2", "G10")
+    replayed(case, tpm.reading(FIRST, 8, VALUE, aes.encrypting), "BAD_AUTH/s2", "G10")
     case = "TPM2_NV_Write, and the session decrypts"
-    decrypting = accepted(case, tpm.writing(FIRST, OTHER_DATA, VALUE, Use(aes, DECRYPTS)))
+    decrypting = accepted(case, tpm.writing(FIRST, OTHER_DATA, VALUE, aes.decrypting))
     tpm.does("Other data are written", write(VALUE))
     again("What decrypts again: BAD_AUTH/s2", decrypting, "G10")
     tpm.read("The data are as they were", FIRST, DATA, VALUE)
@@ -133,7 +132,7 @@ def other_places(session, to_endorsement):
     replayed(case, tpm.random(2, aes), "BAD_AUTH/s1", "G10")
     tpm.tries_are("None of these was a failed try", 0)
     case = "TPM2_NV_Write by a session, and another one decrypts"
-    both = tpm.writing(FIRST, DATA, session, Use(aes, DECRYPTS))
+    both = tpm.writing(FIRST, DATA, session, aes.decrypting)
     replayed(case, both, "AUTH_FAIL/s1, which the first entry refuses")
     tpm.tries_are("And that is a failed try", 1)
     tpm.unlocks()
@@ -153,7 +152,7 @@ def compared_with_nothing(session):
     tpm.chapter("Parameter encryption has the nonce in its key all the same.")
     aes = tpm.start("A session with AES, bound to nothing", aes=True)
     case = "TPM2_NV_Write by the password, and this session decrypts, whose hmac is empty"
-    decrypting = accepted(case, tpm.writing(FIRST, OTHER_DATA, VALUE, Use(aes, DECRYPTS)))
+    decrypting = accepted(case, tpm.writing(FIRST, OTHER_DATA, VALUE, aes.decrypting))
     tpm.read("What was written", FIRST, OTHER_DATA, VALUE)
     tpm.does("The same again", decrypting)
     answer = tpm("Other bytes were written").reading(FIRST, 8, VALUE)
@@ -389,7 +388,6 @@ for what, outcome, *uses in (
     ending = tpm.writing(FIRST, DATA, *uses, Use(start.session, ENDS))
     replayed(what, ending, outcome, "G8")
 tpm.tries_are("None of these was a failed try", 0)
-
 
 tpm.chapter(
     "WHAT WAS REFUSED can be sent again until it is accepted: a refusal makes no nonce new."

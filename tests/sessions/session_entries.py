@@ -10,7 +10,6 @@ BOTH = DECRYPT | ENCRYPT
 
 tpm = Teller(__name__, __doc__)
 
-
 refused = tpm.refused
 
 
@@ -31,7 +30,6 @@ read = with_entries(CC.PCR_Read, [], frames.selection((SHA256, [0])))
 random = with_entries(CC.GetRandom, [], number(4, 2))
 start = with_entries(CC.StartAuthSession, *frames.start_auth_session(bytes(16)))
 change = with_entries(CC.HierarchyChangeAuth, [RH_OWNER], sized(b"abc"))
-
 
 plain = tpm.start("Session 02000000, bound to TPM_RH_OWNER, which cannot encrypt", RH_OWNER)
 aes = tpm.start("Session 02000001, bound to it, which can", RH_OWNER, aes=True)
@@ -66,10 +64,9 @@ refused(
 tpm.chapter("A session that stands twice, or a password that authorizes nothing.")
 case = "In the first two entries: HANDLE/s2"
 refused(case, reset(entry(plain), entry(plain)), random(entry(plain), entry(plain)))
+case = "In the first and the third, and in the second and the third: HANDLE/s3"
 refused(
-    "In the first and the third, and in the second and the third: HANDLE/s3",
-    reset(entry(plain), entry(aes), entry(plain)),
-    reset(password, entry(plain), entry(plain)),
+    case, reset(entry(plain), entry(aes), entry(plain)), reset(password, entry(plain), entry(plain))
 )
 refused("A password behind a session: HANDLE/s2", reset(entry(plain), password))
 case = "Behind a session where there is nothing to authorize: HANDLE/s2"
@@ -161,10 +158,9 @@ case = "And all of the second before the third: SYMMETRIC/s2"
 refused(case, event(entry(aes), entry(plain, DECRYPT), entry(aes, 0xFF, nonce=bytes(33))))
 cut = frames.entry(plain.handle, bytes(33)) + frames.entry(aes.handle)[:-1]
 four = (frames.entry(plain.handle, bytes(33)), *3 * [frames.entry(aes.handle)])
-tpm.raw(
-    "But an entry that is cut comes before them all, and so does a fourth: AUTHSIZE",
-    *(frames.on_handle(CC.PCR_Reset, 16, b"", entries) for entries in ((cut,), four)),
-    fresh=True,
+said = tpm("But an entry that is cut comes before them all, and so does a fourth: AUTHSIZE")
+said.raw(
+    *(frames.on_handle(CC.PCR_Reset, 16, b"", entries) for entries in ((cut,), four)), fresh=True
 )
 
 tpm.accepted("No session was changed by a refusal: the right entry alone", right)

@@ -96,25 +96,25 @@ for algorithm, nonce_size in ((SHA1, 16), (SHA1, 20), (SHA256, 16), (SHA256, 32)
     for size in SIZES:
         data = bytes(it * 7 % 256 for it in range(size))
         case = f"TPM2_PCR_Event of {size:,} bytes, beside the digests of them in plain"
-        answer = masking(case, tpm.event(data, Use(bound, DECRYPTS)), data)
+        answer = masking(case, tpm.event(data, bound.decrypting), data)
         digests = number(2, 4) + number(SHA1, 2) + hashlib.sha1(data).digest()
         assert answer == digests + number(SHA256, 2) + hashlib.sha256(data).digest()
-        masking("By the unbound one", tpm.event(data, Use(unbound, DECRYPTS)), data)
+        masking("By the unbound one", tpm.event(data, unbound.decrypting), data)
     for size in (0, 1, 20, 21, 32):
         case = f"TPM2_GetRandom of {size} bytes"
-        masked(case, tpm.random(size, Use(bound, ENCRYPTS)), drawn(size))
-        masked("By the unbound one", tpm.random(size, Use(unbound, ENCRYPTS)), drawn(size))
+        masked(case, tpm.random(size, bound.encrypting), drawn(size))
+        masked("By the unbound one", tpm.random(size, unbound.encrypting), drawn(size))
     for size in SIZES:
         data = bytes(size) if size == 33 else bytes(it * 11 % 256 for it in range(size))
         case = f"TPM2_NV_Write of {size:,} bytes by the index itself, whose value is in the key"
-        masking(case, tpm.writing(FIRST, data, Use(bound, DECRYPTS)), data, auth_value=b"index")
+        masking(case, tpm.writing(FIRST, data, bound.decrypting), data, auth_value=b"index")
         case = "TPM2_NV_Read of them, by the unbound session"
-        masked(case, tpm.reading(FIRST, size, Use(unbound, ENCRYPTS)), data, auth_value=b"index")
+        masked(case, tpm.reading(FIRST, size, unbound.encrypting), data, auth_value=b"index")
     tpm.read("In plain", FIRST, bytes(it * 11 % 256 for it in range(1024)))
-    changing = tpm.change_auth(RH_OWNER, b"another", Use(bound, DECRYPTS))
+    changing = tpm.change_auth(RH_OWNER, b"another", bound.decrypting)
     case = "TPM2_HierarchyChangeAuth by the bound one: ownerAuth is in the key of the mask, which"
     masking(f"{case} is not in that of the hmac", changing, b"another", auth_value=OWNER_AUTH)
-    changing = tpm.change_auth(RH_OWNER, OWNER_AUTH, Use(unbound, DECRYPTS))
+    changing = tpm.change_auth(RH_OWNER, OWNER_AUTH, unbound.decrypting)
     masking("And back, by the unbound one", changing, OWNER_AUTH, auth_value=b"another")
     for session in (bound, unbound):
         tpm.accepted("It is flushed", tpm.flush(session))
@@ -140,14 +140,14 @@ def both_ways(what, attributes, *more, to, back, auth_values):
 case = "TPM2_HMAC of 28 bytes: the nonces are exchanged between both, and the device's is new"
 both_ways(case, BOTH, to=1, back=1, auth_values=(b"key", b"key"))
 case = "The second entry unmasks, in which nothing is authorized"
-both_ways(case, ENCRYPTS, Use(other, DECRYPTS), to=2, back=1, auth_values=(b"", b"key"))
+both_ways(case, ENCRYPTS, other.decrypting, to=2, back=1, auth_values=(b"", b"key"))
 case = "The other way round"
-both_ways(case, DECRYPTS, Use(other, ENCRYPTS), to=1, back=2, auth_values=(b"key", b""))
+both_ways(case, DECRYPTS, other.encrypting, to=1, back=2, auth_values=(b"key", b""))
 aes = tpm.start("A session with AES", RH_ENDORSEMENT, aes=True)
 sha1 = tpm.start("One with SHA-1", RH_ENDORSEMENT, algorithm=SHA1, size=20, xor=True)
-prepared = tpm.hmac(key, TEXT, SHA256, Use(session, ENCRYPTS), Use(aes, DECRYPTS))
+prepared = tpm.hmac(key, TEXT, SHA256, session.encrypting, aes.decrypting)
 masked("AES in, TPM_ALG_XOR back", prepared, KNOWN, 1, b"key")
-prepared = tpm.hmac(key, TEXT, SHA256, Use(session, DECRYPTS), Use(aes, ENCRYPTS))
+prepared = tpm.hmac(key, TEXT, SHA256, session.decrypting, aes.encrypting)
 answer = masking("TPM_ALG_XOR in, AES back", prepared, TEXT, auth_value=b"key")
 assert answer == sized(KNOWN)
 case = "A mask of SHA-1 in a command whose first hmac is of SHA-256"
@@ -159,9 +159,9 @@ said = tpm('Sealed data, whose value is "value"')
 made = said.create(parent, sealed(), user_auth=b"value", data=b"s" * 128)
 handle = tpm.load("TPM2_Load", parent, made)
 case = "TPM2_Unseal through the session: the data, with the mask on them"
-masked(case, tpm.unsealing(handle, Use(session, ENCRYPTS)), b"s" * 128, auth_value=b"value")
+masked(case, tpm.unsealing(handle, session.encrypting), b"s" * 128, auth_value=b"value")
 case = "Beside the password"
-masked(case, tpm.unsealing(handle, b"value", Use(other, ENCRYPTS)), b"s" * 128, place=2)
+masked(case, tpm.unsealing(handle, b"value", other.encrypting), b"s" * 128, place=2)
 template = sealed(auth_policy=policy.after_auth_value(SHA256, bytes(32)))
 for name, made_by, demand in (
     ("TPM2_PolicyAuthValue", tpm.auth_value_told, AUTH_VALUE),
@@ -178,7 +178,7 @@ for name, made_by, demand in (
     tpm.accepted("It is flushed", tpm.flush(by_policy))
     tpm.accepted("And the session", tpm.flush(told))
 trial = tpm.start("A trial session", kind=SE_TRIAL, xor=True)
-masked("TPM2_GetRandom by it", tpm.random(32, Use(trial, ENCRYPTS)), drawn(32))
+masked("TPM2_GetRandom by it", tpm.random(32, trial.encrypting), drawn(32))
 tpm.accepted("It is flushed", tpm.flush(trial))
 
 tpm.chapter(
@@ -206,32 +206,32 @@ assert (LONGEST, len(of_size(LONGEST))) == (4067, 4096)
 for size in (1025, LONGEST):
     tpm.raw(f"TPM2_PCR_Event of {size:,} bytes: SIZE/p1", of_size(size), fresh=True)
 tpm.raw("And of one byte more: COMMAND_SIZE", of_size(LONGEST + 1), fresh=True)
-room = COMMAND_BYTES - len(tpm.event(b"", Use(session, DECRYPTS)).buffer())
+room = COMMAND_BYTES - len(tpm.event(b"", session.decrypting).buffer())
 said = tpm(f"With a nonce and an hmac, of {room:,} bytes: SIZE/p1")
-said.event(bytes(room), Use(session, DECRYPTS))
+said.event(bytes(room), session.decrypting)
 case = "What is cut cannot be unmasked: no size, half of it, and a byte too few: INSUFFICIENT/p1"
 cut = b"", b"\0", number(21, 2) + bytes(20), number(LONGEST, 2) + bytes(1024)
-tpm.refused(case, *(tpm.prepare(CC.PCR_Event, [16], it, Use(session, DECRYPTS)) for it in cut))
-masking("Of 1,024 bytes", tpm.event(bytes(1024), Use(session, DECRYPTS)), bytes(1024))
+tpm.refused(case, *(tpm.prepare(CC.PCR_Event, [16], it, session.decrypting) for it in cut))
+masking("Of 1,024 bytes", tpm.event(bytes(1024), session.decrypting), bytes(1024))
 
 tpm.chapter("What is refused, with right hmacs.")
 said = tpm("TPM_ALG_XOR of SHA-1 for a session of SHA-256: HASH/p4")
 said.refused(tpm.prepare(CC.StartAuthSession, *frames.start_auth_session(bytes(16), xor=SHA1)))
 assert tpm.last.response == bytes.fromhex("80010000000a000004c3")
-right = tpm.event(b"event data", Use(session, DECRYPTS))
+right = tpm.event(b"event data", session.decrypting)
 said = tpm("One bit of the masked bytes, which the hmac is of: BAD_AUTH/s1")
 said.refused(right.but(parameters=flipped(right.parameters)))
 tpm.refused("The same bytes in plain: BAD_AUTH/s1", right.but(parameters=sized(b"event data")))
 said = tpm("The attribute decrypt taken away: BAD_AUTH/s1")
 said.refused(right.but_entry(1, attributes=CONTINUE_SESSION))
 said = tpm("A second session that unmasks: ATTRIBUTES/s2")
-said.event(b"event data", Use(session, DECRYPTS), Use(other, DECRYPTS))
+said.event(b"event data", session.decrypting, other.decrypting)
 resets = [tpm.reset(Use(session, it)) for it in (DECRYPTS, ENCRYPTS)]
 said = tpm("decrypt and encrypt where there is no such buffer: ATTRIBUTES/s1")
-said.refused(*resets, tpm.event(b"event data", Use(session, ENCRYPTS)))
+said.refused(*resets, tpm.event(b"event data", session.encrypting))
 masking("No refusal has changed its nonce", right, b"event data")
 plain = tpm.start("A session without a cipher", RH_OWNER)
-tpm("It masks nothing: SYMMETRIC/s1").event(b"event data", Use(plain, DECRYPTS))
+tpm("It masks nothing: SYMMETRIC/s1").event(b"event data", plain.decrypting)
 
 tpm.chapter("The cipher of an object is AES, and no TPM_ALG_XOR.")
 template = storage_key().text
