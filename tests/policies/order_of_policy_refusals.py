@@ -127,8 +127,7 @@ decrypted("pcrDigest that is cut, and cannot be decrypted: INSUFFICIENT/p1", CUT
 decrypted("One of 33 bytes, and nothing behind it: SIZE/p1", sized(bytes(33)))
 decrypted("No selection behind it: INSUFFICIENT/p2", GIVEN)
 decrypted("Of seventeen banks, the first cut: SIZE/p2", GIVEN + number(17, 4) + b"\0")
-case = "Of a wrong hash, of four octets, and cut: HASH/p2"
-decrypted(case, GIVEN + number(1, 4) + b"\0\x0c\4")
+decrypted("Of a wrong hash, of four octets, and cut: HASH/p2", GIVEN + number(1, 4) + b"\0\x0c\4")
 decrypted("Of four octets, and cut: VALUE/p2", GIVEN + number(1, 4) + b"\0\x0b\4")
 decrypted("Cut: INSUFFICIENT/p2", GIVEN + selection((SHA256, [0]))[:-1])
 decrypted("A byte behind it: SIZE", GIVEN + selection((SHA256, [0])) + b"\0")

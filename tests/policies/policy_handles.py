@@ -100,8 +100,7 @@ case = "No policySession: INSUFFICIENT/h2"
 refused(case, plain(SECRET, RH_OWNER), plain(SECRET, RH_OWNER, text=b"\3\0\0"))
 case = "A policySession of another kind: VALUE/h2"
 refused(case, *(by_password(RH_OWNER, it) for it in OTHER_KINDS))
-case = "One that is not there: REFERENCE_H1"
-refused(case, *(by_password(RH_OWNER, it) for it in ABSENT))
+refused("One that is not there: REFERENCE_H1", *(by_password(RH_OWNER, it) for it in ABSENT))
 case = "Without sessions (tag 8001), behind the handles: AUTH_MISSING"
 refused(case, plain(SECRET, RH_OWNER, policy.handle, text=NOTHING))
 case = "Which are looked at before: REFERENCE_H1"
@@ -111,8 +110,7 @@ tpm("A password, the HMAC session and the policy session itself").secret(policy,
 
 tpm.chapter("The place of an HMAC session is no policy session's, and the other way round.")
 other = tpm.start("An HMAC session, 02000003", algorithm=SHA1)
-case = "TPM2_PolicyGetDigest of 03000003: REFERENCE_H0"
-refused(case, plain(CC.PolicyGetDigest, 0x0300_0003))
+refused("TPM2_PolicyGetDigest of 03000003: REFERENCE_H0", plain(CC.PolicyGetDigest, 0x0300_0003))
 tpm("It is flushed").flush(other)
 other = tpm.policy("A policy session takes its place", algorithm=SHA1)
 assert other.handle == 0x0300_0003

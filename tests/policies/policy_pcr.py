@@ -61,8 +61,7 @@ for session in tpm.each_session():
     texts(case, selection(*17 * ZERO), number(17, 4), number(0xFFFF_FFFF, 4))
     case = "A hash that is neither SHA-1 nor SHA-256: TPM_ALG_NULL, and SHA-384 as the second"
     texts(f"{case}: HASH/p2", selection((0x0010, [0])), selection((SHA1, [0]), (0x000C, [0])))
-    case = "A bank of two octets, and of four: VALUE/p2"
-    texts(case, of_one + b"\2\0\0", of_one + b"\4\0\0\0\0")
+    texts("A bank of two octets, and of four: VALUE/p2", of_one + b"\2\0\0", of_one + b"\4\0\0\0\0")
     case = "A byte behind them, also where pcrDigest is another: SIZE"
     texts(case, EMPTY + one + b"\0", sized(bytes(32)) + one + b"\0", front=b"")
     tpm.digest_is("The digest is zeros", session, zeros(session))
@@ -123,8 +122,7 @@ for session in tpm.each_session():
     changed("And of PCRs that are as they were, or of none", [(SHA256, [1])])
     changed("", [])
     outcome = "SUCCESS" if is_trial(session) else "PCR_CHANGED"
-    said = tpm(f"With a wrong digest it is no other refusal: {outcome}")
-    said.pcrs(session, ZERO, b"wrong")
+    tpm(f"With a wrong digest it is no other refusal: {outcome}").pcrs(session, ZERO, b"wrong")
     from_the_start("A policy from the start has the new value")
     tpm.digest_is("Its digest", session)
     extended("PCR 16, which is not selected, is extended in one bank", 16, (SHA1, bytes(20)))

@@ -74,8 +74,7 @@ def of_its_own_policy():
 
     case = "TPM2_PolicySecret, of which it decrypts nonceTPM itself: the one of before"
     secret(case, b"owner", session.decrypting)
-    case = "And which the HMAC session decrypts, that authorizes"
-    secret(case, hmac.decrypting, session)
+    secret("And which the HMAC session decrypts, that authorizes", hmac.decrypting, session)
     case = "Decrypted by it, where the HMAC session authorizes and encrypts"
     secret(case, hmac.encrypting, session.decrypting)
     case = "It encrypts, behind a password, and there is nothing to encrypt"

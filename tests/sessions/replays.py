@@ -362,8 +362,7 @@ for kind, words in ((CLEAR, "CLEAR"), (STATE, "STATE")):
     again("The same again: INITIALIZE, as the device is not started", first, "G5")
     tpm.start_up(f"TPM2_Startup({words})", kind)
     again("The same again: REFERENCE_S0, as the session is gone", first, "G8")
-    case = "TPM2_PolicyGetDigest of the policy session: REFERENCE_H0"
-    again(case, tpm.get_digest(told), "G6")
+    again("TPM2_PolicyGetDigest of the policy session: REFERENCE_H0", tpm.get_digest(told), "G6")
     tpm.tries_are("The failed try is kept, and there is no other", 1)
     tpm.unlocks()
     start.again()

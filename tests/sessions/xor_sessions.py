@@ -101,8 +101,7 @@ for algorithm, nonce_size in ((SHA1, 16), (SHA1, 20), (SHA256, 16), (SHA256, 32)
         assert answer == digests + number(SHA256, 2) + hashlib.sha256(data).digest()
         masking("By the unbound one", tpm.event(data, unbound.decrypting), data)
     for size in (0, 1, 20, 21, 32):
-        case = f"TPM2_GetRandom of {size} bytes"
-        masked(case, tpm.random(size, bound.encrypting), drawn(size))
+        masked(f"TPM2_GetRandom of {size} bytes", tpm.random(size, bound.encrypting), drawn(size))
         masked("By the unbound one", tpm.random(size, unbound.encrypting), drawn(size))
     for size in SIZES:
         data = bytes(size) if size == 33 else bytes(it * 11 % 256 for it in range(size))
@@ -207,8 +206,7 @@ for size in (1025, LONGEST):
     tpm.raw(f"TPM2_PCR_Event of {size:,} bytes: SIZE/p1", of_size(size), fresh=True)
 tpm.raw("And of one byte more: COMMAND_SIZE", of_size(LONGEST + 1), fresh=True)
 room = COMMAND_BYTES - len(tpm.event(b"", session.decrypting).buffer())
-said = tpm(f"With a nonce and an hmac, of {room:,} bytes: SIZE/p1")
-said.event(bytes(room), session.decrypting)
+tpm(f"With a nonce and an hmac, of {room:,} bytes: SIZE/p1").event(bytes(room), session.decrypting)
 case = "What is cut cannot be unmasked: no size, half of it, and a byte too few: INSUFFICIENT/p1"
 cut = b"", b"\0", number(21, 2) + bytes(20), number(LONGEST, 2) + bytes(1024)
 tpm.refused(case, *(tpm.prepare(CC.PCR_Event, [16], it, session.decrypting) for it in cut))
