@@ -153,8 +153,8 @@ class Rules:
             return
         target = LIST_OF_CHECKS.search(words)[1]
         listed = [it for it in items(section_at(target)) if re.match(r"\d\. ", it)]
-        for at, it in zip(range(first, last + 1), listed):
-            self.add(f"{name}/A{at}", it.partition(" ")[2], target)
+        for at in range(first, last + 1):
+            self.add(f"{name}/A{at}", listed[at - first].partition(" ")[2], target)
 
 
 def rules():

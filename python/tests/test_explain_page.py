@@ -23,8 +23,13 @@ do NV_Write OWNER 01000001 pw:{HOSTILE[:32].encode().hex()} {b'<!--'.hex()} 0
 """
 
 
-def page_of(name, log, answers=None):
-    return page.of_log(name, Play(None, answers, None, True), log, Counts())
+def page_of(name, log, answers=None, play=None):
+    return page.of_log(name, play or Play(None, answers, None, True), log, Counts())
+
+
+def data_of(text):
+    """What a page shows, as its first script has it."""
+    return json.loads(Elements(text).scripts[0])
 
 
 class Elements(html.parser.HTMLParser):
@@ -57,10 +62,8 @@ class Elements(html.parser.HTMLParser):
 
 class Page(unittest.TestCase):
     def test_escaping(self):
-        plain, hostile = Elements(page_of("a.tpm", b"do Startup 0\n")), page_of(
-            HOSTILE, LOG.encode()
-        )
-        parsed = Elements(hostile)
+        plain = Elements(page_of("a.tpm", b"do Startup 0\n"))
+        parsed = Elements(page_of(HOSTILE, LOG.encode()))
         tags = [tag for tag, _ in parsed.found]
         self.assertEqual(tags, [tag for tag, _ in plain.found])
         name = pathlib.PurePath(HOSTILE).name
@@ -77,10 +80,9 @@ class Page(unittest.TestCase):
     def test_nothing_is_fetched(self):
         text = page_of("disk_unlock.tpm", EXAMPLE.read_bytes())
         found = Elements(text).found
-        self.assertEqual(
-            [it for it in found if set(it[1]) & {"src", "href", "srcset", "action"}], []
-        )
-        self.assertEqual([tag for tag, _ in found if tag in ("link", "img", "iframe", "base")], [])
+        attributes = set().union(*(it for _, it in found))
+        self.assertFalse(attributes & {"src", "href", "srcset", "action"})
+        self.assertFalse({tag for tag, _ in found} & {"link", "img", "iframe", "base"})
         rules = next(it["content"] for tag, it in found if it.get("http-equiv"))
         self.assertTrue(rules.startswith("default-src 'none'; "))
         self.assertNotRegex(text, r"https?://|@import|url\(")
@@ -92,9 +94,7 @@ class Page(unittest.TestCase):
 
     def test_content(self):
         answers = EXAMPLE.with_suffix(".trace").read_bytes()
-        value = json.loads(
-            Elements(page_of("x/disk_unlock.tpm", EXAMPLE.read_bytes(), answers)).scripts[0]
-        )
+        value = data_of(page_of("x/disk_unlock.tpm", EXAMPLE.read_bytes(), answers))
         texts, events = value["texts"], value["events"]
         self.assertEqual((value["name"], len(events)), ("disk_unlock.tpm", 47))
         refused = [it for it in events if "x" in it]
@@ -107,12 +107,11 @@ class Page(unittest.TestCase):
         handles = [it[0] for it in value["entities"]]
         self.assertEqual(handles.count("80000001"), 2, "two starts have an object of this handle")
         for at, it in enumerate(value["entities"]):
-            self.assertEqual(
-                it[2], [n for n, event in enumerate(events) if at in event.get("u", ())]
-            )
+            uses = [n for n, event in enumerate(events) if at in event.get("u", ())]
+            self.assertEqual(it[2], uses)
 
     def test_fields_cover_all_bytes(self):
-        value = json.loads(Elements(page_of("", EXAMPLE.read_bytes())).scripts[0])
+        value = data_of(page_of("", EXAMPLE.read_bytes()))
         for event in value["events"]:
             for hex_text, shape, meanings in (event[it] for it in ("q", "r") if it in event):
                 fields = value["shapes"][shape]
@@ -123,8 +122,7 @@ class Page(unittest.TestCase):
     def test_state(self):
         """The state behind the last event, put together from all changes, is the device's own."""
         play = Play(None, None, None, True)
-        text = page.of_log("", play, EXAMPLE.read_bytes(), Counts())
-        value = json.loads(Elements(text).scripts[0])
+        value = data_of(page_of("", EXAMPLE.read_bytes(), play=play))
         state = {}
         for flat in (value["first"], *(it["d"] for it in value["events"])):
             for key, text_number in zip(flat[::2], flat[1::2]):
@@ -135,10 +133,9 @@ class Page(unittest.TestCase):
         self.assertEqual({key[1] for key in shown if key[0] == "Sessions"}, {"03000000"})
 
     def test_differences(self):
-        value = json.loads(Elements(page_of("", b"do Startup 0\n# 00000100\n")).scripts[0])
-        self.assertEqual(
-            value["events"][0]["z"], [["the response code is another one", "00000100", "00000000"]]
-        )
+        (event,) = data_of(page_of("", b"do Startup 0\n# 00000100\n"))["events"]
+        told = ["the response code is another one", "00000100", "00000000"]
+        self.assertEqual(event["z"], [told])
 
     def test_shipped_files(self):
         names = {it.name for it in page.FILES.iterdir()}
