@@ -76,10 +76,8 @@ bound = tpm.start("An HMAC session that is bound to TPM_RH_LOCKOUT", RH_LOCKOUT,
 accepted("Behind a password", target, b"owner", bound, of=RH_OWNER)
 case = "Behind a session, and before the policy session"
 accepted(case, target, unbound, bound, target, of=RH_OWNER)
-tpm.refused(
-    "A wrong hmac behind a password, of a session that is bound to TPM_RH_LOCKOUT: AUTH_FAIL/s2",
-    wrong_in(tpm.secret(target, b"owner", bound, of=RH_OWNER), 2),
-)
+case = "A wrong hmac behind a password, of a session that is bound to TPM_RH_LOCKOUT: AUTH_FAIL/s2"
+tpm.refused(case, wrong_in(tpm.secret(target, b"owner", bound, of=RH_OWNER), 2))
 said = tpm("A wrong one behind it: BAD_AUTH/s3")
 said.refused(wrong_in(tpm.secret(target, b"owner", bound, target, of=RH_OWNER), 3))
 locked = tpm.policy("A policy session that is bound to TPM_RH_LOCKOUT", bind=RH_LOCKOUT)

@@ -80,9 +80,6 @@ class GroundsCaller(Teller):
     def asserts_code(self, session, code=CC.Unseal, name="TPM2_Unseal"):
         self.asserts(f"TPM2_PolicyCommandCode of {name}", self.command_code(session, code))
 
-    def asserts_pcr(self, session):
-        self.asserts("TPM2_PolicyPCR of PCR 16", self.pcrs(session, PCR_16))
-
     def asserts_value(self, session):
         self.asserts("TPM2_PolicyAuthValue", self.auth_value_told(session))
 

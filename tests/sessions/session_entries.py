@@ -76,10 +76,9 @@ tpm.chapter("Attributes.")
 case = "Reserved ones, bit 3 and 4: RESERVED_BITS/s1"
 refused(case, *(reset(entry(plain, it)) for it in (0x08, 0x10, 0x18, 0x09, 0xFF)))
 refused("In the second entry: RESERVED_BITS/s2", reset(password, entry(aes, 0x18)))
+case = "auditExclusive, auditReset and audit (bits 1, 2 and 7), as there are no audit sessions"
 refused(
-    "auditExclusive, auditReset and audit (bits 1, 2 and 7), as there are no audit "
-    "sessions: ATTRIBUTES/s1",
-    *(reset(entry(plain, it)) for it in (0x02, 0x04, 0x80, 0x81, 0x87)),
+    f"{case}: ATTRIBUTES/s1", *(reset(entry(plain, it)) for it in (0x02, 0x04, 0x80, 0x81, 0x87))
 )
 case = "In the second entry: ATTRIBUTES/s2"
 refused(case, reset(password, entry(aes, 0x80)), random(entry(plain), entry(aes, 0x02)))
@@ -144,11 +143,8 @@ refused("All attributes: RESERVED_BITS/s2", second(entry(plain, 0xFF)))
 refused("All but the reserved ones: ATTRIBUTES/s2", second(entry(plain, 0xE7)))
 refused("decrypt and encrypt, of which one may not be: ATTRIBUTES/s2", second(entry(plain, BOTH)))
 refused("decrypt in a session that cannot: SYMMETRIC/s2", second(entry(plain, DECRYPT)))
-refused(
-    "A wrong hmac, but the first entry's is wrong too, as it is not of two entries' "
-    "nonces: BAD_AUTH/s1",
-    second(entry(more, DECRYPT)),
-)
+case = "A wrong hmac, but the first entry's is wrong too, as it is not of two entries' nonces"
+refused(f"{case}: BAD_AUTH/s1", second(entry(more, DECRYPT)))
 refused("The second entry's wrong hmac alone: BAD_AUTH/s2", second(entry(more, STAYS)))
 
 tpm.chapter("The order of entries: all of the first comes before the second.")

@@ -112,11 +112,8 @@ modes = KEY + numbers(0x0042) + HASH, KEY + numbers(0x0040) + HASH, KEY + number
 symmetrics(case, *modes, rest=b"")
 NONE = numbers(ALG_NULL)
 symmetrics("No authHash, and half of it: INSUFFICIENT/p5", NONE, NONE + b"\0", rest=b"")
-each(
-    "One that is neither SHA-1 nor SHA-256, here TPM_ALG_NULL, TPM_ALG_SHA384 and TPM_ALG_HMAC: "
-    "HASH/p5",
-    *("algorithm", ALG_NULL, 0x000C, 0x0005),
-)
+case = "One that is neither SHA-1 nor SHA-256, here TPM_ALG_NULL, TPM_ALG_SHA384 and TPM_ALG_HMAC"
+each(f"{case}: HASH/p5", "algorithm", ALG_NULL, 0x000C, 0x0005)
 texts("A byte behind them: SIZE", start_text() + b"\0")
 
 tpm.chapter("Of two faults the one that is read first.")
