@@ -19,8 +19,7 @@ LOCKED, MOVED = lines_with("do Unseal")[-1], lines_with("do PCR_Event 00000007")
 
 
 def events_of(*lines, answers=None):
-    play = Play(None, answers)
-    return list(play.events("\n".join(lines).encode()))
+    return list(Play(None, answers).events("\n".join(lines).encode()))
 
 
 def last(*lines):

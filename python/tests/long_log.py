@@ -34,8 +34,7 @@ class Usual:
         self.tpm.send(self.tpm.event(self.pick.randbytes(8), b"", pcr=self.pick.choice(PCRS)))
 
     def write(self):
-        data = self.pick.randbytes(8)
-        self.tpm.send(self.tpm.writing(self.index, data, self.plain.decrypting))
+        self.tpm.send(self.tpm.writing(self.index, self.pick.randbytes(8), self.plain.decrypting))
 
     def compute(self):
         self.tpm.send(self.tpm.hmac(self.key, self.pick.randbytes(20), SHA256, self.plain))

@@ -107,8 +107,7 @@ class Rules:
             if check == "G11":
                 self.add("G11/INSUFFICIENT", paragraphs(text)[-1], link)
         link = "order_of_refusals.md#sized-buffers"
-        of_buffers = paragraphs(section_at(link))
-        self.add("buffer/SIZE", of_buffers[1], link)
+        self.add("buffer/SIZE", paragraphs(section_at(link))[1], link)
         self.add("structure/SIZE", " ".join(items(section_at(link))[1:]), link)
 
     def conditions(self):

@@ -254,8 +254,7 @@ class Documented(unittest.TestCase):
         given = {it: getattr(tpmsim.device, it) for it in tpmsim.device.__all__}
         given["Caller"] = Caller
         for name in ("told", "library", "child", "kept", "served", "swtpm"):
-            module = sys.modules[f"tpmsim.device.{name}"]
-            result = doctest.testmod(module, extraglobs=given)
+            result = doctest.testmod(sys.modules[f"tpmsim.device.{name}"], extraglobs=given)
             self.assertGreater(result.attempted, 0)
             self.assertEqual(result.failed, 0)
 

@@ -145,8 +145,7 @@ class CommandLine(unittest.TestCase):
         output, error, status = told(bad)
         self.assertEqual((error, status), ("tpmsim-explain: script line 3\n", 2))
         self.assertIn("line 2: Startup is refused: INITIALIZE (100), by check G5", output)
-        other = self.file("other.tpm", "do Startup 0\n# 00000100\n")
-        self.assertEqual(told(other)[2], 1)
+        self.assertEqual(told(self.file("other.tpm", "do Startup 0\n# 00000100\n"))[2], 1)
         for words in (
             "",
             "a b c",

@@ -185,8 +185,7 @@ class Policies(unittest.TestCase):
             self.assertIn(said, found.words)
 
     def test_trial_and_none(self):
-        handle = self.sealed(bytes(32))
-        self.reason(1, self.tpm.unsealing(handle, Use(self.tpm.trial())))
+        self.reason(1, self.tpm.unsealing(self.sealed(bytes(32)), Use(self.tpm.trial())))
         use = Use(self.tpm.session(kind=frames.SE_POLICY))
         found = self.reason(2, self.tpm.change_auth(RH_OWNER, b"", use))
         self.assertIn("OWNER has no policy", found.words)
@@ -208,8 +207,7 @@ class Policies(unittest.TestCase):
         ):
             found = self.reason(8, self.tpm.unsealing(handle, self.tpm.policy(words)))
             self.assertEqual(found.slips, [slip])
-        bare = self.tpm.session(kind=frames.SE_POLICY)
-        found = self.reason(8, self.tpm.unsealing(handle, bare))
+        found = self.reason(8, self.tpm.unsealing(handle, self.tpm.session(kind=frames.SE_POLICY)))
         self.assertIn("It was told nothing.", found.words)
         use = self.tpm.policy(first + second)
         self.tpm.send(self.tpm.unsealing(handle, use))

@@ -64,8 +64,7 @@ class Page(unittest.TestCase):
     def test_escaping(self):
         plain = Elements(page_of("a.tpm", b"do Startup 0\n"))
         parsed = Elements(page_of(HOSTILE, LOG.encode()))
-        tags = [tag for tag, _ in parsed.found]
-        self.assertEqual(tags, [tag for tag, _ in plain.found])
+        self.assertEqual([tag for tag, _ in parsed.found], [tag for tag, _ in plain.found])
         name = pathlib.PurePath(HOSTILE).name
         self.assertEqual(parsed.texts["title"], f"{name}, explained")
         self.assertEqual(parsed.texts["h1"], name)
@@ -99,8 +98,7 @@ class Page(unittest.TestCase):
         self.assertEqual((value["name"], len(events)), ("disk_unlock.tpm", 47))
         refused = [it for it in events if "x" in it]
         unseals, loads = lines_with("do Unseal"), lines_with("do Load")
-        wanted = [unseals[0], *unseals[2:], *loads[-2:]]
-        self.assertEqual([it["l"] for it in refused], wanted)
+        self.assertEqual([it["l"] for it in refused], [unseals[0], *unseals[2:], *loads[-2:]])
         self.assertEqual([texts[it["x"]] for it in refused][3], "POLICY_FAIL/s1")
         self.assertIn("The PCRs differ: PCR 7.", refused[3]["y"][0])
         self.assertEqual([it["m"] for it in events if "m" in it][:5], [0, 7, 4, 11, 11])
@@ -128,14 +126,12 @@ class Page(unittest.TestCase):
             for key, text_number in zip(flat[::2], flat[1::2]):
                 state[tuple(value["keys"][key])] = text_number
         shown = {key: value["texts"][it] for key, it in state.items() if it >= 0}
-        pcr = play.model.banks[0x000B][7].hex()
-        self.assertEqual(shown["PCRs", "PCR 7", "SHA-256"], pcr)
+        self.assertEqual(shown["PCRs", "PCR 7", "SHA-256"], play.model.banks[0x000B][7].hex())
         self.assertEqual({key[1] for key in shown if key[0] == "Sessions"}, {"03000000"})
 
     def test_differences(self):
         (event,) = data_of(page_of("", b"do Startup 0\n# 00000100\n"))["events"]
-        told = ["the response code is another one", "00000100", "00000000"]
-        self.assertEqual(event["z"], [told])
+        self.assertEqual(event["z"], [["the response code is another one", "00000100", "00000000"]])
 
     def test_shipped_files(self):
         names = {it.name for it in page.FILES.iterdir()}

@@ -88,8 +88,7 @@ class Simulator(unittest.TestCase):
         self.assertEqual(commands.recv(8, socket.MSG_WAITALL), bytes(8))
 
     def test_wrong_requests(self):
-        device = self.client()
-        Caller(device).start_up()
+        Caller(self.client()).start_up()
         stream = self.connection()
         stream.sendall(request(GET_RANDOM, locality=5))
         self.assertEqual(stream.recv(18, socket.MSG_WAITALL)[10:14], number(0x907, 4))
@@ -131,8 +130,7 @@ class Simulator(unittest.TestCase):
     def test_tools(self):
         where = "mssim:host=%s,port=%d" % self.address
         for words in ("tpm2_startup -c", "tpm2_getrandom -f --hex 8"):
-            tool = [*words.split(), "-T", where]
-            done = subprocess.run(tool, capture_output=True, timeout=60)
+            done = subprocess.run([*words.split(), "-T", where], capture_output=True, timeout=60)
             self.assertEqual(done.returncode, 0, done.stderr)
         self.assertEqual(len(done.stdout), 16)
 

@@ -57,8 +57,7 @@ class TwentyTests:
         missing = self.tpm.command("NV_Read", FIRST, FIRST, size=1, offset=0)
         self.assert_refused(missing, "HANDLE/h1", "G6")
         self.assert_refused(self.tpm.command("SelfTest", fullTest=2), "VALUE/p1", "G11")
-        wrong_password = wrong(self.tpm.change_auth(RH_OWNER, b"", b""))
-        self.assert_refused(wrong_password, "BAD_AUTH/s1", "G9")
+        self.assert_refused(wrong(self.tpm.change_auth(RH_OWNER, b"", b"")), "BAD_AUTH/s1", "G9")
         words = str(self.refusal(self.tpm.reset(b"", pcr=0)))
         self.assertIn(words, ("PCR_Reset: LOCALITY (907), by A1", "PCR_Reset: LOCALITY (907)"))
 
@@ -172,8 +171,7 @@ class TwentyTests:
         nonce, before = session.nonce_tpm, self.tpm.device.snapshot()
         for _ in range(2):
             session.nonce_tpm = nonce
-            unsealed = self.tpm.send(self.tpm.unsealing(handle, session))
-            self.assertEqual(unsealed["outData"], b"data")
+            self.assertEqual(self.tpm.send(self.tpm.unsealing(handle, session))["outData"], b"data")
             self.tpm.device.power_cycle()
             self.tpm.device.restore(before)
 
@@ -202,8 +200,7 @@ class TwentyTests:
         self.assert_refused(self.tpm.unsealing(handle, use), "PCR_CHANGED", "G9")
 
     def test_lock_until_the_next_start(self):
-        lasting = area(attributes=BY_OWNER | BY_VALUE | nv.Attribute.READ_STCLEAR)
-        index = self.tpm.define(lasting)
+        index = self.tpm.define(area(attributes=BY_OWNER | BY_VALUE | nv.Attribute.READ_STCLEAR))
         self.tpm.send(self.tpm.writing(index, b"8 bytes."))
         self.tpm.send(self.tpm.read_locking(index))
         self.assert_refused(self.tpm.reading(index, 8), "NV_LOCKED", "A2")

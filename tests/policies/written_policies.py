@@ -29,8 +29,7 @@ def value_behind(data):
 VALUES = digest(SHA256, value_behind(SECURE_BOOT) + value_behind(KERNEL))
 AFTER_PCRS = policy.after_pcr(SHA256, ZEROS, selection(*CHOSEN), VALUES)
 BY_SYSTEM = policy.after_auth_value(SHA256, AFTER_PCRS)
-BY_RECOVERY = policy.after_secret(SHA256, ZEROS, name_of(RH_ENDORSEMENT), REF)
-WAYS = BY_SYSTEM, BY_RECOVERY
+WAYS = BY_SYSTEM, policy.after_secret(SHA256, ZEROS, name_of(RH_ENDORSEMENT), REF)
 DISK = policy.after_command_code(SHA256, policy.after_or(SHA256, WAYS), CC.Unseal)
 
 
@@ -92,8 +91,7 @@ def lost_ways_of_disk():
 
 def after_version(old=ZEROS):
     """The index has at least the version that is asked for."""
-    arguments = LEAST + number(0, 2) + number(AT_LEAST, 2)
-    return policy.after_nv(SHA256, old, arguments, tpm.name(index))
+    return policy.after_nv(SHA256, old, LEAST + number(0, 2) + number(AT_LEAST, 2), tpm.name(index))
 
 
 def from_locality(localities=LOCALITY_0):

@@ -39,8 +39,7 @@ class Start:
 
     def sent(self, what, seed, nonce):
         handles, parameters = frames.start_auth_session(nonce, self.bind, kind=self.kind)
-        start = tpm.prepare(CC.StartAuthSession, handles, parameters)
-        answer = with_random(what, seed, start)
+        answer = with_random(what, seed, tpm.prepare(CC.StartAuthSession, handles, parameters))
         return tpm.started(answer, nonce, self.bind, SHA256, self.kind)
 
     def again(self):
@@ -384,8 +383,7 @@ for what, outcome, *uses in (
     ("In the third entry", "REFERENCE_S2", VALUE, to_endorsement),
 ):
     start.again()
-    ending = tpm.writing(FIRST, DATA, *uses, Use(start.session, ENDS))
-    replayed(what, ending, outcome, "G8")
+    replayed(what, tpm.writing(FIRST, DATA, *uses, Use(start.session, ENDS)), outcome, "G8")
 tpm.tries_are("None of these was a failed try", 0)
 
 tpm.chapter(
