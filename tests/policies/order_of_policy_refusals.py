@@ -40,25 +40,24 @@ def ends_well(text):
 def up_to_hmacs(text):
     """What is refused before the parameters of a command with one handle; the last is text."""
 
-    def prepared(*uses, handle=policy.handle):
+    def using(*uses, handle=policy.handle):
         return tpm.prepare(code, [handle], text, *uses)
 
     case = "A handle of another kind, and an entry that is not there: VALUE/h1"
-    refused(case, wrong_in(prepared(hmac, handle=hmac.handle), 1).but(entries=[ABSENT]))
+    refused(case, wrong_in(using(hmac, handle=hmac.handle), 1).but(entries=[ABSENT]))
     case = "A session that is not there: REFERENCE_H0"
-    refused(case, prepared(hmac, handle=ABSENT_POLICY).but(entries=[ABSENT]))
+    refused(case, using(hmac, handle=ABSENT_POLICY).but(entries=[ABSENT]))
     case = "A fourth entry, and one that is not there: AUTHSIZE"
-    refused(case, prepared(hmac).but(entries=4 * [ABSENT]))
+    refused(case, using(hmac).but(entries=4 * [ABSENT]))
     case = "A nonce of 33 bytes in the first entry, and the second is not there: SIZE/s1"
-    refused(case, prepared(hmac).but(entries=[Entry(hmac.handle, bytes(33), 0xFF, b""), ABSENT]))
-    refused("An entry that is not there: REFERENCE_S0", prepared().but(entries=[ABSENT]))
-    refused("A password behind a session whose hmac is wrong: HANDLE/s2", prepared(hmac, b""), 1)
+    refused(case, using(hmac).but(entries=[Entry(hmac.handle, bytes(33), 0xFF, b""), ABSENT]))
+    refused("An entry that is not there: REFERENCE_S0", using().but(entries=[ABSENT]))
+    refused("A password behind a session whose hmac is wrong: HANDLE/s2", using(hmac, b""), 1)
     case = "Reserved attributes behind it: RESERVED_BITS/s2"
-    refused(case, prepared(hmac, plain).but_entry(2, attributes=0x98), 1)
-    case = "audit behind it: ATTRIBUTES/s2"
-    refused(case, prepared(hmac, plain).but_entry(2, attributes=0x81), 1)
-    refused("Both hmacs: BAD_AUTH/s1", prepared(hmac, policy), 1, 2)
-    refused("The second one's: BAD_AUTH/s2", prepared(hmac, policy), 2)
+    refused(case, using(hmac, plain).but_entry(2, attributes=0x98), 1)
+    refused("audit behind it: ATTRIBUTES/s2", using(hmac, plain).but_entry(2, attributes=0x81), 1)
+    refused("Both hmacs: BAD_AUTH/s1", using(hmac, policy), 1, 2)
+    refused("The second one's: BAD_AUTH/s2", using(hmac, policy), 2)
 
 
 def symmetric(use):

@@ -24,7 +24,7 @@ COMMANDS = (
 LATER = ((CC.PolicyCpHash, frames.sized(bytes(32))), (CC.PolicyNvWritten, b"\1"))
 
 # PCR 0, an NV index, HMAC sessions, permanent entities, objects, and numbers of no kind.
-OTHER_KINDS = (
+OTHERS = (
     *(0, 0x0100_0000, 0x0200_0000, 0x0200_0001, RH_OWNER, RH_NULL, RS_PW),
     *(0x8000_0000, 0x8100_0000, 0x0400_0000, 0xFF00_0000),
 )
@@ -58,8 +58,7 @@ assert (hmac.handle, policy.handle, trial.handle) == (0x0200_0000, 0x0300_0001, 
 def handles_of(code, text):
     tpm.chapter(f"TPM2_{code.name}.")
     refused("No handle: INSUFFICIENT/h1", plain(code), plain(code, text=b"\3\0\0"))
-    case = "A handle of another kind: VALUE/h1"
-    refused(case, *(plain(code, it, text=text) for it in OTHER_KINDS))
+    refused("A handle of another kind: VALUE/h1", *(plain(code, it, text=text) for it in OTHERS))
     case = "A session that is not there, the first where an HMAC session is: REFERENCE_H0"
     refused(case, *(plain(code, it, text=text) for it in ABSENT))
     for words, handle, behind in (
@@ -98,8 +97,7 @@ case = "A persistent object, and an NV index, while there are none: HANDLE/h1"
 refused(case, *(by_password(it, policy.handle) for it in (0x8100_0000, 0x0100_0000)))
 case = "No policySession: INSUFFICIENT/h2"
 refused(case, plain(SECRET, RH_OWNER), plain(SECRET, RH_OWNER, text=b"\3\0\0"))
-case = "A policySession of another kind: VALUE/h2"
-refused(case, *(by_password(RH_OWNER, it) for it in OTHER_KINDS))
+refused("A policySession of another kind: VALUE/h2", *(by_password(RH_OWNER, it) for it in OTHERS))
 refused("One that is not there: REFERENCE_H1", *(by_password(RH_OWNER, it) for it in ABSENT))
 case = "Without sessions (tag 8001), behind the handles: AUTH_MISSING"
 refused(case, plain(SECRET, RH_OWNER, policy.handle, text=NOTHING))

@@ -223,25 +223,23 @@ for words, attributes, outcome in (
 
 tpm.chapter("THE VALUE IS OF NO USE. It is right, in a password and in an HMAC session.")
 closed = tpm.sealed_object("An object without userWithAuth", AFTER_UNSEAL)
-lost("TPM2_Unseal: AUTH_UNAVAILABLE", tpm.unsealing(closed, PIN), tpm.unsealing(closed, hmac))
+lost("TPM2_Unseal: AUTH_UNAVAILABLE", *(tpm.unsealing(closed, it) for it in (PIN, hmac)))
 usable = tpm.sealed_object("The same with userWithAuth", AFTER_UNSEAL, HERE | USER)
 tpm.unseal("TPM2_Unseal by the password", usable, SECRET, PIN)
 tpm.unseal("And by the HMAC session", usable, SECRET, hmac)
 tpm.flushed(closed, usable)
 said = tpm("An index with AUTHWRITE and without AUTHREAD")
 to_write = said.written_index(NvAttribute.AUTHWRITE | BY_OWNER)
-case = "TPM2_NV_Read: AUTH_UNAVAILABLE"
-lost(case, tpm.reading(to_write, 8, PIN), tpm.reading(to_write, 8, hmac))
+lost("TPM2_NV_Read: AUTH_UNAVAILABLE", *(tpm.reading(to_write, 8, it) for it in (PIN, hmac)))
 tpm("TPM2_NV_Write").writing(to_write, DATA, PIN)
 said = tpm("One with AUTHREAD and without AUTHWRITE")
 to_read = said.written_index(NvAttribute.AUTHREAD | BY_OWNER)
-case = "TPM2_NV_Write: AUTH_UNAVAILABLE"
-lost(case, tpm.writing(to_read, DATA, PIN), tpm.writing(to_read, DATA, hmac))
+lost("TPM2_NV_Write: AUTH_UNAVAILABLE", *(tpm.writing(to_read, DATA, it) for it in (PIN, hmac)))
 tpm.read("TPM2_NV_Read", to_read, DATA, PIN)
 said = tpm("One whose policy is the command TPM2_NV_ChangeAuth")
 admin = said.index(BY_VALUE, after_code(CC.NV_ChangeAuth))
 case = "TPM2_NV_ChangeAuth, which is in the ADMIN role: AUTH_UNAVAILABLE"
-lost(case, tpm.changing_auth(admin, PIN, PIN), tpm.changing_auth(admin, PIN, hmac))
+lost(case, *(tpm.changing_auth(admin, PIN, it) for it in (PIN, hmac)))
 tpm("TPM2_NV_Write, in the USER role").writing(admin, DATA, PIN)
 tpm.refused_by(
     "A1",

@@ -109,7 +109,7 @@ def counted_otherwise(session):
 # Places.
 
 
-def other_places(session, to_endorsement):
+def other_places(session, endorsed):
     tpm.chapter(
         "OTHER PLACES. No command has two handles to authorize, so that the sessions in the second "
         "and in the third entry authorize nothing. The first entry is here a password."
@@ -117,9 +117,9 @@ def other_places(session, to_endorsement):
     aes = tpm.start("A session with AES, bound to TPM_RH_ENDORSEMENT", RH_ENDORSEMENT, aes=True)
     unbound = tpm.start("One without, bound to nothing")
     case = "TPM2_NV_Write, with a session in the second entry"
-    replayed(case, tpm.writing(FIRST, DATA, VALUE, to_endorsement), "BAD_AUTH/s2", "G10")
+    replayed(case, tpm.writing(FIRST, DATA, VALUE, endorsed), "BAD_AUTH/s2", "G10")
     case = "With one in the second entry, whose key and hmac are empty, and one in the third"
-    replayed(case, tpm.writing(FIRST, DATA, VALUE, unbound, to_endorsement), "BAD_AUTH/s3", "G10")
+    replayed(case, tpm.writing(FIRST, DATA, VALUE, unbound, endorsed), "BAD_AUTH/s3", "G10")
     case = "TPM2_NV_Read, and the session encrypts"
     replayed(case, tpm.reading(FIRST, 8, VALUE, aes.encrypting), "BAD_AUTH/s2", "G10")
     case = "TPM2_NV_Write, and the session decrypts"
@@ -280,7 +280,7 @@ again("But not again: AUTH_FAIL/s1", right)
 tpm.unlocks()
 
 said = tpm("A session bound to TPM_RH_ENDORSEMENT, which is not protected")
-to_endorsement = said.start(RH_ENDORSEMENT)
+endorsed = said.start(RH_ENDORSEMENT)
 
 session = start.session
 tpm.chapter("WHAT IS NOT PROTECTED. A wrong entry is no try.")
@@ -289,12 +289,11 @@ tpm.does("", write(VALUE, index=openly))
 replayed("TPM2_NV_Write of it", write(session, index=openly), "BAD_AUTH/s1")
 case = "TPM2_HierarchyChangeAuth of the owner"
 replayed(case, tpm.change_auth(RH_OWNER, OWNER, session), "BAD_AUTH/s1")
-case = "TPM2_PCR_Event by a session with a key"
-replayed(case, tpm.event(b"event", to_endorsement), "BAD_AUTH/s1")
+replayed("TPM2_PCR_Event by a session with a key", tpm.event(b"event", endorsed), "BAD_AUTH/s1")
 tpm.tries_are("There is no failed try", 0)
 
 counted_otherwise(start.session)
-other_places(start.session, to_endorsement)
+other_places(start.session, endorsed)
 compared_with_nothing(start.session)
 policy_sessions()
 
@@ -369,7 +368,7 @@ tpm.does("The first TPM2_NV_Write again", first)
 again("And once more: AUTH_FAIL/s1", first)
 tpm.unlocks()
 
-to_endorsement = tpm.start("A session bound to TPM_RH_ENDORSEMENT", RH_ENDORSEMENT)
+endorsed = tpm.start("A session bound to TPM_RH_ENDORSEMENT", RH_ENDORSEMENT)
 
 tpm.chapter("WITHOUT continueSession a session ends with the use of it.")
 tpm.flushed(start.session)
@@ -380,7 +379,7 @@ tpm.does("The same again", last)
 again("And once more: REFERENCE_S0", last, "G8")
 for what, outcome, *uses in (
     ("In the second entry", "REFERENCE_S1", VALUE),
-    ("In the third entry", "REFERENCE_S2", VALUE, to_endorsement),
+    ("In the third entry", "REFERENCE_S2", VALUE, endorsed),
 ):
     start.again()
     replayed(what, tpm.writing(FIRST, DATA, *uses, Use(start.session, ENDS)), outcome, "G8")
@@ -389,7 +388,7 @@ tpm.tries_are("None of these was a failed try", 0)
 tpm.chapter(
     "WHAT WAS REFUSED can be sent again until it is accepted: a refusal makes no nonce new."
 )
-reset = tpm.reset(to_endorsement, pcr=20)
+reset = tpm.reset(endorsed, pcr=20)
 again("TPM2_PCR_Reset of PCR 20 from locality 0: LOCALITY", reset, "A1")
 again("The same again: LOCALITY", reset, "A1")
 tpm.locality_is(4)

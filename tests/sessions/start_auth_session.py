@@ -47,7 +47,7 @@ def texts(words, *those):
     tpm.raw(words, *(on(NULLS, it) for it in those))
 
 
-def symmetrics(words, *those, rest=number(SHA256, 2)):
+def ciphers(words, *those, rest=number(SHA256, 2)):
     """With these bytes from symmetric on, of which the last are those of authHash."""
     texts(words, *(sized(NONCE) + sized(b"") + b"\0" + it + rest for it in those))
 
@@ -97,8 +97,8 @@ each(
 )
 AES, KEY = numbers(frames.AES), numbers(frames.AES, 128)
 case = "symmetric that is cut within its algorithm, its keyBits and its mode: INSUFFICIENT/p4"
-symmetrics(case, b"", b"\0", AES, AES + b"\0", KEY, KEY + b"\0", rest=b"")
-symmetrics(
+ciphers(case, b"", b"\0", AES, AES + b"\0", KEY, KEY + b"\0", rest=b"")
+ciphers(
     "An algorithm that is neither AES nor TPM_ALG_XOR nor TPM_ALG_NULL, here TPM_ALG_SHA256 and "
     "TPM_ALG_CAMELLIA: SYMMETRIC/p4",
     numbers(SHA256),
@@ -106,12 +106,12 @@ symmetrics(
 )
 HASH = numbers(SHA256)
 keys = [numbers(frames.AES, bits, frames.CFB) + HASH for bits in (256, 192)]
-symmetrics("Keys of 256, 192 and 0 bits: VALUE/p4", *keys, numbers(frames.AES, 0), rest=b"")
+ciphers("Keys of 256, 192 and 0 bits: VALUE/p4", *keys, numbers(frames.AES, 0), rest=b"")
 case = "Modes that are not CFB: TPM_ALG_CBC, TPM_ALG_CTR and TPM_ALG_NULL: MODE/p4"
 modes = KEY + numbers(0x0042) + HASH, KEY + numbers(0x0040) + HASH, KEY + numbers(ALG_NULL)
-symmetrics(case, *modes, rest=b"")
+ciphers(case, *modes, rest=b"")
 NONE = numbers(ALG_NULL)
-symmetrics("No authHash, and half of it: INSUFFICIENT/p5", NONE, NONE + b"\0", rest=b"")
+ciphers("No authHash, and half of it: INSUFFICIENT/p5", NONE, NONE + b"\0", rest=b"")
 case = "One that is neither SHA-1 nor SHA-256, here TPM_ALG_NULL, TPM_ALG_SHA384 and TPM_ALG_HMAC"
 each(f"{case}: HASH/p5", "algorithm", ALG_NULL, 0x000C, 0x0005)
 texts("A byte behind them: SIZE", start_text() + b"\0")
@@ -122,8 +122,7 @@ case = "nonceCaller that says too much, and a sessionType of 02: SIZE/p1"
 refused(case, dict(nonce=bytes(33), kind=0x02))
 case = "A sessionType of 02 with TPM_ALG_XOR: VALUE/p3"
 texts(case, sized(NONCE) + sized(b"") + b"\x02" + XOR + HASH)
-case = "TPM_ALG_XOR with a wrong hash, and no authHash: HASH/p4"
-symmetrics(case, XOR + numbers(0x000C), rest=b"")
+ciphers("TPM_ALG_XOR with a wrong hash, and no authHash: HASH/p4", XOR + numbers(0x000C), rest=b"")
 
 tpm.chapter("The command's own checks come behind all of these.")
 both = dict(nonce=bytes(15), salt=b"\x01")
@@ -226,15 +225,15 @@ assert tpm.start("And its number is free").handle == 0x0200_0000
 tpm("The others are as they were").reset(sessions[15])
 
 tpm.chapter("TPM_ALG_XOR, behind which stands the hash that makes its masks.")
-symmetrics("It is cut, before its hash and within it: INSUFFICIENT/p4", XOR, XOR + b"\0", rest=b"")
-symmetrics(
+ciphers("It is cut, before its hash and within it: INSUFFICIENT/p4", XOR, XOR + b"\0", rest=b"")
+ciphers(
     "A hash that is neither SHA-1 nor SHA-256, here TPM_ALG_NULL, TPM_ALG_SHA384 and the 128 of a "
     "key: HASH/p4",
     *(XOR + numbers(it) for it in (ALG_NULL, 0x000C, 128)),
 )
-symmetrics("It comes before authHash: HASH/p4", XOR + NONE, rest=NONE)
-symmetrics("No authHash: INSUFFICIENT/p5", XOR + HASH, rest=b"")
-symmetrics("A wrong one: HASH/p5", XOR + HASH, rest=NONE)
+ciphers("It comes before authHash: HASH/p4", XOR + NONE, rest=NONE)
+ciphers("No authHash: INSUFFICIENT/p5", XOR + HASH, rest=b"")
+ciphers("A wrong one: HASH/p5", XOR + HASH, rest=NONE)
 OTHERS = dict(xor=SHA1), dict(xor=SHA256, algorithm=SHA1)
 refused(
     "Another hash than authHash, SHA-1 in a session of SHA-256 and the other way round; there is "
