@@ -74,5 +74,4 @@ class Others(unittest.TestCase):
 
     def test_wrong_words(self):
         for words in ("", "tpm", "swtpm:port=1", "mssim:path=x", "device:"):
-            with self.assertRaises(ValueError):
-                other_tpm(words)
+            self.assertRaises(ValueError, other_tpm, words)

@@ -148,8 +148,7 @@ class Policies(unittest.TestCase):
 
     def reason(self, condition, prepared):
         """Why a command is refused, which must be this condition of a policy."""
-        with self.assertRaises(Refused):
-            self.tpm.send(prepared)
+        self.assertRaises(Refused, self.tpm.send, prepared)
         found = explained(self.device).reason
         self.assertEqual(found.rule, f"condition/{condition}")
         return found
