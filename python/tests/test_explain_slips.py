@@ -16,8 +16,6 @@ from explained_logs import explained, sessions_of, without_value
 # How many random sessions each slip is tried in.
 ROUNDS = 10
 
-ENTITIES = "owner", "index", "object"
-
 
 def other_hash(algorithm):
     return SHA1 if algorithm == SHA256 else SHA256
@@ -26,13 +24,13 @@ def other_hash(algorithm):
 class Case:
     """A random session on a device, and a command that it may authorize. `pick` draws all chance."""
 
-    def __init__(self, seed, bound=None, entity=None, cipher=None, value=None):
+    def __init__(self, seed, bound=None, entity=None, cipher=None):
         self.pick = random.Random(seed)
         self.device = ModelDevice(seed=seed.encode())
         self.tpm = Caller(self.device, self.pick.randbytes)
         self.tpm.start_up()
-        self.value = self.fresh_value() if value is None else value
-        self.entity = entity or self.pick.choice(ENTITIES)
+        self.value = self.fresh_value()
+        self.entity = entity or self.pick.choice(("owner", "index", "object"))
         self.handle = getattr(self, f"with_{self.entity}")()
         self.algorithm = self.pick.choice((SHA1, SHA256))
         self.cipher = self.pick.choice((ALG_NULL, AES, XOR)) if cipher is None else cipher
@@ -58,9 +56,9 @@ class Case:
     def with_object(self):
         return self.tpm.create_primary(hmac_key(), data=b"key", user_auth=self.value)
 
-    def use(self, *more, session=None, attributes=CONTINUE_SESSION):
+    def use(self, *more, attributes=CONTINUE_SESSION):
         """A command that the entity authorizes, right in everything."""
-        means = Use(session or self.session, attributes), *more
+        means = Use(self.session, attributes), *more
         if self.entity == "owner":
             return self.tpm.change_auth(RH_OWNER, self.pick.randbytes(8), *means)
         if self.entity == "index":
@@ -186,12 +184,11 @@ class Slips(unittest.TestCase):
 
     def test_auth_value_in_a_policy(self):
         """Put in without PolicyAuthValue, and left out after it."""
-        for at in range(ROUNDS):
-            for words, in_key, wanted in (
-                ("PolicyCommandCode Unseal\n", b"pin", "authValue put in"),
-                ("PolicyAuthValue\n", b"", "authValue left out"),
-            ):
-                case = Case(f"policy {at}", entity="owner")
+        for words, in_key, wanted in (
+            ("PolicyCommandCode Unseal\n", b"pin", "authValue put in"),
+            ("PolicyAuthValue\n", b"", "authValue left out"),
+        ):
+            for case in self.cases("policy", entity="owner"):
                 prepared = case.by_policy(words, bind=RH_OWNER)
                 self.bends(case, wanted, prepared, key=prepared.uses[0].session.key + in_key)
 
@@ -245,8 +242,8 @@ class Slips(unittest.TestCase):
             plain = case.pick.randbytes(9)
             with case.tpm.breaking(encrypted=without_value(case.tpm)):
                 prepared = case.tpm.change_auth(RH_OWNER, plain, case.session.decrypting)
-            text = {"parameters": sized(plain)}
-            self.bends(case, "parameters hashed plain", prepared, hashed=text)
+            hashed = {"parameters": sized(plain)}
+            self.bends(case, "parameters hashed plain", prepared, hashed=hashed)
 
     def test_zeros(self):
         """A value that is padded counts where the key is longer than a block, and in front."""
@@ -260,15 +257,14 @@ class Slips(unittest.TestCase):
 
     def test_attributes_of_before(self):
         for case in self.cases("attributes", cipher=XOR):
-            prepared = case.use(
-                attributes=CONTINUE_SESSION | ENCRYPT if case.entity == "object" else 0
-            )
+            attributes = CONTINUE_SESSION | ENCRYPT if case.entity == "object" else 0
+            prepared = case.use(attributes=attributes)
             self.bends(case, "other attributes", prepared, attributes=CONTINUE_SESSION)
             words = explained(case.device).reason.facts[-1].value
             self.assertIn("were 01 (continueSession); sent were", words)
             case.go_on(1)
-            prepared = case.use(attributes=0)
-            self.bends(case, "other attributes", prepared, attributes=CONTINUE_SESSION)
+            ending = case.use(attributes=0)
+            self.bends(case, "other attributes", ending, attributes=CONTINUE_SESSION)
             words = explained(case.device).reason.facts[-1].value
             self.assertIn("which are those of the entry before; sent were 00", words)
 
@@ -325,7 +321,6 @@ class Slips(unittest.TestCase):
                 self.refused(case, prepared.but(entries=[entry]), wanted)
 
     def test_hmac_in_place_of_a_password(self):
-        for at in range(ROUNDS):
-            case = Case(f"in place {at}", entity="owner")
+        for case in self.cases("in place", entity="owner"):
             prepared = case.by_policy("PolicyPassword\n", demand=policy.AUTH_VALUE)
             self.refused(case, prepared, "HMAC in place of a password")
