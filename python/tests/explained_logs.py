@@ -29,9 +29,8 @@ def last(*lines):
 
 def explained(device):
     """The last event of a device's trace, as it is explained."""
-    log = "\n".join(device.trace).encode()
     play = Play()
-    events = list(play.events(log))
+    events = list(play.events("\n".join(device.trace).encode()))
     assert play.bad_line is None
     assert not any(it.differences for it in events)
     return events[-1]
@@ -40,8 +39,7 @@ def explained(device):
 def sessions_of(device):
     """What is known of each session of a trace."""
     play = Play()
-    for _ in play.events("\n".join(device.trace).encode()):
-        pass
+    list(play.events("\n".join(device.trace).encode()))
     return play.past.sessions.values()
 
 

@@ -3,8 +3,7 @@ grounds are lost in tests/sessions/lost_grounds.tpm. A ground is a password, the
 session, or a policy session whose policy holds.
 """
 
-from dataclasses import dataclass
-from typing import Callable
+from typing import Callable, NamedTuple
 
 from tests.common.vocabulary import AUTH_VALUE, BY_OWNER, BY_PLATFORM, BY_POLICY, CC, ENDS, HERE
 from tests.common.vocabulary import name_of, NvAttribute, ObjectAttribute, PASSWORD, policy
@@ -31,8 +30,7 @@ tpm = GroundsCaller(__name__, __doc__)
 # Authorization values: by a password, and in the key of an HMAC session.
 
 
-@dataclass(frozen=True)
-class Entity:
+class Entity(NamedTuple):
     """What its value authorizes: its handle, a command for it, and how an entry does it."""
 
     words: str
@@ -189,9 +187,8 @@ tpm.does("Of the persistent object, and the key is the session key", kept.prepar
 tpm.flushed(bound)
 
 tpm.chapter("Key and hmac are both empty: a session bound to nothing, and an empty value.")
-openly = tpm.sealed_object(
-    "An object with userWithAuth, whose value is empty", attributes=HERE | USER, value=b""
-)
+said = tpm("An object with userWithAuth, whose value is empty")
+openly = said.sealed_object(attributes=HERE | USER, value=b"")
 tpm("A PCR: TPM2_PCR_Reset").reset(unbound)
 tpm.flushed_new("TPM_RH_NULL: TPM2_CreatePrimary", at_null(unbound))
 tpm.unseal("The object: TPM2_Unseal", openly, SECRET, unbound)
@@ -226,9 +223,8 @@ tpm.flushed(both)
 BRANCHES = AFTER_PCR_16, AFTER_AUTH_VALUE
 EITHER = policy.after_or(SHA256, BRANCHES)
 ONE_TO_THREE, THREE_OR_FOUR = 0b01110, 0b11000
-AT_THREE = policy.after_locality(
-    SHA256, policy.after_locality(SHA256, ZEROS, ONE_TO_THREE), THREE_OR_FOUR
-)
+AFTER_ONE_TO_THREE = policy.after_locality(SHA256, ZEROS, ONE_TO_THREE)
+AT_THREE = policy.after_locality(SHA256, AFTER_ONE_TO_THREE, THREE_OR_FOUR)
 compared = tpm.written_index("An index that TPM2_PolicyNV looks at", BY_OWNER)
 either = lambda _: tpm.branches(session, *BRANCHES)
 equal = lambda _: tpm.comparing(session, compared, DATA, by=RH_OWNER)

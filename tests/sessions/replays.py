@@ -42,6 +42,11 @@ class Start:
         answer = with_random(what, seed, tpm.prepare(CC.StartAuthSession, handles, parameters))
         return tpm.started(answer, nonce, self.bind, SHA256, self.kind)
 
+    def anew(self):
+        """The session ends, and begins again."""
+        tpm.flushed(self.session)
+        self.again()
+
     def again(self):
         """The session is then what it was at first."""
         what = "TPM2_StartAuthSession with the same bytes, and the same random bytes"
@@ -221,8 +226,7 @@ def new_names(start):
     public = tpm.publics[index]
     start.again()
     first = accepted("TPM2_NV_Write", write(start.session, index=index))
-    tpm.flushed(start.session)
-    start.again()
+    start.anew()
     again("The same again: AUTH_FAIL/s1", first)
     tpm("It is undefined").undefining(index)
     tpm.define("And defined as it was", public, auth=VALUE)
@@ -330,8 +334,7 @@ tpm.flushed(other, elsewhere)
 tpm.chapter("A bound session, whose key is of its nonceCaller and of the value.")
 bound = Start("TPM2_StartAuthSession, bound to TPM_RH_OWNER", RH_OWNER)
 event = replayed("TPM2_PCR_Event", tpm.event(b"event", bound.session), "BAD_AUTH/s1")
-tpm.flushed(bound.session)
-bound.again()
+bound.anew()
 tpm.does("The same again", event)
 tpm.flushed(bound.session)
 bound.otherwise("With another nonceCaller", nonce=tpm.nonce())
@@ -371,8 +374,7 @@ tpm.unlocks()
 endorsed = tpm.start("A session bound to TPM_RH_ENDORSEMENT", RH_ENDORSEMENT)
 
 tpm.chapter("WITHOUT continueSession a session ends with the use of it.")
-tpm.flushed(start.session)
-start.again()
+start.anew()
 last = replayed("TPM2_NV_Write", write(Use(start.session, ENDS)), "REFERENCE_S0", "G8")
 start.again()
 tpm.does("The same again", last)
