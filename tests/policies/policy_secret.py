@@ -3,19 +3,10 @@ of an entity, and shows it now. Its parameters are nonceTPM, cpHashA, policyRef 
 by the empty password alone.
 """
 
-from tests.common.policy_teller import PolicyTeller
+from tests.common.policy_teller import ENTITIES, PolicyTeller
 from tests.common.vocabulary import digest_bytes, flipped, frames, is_trial, name_of, number, policy
-from tests.common.vocabulary import RH_ENDORSEMENT, RH_LOCKOUT, RH_OWNER, RH_PLATFORM, SHA1, SHA256
-from tests.common.vocabulary import sized, Use, wrong_in, zeros
+from tests.common.vocabulary import RH_OWNER, SHA1, SHA256, sized, Use, wrong_in, zeros
 
-ENTITIES = (
-    (RH_OWNER, "TPM_RH_OWNER"),
-    (RH_ENDORSEMENT, "TPM_RH_ENDORSEMENT"),
-    (RH_PLATFORM, "TPM_RH_PLATFORM"),
-    (RH_LOCKOUT, "TPM_RH_LOCKOUT"),
-    (0, "PCR 0"),
-    (23, "PCR 23"),
-)
 EMPTY = sized(b"")
 
 tpm = PolicyTeller(__name__, __doc__)
@@ -108,7 +99,7 @@ def bent_parameters():
 
 
 for session in tpm.each_session():
-    for handle, name in ENTITIES:
+    for handle, name in ENTITIES.items():
         tpm.restarts(session)
         accepted(f"By {name}", of=handle)
         wanted = policy.after_secret(session.algorithm, zeros(session), name_of(handle), b"")

@@ -3,22 +3,18 @@ handle, in a password or an HMAC session, as any other command. Of the policy se
 asked.
 """
 
-from tests.common.policy_teller import PolicyTeller
-from tests.common.vocabulary import HASHES, RH_ENDORSEMENT, RH_LOCKOUT, RH_OWNER, RH_PLATFORM, SHA1
-from tests.common.vocabulary import SHA256, Use, wrong_in
+from tests.common.policy_teller import HIERARCHIES, PolicyTeller
+from tests.common.vocabulary import HASHES, RH_LOCKOUT, RH_OWNER, SHA1, SHA256, Use, wrong_in
 
-VALUES = (
-    (RH_OWNER, "TPM_RH_OWNER", b"owner"),
-    (RH_ENDORSEMENT, "TPM_RH_ENDORSEMENT", b"endorsement"),
-    (RH_PLATFORM, "TPM_RH_PLATFORM", b"platform"),
-    (RH_LOCKOUT, "TPM_RH_LOCKOUT", b"lockout"),
-)
+# The value of TPM_RH_OWNER is "owner", and so on.
+VALUES = {it: name.rpartition("_")[2].lower().encode() for it, name in HIERARCHIES.items()}
 
 tpm = PolicyTeller(__name__, __doc__, tries=True)
 
 tpm.script.wait_each_time()
-for handle, name, value in VALUES:
-    tpm.accepted(f'The value of {name} is "{value.decode()}"', tpm.change_auth(handle, value, b""))
+for handle, value in VALUES.items():
+    said = tpm(f'The value of {HIERARCHIES[handle]} is "{value.decode()}"')
+    said.accepted(tpm.change_auth(handle, value, b""))
 target = tpm.policy("The policy session, with AES", aes=True)
 trial = tpm.trial("And a trial session, of SHA-1", algorithm=SHA1)
 unbound = tpm.start("An HMAC session that is bound to nothing")
@@ -33,8 +29,8 @@ def digests():
         tpm.digest_is("The digest", session)
 
 
-for handle, name, value in VALUES:
-    tpm.chapter(f"{name}.")
+for handle, value in VALUES.items():
+    tpm.chapter(f"{HIERARCHIES[handle]}.")
     code = "AUTH_FAIL/s1" if handle == RH_LOCKOUT else "BAD_AUTH/s1"
     bound = tpm.start("An HMAC session that is bound to it", handle, aes=True)
     for session in (target, trial):

@@ -53,9 +53,7 @@ def as_a_further_entry():
         wrong_in(right, 2),
         *(right.but_entry(2, **it) for it in (dict(hmac=b""), dict(attributes=CONTINUE_SESSION))),
     )
-    with tpm.breaking(key=lambda *_: session.key + b"owner"):
-        valued = event()
-    tpm.refused("ownerAuth in its key: BAD_AUTH/s2", valued)
+    tpm.refused("ownerAuth in its key: BAD_AUTH/s2", tpm.with_key(session.key + b"owner", event))
     said = tpm("Parameters that cannot be decrypted: INSUFFICIENT/p1")
     said.prepare(CC.PCR_Event, [16], b"\0\1", b"", session.decrypting)
     tpm.accepted("The right one", right)
@@ -145,9 +143,8 @@ tpm(
     "TPM2_HierarchyChangeAuth by the HMAC session, with both: the first hmac has the nonce of the "
     "one that decrypts"
 ).change_auth(RH_OWNER, b"owner", third, second, first.decrypting)
-with tpm.breaking(nonces_of_others=lambda *_: []):
-    left_out = tpm.change_auth(RH_OWNER, b"owner", third, second, first.decrypting)
-tpm.refused("Where it is left out: BAD_AUTH/s1", left_out)
+changing = tpm.change_auth, RH_OWNER, b"owner", third, second, first.decrypting
+tpm.refused("Where it is left out: BAD_AUTH/s1", tpm.with_nonces_of([], *changing))
 
 
 def secret(*uses):
@@ -161,8 +158,7 @@ tpm.accepted(
 )
 tpm.accepted("The other way round", secret(first.decrypting, second.encrypting))
 tpm.accepted("One does both", secret(second, Use(first, DECRYPTS | ENCRYPT)))
-with tpm.breaking(nonces_of_others=lambda *_: [first.nonce_tpm, second.nonce_tpm]):
-    turned = secret(first.encrypting, second.decrypting)
+turned = tpm.with_nonces_of([first, second], secret, first.encrypting, second.decrypting)
 tpm.refused("In the other order: BAD_AUTH/s1", turned)
 tpm.restarts(first)
 for it, kind in ((first, SE_POLICY), (second, SE_TRIAL)):

@@ -62,9 +62,8 @@ def lost_ways_of_disk():
     lost("TPM2_Unseal: PCR_CHANGED", unsealing(demand=AUTH_VALUE))
     tpm.chapter("The value is another.")
     asserts("By the system", restart, *system(), *ends(session))
-    with tpm.breaking(key=lambda *_: b"other"):
-        shown = unsealing(demand=AUTH_VALUE)
-    lost("TPM2_Unseal: BAD_AUTH/s1", shown)
+    use = Use(session, demand=AUTH_VALUE)
+    lost("TPM2_Unseal: BAD_AUTH/s1", tpm.with_key(b"other", tpm.unsealing, disk, use))
     tpm.chapter("The session has counted for one command.")
     asserts("The recovery secret", restart, recovery(session), *ends(session))
     tpm.unseal("TPM2_Unseal", disk, SECRET, session)

@@ -6,7 +6,7 @@ from tpmsim.caller import area, HERE, sealed
 from tpmsim.model.capability import LOCKOUT_COUNTER, PROPERTIES
 from tpmsim.standard import CC, digest, digest_bytes, frames, number, policy, RH_OWNER, RH_PLATFORM
 from tpmsim.standard import SHA256
-from tests.common.teller import Teller
+from tests.common.policy_teller import PolicyTeller
 
 OWNER, PIN, SECRET, DATA = b"owner", b"pin", b"secret", b"8 bytes."
 PCR_16 = [(SHA256, [16])]
@@ -33,7 +33,7 @@ def after_equal_data(name, old=ZEROS):
     return policy.after_nv(SHA256, old, compared, name)
 
 
-class GroundsCaller(Teller):
+class GroundsCaller(PolicyTeller):
     def __init__(self, name, told, **choices):
         super().__init__(name, told, **choices)
         self.free_indices = iter(range(0x0100_0001, 0x0100_0020))

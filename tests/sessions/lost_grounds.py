@@ -26,14 +26,8 @@ lost = tpm.lost
 # Passwords and HMAC sessions.
 
 
-def with_key(key, prepare, *arguments):
-    """A command with an hmac under another key than the rule gives."""
-    with tpm.breaking(key=lambda *_: key):
-        return prepare(*arguments)
-
-
 def by_key(key, handle, session):
-    return with_key(key, tpm.unsealing, handle, Use(session, shows_empty_key=True))
+    return tpm.with_key(key, tpm.unsealing, handle, Use(session, shows_empty_key=True))
 
 
 def other_texts(index, unbound):
@@ -255,14 +249,14 @@ tpm.chapter("A binding that has lapsed, by another value or by another Name.")
 bound = tpm.start("A session bound to the owner", RH_OWNER)
 tpm("ownerAuth is another").change_auth(RH_OWNER, b"other", OWNER)
 changing = tpm.change_auth, RH_OWNER, OWNER, bound
-lost("Without the value in the key: BAD_AUTH/s1", with_key(bound.key, *changing))
+lost("Without the value in the key: BAD_AUTH/s1", tpm.with_key(bound.key, *changing))
 tpm("With it, and ownerAuth is as it was").change_auth(RH_OWNER, OWNER, bound)
 tpm("Without it, as it holds again").change_auth(RH_OWNER, OWNER, bound)
 index = tpm.index("An index that is not written", BY_VALUE)
 to_index = tpm.start("A session bound to it", index)
 tpm("TPM2_NV_Write gives it another Name").writing(index, DATA)
 writing = tpm.writing, index, DATA, to_index
-lost("Without the value in the key: AUTH_FAIL/s1", with_key(to_index.key, *writing))
+lost("Without the value in the key: AUTH_FAIL/s1", tpm.with_key(to_index.key, *writing))
 tpm("With it").writing(index, DATA, to_index)
 tpm.flushed(bound, to_index)
 

@@ -3,18 +3,12 @@ attribute decrypt has encrypted the bytes of the first parameter, and one with e
 first answer.
 """
 
+from tests.common.policy_teller import PolicyTeller
 from tests.common.vocabulary import CC, CONTINUE_SESSION, DECRYPT, DECRYPTS, ENCRYPT, flipped
 from tests.common.vocabulary import frames, NAMES, RH_ENDORSEMENT, RH_OWNER, SHA1, SHA256, sized
-from tests.common.vocabulary import Teller, Use
+from tests.common.vocabulary import Use
 
-tpm = Teller(__name__, __doc__)
-
-
-def others_are(*sessions):
-    """The nonces of others that an entry's hmac is made of, other than by the rule."""
-    nonces = [it.nonce_tpm for it in sessions]
-    return tpm.breaking(nonces_of_others=lambda *_: nonces)
-
+tpm = PolicyTeller(__name__, __doc__)
 
 tpm.accepted('ownerAuth is "owner"', tpm.change_auth(RH_OWNER, b"owner", b""))
 said = tpm('endorsementAuth is "endorsement"')
@@ -67,20 +61,18 @@ for words, *others in (
     ("Where it stands twice: BAD_AUTH/s1", other, other),
     ("Where the first entry's own stands in its place: BAD_AUTH/s1", session),
 ):
-    with others_are(*others):
-        wrong = tpm.change_auth(RH_OWNER, b"owner", session, other.decrypting)
-    tpm.refused(words, wrong)
+    changing = tpm.change_auth, RH_OWNER, b"owner", session, other.decrypting
+    tpm.refused(words, tpm.with_nonces_of(others, *changing))
 tpm("As the third entry of three").change_auth(RH_OWNER, b"owner", session, third, other.decrypting)
 said = tpm("As the second entry of three, with a nonce of 32 bytes and an empty key")
 said.change_auth(RH_OWNER, b"owner", session, third.decrypting, other)
 said = tpm("Where the first entry decrypts itself no other nonce stands in any hmac")
 said.change_auth(RH_OWNER, b"owner", session.decrypting, other, third)
-with others_are(session):
-    own = tpm.change_auth(RH_OWNER, b"owner", session.decrypting, other)
-tpm.refused("With its own nonce once more: BAD_AUTH/s1", own)
+changing = tpm.change_auth, RH_OWNER, b"owner", session.decrypting, other
+tpm.refused("With its own nonce once more: BAD_AUTH/s1", tpm.with_nonces_of([session], *changing))
 right = tpm.event(b"event data", session, other.decrypting, third)
-with others_are(other):
-    everywhere = tpm.event(b"event data", session, other.decrypting, third)
+by = session, other.decrypting, third
+everywhere = tpm.with_nonces_of([other], tpm.event, b"event data", *by)
 entries = [right.entries[0], everywhere.entries[1], right.entries[2]]
 tpm.refused("The second entry's hmac has no other nonce: BAD_AUTH/s2", right.but(entries=entries))
 tpm.accepted("Nothing was changed by the refusals", right)
@@ -92,8 +84,7 @@ other = tpm.start("Another session, bound to TPM_RH_ENDORSEMENT", RH_ENDORSEMENT
 tpm("TPM2_GetRandom: the second of two").random(32, session, other.encrypting)
 tpm("The first of three").random(32, other.encrypting, session, third)
 tpm("The third of three, which ends").random(32, session, third, Use(other, ENCRYPT))
-with others_are(third):
-    foreign = tpm.random(32, session, third.encrypting)
+foreign = tpm.with_nonces_of([third], tpm.random, 32, session, third.encrypting)
 said = tpm("No other nonce stands in the first entry's hmac, as it authorizes nothing: BAD_AUTH/s1")
 said.refused(foreign)
 tpm("Without").random(32, session, third.encrypting)

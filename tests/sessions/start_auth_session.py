@@ -4,9 +4,9 @@ sessionType, symmetric and authHash.
 """
 
 from tpmsim.standard import area
-from tests.common.vocabulary import ALG_NULL, CC, command, ENDS, entry, frames, number
-from tests.common.vocabulary import RH_ENDORSEMENT, RH_LOCKOUT, RH_NULL, RH_OWNER, RH_PLATFORM
-from tests.common.vocabulary import RS_PW, SHA1, SHA256, sized, Teller, Use
+from tests.common.policy_teller import ENTITIES
+from tests.common.vocabulary import ALG_NULL, CC, command, ENDS, entry, frames, number, RH_LOCKOUT
+from tests.common.vocabulary import RH_NULL, RH_OWNER, RS_PW, SHA1, SHA256, sized, Teller, Use
 
 NONCE = bytes(range(16))
 NULLS = [RH_NULL, RH_NULL]
@@ -151,14 +151,7 @@ starts("SHA-1 and a nonce of 16 bytes", algorithm=SHA1)
 starts("SHA-1 and a nonce of 20 bytes", algorithm=SHA1, size=20)
 starts("AES", aes=True)
 starts("AES with SHA-1 and a nonce of 17 bytes", aes=True, algorithm=SHA1, size=17)
-for bind, name in (
-    (RH_OWNER, "TPM_RH_OWNER"),
-    (RH_ENDORSEMENT, "TPM_RH_ENDORSEMENT"),
-    (RH_PLATFORM, "TPM_RH_PLATFORM"),
-    (RH_LOCKOUT, "TPM_RH_LOCKOUT"),
-    (0, "PCR 0"),
-    (23, "PCR 23"),
-):
+for bind, name in ENTITIES.items():
     case = f"Bound to {name}, whose authorization value is empty; TPM2_PCR_Reset by an hmac"
     starts(case, bind=bind)
 
