@@ -281,33 +281,31 @@ said = tpm("An index for TPM2_NV_Write")
 written = said.index(NvAttribute.POLICYWRITE | NvAttribute.OWNERREAD, after_code(CC.NV_Write))
 said = tpm("One for TPM2_NV_Read, which the owner writes")
 read = said.written_index(NvAttribute.POLICYREAD | NvAttribute.OWNERWRITE, after_code(CC.NV_Read))
-for name, code, prepared in (
-    ("TPM2_Unseal", CC.Unseal, lambda: tpm.unsealing(handle, session)),
-    ("TPM2_NV_Write", CC.NV_Write, lambda: tpm.writing(written, DATA, session)),
-    ("TPM2_NV_Read", CC.NV_Read, lambda: tpm.reading(read, len(DATA), session)),
-):
-    tpm.asserts_code(session, code, name)
-    tpm.does(name, prepared())
+tpm.asserts_code(session)
+tpm.unseal("TPM2_Unseal", handle, SECRET, session)
+tpm.asserts_code(session, CC.NV_Write)
+tpm("TPM2_NV_Write").writing(written, DATA, session)
+tpm.asserts_code(session, CC.NV_Read)
+tpm.read("TPM2_NV_Read", read, DATA, session)
 tpm.flushed(handle)
 
 tpm.chapter(
     "The ADMIN role, in which TPM2_NV_ChangeAuth alone authorizes: the command is recorded. No "
     "attribute of the index is asked for."
 )
-code, name = CC.NV_ChangeAuth, "TPM2_NV_ChangeAuth"
-recorded = after_code(code)
+recorded = after_code(CC.NV_ChangeAuth)
 index = tpm.index("An index whose policy is that command", BY_OWNER, recorded)
-tpm.asserts_code(session, code, name)
-tpm(name).changing_auth(index, b"new", session)
+tpm.asserts_code(session, CC.NV_ChangeAuth)
+tpm("TPM2_NV_ChangeAuth").changing_auth(index, b"new", session)
 said = tpm("One whose policy has TPM2_PolicyAuthValue or TPM2_PolicyPassword behind it")
 index = said.index(BY_OWNER, policy.after_auth_value(SHA256, recorded))
-tpm.asserts_code(session, code, name)
+tpm.asserts_code(session, CC.NV_ChangeAuth)
 tpm.asserts_value(session)
-said = tpm(f"{name} by the value, and its answer is by the new one")
+said = tpm("TPM2_NV_ChangeAuth by the value, and its answer is by the new one")
 said.changing_auth(index, b"new", Use(session, demand=AUTH_VALUE))
-tpm.asserts_code(session, code, name)
+tpm.asserts_code(session, CC.NV_ChangeAuth)
 tpm.asserts_password(session)
-tpm(f"{name} by it").changing_auth(index, PIN, Use(session, demand=PASSWORD))
+tpm("TPM2_NV_ChangeAuth by it").changing_auth(index, PIN, Use(session, demand=PASSWORD))
 
 tpm.chapter("All at once: a PCR, a locality, a command, a cpHash and the value.")
 auth_policy = policy.after_locality(SHA256, AFTER_PCR_16, AT_LOCALITY_1)

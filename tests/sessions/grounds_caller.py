@@ -77,8 +77,9 @@ class GroundsCaller(PolicyTeller):
         """Assertions, in their order."""
         self.says(f"{what}: SUCCESS", *told)
 
-    def asserts_code(self, session, code=CC.Unseal, name="TPM2_Unseal"):
-        self.asserts(f"TPM2_PolicyCommandCode of {name}", self.command_code(session, code))
+    def asserts_code(self, session, code=CC.Unseal):
+        told = self.command_code(session, code)
+        self.asserts(f"TPM2_PolicyCommandCode of TPM2_{code.name}", told)
 
     def asserts_value(self, session):
         self.asserts("TPM2_PolicyAuthValue", self.auth_value_told(session))

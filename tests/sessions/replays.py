@@ -74,8 +74,7 @@ def accepted(what, prepared):
 
 def replayed(what, prepared, refusal, check="G9"):
     """Sends a command the first time, and again."""
-    tpm.does(what, prepared)
-    again(f"The same again: {refusal}", prepared, check)
+    again(f"The same again: {refusal}", accepted(what, prepared), check)
     return prepared
 
 
