@@ -12,21 +12,6 @@ ABSENT = Entry(0x0200_0009, b"", 0xFF, b"")
 
 tpm = Teller(__name__, __doc__, tries=True)
 
-hmac = tpm.start("An HMAC session, with AES", RH_OWNER, aes=True)
-plain = tpm.start("Another, without AES", RH_OWNER)
-policy = tpm.policy("A policy session, with AES", bind=RH_OWNER, aes=True)
-trial = tpm.trial("A trial session, with AES", bind=RH_OWNER, aes=True)
-
-
-def says(words, text, session=policy, attributes=CONTINUE_SESSION):
-    """The command of the chapter, with these parameters."""
-    tpm(words).told(code, session, text, Use(hmac, attributes))
-
-
-def decrypted(words, text, session=policy):
-    """The same where the HMAC session decrypts."""
-    says(words, text, session, DECRYPTS)
-
 
 def refused(words, prepared, *wrong):
     """With wrong hmacs in these places."""
@@ -64,6 +49,31 @@ def symmetric(use):
     case = f"{'encrypt' if use.attributes == ENCRYPTS else 'decrypt'} in a session that cannot"
     told = tpm.told(code, policy, b"\0", hmac, use)
     refused(f"{case}, and a wrong hmac before: SYMMETRIC/s2", told, 1)
+
+
+def by_right(words, text):
+    """By the right password, and the policy session itself decrypts nonceTPM."""
+    refused(words, secret(text, b"lockout", policy.decrypting))
+
+
+def in_trial(words, **parameters):
+    tpm.says(words, tpm.secret(trial, b"lockout", of=RH_LOCKOUT, **parameters))
+
+
+hmac = tpm.start("An HMAC session, with AES", RH_OWNER, aes=True)
+plain = tpm.start("Another, without AES", RH_OWNER)
+policy = tpm.policy("A policy session, with AES", bind=RH_OWNER, aes=True)
+trial = tpm.trial("A trial session, with AES", bind=RH_OWNER, aes=True)
+
+
+def says(words, text, session=policy, attributes=CONTINUE_SESSION):
+    """The command of the chapter, with these parameters."""
+    tpm(words).told(code, session, text, Use(hmac, attributes))
+
+
+def decrypted(words, text, session=policy):
+    """The same where the HMAC session decrypts."""
+    says(words, text, session, DECRYPTS)
 
 
 for code in (CC.PolicyRestart, CC.PolicyAuthValue, CC.PolicyPassword):
@@ -171,13 +181,6 @@ case = "A wrong password, and a wrong hmac behind it: AUTH_FAIL/s1"
 refused(case, secret(CUT, b"wrong", hmac.decrypting), 2)
 refused("A wrong hmac, and another behind it: AUTH_FAIL/s1", secret(CUT, hmac, policy), 1, 2)
 refused("The one behind: BAD_AUTH/s2", secret(CUT, b"lockout", policy.decrypting), 2)
-
-
-def by_right(words, text):
-    """By the right password, and the policy session itself decrypts nonceTPM."""
-    refused(words, secret(text, b"lockout", policy.decrypting))
-
-
 NONCE = bytes(16)
 assert policy.nonce_tpm != NONCE
 by_right("nonceTPM that is cut, and cannot be decrypted: INSUFFICIENT/p1", CUT)
@@ -201,12 +204,6 @@ said = tpm("No fault is left")
 said.accepted(secret(frames.policy_secret(**faulty), b"lockout", policy.decrypting))
 
 tpm.chapter("In a trial session fewer of them are faults.")
-
-
-def in_trial(words, **parameters):
-    tpm.says(words, tpm.secret(trial, b"lockout", of=RH_LOCKOUT, **parameters))
-
-
 in_trial("expiration is 1: VALUE/p4", nonce_tpm=NONCE, cp_hash=b"x", expiration=1)
 in_trial("cpHashA of one byte: SIZE/p2", nonce_tpm=NONCE, cp_hash=b"x")
 in_trial("Another nonceTPM, and a cpHashA: SUCCESS", nonce_tpm=NONCE, cp_hash=CP_HASH)

@@ -21,6 +21,10 @@ def texts(words, *those):
     tpm.texts(words, CC.PolicyCpHash, session, *those)
 
 
+def writes(data=b"data", offset=0):
+    return tpm.writing(FIRST, data, session, offset=offset)
+
+
 for session in tpm.each_session():
     algorithm, size = session.algorithm, digest_bytes(session.algorithm)
     one, other = bytes([1]) * size, bytes([2]) * size
@@ -82,12 +86,6 @@ tpm.chapter(
 public = area(FIRST, BY_OWNER | BY_POLICY, auth_policy=policy.after_locality(SHA256, bytes(32), 2))
 tpm.define("An index whose policy is that of locality 1", public)
 tpm("It is written by the owner").writing(FIRST, b"data", by=RH_OWNER)
-
-
-def writes(data=b"data", offset=0):
-    return tpm.writing(FIRST, data, session, offset=offset)
-
-
 RIGHT = tpm.cp_hash(writes())
 WRONG = (
     ("of other data", tpm.cp_hash(writes(b"date"))),

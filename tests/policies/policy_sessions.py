@@ -30,6 +30,19 @@ def random_by(handle):
     return tpm.random(1).but(entries=[Entry(handle, b"", 1, b"")])
 
 
+def tell(session, code, mask, cp_hash):
+    """Something of each kind, of which a session takes no other later."""
+    said = tpm("TPM2_PolicyCommandCode, TPM2_PolicyLocality, TPM2_PolicyPCR: SUCCESS")
+    said.says(
+        tpm.command_code(session, code), tpm.locality(session, mask), tpm.pcrs(session, PCR_0)
+    )
+    tpm.accepted("TPM2_PolicySecret", tpm.secret(session, b"", cp_hash=cp_hash))
+
+
+def is_policy_session(session):
+    tpm("As no trial session it is refused a wrong list: VALUE/p1").branches(session, b"x", b"y")
+
+
 tpm.startup()
 tpm.chapter("Sixteen policy sessions, and trial sessions among them.")
 sessions = []
@@ -74,21 +87,6 @@ tpm("As an entry: REFERENCE_S0").random(1, hmac)
 tpm.chapter("A new session in the place of one that was told something knows nothing of it.")
 CP_HASHES = bytes([1]) * 32, bytes([2]) * 32
 PCR_0 = [(SHA256, [0])]
-
-
-def tell(session, code, mask, cp_hash):
-    """Something of each kind, of which a session takes no other later."""
-    said = tpm("TPM2_PolicyCommandCode, TPM2_PolicyLocality, TPM2_PolicyPCR: SUCCESS")
-    said.says(
-        tpm.command_code(session, code), tpm.locality(session, mask), tpm.pcrs(session, PCR_0)
-    )
-    tpm.accepted("TPM2_PolicySecret", tpm.secret(session, b"", cp_hash=cp_hash))
-
-
-def is_policy_session(session):
-    tpm("As no trial session it is refused a wrong list: VALUE/p1").branches(session, b"x", b"y")
-
-
 tpm("A trial session ends").flush(sessions[7])
 told = start(SE_POLICY, 7, "A policy session in its place")
 is_policy_session(told)

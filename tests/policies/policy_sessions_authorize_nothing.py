@@ -9,15 +9,6 @@ from tests.common.vocabulary import Teller, Use, wrong_in, zeros
 
 tpm = Teller(__name__, __doc__)
 
-tpm.accepted('ownerAuth is "owner"', tpm.change_auth(RH_OWNER, b"owner", b""))
-hmac = tpm.start("An HMAC session, bound to TPM_RH_OWNER, with AES", RH_OWNER, aes=True)
-policy = tpm.policy("A policy session, bound to nothing, and so without a key")
-bound = tpm.policy("One that is bound to TPM_RH_OWNER, with AES", bind=RH_OWNER, aes=True)
-lockout = tpm.policy("One that is bound to TPM_RH_LOCKOUT", bind=RH_LOCKOUT)
-trial = tpm.trial("A trial session, without a key")
-keyed = tpm.trial("One that is bound to TPM_RH_OWNER, with AES", bind=RH_OWNER, aes=True)
-target = tpm.policy("A policy session that is to be told something")
-
 
 def commands(session):
     """One of each command with a handle that is authorized, on all of its kinds of handles."""
@@ -38,6 +29,14 @@ def reset_by_both():
     tpm("By the trial session: ATTRIBUTES/s1").reset(trial)
 
 
+tpm.accepted('ownerAuth is "owner"', tpm.change_auth(RH_OWNER, b"owner", b""))
+hmac = tpm.start("An HMAC session, bound to TPM_RH_OWNER, with AES", RH_OWNER, aes=True)
+policy = tpm.policy("A policy session, bound to nothing, and so without a key")
+bound = tpm.policy("One that is bound to TPM_RH_OWNER, with AES", bind=RH_OWNER, aes=True)
+lockout = tpm.policy("One that is bound to TPM_RH_LOCKOUT", bind=RH_LOCKOUT)
+trial = tpm.trial("A trial session, without a key")
+keyed = tpm.trial("One that is bound to TPM_RH_OWNER, with AES", bind=RH_OWNER, aes=True)
+target = tpm.policy("A policy session that is to be told something")
 WHAT = "TPM2_PCR_Reset, Extend, Event, HierarchyChangeAuth and PolicySecret"
 for words, session in (
     ("policy session without a key: AUTH_UNAVAILABLE", policy),

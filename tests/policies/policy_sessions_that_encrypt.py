@@ -22,9 +22,6 @@ PLAIN = (
 
 tpm = PolicyTeller(__name__, __doc__, tries=True)
 
-tpm.accepted('ownerAuth is "owner"', tpm.change_auth(RH_OWNER, b"owner", b""))
-hmac = tpm.start("An HMAC session, bound to TPM_RH_OWNER, with AES", RH_OWNER, aes=True)
-
 
 def event(**choices):
     return tpm.event(b"event data", b"", Use(session, DECRYPTS, **choices))
@@ -101,6 +98,12 @@ def of_its_own_policy():
     tpm("It encrypts, and ends").random(20, Use(session, ENCRYPT))
 
 
+def secret(*uses):
+    return tpm.secret(first, third, *uses, of=RH_OWNER, nonce_tpm=first.nonce_tpm)
+
+
+tpm.accepted('ownerAuth is "owner"', tpm.change_auth(RH_OWNER, b"owner", b""))
+hmac = tpm.start("An HMAC session, bound to TPM_RH_OWNER, with AES", RH_OWNER, aes=True)
 for algorithm, hash_name in HASHES:
     for kind, name in KINDS:
         tpm.chapter(f"A {name} session of {hash_name}, bound to TPM_RH_OWNER.")
@@ -145,12 +148,6 @@ tpm(
 ).change_auth(RH_OWNER, b"owner", third, second, first.decrypting)
 changing = tpm.change_auth, RH_OWNER, b"owner", third, second, first.decrypting
 tpm.refused("Where it is left out: BAD_AUTH/s1", tpm.with_nonces_of([], *changing))
-
-
-def secret(*uses):
-    return tpm.secret(first, third, *uses, of=RH_OWNER, nonce_tpm=first.nonce_tpm)
-
-
 tpm.accepted(
     "TPM2_PolicySecret in the policy session, which encrypts, and the trial session decrypts: the "
     "first hmac has the nonces of both, in this order",

@@ -10,16 +10,21 @@ AUTH = b"owner"
 
 tpm = Teller(__name__, __doc__)
 
-tpm.accepted('ownerAuth is "owner" from here on', tpm.change_auth(RH_OWNER, AUTH, b""))
-said = tpm('endorsementAuth is "endorsement"')
-said.accepted(tpm.change_auth(RH_ENDORSEMENT, b"endorsement", b""))
-
 
 def other_entry(words, name, *values):
     """The right command with other values of one part of its entry."""
     tpm.refused(words, *(right.but_entry(1, **{name: it}) for it in values))
 
 
+def with_key(key, by):
+    """A command whose hmac has another key than the rule gives."""
+    with tpm.breaking(key=lambda *_: key):
+        return tpm.change_auth(RH_OWNER, AUTH, by)
+
+
+tpm.accepted('ownerAuth is "owner" from here on', tpm.change_auth(RH_OWNER, AUTH, b""))
+said = tpm('endorsementAuth is "endorsement"')
+said.accepted(tpm.change_auth(RH_ENDORSEMENT, b"endorsement", b""))
 for bind, words in (
     (frames.RH_NULL, "to nothing"),
     (RH_OWNER, "to TPM_RH_OWNER"),
@@ -60,14 +65,6 @@ tpm.chapter("What is in the key of an hmac.")
 bound = tpm.start("A session bound to TPM_RH_OWNER", RH_OWNER)
 other = tpm.start("Another one, bound to TPM_RH_ENDORSEMENT", RH_ENDORSEMENT)
 unbound = tpm.start("And one that is unbound")
-
-
-def with_key(key, by):
-    """A command whose hmac has another key than the rule gives."""
-    with tpm.breaking(key=lambda *_: key):
-        return tpm.change_auth(RH_OWNER, AUTH, by)
-
-
 said = tpm("Bound to the entity, and its authorization value in the key all the same: BAD_AUTH/s1")
 said.refused(with_key(bound.key + AUTH, bound))
 case = "Bound to another, without the entity's value, and with the value of that other one"

@@ -10,6 +10,27 @@ NULLS = [RH_NULL, RH_NULL]
 
 tpm = Teller(__name__, __doc__)
 
+
+def start(handles, parameters, *uses):
+    return tpm.prepare(CC.StartAuthSession, handles, parameters, *uses)
+
+
+def event(text, *uses, pcr=17):
+    return tpm.prepare(CC.PCR_Event, [pcr], text, *uses)
+
+
+def change(text, *uses):
+    return tpm.prepare(CC.HierarchyChangeAuth, [RH_OWNER], text, *uses)
+
+
+def flush(text, tag=frames.NO_SESSIONS):
+    return frames.command(CC.FlushContext, text, tag)
+
+
+def masked(tail, nonce=15, salt=b"\1", kind=b"\0"):
+    return sized(bytes(nonce)) + sized(salt) + kind + tail
+
+
 first = tpm.start("A session", RH_OWNER, aes=True)
 second = tpm.start("Another one", RH_OWNER, aes=True)
 
@@ -17,12 +38,6 @@ tpm.chapter(
     "TPM2_StartAuthSession with two sessions that decrypt and encrypt; its first parameter is cut, "
     "and the hmacs of both are wrong."
 )
-
-
-def start(handles, parameters, *uses):
-    return tpm.prepare(CC.StartAuthSession, handles, parameters, *uses)
-
-
 uses = first.decrypting, second.encrypting
 cut, absent = sized(bytes(16))[:-1], Entry(0x0200_0005, b"", 0xFF, b"")
 for words, *handles in (
@@ -51,12 +66,6 @@ for words, text in (
 tpm.accepted("No fault is left", start(NULLS, frames.start_auth_session(bytes(16))[1], *uses))
 
 tpm.chapter("TPM2_PCR_Event into PCR 17 from locality 0, with two sessions and a cut parameter.")
-
-
-def event(text, *uses, pcr=17):
-    return tpm.prepare(CC.PCR_Event, [pcr], text, *uses)
-
-
 tpm.refused("PCR 24, and no sessions (tag 8001): VALUE/h1", event(b"", pcr=24))
 tpm.refused("No sessions (tag 8001): AUTH_MISSING", event(b""))
 case = "encrypt, as the first answer is no sized buffer, in the second entry: ATTRIBUTES/s2"
@@ -80,12 +89,6 @@ said.accepted(event(sized(bytes(1024)), first, second.decrypting))
 tpm.locality_is(0)
 
 tpm.chapter("TPM2_HierarchyChangeAuth of TPM_RH_OWNER.")
-
-
-def change(text, *uses):
-    return tpm.prepare(CC.HierarchyChangeAuth, [RH_OWNER], text, *uses)
-
-
 said = tpm("A wrong hmac, and a value that is too long: BAD_AUTH/s1")
 said.refused(wrong_in(change(sized(bytes(33)), first), 1))
 tpm.refused("That value, and a byte behind it: SIZE/p1", change(sized(bytes(33)) + b"\0", first))
@@ -93,12 +96,6 @@ tpm.refused("The byte behind it: SIZE", change(sized(b"abc") + b"\0", first))
 tpm.accepted("No fault is left", change(sized(b"abc"), first))
 
 tpm.chapter("TPM2_FlushContext of the first session.")
-
-
-def flush(text, tag=frames.NO_SESSIONS):
-    return frames.command(CC.FlushContext, text, tag)
-
-
 case = "With sessions (tag 8002) and nothing behind the header: AUTH_CONTEXT"
 tpm.raw(case, flush(b"", frames.SESSIONS))
 for words, text in (
@@ -114,12 +111,6 @@ tpm.chapter(
     "TPM2_StartAuthSession with TPM_ALG_XOR of another hash, by a session that masks the nonce."
 )
 masking = tpm.start("A session with TPM_ALG_XOR", RH_OWNER, xor=True)
-
-
-def masked(tail, nonce=15, salt=b"\1", kind=b"\0"):
-    return sized(bytes(nonce)) + sized(salt) + kind + tail
-
-
 WRONG_HASH = number(frames.XOR, 2) + number(0x000C, 2)
 OTHER_HASH = number(frames.XOR, 2) + number(frames.SHA1, 2) + number(frames.SHA256, 2)
 both = Use(masking, DECRYPTS | ENCRYPT)

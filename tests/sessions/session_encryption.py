@@ -10,6 +10,11 @@ from tests.common.vocabulary import Use
 
 tpm = PolicyTeller(__name__, __doc__)
 
+
+def set_by(parameters, *uses):
+    return tpm.prepare(CC.HierarchyChangeAuth, [RH_OWNER], parameters, *uses)
+
+
 tpm.accepted('ownerAuth is "owner"', tpm.change_auth(RH_OWNER, b"owner", b""))
 said = tpm('endorsementAuth is "endorsement"')
 said.accepted(tpm.change_auth(RH_ENDORSEMENT, b"endorsement", b""))
@@ -105,30 +110,24 @@ for words, uses in (
     tpm("By the new session, which ends").change_auth(RH_OWNER, b"owner", Use(new, DECRYPT))
 
 tpm.chapter("What is refused, with right hmacs.")
-
-
-def changing(parameters, *uses):
-    return tpm.prepare(CC.HierarchyChangeAuth, [RH_OWNER], parameters, *uses)
-
-
 cut = b"", b"\0", b"\0\x01", b"\0\x20" + bytes(31), b"\0\x21" + bytes(32), b"\xff\xff"
 tpm.refused(
     "decrypt, and the first parameter is cut: no size, half of it, or fewer bytes, also where it "
     "says too many: INSUFFICIENT/p1",
-    *(changing(it, session.decrypting) for it in cut),
+    *(set_by(it, session.decrypting) for it in cut),
 )
 said = tpm("Without decrypt a size that says too many is a fault of its own: SIZE/p1")
-said.refused(changing(b"\0\x21" + bytes(32), session), changing(b"\xff\xff", session))
+said.refused(set_by(b"\0\x21" + bytes(32), session), set_by(b"\xff\xff", session))
 tpm.refused(
     "decrypt, and the first parameter is whole and too long: SIZE/p1",
-    changing(sized(bytes(33)), session.decrypting),
-    changing(sized(b"owner" + bytes(28)), b"owner", session.decrypting),
+    set_by(sized(bytes(33)), session.decrypting),
+    set_by(sized(b"owner" + bytes(28)), b"owner", session.decrypting),
     tpm.event(bytes(1025), session.decrypting),
 )
 said = tpm("TPM2_StartAuthSession with 33 bytes: SIZE/p1")
 said.prepare(CC.StartAuthSession, *frames.start_auth_session(bytes(33)), session.decrypting)
 said = tpm("A byte behind the first parameter, which is not encrypted: SIZE")
-said.refused(changing(sized(b"owner") + b"\0", session.decrypting))
+said.refused(set_by(sized(b"owner") + b"\0", session.decrypting))
 wrong = tpm.change_auth(RH_OWNER, b"owner", session.decrypting)
 said = tpm("One bit of the encrypted bytes, which the hmac is of: BAD_AUTH/s1")
 said.refused(wrong.but(parameters=flipped(wrong.parameters)))

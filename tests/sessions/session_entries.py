@@ -23,6 +23,10 @@ def with_entries(code, handles, parameters):
     return lambda *entries: prepared.but(entries=list(entries))
 
 
+def second(*entries):
+    return right.but(entries=right.entries + list(entries))
+
+
 reset = with_entries(CC.PCR_Reset, [16], b"")
 extend = with_entries(CC.PCR_Extend, [16], frames.digests((SHA256, bytes(32))))
 event = with_entries(CC.PCR_Event, [16], sized(b"abc"))
@@ -127,12 +131,6 @@ tpm.chapter(
     "TPM2_PCR_Event with a right entry before."
 )
 right = tpm.event(b"abc", aes)
-
-
-def second(*entries):
-    return right.but(entries=right.entries + list(entries))
-
-
 case = "33 bytes of nonce, a handle that is no session's: SIZE/s2"
 refused(case, second(entry(0x8000_0000, 0xFF, nonce=bytes(33))))
 refused("That handle: VALUE/s2", second(entry(0x8000_0000, 0xFF)))

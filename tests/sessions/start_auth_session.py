@@ -56,6 +56,13 @@ def numbers(*values):
     return b"".join(number(it, 2) for it in values)
 
 
+def starts(what, **choices):
+    session = tpm.start(what, **choices)
+    assert session.handle == 0x0200_0000
+    tpm("").reset(session)
+    tpm.accepted("", tpm.flush(session))
+
+
 refused("Before TPM2_Startup: INITIALIZE", {})
 tpm.startup()
 
@@ -135,15 +142,6 @@ refused("A nonce of 15 bytes, and a salt: SIZE/p1", both)
 each("A salt of 1 byte and of 32: VALUE/p2", "salt", b"\x01", bytes(32))
 
 tpm.chapter("None of these refusals started a session. What starts one, and it is ended again:")
-
-
-def starts(what, **choices):
-    session = tpm.start(what, **choices)
-    assert session.handle == 0x0200_0000
-    tpm("").reset(session)
-    tpm.accepted("", tpm.flush(session))
-
-
 starts("SHA-256 and a nonce of 16 bytes, then TPM2_PCR_Reset by it, and TPM2_FlushContext")
 starts("SHA-256 and a nonce of 20 bytes", size=20)
 starts("SHA-256 and a nonce of 32 bytes", size=32)

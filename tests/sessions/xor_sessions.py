@@ -85,6 +85,19 @@ def drawn(count):
     return (seed * RANDOM_BYTES)[:count]
 
 
+def both_ways(what, attributes, *more, to, back, auth_values):
+    """TPM2_HMAC, whose data and whose answer are masked by the entries of two places."""
+    prepared = tpm.hmac(key, TEXT, SHA256, Use(session, attributes), *more)
+    is_masked(prepared, TEXT, to, auth_values[0])
+    masked(what, prepared, KNOWN, back, auth_values[1])
+
+
+def of_size(size):
+    """TPM2_PCR_Event in an entry whose nonce and hmac are both empty."""
+    entries = [frames.entry(empty.handle, b"", DECRYPTS)]
+    return frames.on_handle(CC.PCR_Event, 16, sized(bytes(size)), entries)
+
+
 tpm.accepted('ownerAuth is "owner"', tpm.change_auth(RH_OWNER, OWNER_AUTH, b""))
 tpm.define("An index of 1,024 bytes", area(FIRST, size=1024), OWNER_AUTH, auth=b"index")
 
@@ -127,15 +140,6 @@ key = said.create(parent, hmac_key(), user_auth=b"key", data=b"Jefe")
 key = tpm.load("TPM2_Load", parent, key)
 TEXT = b"what do ya want for nothing?"
 KNOWN = bytes.fromhex("5bdcc146bf60754e6a042426089575c75a003f089d2739839dec58b964ec3843")
-
-
-def both_ways(what, attributes, *more, to, back, auth_values):
-    """TPM2_HMAC, whose data and whose answer are masked by the entries of two places."""
-    prepared = tpm.hmac(key, TEXT, SHA256, Use(session, attributes), *more)
-    is_masked(prepared, TEXT, to, auth_values[0])
-    masked(what, prepared, KNOWN, back, auth_values[1])
-
-
 case = "TPM2_HMAC of 28 bytes: the nonces are exchanged between both, and the device's is new"
 both_ways(case, BOTH, to=1, back=1, auth_values=(b"key", b"key"))
 case = "The second entry unmasks, in which nothing is authorized"
@@ -192,14 +196,6 @@ tpm.chapter(
     "so is one of 1,025 bytes."
 )
 empty = tpm.start("A session that is bound to nothing, with an empty key", xor=True)
-
-
-def of_size(size):
-    """TPM2_PCR_Event in an entry whose nonce and hmac are both empty."""
-    entries = [frames.entry(empty.handle, b"", DECRYPTS)]
-    return frames.on_handle(CC.PCR_Event, 16, sized(bytes(size)), entries)
-
-
 LONGEST = COMMAND_BYTES - len(of_size(0))
 assert (LONGEST, len(of_size(LONGEST))) == (4067, 4096)
 for size in (1025, LONGEST):
