@@ -94,9 +94,6 @@ def at_null(*uses):
     return tpm.primary(RH_NULL, sealed(), *uses, data=SECRET)
 
 
-# Policies.
-
-
 def uses_of(handle, index):
     """A command on an object that a policy authorizes, and two on an index."""
     return (

@@ -23,9 +23,6 @@ tpm = GroundsCaller(__name__, __doc__, tries=True)
 lost = tpm.lost
 
 
-# Passwords and HMAC sessions.
-
-
 def by_key(key, handle, session):
     return tpm.with_key(key, tpm.unsealing, handle, Use(session, shows_empty_key=True))
 

@@ -3,24 +3,17 @@ faults one after the other is repaired. What is answered is the first that is le
 docs/table/order_of_refusals.md.
 """
 
+from functools import partial
+
 from tests.common.vocabulary import CC, DECRYPTS, ENCRYPT, Entry, frames, number, RH_NULL, RH_OWNER
 from tests.common.vocabulary import sized, Teller, Use, wrong_in
 
 NULLS = [RH_NULL, RH_NULL]
 
 tpm = Teller(__name__, __doc__)
-
-
-def start(handles, parameters, *uses):
-    return tpm.prepare(CC.StartAuthSession, handles, parameters, *uses)
-
-
-def event(text, *uses, pcr=17):
-    return tpm.prepare(CC.PCR_Event, [pcr], text, *uses)
-
-
-def change(text, *uses):
-    return tpm.prepare(CC.HierarchyChangeAuth, [RH_OWNER], text, *uses)
+start = partial(tpm.prepare, CC.StartAuthSession)
+event = partial(tpm.prepare, CC.PCR_Event, [17])
+change = partial(tpm.prepare, CC.HierarchyChangeAuth, [RH_OWNER])
 
 
 def flush(text, tag=frames.NO_SESSIONS):
@@ -66,7 +59,8 @@ for words, text in (
 tpm.accepted("No fault is left", start(NULLS, frames.start_auth_session(bytes(16))[1], *uses))
 
 tpm.chapter("TPM2_PCR_Event into PCR 17 from locality 0, with two sessions and a cut parameter.")
-tpm.refused("PCR 24, and no sessions (tag 8001): VALUE/h1", event(b"", pcr=24))
+said = tpm("PCR 24, and no sessions (tag 8001): VALUE/h1")
+said.refused(tpm.prepare(CC.PCR_Event, [24], b""))
 tpm.refused("No sessions (tag 8001): AUTH_MISSING", event(b""))
 case = "encrypt, as the first answer is no sized buffer, in the second entry: ATTRIBUTES/s2"
 tpm.refused(case, wrong_in(event(b"\0", first, second.encrypting), 1, 2))

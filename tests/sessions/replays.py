@@ -58,9 +58,6 @@ class Start:
         assert self.sent(what, seed, nonce or self.nonce).handle == self.session.handle
 
 
-# Sending again.
-
-
 def again(words, prepared, check="G9"):
     """Sends a command again, which this check must refuse."""
     tpm.refused_by(check, words, prepared)
@@ -80,9 +77,6 @@ def replayed(what, prepared, refusal, check="G9"):
 
 def write(by, data=DATA, index=FIRST):
     return tpm.writing(index, data, by)
-
-
-# What a replay is refused by, and what counts it.
 
 
 def counted_otherwise(session):
@@ -108,9 +102,6 @@ def counted_otherwise(session):
     tpm.tries_are("A failed try", 2)
     tpm.unlocks()
     tpm.flushed(bound)
-
-
-# Places.
 
 
 def other_places(session, endorsed):
@@ -163,9 +154,6 @@ def compared_with_nothing(session):
     tpm.flushed(aes)
 
 
-# Policy sessions.
-
-
 def policy_sessions():
     tpm.chapter(
         "A POLICY SESSION forgets what it was told with each use. Where it is told that again, the "
@@ -214,9 +202,6 @@ def demanded(bound):
     first = replayed("TPM2_NV_Write", by_password, "POLICY_FAIL/s1, as nothing was told")
     tpm.asserts_password(bound)
     tpm.does("The same again|as a password has no nonce", first)
-
-
-# Sessions that begin again.
 
 
 def new_names(start):

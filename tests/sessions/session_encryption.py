@@ -3,17 +3,15 @@ attribute decrypt has encrypted the bytes of the first parameter, and one with e
 first answer.
 """
 
+from functools import partial
+
 from tests.common.policy_teller import PolicyTeller
 from tests.common.vocabulary import CC, CONTINUE_SESSION, DECRYPT, DECRYPTS, ENCRYPT, flipped
 from tests.common.vocabulary import frames, NAMES, RH_ENDORSEMENT, RH_OWNER, SHA1, SHA256, sized
 from tests.common.vocabulary import Use
 
 tpm = PolicyTeller(__name__, __doc__)
-
-
-def set_by(parameters, *uses):
-    return tpm.prepare(CC.HierarchyChangeAuth, [RH_OWNER], parameters, *uses)
-
+set_by = partial(tpm.prepare, CC.HierarchyChangeAuth, [RH_OWNER])
 
 tpm.accepted('ownerAuth is "owner"', tpm.change_auth(RH_OWNER, b"owner", b""))
 said = tpm('endorsementAuth is "endorsement"')

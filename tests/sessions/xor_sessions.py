@@ -26,9 +26,6 @@ SIZES = 0, 1, 20, 21, 32, 33, 1024
 tpm = Teller(__name__, __doc__, tries=True)
 
 
-# The masks, by the book.
-
-
 def mask(algorithm, key, newer, older, size):
     """SP 800-108 in counter mode, with HMAC: blocks i, "XOR", 0, both nonces, and the bits."""
     given, block = b"", 0
