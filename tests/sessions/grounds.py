@@ -110,8 +110,8 @@ def with_policy(auth_policy):
 
 
 def condition(words, auth_policy, told, *assertions, demand=None, locality=0):
-    """What a policy asks for: a session is told the assertions, of which some are of the command
-    that it then authorizes; and what is demanded, and from where the command comes.
+    """What a policy asks for: a session is told the assertions, of which one may be made of the
+    command that it then authorizes; and what is demanded, and from where the command comes.
     """
     tpm.chapter(words)
     handle, index = with_policy(auth_policy)
@@ -119,35 +119,12 @@ def condition(words, auth_policy, told, *assertions, demand=None, locality=0):
         tpm.locality_is(locality)
     for name, prepare in uses_of(handle, index):
         prepared = prepare(Use(session, demand=demand))
-        tpm.asserts(f"{told}, and {name}", *(it(prepared) for it in assertions))
+        those = (it(prepared) if callable(it) else it for it in assertions)
+        tpm.asserts(f"{told}, and {name}", *those)
         tpm.does("", prepared)
     if locality:
         tpm.locality_is(0)
     tpm.flushed(handle)
-
-
-def pcr_16(_):
-    return tpm.pcrs(session, PCR_16)
-
-
-def value(_):
-    return tpm.auth_value_told(session)
-
-
-def password(_):
-    return tpm.password_told(session)
-
-
-def localities(allowed):
-    return lambda _: tpm.locality(session, allowed)
-
-
-def secret_of_owner(_):
-    return tpm.secret(session, OWNER, of=RH_OWNER, policy_ref=REF)
-
-
-def secret_of_kept(prepared):
-    return tpm.secret(session, PIN, of=KEPT, cp_hash=tpm.cp_hash(prepared))
 
 
 found = entities()
@@ -223,8 +200,14 @@ ONE_TO_THREE, THREE_OR_FOUR = 0b01110, 0b11000
 AFTER_ONE_TO_THREE = policy.after_locality(SHA256, ZEROS, ONE_TO_THREE)
 AT_THREE = policy.after_locality(SHA256, AFTER_ONE_TO_THREE, THREE_OR_FOUR)
 compared = tpm.written_index("An index that TPM2_PolicyNV looks at", BY_OWNER)
-either = lambda _: tpm.branches(session, *BRANCHES)
-equal = lambda _: tpm.comparing(session, compared, DATA, by=RH_OWNER)
+pcr_16, either = tpm.pcrs(session, PCR_16), tpm.branches(session, *BRANCHES)
+value, password = tpm.auth_value_told(session), tpm.password_told(session)
+at_one, one_to_three, three_or_four = (
+    tpm.locality(session, it) for it in (AT_LOCALITY_1, ONE_TO_THREE, THREE_OR_FOUR)
+)
+by_owner = tpm.secret(session, OWNER, of=RH_OWNER, policy_ref=REF)
+by_kept = lambda it: tpm.secret(session, PIN, of=KEPT, cp_hash=tpm.cp_hash(it))
+equal = tpm.comparing(session, compared, DATA, by=RH_OWNER)
 words = "TPM2_PolicyPCR: no PCR has changed between the assertion and the command."
 condition(words, AFTER_PCR_16, "TPM2_PolicyPCR of PCR 16", pcr_16)
 words = "TPM2_PolicyOR of two branches. The first one: PCR 16 is as it was."
@@ -236,16 +219,16 @@ words = "TPM2_PolicyAuthValue: the value of the entity is in the key of the hmac
 condition(words, AFTER_AUTH_VALUE, "TPM2_PolicyAuthValue", value, demand=AUTH_VALUE)
 words = "TPM2_PolicyPassword: the hmac is the value of the entity in plain."
 condition(words, AFTER_AUTH_VALUE, "TPM2_PolicyPassword", password, demand=PASSWORD)
-words, told = "TPM2_PolicyLocality: the command comes from locality 1.", "TPM2_PolicyLocality of 1"
-condition(words, AFTER_LOCALITY_1, told, localities(AT_LOCALITY_1), locality=1)
+words = "TPM2_PolicyLocality: the command comes from locality 1."
+condition(words, AFTER_LOCALITY_1, "TPM2_PolicyLocality of 1", at_one, locality=1)
 words = "TPM2_PolicyLocality twice: the command comes from what both have, locality 3."
 told = "TPM2_PolicyLocality of 1 to 3, of 3 and 4"
-condition(words, AT_THREE, told, *map(localities, (ONE_TO_THREE, THREE_OR_FOUR)), locality=3)
+condition(words, AT_THREE, told, one_to_three, three_or_four, locality=3)
 words = "TPM2_PolicySecret of the owner, with a policyRef: its value was known."
-condition(words, after_secret(name_of(RH_OWNER), REF), "TPM2_PolicySecret", secret_of_owner)
+condition(words, after_secret(name_of(RH_OWNER), REF), "TPM2_PolicySecret", by_owner)
 words = "TPM2_PolicySecret of the persistent object. It records a cpHash: the command has just this"
 told = "TPM2_PolicySecret with the cpHash of the command"
-condition(f"{words} one.", after_secret(tpm.name(KEPT)), told, secret_of_kept)
+condition(f"{words} one.", after_secret(tpm.name(KEPT)), told, by_kept)
 words = "TPM2_PolicyNV: an index held what it was compared with."
 condition(words, after_equal_data(tpm.name(compared)), "TPM2_PolicyNV", equal)
 
