@@ -3,6 +3,7 @@ grounds are lost in tests/sessions/lost_grounds.tpm. A ground is a password, the
 session, or a policy session whose policy holds.
 """
 
+from functools import partial
 from typing import Callable, NamedTuple
 
 from tests.common.vocabulary import AUTH_VALUE, BY_OWNER, BY_PLATFORM, BY_POLICY, CC, ENDS, HERE
@@ -43,12 +44,6 @@ class Entity(NamedTuple):
         return tpm.auth_value(self.handle)
 
 
-def hierarchy(handle):
-    name, value = HIERARCHIES[handle]
-    change = lambda by: tpm.change_auth(handle, value, by)
-    return Entity(name, handle, "TPM2_HierarchyChangeAuth", change)
-
-
 def entities():
     """All kinds of entities that have an authorization value."""
     tpm.chapter('The entities of this script. The value of objects and indices is "pin".')
@@ -64,28 +59,23 @@ def entities():
     of_owner = tpm.written_index("One with OWNERWRITE and OWNERREAD", BY_OWNER)
     of_platform = tpm.index("One with PPWRITE and PPREAD", BY_PLATFORM)
     tpm("It is written").writing(of_platform, DATA, by=RH_PLATFORM)
-
-    def writes(words, asker, index):
-        use = lambda by: tpm.writing(index, DATA, by, by=asker)
-        return Entity(words, asker, "TPM2_NV_Write", use)
-
-    def reads(words, asker, index):
-        use = lambda by: tpm.reading(index, len(DATA), by, by=asker)
-        return Entity(words, asker, "TPM2_NV_Read", use)
-
-    def unseals(words, handle):
-        return Entity(words, handle, "TPM2_Unseal", lambda by: tpm.unsealing(handle, by))
-
+    owner, platform = (f"The {it}, for an index with" for it in ("owner", "platform"))
+    write, read, unseal = "TPM2_NV_Write", "TPM2_NV_Read", "TPM2_Unseal"
+    writes = lambda index, asker: partial(tpm.writing, index, DATA, by=asker)
+    reads = lambda index, asker: partial(tpm.reading, index, len(DATA), by=asker)
     return (
-        *map(hierarchy, HIERARCHIES),
-        unseals("The object", loaded),
-        unseals("The persistent object", KEPT),
-        writes("The index with AUTHWRITE", to_write, to_write),
-        reads("The index with AUTHREAD", to_read, to_read),
-        writes("The owner, for an index with OWNERWRITE", RH_OWNER, of_owner),
-        reads("The owner, for an index with OWNERREAD", RH_OWNER, of_owner),
-        writes("The platform, for an index with PPWRITE", RH_PLATFORM, of_platform),
-        reads("The platform, for an index with PPREAD", RH_PLATFORM, of_platform),
+        *(
+            Entity(name, it, "TPM2_HierarchyChangeAuth", partial(tpm.change_auth, it, value))
+            for it, (name, value) in HIERARCHIES.items()
+        ),
+        Entity("The object", loaded, unseal, partial(tpm.unsealing, loaded)),
+        Entity("The persistent object", KEPT, unseal, partial(tpm.unsealing, KEPT)),
+        Entity("The index with AUTHWRITE", to_write, write, writes(to_write, to_write)),
+        Entity("The index with AUTHREAD", to_read, read, reads(to_read, to_read)),
+        Entity(f"{owner} OWNERWRITE", RH_OWNER, write, writes(of_owner, RH_OWNER)),
+        Entity(f"{owner} OWNERREAD", RH_OWNER, read, reads(of_owner, RH_OWNER)),
+        Entity(f"{platform} PPWRITE", RH_PLATFORM, write, writes(of_platform, RH_PLATFORM)),
+        Entity(f"{platform} PPREAD", RH_PLATFORM, read, reads(of_platform, RH_PLATFORM)),
     )
 
 
@@ -97,9 +87,9 @@ def at_null(*uses):
 def uses_of(handle, index):
     """A command on an object that a policy authorizes, and two on an index."""
     return (
-        ("TPM2_Unseal", lambda by: tpm.unsealing(handle, by)),
-        ("TPM2_NV_Write by POLICYWRITE", lambda by: tpm.writing(index, DATA, by)),
-        ("TPM2_NV_Read by POLICYREAD", lambda by: tpm.reading(index, len(DATA), by)),
+        ("TPM2_Unseal", partial(tpm.unsealing, handle)),
+        ("TPM2_NV_Write by POLICYWRITE", partial(tpm.writing, index, DATA)),
+        ("TPM2_NV_Read by POLICYREAD", partial(tpm.reading, index, len(DATA))),
     )
 
 
