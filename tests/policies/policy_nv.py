@@ -57,13 +57,9 @@ OPERANDS = {
 }
 
 
-def signed(value):
-    return value - (value >> 31 << 32)
-
-
 def holds(operation, held, operand):
     if operation in SIGNED:
-        held, operand = signed(held), signed(operand)
+        held, operand = (it - (it >> 31 << 32) for it in (held, operand))
     return COMPARE[operation](held, operand)
 
 

@@ -27,6 +27,9 @@ HIERARCHIES = {
 
 tpm = GroundsCaller(__name__, __doc__)
 
+# The null hierarchy has no other use of its value, which is empty.
+at_null = partial(tpm.primary, RH_NULL, sealed(), data=SECRET)
+
 
 # Authorization values: by a password, and in the key of an HMAC session.
 
@@ -77,11 +80,6 @@ def entities():
         Entity(f"{platform} PPWRITE", RH_PLATFORM, write, writes(of_platform, RH_PLATFORM)),
         Entity(f"{platform} PPREAD", RH_PLATFORM, read, reads(of_platform, RH_PLATFORM)),
     )
-
-
-def at_null(*uses):
-    """The null hierarchy has no other use of its value, which is empty."""
-    return tpm.primary(RH_NULL, sealed(), *uses, data=SECRET)
 
 
 def uses_of(handle, index):

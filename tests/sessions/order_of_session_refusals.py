@@ -14,10 +14,7 @@ tpm = Teller(__name__, __doc__)
 start = partial(tpm.prepare, CC.StartAuthSession)
 event = partial(tpm.prepare, CC.PCR_Event, [17])
 change = partial(tpm.prepare, CC.HierarchyChangeAuth, [RH_OWNER])
-
-
-def flush(text, tag=frames.NO_SESSIONS):
-    return frames.command(CC.FlushContext, text, tag)
+flush = partial(frames.command, CC.FlushContext)
 
 
 def masked(tail, nonce=15, salt=b"\1", kind=b"\0"):
