@@ -26,13 +26,13 @@ SIZES = 0, 1, 20, 21, 32, 33, 1024
 tpm = Teller(__name__, __doc__, tries=True)
 
 
-def mask(algorithm, key, newer, older, size):
+def mask(use, newer, older, size, auth_value):
     """SP 800-108 in counter mode, with HMAC: blocks i, "XOR", 0, both nonces, and the bits."""
-    given, block = b"", 0
+    key, given, block = use.session.key + auth_value, b"", 0
     while len(given) < size:
         block += 1
         text = block.to_bytes(4, "big") + b"XOR\0" + newer + older + (8 * size).to_bytes(4, "big")
-        given += hmac.new(key, text, HASHES[algorithm]).digest()
+        given += hmac.new(key, text, HASHES[use.session.algorithm]).digest()
     return given[:size]
 
 
@@ -46,17 +46,12 @@ def first_buffer(text):
     return text[2 : 2 + int.from_bytes(text[:2], "big")]
 
 
-def mask_of(use, size, newer, older, auth_value=b""):
-    session = use.session
-    return mask(session.algorithm, session.key + auth_value, newer, older, size)
-
-
 def is_masked(prepared, plain, place=1, auth_value=b""):
     """The first buffer of a command is plain bytes with the mask of the caller's nonce and the
     device's.
     """
     use = prepared.uses[place - 1]
-    wanted = mask_of(use, len(plain), use.nonce, use.session.nonce_tpm, auth_value)
+    wanted = mask(use, use.nonce, use.session.nonce_tpm, len(plain), auth_value)
     assert first_buffer(prepared.parameters) == exclusive_or(plain, wanted)
 
 
@@ -71,7 +66,7 @@ def masked(what, prepared, plain, place=1, auth_value=b""):
     use = prepared.uses[place - 1]
     tpm.accepted(what, prepared)
     given = first_buffer(tpm.last.response[14:])
-    wanted = mask_of(use, len(given), use.session.nonce_tpm, use.nonce, auth_value)
+    wanted = mask(use, use.session.nonce_tpm, use.nonce, len(given), auth_value)
     assert len(given) == len(plain) and exclusive_or(given, wanted) == plain, what
     assert not plain or given != plain
 
