@@ -100,76 +100,6 @@ def refused_by_the_index():
     return session, trial
 
 
-def in_a_trial_session(trial):
-    tpm.chapter("In a trial session none of these stands.")
-    tpm("TPM2_NV_ReadLock").read_locking(THIRD)
-    for what, by, offset in (
-        ("By the owner", RH_OWNER, 0),
-        ("By another index", FIRST, 0),
-        ("Locked", THIRD, 0),
-        ("Past the end", THIRD, 9),
-        ("At FFFF", THIRD, 0xFFFF),
-        ("What does not hold", THIRD, 1),
-    ):
-        adds(what, trial, b"x", offset, index=THIRD, by=by)
-
-
-def refused_all_the_same(trial):
-    tpm.chapter("But the authorization does, and so do handles and parameters.")
-    right, empty, text = tpm.comparing(trial, THIRD, b"x"), sized(b""), frames.policy_nv
-    tpm("A wrong password: AUTH_FAIL/s1").comparing(trial, THIRD, b"x", b"wrong")
-    tpm.define("An index that its value cannot read", area(FOURTH, BY_OWNER | BY_POLICY), auth=b"a")
-    tpm("By it: AUTH_UNAVAILABLE").comparing(trial, FOURTH, b"x")
-    tpm.fails("Without sessions: AUTH_MISSING", right.but(entries=[]))
-    for words, *handles in (
-        ("authHandle of another kind: VALUE/h1", frames.RH_NULL, THIRD, trial.handle),
-        ("authHandle that is not there: HANDLE/h1", SECOND + 90, THIRD, trial.handle),
-        ("nvIndex of another kind: VALUE/h2", THIRD, RH_OWNER, trial.handle),
-        ("nvIndex that is not there: HANDLE/h2", THIRD, SECOND + 90, trial.handle),
-        ("policySession of another kind: VALUE/h3", THIRD, THIRD, 0x0200_0000),
-        ("policySession that is not there: REFERENCE_H2", THIRD, THIRD, 0x0300_000F),
-    ):
-        tpm.fails(words, right.but(handles=handles))
-    for words, *texts in (
-        ("operandB that is cut: INSUFFICIENT/p1", b"", b"\0", b"\0\1", b"\0\x20" + bytes(31)),
-        ("Of 33 bytes, whole or cut: SIZE/p1", text(bytes(33)), b"\0\x21"),
-        ("offset that is cut: INSUFFICIENT/p2", empty, empty + b"\0"),
-        ("operation that is cut: INSUFFICIENT/p3", empty + bytes(2), empty + bytes(3)),
-        ("An operation over B: VALUE/p3", *(text(b"", 0, it) for it in (0xC, 0x10, 0x100, 0xFFFF))),
-        ("And a byte behind it: VALUE/p3", text(b"", 0, 0xC) + b"\0"),
-        ("A byte behind the operation: SIZE", text() + b"\0"),
-    ):
-        tpm.fails(words, *(right.but(parameters=it) for it in texts))
-    tpm.digest_is("The digest is as it was", trial)
-
-
-def by_sessions(session, trial):
-    tpm.chapter("By sessions.")
-    hmac = tpm.start("An HMAC session that is bound to the index, with AES", bind=FIRST, aes=True)
-    tpm.restarts(session)
-    tpm("By it").comparing(session, FIRST, b"8", hmac)
-    tpm("With operandB encrypted").comparing(session, FIRST, b"8 bytes.", hmac.decrypting)
-    once = after(session, zeros(session), FIRST, b"8", 0, EQ)
-    twice = after(session, once, FIRST, b"8 bytes.", 0, EQ)
-    tpm.digest_is("What is hashed is plain", session, twice)
-    said = tpm("encrypt, where nothing is answered: ATTRIBUTES/s1")
-    said.fails(tpm.comparing(session, FIRST, b"8", hmac).but_entry(1, attributes=0x41))
-    tpm.chapter("By a policy: the index authorizes itself to the very session that is told.")
-    auth_policy = policy.after_auth_value(SHA256, bytes(32))
-    tpm.define("An index", area(FIFTH, BY_POLICY, auth_policy=auth_policy), auth=b"a")
-    by_value = lambda: Use(session, demand=policy.AUTH_VALUE)
-    tpm.restarts(session)
-    tpm("TPM2_PolicyAuthValue").auth_value_told(session)
-    tpm("TPM2_NV_Write").writing(FIFTH, b"x", by_value())
-    tpm("TPM2_PolicyAuthValue").auth_value_told(session)
-    case = "TPM2_PolicyNV to the session by itself: it is asserted, and then the session starts"
-    tpm(f"{case} again").comparing(session, FIFTH, b"x", by_value())
-    tpm.digest_is("The digest is zeros", session, zeros(session))
-    tpm("TPM2_PolicyAuthValue").auth_value_told(session)
-    tpm("To the trial session").comparing(trial, FIFTH, b"x", by_value())
-    tpm("By the trial session: ATTRIBUTES/s1").comparing(trial, FIFTH, b"x", trial)
-
-
 tpm.define("An index that holds eight bytes", area(FIRST, BY_OWNER | BY_VALUE), auth=b"")
 tpm("It is written").writing(FIRST, b"8 bytes.")
 
@@ -219,6 +149,7 @@ for held, operands in OPERANDS.items():
         true = [it for it in operands if holds(operation, held, it)]
         false = [it for it in operands if it not in true]
         both(session, operation, *([number(it, 4) for it in those] for those in (true, false)))
+
 tpm.chapter("Bits of A5A5A5A5.")
 tpm("It is written").writing(SECOND, b"\xa5" * 4, by=RH_OWNER)
 zero, one, two, all_bits = bytes(4), number(1, 4), number(2, 4), b"\xff" * 4
@@ -228,6 +159,7 @@ both(session, BITSET, true, false)
 true = [b"\x5a" * 4, two, b"\x40\0\0\0", zero]
 false = [all_bits, one, b"\xa5" * 4, b"\x5b\x5a\x5a\x5a", b"\x80\0\0\0"]
 both(session, BITCLEAR, true, false)
+
 tpm.chapter("No bytes are equal to no bytes, at every offset.")
 for operation in range(12):
     what = f"Operation {operation:X}, {NAMES[operation]}"
@@ -283,7 +215,68 @@ for index in (THIRD, FOURTH, FIFTH):
     tpm("They are undefined" if index == THIRD else "").undefining(index)
 tpm("The session is flushed").flush(session)
 
-sessions = refused_by_the_index()
-in_a_trial_session(sessions[1])
-refused_all_the_same(sessions[1])
-by_sessions(*sessions)
+session, trial = refused_by_the_index()
+
+tpm.chapter("In a trial session none of these stands.")
+tpm("TPM2_NV_ReadLock").read_locking(THIRD)
+for what, by, offset in (
+    ("By the owner", RH_OWNER, 0),
+    ("By another index", FIRST, 0),
+    ("Locked", THIRD, 0),
+    ("Past the end", THIRD, 9),
+    ("At FFFF", THIRD, 0xFFFF),
+    ("What does not hold", THIRD, 1),
+):
+    adds(what, trial, b"x", offset, index=THIRD, by=by)
+
+tpm.chapter("But the authorization does, and so do handles and parameters.")
+right, empty, text = tpm.comparing(trial, THIRD, b"x"), sized(b""), frames.policy_nv
+tpm("A wrong password: AUTH_FAIL/s1").comparing(trial, THIRD, b"x", b"wrong")
+tpm.define("An index that its value cannot read", area(FOURTH, BY_OWNER | BY_POLICY), auth=b"a")
+tpm("By it: AUTH_UNAVAILABLE").comparing(trial, FOURTH, b"x")
+tpm.fails("Without sessions: AUTH_MISSING", right.but(entries=[]))
+for words, *handles in (
+    ("authHandle of another kind: VALUE/h1", frames.RH_NULL, THIRD, trial.handle),
+    ("authHandle that is not there: HANDLE/h1", SECOND + 90, THIRD, trial.handle),
+    ("nvIndex of another kind: VALUE/h2", THIRD, RH_OWNER, trial.handle),
+    ("nvIndex that is not there: HANDLE/h2", THIRD, SECOND + 90, trial.handle),
+    ("policySession of another kind: VALUE/h3", THIRD, THIRD, 0x0200_0000),
+    ("policySession that is not there: REFERENCE_H2", THIRD, THIRD, 0x0300_000F),
+):
+    tpm.fails(words, right.but(handles=handles))
+for words, *texts in (
+    ("operandB that is cut: INSUFFICIENT/p1", b"", b"\0", b"\0\1", b"\0\x20" + bytes(31)),
+    ("Of 33 bytes, whole or cut: SIZE/p1", text(bytes(33)), b"\0\x21"),
+    ("offset that is cut: INSUFFICIENT/p2", empty, empty + b"\0"),
+    ("operation that is cut: INSUFFICIENT/p3", empty + bytes(2), empty + bytes(3)),
+    ("An operation over B: VALUE/p3", *(text(b"", 0, it) for it in (0xC, 0x10, 0x100, 0xFFFF))),
+    ("And a byte behind it: VALUE/p3", text(b"", 0, 0xC) + b"\0"),
+    ("A byte behind the operation: SIZE", text() + b"\0"),
+):
+    tpm.fails(words, *(right.but(parameters=it) for it in texts))
+tpm.digest_is("The digest is as it was", trial)
+
+tpm.chapter("By sessions.")
+hmac = tpm.start("An HMAC session that is bound to the index, with AES", bind=FIRST, aes=True)
+tpm.restarts(session)
+tpm("By it").comparing(session, FIRST, b"8", hmac)
+tpm("With operandB encrypted").comparing(session, FIRST, b"8 bytes.", hmac.decrypting)
+once = after(session, zeros(session), FIRST, b"8", 0, EQ)
+tpm.digest_is("What is hashed is plain", session, after(session, once, FIRST, b"8 bytes.", 0, EQ))
+said = tpm("encrypt, where nothing is answered: ATTRIBUTES/s1")
+said.fails(tpm.comparing(session, FIRST, b"8", hmac).but_entry(1, attributes=0x41))
+
+tpm.chapter("By a policy: the index authorizes itself to the very session that is told.")
+auth_policy = policy.after_auth_value(SHA256, bytes(32))
+tpm.define("An index", area(FIFTH, BY_POLICY, auth_policy=auth_policy), auth=b"a")
+by_value = lambda: Use(session, demand=policy.AUTH_VALUE)
+tpm.restarts(session)
+tpm("TPM2_PolicyAuthValue").auth_value_told(session)
+tpm("TPM2_NV_Write").writing(FIFTH, b"x", by_value())
+tpm("TPM2_PolicyAuthValue").auth_value_told(session)
+case = "TPM2_PolicyNV to the session by itself: it is asserted, and then the session starts"
+tpm(f"{case} again").comparing(session, FIFTH, b"x", by_value())
+tpm.digest_is("The digest is zeros", session, zeros(session))
+tpm("TPM2_PolicyAuthValue").auth_value_told(session)
+tpm("To the trial session").comparing(trial, FIFTH, b"x", by_value())
+tpm("By the trial session: ATTRIBUTES/s1").comparing(trial, FIFTH, b"x", trial)

@@ -41,7 +41,22 @@ def raw(words, *texts):
     tpm.refused(words, *(tpm.secret(session).but(parameters=it) for it in texts))
 
 
-def nonces():
+for session in tpm.each_session():
+    for handle, name in ENTITIES.items():
+        tpm.restarts(session)
+        accepted(f"By {name}", of=handle)
+        wanted = policy.after_secret(session.algorithm, zeros(session), name_of(handle), b"")
+        tpm.digest_is("Its digest", session, wanted)
+    tpm.restarts(session)
+    for policy_ref, words in (
+        (b"", "No policyRef, which is hashed all the same"),
+        (b"r", "One of a byte"),
+        (bytes(20), "Of 20 zeros"),
+        (bytes(range(32)), "Of 32 bytes"),
+        (b"", "None again"),
+    ):
+        accepted(words, policy_ref=policy_ref)
+        tpm.digest_is("Its digest", session)
     tpm.restarts(session)
     right = session.nonce_tpm
     accepted("nonceTPM, the right one", nonce_tpm=right)
@@ -55,9 +70,6 @@ def nonces():
     refused_but_in_trial("The one before: NONCE/p1", dict(nonce_tpm=right))
     accepted("The new one", nonce_tpm=session.nonce_tpm)
     tpm.digest_is("Its digest", session)
-
-
-def cp_hashes():
     size = digest_bytes(session.algorithm)
     one, other = bytes([1]) * size, bytes(size)
     tpm.restarts(session)
@@ -78,9 +90,6 @@ def cp_hashes():
     tpm.digest_is("The digest is zeros", session, zeros(session))
     accepted("Zeros as the first one", cp_hash=other)
     refused_but_in_trial("Another: CPHASH", dict(cp_hash=one))
-
-
-def bent_parameters():
     tpm.restarts(session)
     expirations = 1, 0x100, 0x0100_0000, 0xFFFF_FFFF, 0x8000_0000
     case = "expiration that is not 0, of either sign: VALUE/p4"
@@ -96,27 +105,6 @@ def bent_parameters():
     whole = frames.policy_secret(), frames.policy_secret(expiration=1)
     raw("A byte behind them, also where expiration is 1: SIZE", *(it + b"\0" for it in whole))
     tpm.digest_is("The digest is zeros", session, zeros(session))
-
-
-for session in tpm.each_session():
-    for handle, name in ENTITIES.items():
-        tpm.restarts(session)
-        accepted(f"By {name}", of=handle)
-        wanted = policy.after_secret(session.algorithm, zeros(session), name_of(handle), b"")
-        tpm.digest_is("Its digest", session, wanted)
-    tpm.restarts(session)
-    for policy_ref, words in (
-        (b"", "No policyRef, which is hashed all the same"),
-        (b"r", "One of a byte"),
-        (bytes(20), "Of 20 zeros"),
-        (bytes(range(32)), "Of 32 bytes"),
-        (b"", "None again"),
-    ):
-        accepted(words, policy_ref=policy_ref)
-        tpm.digest_is("Its digest", session)
-    nonces()
-    cp_hashes()
-    bent_parameters()
 
 tpm.chapter("A nonceTPM of 32 bytes, of a session of SHA-256.")
 session = tpm.policy("The session", size=32)

@@ -53,37 +53,6 @@ def no_way(session, **demand):
     lost("TPM2_Unseal: POLICY_FAIL/s1", tpm.unsealing(disk, Use(session, **demand)))
 
 
-def lost_ways_of_disk():
-    restart = tpm.restart(session)
-    unsealing = lambda **demand: tpm.unsealing(disk, Use(session, **demand))
-    tpm.chapter("What is refused. A PCR is written behind TPM2_PolicyPCR.")
-    asserts("By the system", *system(), *ends(session))
-    tpm("TPM2_PCR_Event of PCR 16").event(b"event", b"", pcr=16)
-    lost("TPM2_Unseal: PCR_CHANGED", unsealing(demand=AUTH_VALUE))
-    tpm.chapter("The value is another.")
-    asserts("By the system", restart, *system(), *ends(session))
-    use = Use(session, demand=AUTH_VALUE)
-    lost("TPM2_Unseal: BAD_AUTH/s1", tpm.with_key(b"other", tpm.unsealing, disk, use))
-    tpm.chapter("The session has counted for one command.")
-    asserts("The recovery secret", restart, recovery(session), *ends(session))
-    tpm.unseal("TPM2_Unseal", disk, SECRET, session)
-    lost("TPM2_Unseal once more: POLICY_FAIL/s1", unsealing())
-    tpm.chapter("It is told all but the secret.")
-    no_way(session)
-    tpm.chapter("The secret was shown before TPM2_PolicyRestart.")
-    other = tpm.policy("Another policy session")
-    asserts("The recovery secret, TPM2_PolicyRestart", recovery(other), tpm.restart(other))
-    no_way(other)
-    tpm.flushed(other)
-    for words, shown in (
-        ("of the owner", recovery(session, of=RH_OWNER)),
-        ("for another policyRef", recovery(session, ref=b"tape")),
-    ):
-        tpm.chapter(f"The secret is that {words}.")
-        asserts("TPM2_PolicyRestart, TPM2_PolicySecret", restart, shown)
-        no_way(session)
-
-
 # A policy of an update: from locality 0, or from 3 or 4, and a version that an index has; or the
 # value of that index.
 
@@ -138,7 +107,34 @@ asserts("TPM2_PolicySecret, PolicyOR, PolicyCommandCode", recovery(session), *en
 tpm.unseal("TPM2_Unseal", disk, SECRET, session)
 
 tpm.unseal("The other object is unsealed by its value alone", openly, SECRET, PIN)
-lost_ways_of_disk()
+restart = tpm.restart(session)
+unsealing = lambda **demand: tpm.unsealing(disk, Use(session, **demand))
+tpm.chapter("What is refused. A PCR is written behind TPM2_PolicyPCR.")
+asserts("By the system", *system(), *ends(session))
+tpm("TPM2_PCR_Event of PCR 16").event(b"event", b"", pcr=16)
+lost("TPM2_Unseal: PCR_CHANGED", unsealing(demand=AUTH_VALUE))
+tpm.chapter("The value is another.")
+asserts("By the system", restart, *system(), *ends(session))
+use = Use(session, demand=AUTH_VALUE)
+lost("TPM2_Unseal: BAD_AUTH/s1", tpm.with_key(b"other", tpm.unsealing, disk, use))
+tpm.chapter("The session has counted for one command.")
+asserts("The recovery secret", restart, recovery(session), *ends(session))
+tpm.unseal("TPM2_Unseal", disk, SECRET, session)
+lost("TPM2_Unseal once more: POLICY_FAIL/s1", unsealing())
+tpm.chapter("It is told all but the secret.")
+no_way(session)
+tpm.chapter("The secret was shown before TPM2_PolicyRestart.")
+late = tpm.policy("Another policy session")
+asserts("The recovery secret, TPM2_PolicyRestart", recovery(late), tpm.restart(late))
+no_way(late)
+tpm.flushed(late)
+for words, shown in (
+    ("of the owner", recovery(session, of=RH_OWNER)),
+    ("for another policyRef", recovery(session, ref=b"tape")),
+):
+    tpm.chapter(f"The secret is that {words}.")
+    asserts("TPM2_PolicyRestart, TPM2_PolicySecret", restart, shown)
+    no_way(session)
 
 tpm.chapter("PCR 11 is another at all.")
 tpm("TPM2_PCR_Event of PCR 11").event(b"other", b"", pcr=11)

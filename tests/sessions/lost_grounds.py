@@ -27,54 +27,6 @@ def by_key(key, handle, session):
     return tpm.with_key(key, tpm.unsealing, handle, Use(session, shows_empty_key=True))
 
 
-def other_texts(index, unbound):
-    tpm.chapter("AN HMAC. It is of another text: here TPM2_NV_Write of a protected index.")
-    old = tpm.writing(index, DATA, unbound)
-    tpm.does("Right, and the nonceTPM is new", old)
-    lost("With the nonceTPM of before: AUTH_FAIL/s1", old)
-    other = tpm.written_index("Another index, with the same attributes", BY_OWNER | BY_VALUE)
-    right = tpm.writing(index, DATA, unbound)
-    entry = right.entries[0]
-    hmacs = flipped(entry.hmac), flipped(entry.hmac, 0), entry.hmac[:16]
-    case = "Another hmac: by its last bit, by its first byte, and half of it: AUTH_FAIL/s1"
-    lost(case, *(right.but_entry(1, hmac=it) for it in hmacs))
-    nonces = flipped(entry.nonce), b""
-    case = "Another nonceCaller, and none: AUTH_FAIL/s1"
-    lost(case, *(right.but_entry(1, nonce=it) for it in nonces))
-    for what, bent in (
-        ("Other attributes: the session ends", right.but_entry(1, attributes=ENDS)),
-        ("Other parameters", right.but(parameters=frames.nv_write(DATA[::-1]))),
-        ("Another handle, which has another Name", right.but(handles=[other, other])),
-        ("Another command, TPM2_NV_Increment", right.but(code=CC.NV_Increment)),
-    ):
-        lost(f"{what}: AUTH_FAIL/s1", bent)
-    tpm.does("Right, by the nonceTPM that is the same since the first", right)
-
-
-def other_keys(handle, unbound):
-    tpm.chapter("One under another key: here TPM2_Unseal of a protected object.")
-    bound = tpm.start("A session bound to the object", handle)
-    other = tpm.start("One bound to TPM_RH_ENDORSEMENT", RH_ENDORSEMENT)
-    case = "Unbound, with another value in the key, and with none: AUTH_FAIL/s1"
-    lost(case, by_key(b"other", handle, unbound), by_key(b"", handle, unbound))
-    tpm.unseal("With the value", handle, SECRET, unbound)
-    lost(
-        "Bound to the object, with the value in the key all the same, and by another session's "
-        "key: AUTH_FAIL/s1",
-        by_key(bound.key + PIN, handle, bound),
-        by_key(other.key, handle, bound),
-    )
-    tpm.unseal("By the session key alone", handle, SECRET, bound)
-    lost("Bound to another, without the value: AUTH_FAIL/s1", by_key(other.key, handle, other))
-    tpm.unseal("With it", handle, SECRET, other)
-
-    tpm.chapter("An empty one, where there is a key.")
-    for session, words in ((unbound, "the value"), (bound, "the session key")):
-        empty = tpm.unsealing(handle, session).but_entry(1, hmac=b"")
-        lost(f"The key is {words}: AUTH_FAIL/s1", empty)
-    tpm.flushed(bound, other)
-
-
 # Policy sessions: the conditions of a use, in the order of docs/table/policies.md.
 
 
@@ -147,52 +99,12 @@ def other_cp_hashes(session):
     tpm.does("TPM2_NV_Write", writing())
 
 
-def other_digests(session):
-    """A policy of four assertions, of which one at a time is another."""
-    tpm.chapter("The policy digest is not the authPolicy (condition 8): an assertion differs.")
-    compared = tpm.written_index("An index that TPM2_PolicyNV looks at", BY_OWNER)
-    auth_policy = policy.after_locality(SHA256, AFTER_PCR_16, AT_LOCALITY_0_OR_1)
-    auth_policy = policy.after_secret(SHA256, auth_policy, name_of(RH_OWNER), b"disk")
-    auth_policy = after_equal_data(tpm.name(compared), auth_policy)
-    handle = tpm.sealed_object("An object with a policy of four assertions", auth_policy)
-    use = lambda: tpm.unsealing(handle, session)
-    restart = tpm.restart(session)
-    pcr_16, pcr_23 = (tpm.pcrs(session, [(SHA256, [it])]) for it in (16, 23))
-    two, all_of_them = (tpm.locality(session, it) for it in (AT_LOCALITY_0_OR_1, ALL_LOCALITIES))
-    secret, other_ref = (
-        tpm.secret(session, OWNER, of=RH_OWNER, policy_ref=it) for it in (b"disk", b"tape")
-    )
-    other_value = tpm.secret(session, policy_ref=b"disk")
-    equal, at_least = (
-        tpm.comparing(session, compared, DATA, operation=it, by=RH_OWNER)
-        for it in (EQUAL, AT_LEAST)
-    )
-    lost("Nothing is asserted: POLICY_FAIL/s1", use())
-    for what, *told in (
-        ("PCR 23 in place of PCR 16, both zeros", pcr_23, two, secret, equal),
-        ("All localities in place of two", pcr_16, all_of_them, secret, equal),
-        ("The value of another entity", pcr_16, two, other_value, equal),
-        ("Another policyRef", pcr_16, two, other_ref, equal),
-        ("At least the data, in place of just them", pcr_16, two, secret, at_least),
-        ("One assertion less", pcr_16, two, secret),
-        ("One more", pcr_16, two, secret, equal, all_of_them),
-        ("Another order", two, pcr_16, secret, equal),
-        ("Just the policy, and TPM2_PolicyRestart", pcr_16, two, secret, equal, restart),
-    ):
-        tpm.asserts(what, restart, *told)
-        lost("TPM2_Unseal: POLICY_FAIL/s1", use())
-    tpm.asserts("Just the policy", pcr_16, two, secret, equal)
-    tpm.does("TPM2_Unseal", use())
-    lost("Once more: POLICY_FAIL/s1, as it has counted for one command", use())
-    tpm.flushed(handle)
-    return compared
-
-
 tpm('ownerAuth is "owner" from here on').change_auth(RH_OWNER, OWNER, b"")
 openly = tpm.sealed_object("A protected object with userWithAuth", attributes=HERE | USER)
 hmac = tpm.start("An HMAC session, which is unbound")
 
 handle = openly
+
 tpm.chapter("PASSWORDS. The password is not the value. Protected is what has no noDA.")
 lost("A hierarchy: BAD_AUTH/s1", tpm.change_auth(RH_OWNER, OWNER, b"other"))
 tpm("By the value").change_auth(RH_OWNER, OWNER, OWNER)
@@ -239,8 +151,48 @@ tpm.refused_by(
 )
 tpm.read("And not for one that has it", to_read, DATA, by=RH_OWNER)
 
-other_texts(to_write, hmac)
-other_keys(openly, hmac)
+tpm.chapter("AN HMAC. It is of another text: here TPM2_NV_Write of a protected index.")
+old = tpm.writing(to_write, DATA, hmac)
+tpm.does("Right, and the nonceTPM is new", old)
+lost("With the nonceTPM of before: AUTH_FAIL/s1", old)
+other = tpm.written_index("Another index, with the same attributes", BY_OWNER | BY_VALUE)
+right = tpm.writing(to_write, DATA, hmac)
+entry = right.entries[0]
+hmacs = flipped(entry.hmac), flipped(entry.hmac, 0), entry.hmac[:16]
+case = "Another hmac: by its last bit, by its first byte, and half of it: AUTH_FAIL/s1"
+lost(case, *(right.but_entry(1, hmac=it) for it in hmacs))
+nonces = flipped(entry.nonce), b""
+case = "Another nonceCaller, and none: AUTH_FAIL/s1"
+lost(case, *(right.but_entry(1, nonce=it) for it in nonces))
+for what, bent in (
+    ("Other attributes: the session ends", right.but_entry(1, attributes=ENDS)),
+    ("Other parameters", right.but(parameters=frames.nv_write(DATA[::-1]))),
+    ("Another handle, which has another Name", right.but(handles=[other, other])),
+    ("Another command, TPM2_NV_Increment", right.but(code=CC.NV_Increment)),
+):
+    lost(f"{what}: AUTH_FAIL/s1", bent)
+tpm.does("Right, by the nonceTPM that is the same since the first", right)
+
+tpm.chapter("One under another key: here TPM2_Unseal of a protected object.")
+bound = tpm.start("A session bound to the object", openly)
+other = tpm.start("One bound to TPM_RH_ENDORSEMENT", RH_ENDORSEMENT)
+case = "Unbound, with another value in the key, and with none: AUTH_FAIL/s1"
+lost(case, by_key(b"other", openly, hmac), by_key(b"", openly, hmac))
+tpm.unseal("With the value", openly, SECRET, hmac)
+lost(
+    "Bound to the object, with the value in the key all the same, and by another session's "
+    "key: AUTH_FAIL/s1",
+    by_key(bound.key + PIN, openly, bound),
+    by_key(other.key, openly, bound),
+)
+tpm.unseal("By the session key alone", openly, SECRET, bound)
+lost("Bound to another, without the value: AUTH_FAIL/s1", by_key(other.key, openly, other))
+tpm.unseal("With it", openly, SECRET, other)
+
+tpm.chapter("An empty one, where there is a key.")
+for session, words in ((hmac, "the value"), (bound, "the session key")):
+    lost(f"The key is {words}: AUTH_FAIL/s1", tpm.unsealing(openly, session).but_entry(1, hmac=b""))
+tpm.flushed(bound, other)
 
 tpm.chapter("A binding that has lapsed, by another value or by another Name.")
 bound = tpm.start("A session bound to the owner", RH_OWNER)
@@ -261,6 +213,7 @@ named = tpm.sealed_object("An object whose policy is the command TPM2_Unseal", A
 session = tpm.policy("A policy session, which is unbound")
 
 handle = named
+
 tpm.chapter("A POLICY. The session is a trial session (condition 1).")
 trial = tpm.trial("It is started")
 tpm.asserts_code(trial)
@@ -340,6 +293,7 @@ tpm.locality_is(0)
 tpm.flushed(handle)
 
 handle = named
+
 tpm.chapter("The hash of the session is not the nameAlg of the entity (condition 8).")
 by_sha1 = tpm.policy("A policy session of SHA-1", algorithm=SHA1)
 tpm.asserts_code(by_sha1)
@@ -352,7 +306,41 @@ lost("And not by a session of SHA-256: POLICY_FAIL/s1", tpm.unsealing(of_sha1, s
 tpm.unseal("Which authorizes what has its hash", handle, SECRET, session)
 tpm.flushed(by_sha1, of_sha1)
 
-compared = other_digests(session)
+tpm.chapter("The policy digest is not the authPolicy (condition 8): an assertion differs.")
+compared = tpm.written_index("An index that TPM2_PolicyNV looks at", BY_OWNER)
+auth_policy = policy.after_locality(SHA256, AFTER_PCR_16, AT_LOCALITY_0_OR_1)
+auth_policy = policy.after_secret(SHA256, auth_policy, name_of(RH_OWNER), b"disk")
+auth_policy = after_equal_data(tpm.name(compared), auth_policy)
+handle = tpm.sealed_object("An object with a policy of four assertions", auth_policy)
+use = lambda: tpm.unsealing(handle, session)
+restart = tpm.restart(session)
+pcr_16, pcr_23 = (tpm.pcrs(session, [(SHA256, [it])]) for it in (16, 23))
+two, all_of_them = (tpm.locality(session, it) for it in (AT_LOCALITY_0_OR_1, ALL_LOCALITIES))
+secret, other_ref = (
+    tpm.secret(session, OWNER, of=RH_OWNER, policy_ref=it) for it in (b"disk", b"tape")
+)
+other_value = tpm.secret(session, policy_ref=b"disk")
+equal, at_least = (
+    tpm.comparing(session, compared, DATA, operation=it, by=RH_OWNER) for it in (EQUAL, AT_LEAST)
+)
+lost("Nothing is asserted: POLICY_FAIL/s1", use())
+for what, *told in (
+    ("PCR 23 in place of PCR 16, both zeros", pcr_23, two, secret, equal),
+    ("All localities in place of two", pcr_16, all_of_them, secret, equal),
+    ("The value of another entity", pcr_16, two, other_value, equal),
+    ("Another policyRef", pcr_16, two, other_ref, equal),
+    ("At least the data, in place of just them", pcr_16, two, secret, at_least),
+    ("One assertion less", pcr_16, two, secret),
+    ("One more", pcr_16, two, secret, equal, all_of_them),
+    ("Another order", two, pcr_16, secret, equal),
+    ("Just the policy, and TPM2_PolicyRestart", pcr_16, two, secret, equal, restart),
+):
+    tpm.asserts(what, restart, *told)
+    lost("TPM2_Unseal: POLICY_FAIL/s1", use())
+tpm.asserts("Just the policy", pcr_16, two, secret, equal)
+tpm.does("TPM2_Unseal", use())
+lost("Once more: POLICY_FAIL/s1, as it has counted for one command", use())
+tpm.flushed(handle)
 
 tpm.chapter("THE HMAC OF A POLICY SESSION. Nothing is demanded: the key is the session key.")
 handle = tpm.sealed_object("An object whose authPolicy is 32 zeros", ZEROS)
