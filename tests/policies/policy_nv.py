@@ -71,33 +71,8 @@ def both(session, operation, true, false):
         fails("Of these it does not: POLICY", session, operation, *false, index=SECOND)
 
 
-def refused_by_the_index():
-    """A policy session and a trial session, of which the first is told what holds, at last."""
-    tpm.chapter("Refusals. The index is not written, is locked, and only the platform may read it.")
-    session = tpm.policy("A policy session")
-    trial = tpm.trial("A trial session")
-    attributes = BY_VALUE | BY_PLATFORM | NvAttribute.READ_STCLEAR
-    tpm.define("An index", area(THIRD, attributes), auth=b"a")
-    tpm("TPM2_NV_ReadLock").read_locking(THIRD)
-
-    def refused(words, by, offset=9):
-        tpm.fails(words, tpm.comparing(session, THIRD, b"x", offset=offset, by=by))
-
-    refused("By the owner: NV_AUTHORIZATION", RH_OWNER)
-    refused("By another index: NV_AUTHORIZATION", FIRST)
-    refused("By the index: NV_LOCKED", THIRD)
-    refused("By the platform: NV_LOCKED", RH_PLATFORM)
-    tpm.power_cycle()
-    session = tpm.policy("A policy session")
-    trial = tpm.trial("A trial session")
-    tpm.is_now("It is open", THIRD, cleared=NvAttribute.READLOCKED)
-    refused("By the platform: NV_UNINITIALIZED", RH_PLATFORM)
-    tpm("It is written").writing(THIRD, b"x")
-    refused("Past the end: NV_RANGE", THIRD)
-    refused("What does not hold: POLICY", THIRD, offset=1)
-    tpm.digest_is("The digest is zeros", session, zeros(session))
-    refused("What holds: SUCCESS", THIRD, offset=0)
-    return session, trial
+def refused(words, by, offset=9):
+    tpm.fails(words, tpm.comparing(session, THIRD, b"x", offset=offset, by=by))
 
 
 tpm.define("An index that holds eight bytes", area(FIRST, BY_OWNER | BY_VALUE), auth=b"")
@@ -215,7 +190,27 @@ for index in (THIRD, FOURTH, FIFTH):
     tpm("They are undefined" if index == THIRD else "").undefining(index)
 tpm("The session is flushed").flush(session)
 
-session, trial = refused_by_the_index()
+tpm.chapter("Refusals. The index is not written, is locked, and only the platform may read it.")
+session = tpm.policy("A policy session")
+trial = tpm.trial("A trial session")
+attributes = BY_VALUE | BY_PLATFORM | NvAttribute.READ_STCLEAR
+tpm.define("An index", area(THIRD, attributes), auth=b"a")
+tpm("TPM2_NV_ReadLock").read_locking(THIRD)
+
+refused("By the owner: NV_AUTHORIZATION", RH_OWNER)
+refused("By another index: NV_AUTHORIZATION", FIRST)
+refused("By the index: NV_LOCKED", THIRD)
+refused("By the platform: NV_LOCKED", RH_PLATFORM)
+tpm.power_cycle()
+session = tpm.policy("A policy session")
+trial = tpm.trial("A trial session")
+tpm.is_now("It is open", THIRD, cleared=NvAttribute.READLOCKED)
+refused("By the platform: NV_UNINITIALIZED", RH_PLATFORM)
+tpm("It is written").writing(THIRD, b"x")
+refused("Past the end: NV_RANGE", THIRD)
+refused("What does not hold: POLICY", THIRD, offset=1)
+tpm.digest_is("The digest is zeros", session, zeros(session))
+refused("What holds: SUCCESS", THIRD, offset=0)
 
 tpm.chapter("In a trial session none of these stands.")
 tpm("TPM2_NV_ReadLock").read_locking(THIRD)

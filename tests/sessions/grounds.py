@@ -31,9 +31,6 @@ tpm = GroundsCaller(__name__, __doc__)
 at_null = partial(tpm.primary, RH_NULL, sealed(), data=SECRET)
 
 
-# Authorization values: by a password, and in the key of an HMAC session.
-
-
 class Entity(NamedTuple):
     """What its value authorizes: its handle, a command for it, and how an entry does it."""
 
@@ -42,59 +39,16 @@ class Entity(NamedTuple):
     command: str
     prepare: Callable
 
-    @property
-    def value(self):
-        return tpm.auth_value(self.handle)
 
-
-def entities():
-    """All kinds of entities that have an authorization value."""
-    tpm.chapter('The entities of this script. The value of objects and indices is "pin".')
-    for handle, (name, value) in HIERARCHIES.items():
-        what = f'{name}, whose value is empty at first, and "{value.decode("ascii")}" from here on'
-        tpm(what).change_auth(handle, value, b"")
-    loaded = tpm.sealed_object("An object with userWithAuth", attributes=HERE | USER, by=RH_OWNER)
-    tpm.keep("A persistent copy of it", RH_OWNER, loaded, KEPT)
-    to_write = tpm.index("An index with AUTHWRITE", NvAttribute.AUTHWRITE | NvAttribute.OWNERREAD)
-    tpm("It is written").writing(to_write, DATA)
-    said = tpm("One with AUTHREAD, which the owner writes")
-    to_read = said.written_index(NvAttribute.AUTHREAD | NvAttribute.OWNERWRITE)
-    of_owner = tpm.written_index("One with OWNERWRITE and OWNERREAD", BY_OWNER)
-    of_platform = tpm.index("One with PPWRITE and PPREAD", BY_PLATFORM)
-    tpm("It is written").writing(of_platform, DATA, by=RH_PLATFORM)
-    owner, platform = (f"The {it}, for an index with" for it in ("owner", "platform"))
-    write, read, unseal = "TPM2_NV_Write", "TPM2_NV_Read", "TPM2_Unseal"
-    writes = lambda index, asker: partial(tpm.writing, index, DATA, by=asker)
-    reads = lambda index, asker: partial(tpm.reading, index, len(DATA), by=asker)
-    return (
-        *(
-            Entity(name, it, "TPM2_HierarchyChangeAuth", partial(tpm.change_auth, it, value))
-            for it, (name, value) in HIERARCHIES.items()
-        ),
-        Entity("The object", loaded, unseal, partial(tpm.unsealing, loaded)),
-        Entity("The persistent object", KEPT, unseal, partial(tpm.unsealing, KEPT)),
-        Entity("The index with AUTHWRITE", to_write, write, writes(to_write, to_write)),
-        Entity("The index with AUTHREAD", to_read, read, reads(to_read, to_read)),
-        Entity(f"{owner} OWNERWRITE", RH_OWNER, write, writes(of_owner, RH_OWNER)),
-        Entity(f"{owner} OWNERREAD", RH_OWNER, read, reads(of_owner, RH_OWNER)),
-        Entity(f"{platform} PPWRITE", RH_PLATFORM, write, writes(of_platform, RH_PLATFORM)),
-        Entity(f"{platform} PPREAD", RH_PLATFORM, read, reads(of_platform, RH_PLATFORM)),
-    )
-
-
-def uses_of(handle, index):
-    """A command on an object that a policy authorizes, and two on an index."""
-    return (
+def with_policy(auth_policy):
+    """A sealed object, and commands on it and on an index that this policy alone authorizes."""
+    handle = tpm.sealed_object("An object and an index with this policy", auth_policy)
+    index = tpm.index("", BY_POLICY, auth_policy)
+    return handle, (
         ("TPM2_Unseal", partial(tpm.unsealing, handle)),
         ("TPM2_NV_Write by POLICYWRITE", partial(tpm.writing, index, DATA)),
         ("TPM2_NV_Read by POLICYREAD", partial(tpm.reading, index, len(DATA))),
     )
-
-
-def with_policy(auth_policy):
-    """A sealed object and an index that this policy alone authorizes."""
-    handle = tpm.sealed_object("An object and an index with this policy", auth_policy)
-    return handle, tpm.index("", BY_POLICY, auth_policy)
 
 
 def condition(words, auth_policy, told, *assertions, demand=None, locality=0):
@@ -102,10 +56,10 @@ def condition(words, auth_policy, told, *assertions, demand=None, locality=0):
     command that it then authorizes; and what is demanded, and from where the command comes.
     """
     tpm.chapter(words)
-    handle, index = with_policy(auth_policy)
+    handle, commands = with_policy(auth_policy)
     if locality:
         tpm.locality_is(locality)
-    for name, prepare in uses_of(handle, index):
+    for name, prepare in commands:
         prepared = prepare(Use(session, demand=demand))
         those = (it(prepared) if callable(it) else it for it in assertions)
         tpm.asserts(f"{told}, and {name}", *those)
@@ -115,16 +69,46 @@ def condition(words, auth_policy, told, *assertions, demand=None, locality=0):
     tpm.flushed(handle)
 
 
-found = entities()
+tpm.chapter('The entities of this script. The value of objects and indices is "pin".')
+for handle, (name, value) in HIERARCHIES.items():
+    what = f'{name}, whose value is empty at first, and "{value.decode("ascii")}" from here on'
+    tpm(what).change_auth(handle, value, b"")
+loaded = tpm.sealed_object("An object with userWithAuth", attributes=HERE | USER, by=RH_OWNER)
+tpm.keep("A persistent copy of it", RH_OWNER, loaded, KEPT)
+to_write = tpm.index("An index with AUTHWRITE", NvAttribute.AUTHWRITE | NvAttribute.OWNERREAD)
+tpm("It is written").writing(to_write, DATA)
+said = tpm("One with AUTHREAD, which the owner writes")
+to_read = said.written_index(NvAttribute.AUTHREAD | NvAttribute.OWNERWRITE)
+of_owner = tpm.written_index("One with OWNERWRITE and OWNERREAD", BY_OWNER)
+of_platform = tpm.index("One with PPWRITE and PPREAD", BY_PLATFORM)
+tpm("It is written").writing(of_platform, DATA, by=RH_PLATFORM)
+owner, platform = (f"The {it}, for an index with" for it in ("owner", "platform"))
+write, read, unseal = "TPM2_NV_Write", "TPM2_NV_Read", "TPM2_Unseal"
+writes = lambda index, asker: partial(tpm.writing, index, DATA, by=asker)
+reads = lambda index, asker: partial(tpm.reading, index, len(DATA), by=asker)
+found = (
+    *(
+        Entity(name, it, "TPM2_HierarchyChangeAuth", partial(tpm.change_auth, it, value))
+        for it, (name, value) in HIERARCHIES.items()
+    ),
+    Entity("The object", loaded, unseal, partial(tpm.unsealing, loaded)),
+    Entity("The persistent object", KEPT, unseal, partial(tpm.unsealing, KEPT)),
+    Entity("The index with AUTHWRITE", to_write, write, writes(to_write, to_write)),
+    Entity("The index with AUTHREAD", to_read, read, reads(to_read, to_read)),
+    Entity(f"{owner} OWNERWRITE", RH_OWNER, write, writes(of_owner, RH_OWNER)),
+    Entity(f"{owner} OWNERREAD", RH_OWNER, read, reads(of_owner, RH_OWNER)),
+    Entity(f"{platform} PPWRITE", RH_PLATFORM, write, writes(of_platform, RH_PLATFORM)),
+    Entity(f"{platform} PPREAD", RH_PLATFORM, read, reads(of_platform, RH_PLATFORM)),
+)
 
 tpm.chapter("PASSWORDS. The password is the authorization value of the entity.")
 for entity in found:
-    tpm.does(f"{entity.words}: {entity.command}", entity.prepare(entity.value))
+    tpm.does(f"{entity.words}: {entity.command}", entity.prepare(tpm.auth_value(entity.handle)))
 tpm("A PCR, whose value is always empty: TPM2_PCR_Reset").reset(b"")
 tpm.flushed_new("TPM_RH_NULL, whose is too: TPM2_CreatePrimary", at_null(b""))
 for entity in found[:8]:
     what = "With zeros behind the value, which do not count" if entity is found[0] else ""
-    tpm.does(what, entity.prepare(entity.value + bytes(2)))
+    tpm.does(what, entity.prepare(tpm.auth_value(entity.handle) + bytes(2)))
 tpm("And where it is empty").reset(bytes(32))
 
 tpm.chapter(
@@ -170,8 +154,8 @@ tpm.chapter(
     "Nothing is demanded: the key of the hmac is the session key alone. Here the policy has no "
     "assertion either: authPolicy is the digest that a session starts with, 32 zeros."
 )
-handle, index = with_policy(ZEROS)
-for name, prepare in uses_of(handle, index):
+handle, commands = with_policy(ZEROS)
+for name, prepare in commands:
     tpm.does(f"{name}: key and hmac are both empty", prepare(session))
     tpm.does("Or it is the hmac of the empty key", prepare(Use(session, shows_empty_key=True)))
     tpm.does("Or by the session that has a key", prepare(bound))
