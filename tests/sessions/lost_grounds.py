@@ -27,83 +27,29 @@ def by_key(key, handle, session):
     return tpm.with_key(key, tpm.unsealing, handle, Use(session, shows_empty_key=True))
 
 
-# Policy sessions: the conditions of a use, in the order of docs/table/policies.md.
+def told_pcr(words):
+    said = tpm(f"TPM2_PolicyRestart, TPM2_PolicyPCR, and {words}")
+    said.asserts(tpm.restart(session), tpm.pcrs(session, PCR_16))
+
+
+def is_lost(words, write):
+    told_pcr(words)
+    tpm.does("", write)
+    lost("TPM2_Unseal: PCR_CHANGED", tpm.unsealing(handle, session))
+
+
+def asserts_secret(words, cp_hash):
+    said = tpm(f"TPM2_PolicySecret with the cpHash of {words}")
+    said.secret(session, OWNER, of=RH_OWNER, cp_hash=cp_hash)
 
 
 def extending(pcr, *values):
     return tpm.prepare(CC.PCR_Extend, [pcr], digests(*values), b"")
 
 
-def changed_pcrs(session):
-    tpm.chapter("A PCR was written behind TPM2_PolicyPCR (condition 3), here of PCR 16.")
-    handle = tpm.sealed_object("An object whose policy is that PCR 16 is zeros", AFTER_PCR_16)
-    value = SHA256, b"\1" * 32
-
-    def told(words):
-        said = tpm(f"TPM2_PolicyRestart, TPM2_PolicyPCR, and {words}")
-        said.asserts(tpm.restart(session), tpm.pcrs(session, PCR_16))
-
-    def is_lost(words, write):
-        told(words)
-        tpm.does("", write)
-        lost("TPM2_Unseal: PCR_CHANGED", tpm.unsealing(handle, session))
-
-    is_lost("TPM2_PCR_Extend of PCR 16", extending(16, value))
-    told("no more")
-    lost("TPM2_Unseal: POLICY_FAIL/s1, as the digest is another", tpm.unsealing(handle, session))
-    tpm("TPM2_PCR_Reset of PCR 16 makes it zeros").reset(b"")
-    is_lost("TPM2_PCR_Reset of PCR 16, which is zeros already", tpm.reset(b""))
-    is_lost("TPM2_PCR_Event of PCR 23, which is not selected", tpm.event(b"event", b"", pcr=23))
-    is_lost("TPM2_Clear, which writes none", tpm.clearing(RH_PLATFORM))
-    tpm('ownerAuth is "owner" again').change_auth(RH_OWNER, OWNER, b"")
-    told("what neither writes one nor clears")
-    tpm.says("SUCCESS", extending(16), tpm.event(b"event", b"", pcr=RH_NULL))
-    tpm.unseal("TPM2_Unseal", handle, SECRET, session)
-
-    tpm.chapter("And behind TPM2_PolicyOR, which leaves of the branch the condition.")
-    branches = AFTER_PCR_16, AFTER_UNSEAL
-    either = tpm.sealed_object("An object with its policy", policy.after_or(SHA256, branches))
-    both = tpm.pcrs(session, PCR_16), tpm.branches(session, *branches)
-    tpm.asserts("TPM2_PolicyPCR and TPM2_PolicyOR", *both)
-    tpm("TPM2_PCR_Event of PCR 23").event(b"event", b"", pcr=23)
-    lost("TPM2_Unseal: PCR_CHANGED", tpm.unsealing(either, session))
-    tpm.asserts("Both from the start", tpm.restart(session), *both)
-    tpm.unseal("TPM2_Unseal", either, SECRET, session)
-    tpm.flushed(handle, either)
-
-
-def other_cp_hashes(session):
-    tpm.chapter(
-        "The command has another cpHash than TPM2_PolicySecret has recorded (condition 5). The "
-        "policy digest is the same for each."
-    )
-    auth_policy = after_secret(name_of(RH_OWNER))
-    first = tpm.index("An index with this policy", BY_POLICY, auth_policy)
-    second = tpm.index("Another one", BY_POLICY, auth_policy)
-    writing = lambda: tpm.writing(first, DATA, session)
-    before = tpm.cp_hash(writing())
-
-    def asserts(words, cp_hash):
-        said = tpm(f"TPM2_PolicySecret with the cpHash of {words}")
-        said.secret(session, OWNER, of=RH_OWNER, cp_hash=cp_hash)
-
-    asserts("TPM2_NV_Write of the first one", before)
-    lost("Other parameters: POLICY_FAIL/s1", tpm.writing(first, DATA[::-1], session))
-    lost("Another handle: POLICY_FAIL/s1", tpm.writing(second, DATA, session))
-    lost("Another command: POLICY_FAIL/s1", tpm.reading(first, 8, session))
-    tpm.does("TPM2_NV_Write of the first one", writing())
-    asserts("before", before)
-    lost("The same, of the Name that the first write gave it: POLICY_FAIL/s1", writing())
-    tpm.restarts(session)
-    asserts("now", tpm.cp_hash(writing()))
-    tpm.does("TPM2_NV_Write", writing())
-
-
 tpm('ownerAuth is "owner" from here on').change_auth(RH_OWNER, OWNER, b"")
 openly = tpm.sealed_object("A protected object with userWithAuth", attributes=HERE | USER)
 hmac = tpm.start("An HMAC session, which is unbound")
-
-handle = openly
 
 tpm.chapter("PASSWORDS. The password is not the value. Protected is what has no noDA.")
 lost("A hierarchy: BAD_AUTH/s1", tpm.change_auth(RH_OWNER, OWNER, b"other"))
@@ -113,9 +59,9 @@ tpm("By the empty one").reset(b"")
 lost(
     "A protected object: another password, a part of the value, more than it, and none: "
     "AUTH_FAIL/s1",
-    *(tpm.unsealing(handle, it) for it in (b"other", PIN[:-1], PIN + b"1", b"")),
+    *(tpm.unsealing(openly, it) for it in (b"other", PIN[:-1], PIN + b"1", b"")),
 )
-tpm.unseal("By the value", handle, SECRET, PIN)
+tpm.unseal("By the value", openly, SECRET, PIN)
 for words, attributes, outcome in (
     ("A protected index", BY_VALUE, "AUTH_FAIL/s1"),
     ("An index with NO_DA", BY_VALUE | NvAttribute.NO_DA, "BAD_AUTH/s1"),
@@ -212,14 +158,12 @@ tpm.flushed(bound, to_index)
 named = tpm.sealed_object("An object whose policy is the command TPM2_Unseal", AFTER_UNSEAL)
 session = tpm.policy("A policy session, which is unbound")
 
-handle = named
-
 tpm.chapter("A POLICY. The session is a trial session (condition 1).")
 trial = tpm.trial("It is started")
 tpm.asserts_code(trial)
-lost("TPM2_Unseal by it: ATTRIBUTES/s1", tpm.unsealing(handle, trial))
+lost("TPM2_Unseal by it: ATTRIBUTES/s1", tpm.unsealing(named, trial))
 tpm.asserts_code(session)
-tpm.unseal("By a policy session", handle, SECRET, session)
+tpm.unseal("By a policy session", named, SECRET, session)
 tpm.flushed(trial)
 
 tpm.chapter("The entity cannot have a policy (condition 2). No policy is asserted here.")
@@ -246,7 +190,32 @@ for words, attributes, auth_policy, authorized in (
         else:
             lost(f"{name}: AUTH_UNAVAILABLE", prepare())
 
-changed_pcrs(session)
+tpm.chapter("A PCR was written behind TPM2_PolicyPCR (condition 3), here of PCR 16.")
+handle = tpm.sealed_object("An object whose policy is that PCR 16 is zeros", AFTER_PCR_16)
+value = SHA256, b"\1" * 32
+
+is_lost("TPM2_PCR_Extend of PCR 16", extending(16, value))
+told_pcr("no more")
+lost("TPM2_Unseal: POLICY_FAIL/s1, as the digest is another", tpm.unsealing(handle, session))
+tpm("TPM2_PCR_Reset of PCR 16 makes it zeros").reset(b"")
+is_lost("TPM2_PCR_Reset of PCR 16, which is zeros already", tpm.reset(b""))
+is_lost("TPM2_PCR_Event of PCR 23, which is not selected", tpm.event(b"event", b"", pcr=23))
+is_lost("TPM2_Clear, which writes none", tpm.clearing(RH_PLATFORM))
+tpm('ownerAuth is "owner" again').change_auth(RH_OWNER, OWNER, b"")
+told_pcr("what neither writes one nor clears")
+tpm.says("SUCCESS", extending(16), tpm.event(b"event", b"", pcr=RH_NULL))
+tpm.unseal("TPM2_Unseal", handle, SECRET, session)
+
+tpm.chapter("And behind TPM2_PolicyOR, which leaves of the branch the condition.")
+branches = AFTER_PCR_16, AFTER_UNSEAL
+either = tpm.sealed_object("An object with its policy", policy.after_or(SHA256, branches))
+both = tpm.pcrs(session, PCR_16), tpm.branches(session, *branches)
+tpm.asserts("TPM2_PolicyPCR and TPM2_PolicyOR", *both)
+tpm("TPM2_PCR_Event of PCR 23").event(b"event", b"", pcr=23)
+lost("TPM2_Unseal: PCR_CHANGED", tpm.unsealing(either, session))
+tpm.asserts("Both from the start", tpm.restart(session), *both)
+tpm.unseal("TPM2_Unseal", either, SECRET, session)
+tpm.flushed(handle, either)
 
 tpm.chapter("The command is another than the one recorded (condition 4).")
 said = tpm("An index whose policy is TPM2_NV_Read")
@@ -266,7 +235,26 @@ tpm.restarts(session)
 tpm.asserts_code(session, CC.NV_ChangeAuth)
 tpm("TPM2_NV_ChangeAuth").changing_auth(admin, PIN, session)
 
-other_cp_hashes(session)
+tpm.chapter(
+    "The command has another cpHash than TPM2_PolicySecret has recorded (condition 5). The "
+    "policy digest is the same for each."
+)
+auth_policy = after_secret(name_of(RH_OWNER))
+first = tpm.index("An index with this policy", BY_POLICY, auth_policy)
+second = tpm.index("Another one", BY_POLICY, auth_policy)
+writing = lambda: tpm.writing(first, DATA, session)
+before = tpm.cp_hash(writing())
+
+asserts_secret("TPM2_NV_Write of the first one", before)
+lost("Other parameters: POLICY_FAIL/s1", tpm.writing(first, DATA[::-1], session))
+lost("Another handle: POLICY_FAIL/s1", tpm.writing(second, DATA, session))
+lost("Another command: POLICY_FAIL/s1", tpm.reading(first, 8, session))
+tpm.does("TPM2_NV_Write of the first one", writing())
+asserts_secret("before", before)
+lost("The same, of the Name that the first write gave it: POLICY_FAIL/s1", writing())
+tpm.restarts(session)
+asserts_secret("now", tpm.cp_hash(writing()))
+tpm.does("TPM2_NV_Write", writing())
 
 tpm.chapter("The policy is for an NV index that is not written (condition 6).")
 unwritten = policy.after_nv_written(SHA256, ZEROS, False)
@@ -292,18 +280,16 @@ tpm.unseal("From locality 1", handle, SECRET, session)
 tpm.locality_is(0)
 tpm.flushed(handle)
 
-handle = named
-
 tpm.chapter("The hash of the session is not the nameAlg of the entity (condition 8).")
 by_sha1 = tpm.policy("A policy session of SHA-1", algorithm=SHA1)
 tpm.asserts_code(by_sha1)
-lost("The nameAlg is SHA-256: POLICY_FAIL/s1", tpm.unsealing(handle, by_sha1))
+lost("The nameAlg is SHA-256: POLICY_FAIL/s1", tpm.unsealing(named, by_sha1))
 said = tpm("An object with nameAlg SHA-1")
 of_sha1 = said.sealed_object(after_code(CC.Unseal, SHA1), algorithm=SHA1)
 tpm.unseal("It is authorized", of_sha1, SECRET, by_sha1)
 tpm.asserts_code(session)
 lost("And not by a session of SHA-256: POLICY_FAIL/s1", tpm.unsealing(of_sha1, session))
-tpm.unseal("Which authorizes what has its hash", handle, SECRET, session)
+tpm.unseal("Which authorizes what has its hash", named, SECRET, session)
 tpm.flushed(by_sha1, of_sha1)
 
 tpm.chapter("The policy digest is not the authPolicy (condition 8): an assertion differs.")
