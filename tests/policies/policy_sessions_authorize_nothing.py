@@ -71,11 +71,9 @@ for words, session in (
 ):
     reset = tpm.reset(session, hmac)
     tpm.refused(words, wrong_in(reset, 1), reset.but_entry(1, hmac=b""), wrong_in(reset, 2))
-tpm.refused(
-    "A wrong hmac on TPM_RH_LOCKOUT is no try at its value, as no value is looked at: "
-    "AUTH_UNAVAILABLE",
-    tpm.change_auth(RH_LOCKOUT, b"x", lockout).but_entry(1, hmac=bytes(32)),
-)
+wrong = tpm.change_auth(RH_LOCKOUT, b"x", lockout).but_entry(1, hmac=bytes(32))
+case = "A wrong hmac on TPM_RH_LOCKOUT is no try at its value, as no value is looked at"
+tpm.refused(f"{case}: AUTH_UNAVAILABLE", wrong)
 
 tpm.chapter("But what is refused of entries whatever their hmacs are comes before.")
 absent = Entry(0x0300_0009, b"", CONTINUE_SESSION, b"")

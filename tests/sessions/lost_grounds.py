@@ -56,11 +56,9 @@ lost("A hierarchy: BAD_AUTH/s1", tpm.change_auth(RH_OWNER, OWNER, b"other"))
 tpm("By the value").change_auth(RH_OWNER, OWNER, OWNER)
 lost("A PCR, whose value is empty: BAD_AUTH/s1", tpm.reset(b"other"))
 tpm("By the empty one").reset(b"")
-lost(
-    "A protected object: another password, a part of the value, more than it, and none: "
-    "AUTH_FAIL/s1",
-    *(tpm.unsealing(openly, it) for it in (b"other", PIN[:-1], PIN + b"1", b"")),
-)
+passwords = b"other", PIN[:-1], PIN + b"1", b""
+case = "A protected object: another password, a part of the value, more than it, and none"
+lost(f"{case}: AUTH_FAIL/s1", *(tpm.unsealing(openly, it) for it in passwords))
 tpm.unseal("By the value", openly, SECRET, PIN)
 for words, attributes, outcome in (
     ("A protected index", BY_VALUE, "AUTH_FAIL/s1"),
@@ -90,11 +88,8 @@ admin = said.index(BY_VALUE, after_code(CC.NV_ChangeAuth))
 case = "TPM2_NV_ChangeAuth, which is in the ADMIN role: AUTH_UNAVAILABLE"
 lost(case, *(tpm.changing_auth(admin, PIN, it) for it in (PIN, hmac)))
 tpm("TPM2_NV_Write, in the USER role").writing(admin, DATA, PIN)
-tpm.refused_by(
-    "A1",
-    "The owner, for this index without OWNERREAD, is refused by the command: NV_AUTHORIZATION",
-    tpm.reading(admin, 8, by=RH_OWNER),
-)
+case = "The owner, for this index without OWNERREAD, is refused by the command: NV_AUTHORIZATION"
+tpm.refused_by("A1", case, tpm.reading(admin, 8, by=RH_OWNER))
 tpm.read("And not for one that has it", to_read, DATA, by=RH_OWNER)
 
 tpm.chapter("AN HMAC. It is of another text: here TPM2_NV_Write of a protected index.")
@@ -125,12 +120,9 @@ other = tpm.start("One bound to TPM_RH_ENDORSEMENT", RH_ENDORSEMENT)
 case = "Unbound, with another value in the key, and with none: AUTH_FAIL/s1"
 lost(case, by_key(b"other", openly, hmac), by_key(b"", openly, hmac))
 tpm.unseal("With the value", openly, SECRET, hmac)
-lost(
-    "Bound to the object, with the value in the key all the same, and by another session's "
-    "key: AUTH_FAIL/s1",
-    by_key(bound.key + PIN, openly, bound),
-    by_key(other.key, openly, bound),
-)
+keys = bound.key + PIN, other.key
+case = "Bound to the object, with the value in the key all the same, and by another session's key"
+lost(f"{case}: AUTH_FAIL/s1", *(by_key(it, openly, bound) for it in keys))
 tpm.unseal("By the session key alone", openly, SECRET, bound)
 lost("Bound to another, without the value: AUTH_FAIL/s1", by_key(other.key, openly, other))
 tpm.unseal("With it", openly, SECRET, other)
@@ -181,14 +173,12 @@ for words, attributes, auth_policy, authorized in (
     ("One of 32 zeros, without POLICYWRITE", NvAttribute.POLICYREAD, ZEROS, CC.NV_Read),
 ):
     index = tpm.written_index(words, attributes | BY_OWNER, auth_policy)
-    for code, name, prepare in (
-        (CC.NV_Write, "TPM2_NV_Write", lambda: tpm.writing(index, DATA, session)),
-        (CC.NV_Read, "TPM2_NV_Read", lambda: tpm.reading(index, 8, session)),
-    ):
-        if code == authorized:
-            tpm.does(name, prepare())
+    for prepared in (tpm.writing(index, DATA, session), tpm.reading(index, 8, session)):
+        name = f"TPM2_{prepared.code.name}"
+        if prepared.code == authorized:
+            tpm.does(name, prepared)
         else:
-            lost(f"{name}: AUTH_UNAVAILABLE", prepare())
+            lost(f"{name}: AUTH_UNAVAILABLE", prepared)
 
 tpm.chapter("A PCR was written behind TPM2_PolicyPCR (condition 3), here of PCR 16.")
 handle = tpm.sealed_object("An object whose policy is that PCR 16 is zeros", AFTER_PCR_16)
