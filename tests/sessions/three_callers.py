@@ -43,14 +43,14 @@ class Stage:
         assert not differences, differences
 
     def sends(self, caller, what, prepared):
-        """A command that may be refused; its answer, if it is accepted."""
+        """A command that may be refused."""
         device = copy.deepcopy(self.script.device)
         device.tell = lambda event: None
-        answered = device.execute(prepared.buffer(), 0, self.script.random)
-        if answered.refused:
-            caller.fails(f"{what}: {answered.refused}", prepared)
-            return None
-        return caller.does(what, prepared)
+        refused = device.execute(prepared.buffer(), 0, self.script.random).refused
+        if refused:
+            caller.fails(f"{what}: {refused}", prepared)
+        else:
+            caller.does(what, prepared)
 
 
 def extending(caller, handle):
