@@ -120,12 +120,7 @@ class OverSimulator(TwentyTests, unittest.TestCase):
 
 def differs(test):
     """A test that is to fail on another TPM, as that answers otherwise."""
-
-    @unittest.expectedFailure
-    def fails(self):
-        test(self)
-
-    return fails
+    return unittest.expectedFailure(lambda self: test(self))
 
 
 @unittest.skipUnless(shutil.which("swtpm"), "there is no swtpm")
@@ -206,8 +201,7 @@ class Devices(unittest.TestCase):
             tpm.device = other
             tpm.send(tpm.change_auth(RH_OWNER, b"", b"owner"))
             other.power_cycle()
-            with self.assertRaisesRegex(Refused, "INITIALIZE"):
-                Caller(device).call("ReadClock")
+            self.assertRaisesRegex(Refused, "INITIALIZE", Caller(device).call, "ReadClock")
             self.assertEqual(device.save(), other.save())
             Caller(device).start_up()
             self.assertRaises(Unsupported, device.wait, 1)
@@ -234,8 +228,8 @@ class Devices(unittest.TestCase):
         with ChildDevice() as device, self.assertRaises(Unsupported):
             device.save()
         device = self.enterContext(ChildDevice())
-        with self.assertRaisesRegex(DeviceEnded, "status 2: tpmsim: script line"):
-            device.execute(bytes(40_000))
+        words = "status 2: tpmsim: script line"
+        self.assertRaisesRegex(DeviceEnded, words, device.execute, bytes(40_000))
 
     def test_readme(self):
         """Its examples run, and print what they say."""

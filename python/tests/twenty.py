@@ -128,9 +128,8 @@ class TwentyTests:
 
     def test_no_branch_is_met(self):
         pcr = f"PolicyPCR sha256:0 {'11' * 32}"
-        with self.assertRaises(Refused) as caught:
-            self.tpm.policy(f"either\n    {pcr}\nor\n    {pcr}\n    PolicyPassword\n")
-        self.assertEqual(caught.exception.code, "VALUE/p1")
+        words = f"either\n    {pcr}\nor\n    {pcr}\n    PolicyPassword\n"
+        self.assertRaisesRegex(Refused, "VALUE/p1", self.tpm.policy, words)
 
     def test_policy_of_an_index(self):
         index = self.tpm.define(area())
