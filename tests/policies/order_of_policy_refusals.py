@@ -18,10 +18,6 @@ def refused(words, prepared, *wrong):
     tpm.refused(words, wrong_in(prepared, *wrong) if wrong else prepared)
 
 
-def ends_well(text):
-    says("No fault is left", text)
-
-
 def up_to_hmacs(text):
     """What is refused before the parameters of a command with one handle; the last is text."""
 
@@ -80,14 +76,14 @@ for code in (CC.PolicyRestart, CC.PolicyAuthValue, CC.PolicyPassword):
     tpm.chapter(f"TPM2_{code.name} with a byte too many.")
     up_to_hmacs(b"\0")
     says("The byte: SIZE", b"\0")
-    ends_well(b"")
+    says("No fault is left", b"")
 
 code = CC.PolicyGetDigest
 tpm.chapter("TPM2_PolicyGetDigest with a byte too many.")
 up_to_hmacs(b"\0")
 symmetric(plain.encrypting)
 says("The byte: SIZE", b"\0")
-ends_well(b"")
+says("No fault is left", b"")
 
 code = CC.PolicyLocality
 tpm.chapter("TPM2_PolicyLocality.")
@@ -96,7 +92,7 @@ says("No byte: INSUFFICIENT/p1", b"")
 says("A byte behind 0, and behind FF: SIZE", b"\0\0")
 says("SIZE", b"\xff\0")
 says("0: RANGE/p1", b"\0")
-ends_well(b"\1")
+says("No fault is left", b"\1")
 
 code = CC.PolicyCommandCode
 tpm.chapter("TPM2_PolicyCommandCode behind TPM2_PolicyCommandCode of Unseal.")
@@ -107,7 +103,7 @@ says("Another code, 0, and a byte behind it: SIZE", bytes(5))
 says("0, which is no code, and another: VALUE/p1", bytes(4))
 tpm.restarts(policy)
 says("0, and none is recorded: POLICY_CC/p1", bytes(4))
-ends_well(number(CC.Unseal, 4))
+says("No fault is left", number(CC.Unseal, 4))
 
 code = CC.PolicyOR
 tpm.chapter("TPM2_PolicyOR.")
@@ -122,7 +118,7 @@ says(case, number(2, 4) + sized(b"x") + b"\0\x21")
 says("A byte behind two of others: SIZE", frames.sized_list(b"x", b"y") + b"\0")
 says("Two of others: VALUE/p1", frames.sized_list(b"x", b"y"))
 tpm.restarts(policy)
-ends_well(frames.sized_list(b"x", bytes(32)))
+says("No fault is left", frames.sized_list(b"x", bytes(32)))
 
 code = CC.PolicyPCR
 tpm.chapter("TPM2_PolicyPCR behind TPM2_PolicyPCR, and PCR 16 has changed; hmac decrypts.")

@@ -29,20 +29,6 @@ def texts(words, *those):
     tpm.texts(words, CC.PolicyOR, session, *those)
 
 
-def absent(current):
-    """Lists in which the digest is not, in words."""
-    parts = "one too many", current[:-1], (current + b"\0")[:32]
-    if len(current) == 32:
-        parts = "is not zero", current[1:], b"\1" + current[1:]
-    return (
-        ("The digest is not among two", *other(2)),
-        ("Not among eight", *other(8)),
-        (f"A byte of it is missing, or {parts[0]}", *parts[1:]),
-        ("It has another last bit", current[:-1] + b"\1", current[:-1]),
-        ("No element has a byte", b"", b""),
-    )
-
-
 for session in tpm.each_session():
     joins("The digest is the first of two", zeros(session), *other(1))
     joins("The second of two", *other(1), again())
@@ -62,7 +48,17 @@ for session in tpm.each_session():
     case = "Elements of other lengths beside it, of 0, 1, 19, 20, 21, 31 and 32 bytes"
     joins(case, *(bytes([it]) * it for it in (0, 1, 19, 20, 21, 31, 32)), current)
 
-    for what, *branches in absent(again()):
+    current = again()
+    parts = "one too many", current[:-1], (current + b"\0")[:32]
+    if len(current) == 32:
+        parts = "is not zero", current[1:], b"\1" + current[1:]
+    for what, *branches in (
+        ("The digest is not among two", *other(2)),
+        ("Not among eight", *other(8)),
+        (f"A byte of it is missing, or {parts[0]}", *parts[1:]),
+        ("It has another last bit", current[:-1] + b"\1", current[:-1]),
+        ("No element has a byte", b"", b""),
+    ):
         if is_trial(session):
             again()
             joins(f"{what}, which a trial session does not look at", *branches)
