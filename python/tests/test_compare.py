@@ -57,8 +57,7 @@ do GetRandom 4
             "line 3: not comparable: 80000000 is not there, behind line 2",
             "4 commands, 1 differences, 0 that follow, 1 not comparable",
         )
-        wanted = [f"script: {it}" for it in lines]
-        self.assertEqual(told(pathlib.Path("script"), report), wanted)
+        self.assertEqual(told(pathlib.Path("script"), report), [f"script: {it}" for it in lines])
 
 
 class Others(unittest.TestCase):

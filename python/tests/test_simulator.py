@@ -118,8 +118,7 @@ class Simulator(unittest.TestCase):
         while stop.recv(1):
             self.assertLess(time.monotonic(), until)
         self.address = self.enterContext(simulator("--image", str(self.folder / "image")))
-        clock = Caller(self.started()).call("ReadClock")["currentTime"]
-        self.assertEqual(clock.resets, 2)
+        self.assertEqual(Caller(self.started()).call("ReadClock")["currentTime"].resets, 2)
 
     @unittest.skipUnless(shutil.which("tpm2_getrandom"), "there is no tpm2_getrandom")
     def test_tools(self):

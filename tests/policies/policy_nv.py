@@ -193,8 +193,7 @@ tpm("The session is flushed").flush(session)
 tpm.chapter("Refusals. The index is not written, is locked, and only the platform may read it.")
 session = tpm.policy("A policy session")
 trial = tpm.trial("A trial session")
-attributes = BY_VALUE | BY_PLATFORM | NvAttribute.READ_STCLEAR
-tpm.define("An index", area(THIRD, attributes), auth=b"a")
+tpm.define("An index", area(THIRD, BY_VALUE | BY_PLATFORM | NvAttribute.READ_STCLEAR), auth=b"a")
 tpm("TPM2_NV_ReadLock").read_locking(THIRD)
 
 refused("By the owner: NV_AUTHORIZATION", RH_OWNER)

@@ -19,15 +19,9 @@ OF_NO_COMMAND = b"\x11" * 32
 tpm = GroundsCaller(__name__, __doc__, tries=True)
 lost, asserts = tpm.lost, tpm.asserts
 
-
-def value_behind(data):
-    return digest(SHA256, bytes(32) + digest(SHA256, data))
-
-
 # The policy of a disk: PCR 7 and 11 and the value, or a recovery secret; and then TPM2_Unseal.
-
-VALUES = digest(SHA256, value_behind(SECURE_BOOT) + value_behind(KERNEL))
-AFTER_PCRS = policy.after_pcr(SHA256, ZEROS, selection(*CHOSEN), VALUES)
+VALUES = [digest(SHA256, bytes(32) + digest(SHA256, it)) for it in (SECURE_BOOT, KERNEL)]
+AFTER_PCRS = policy.after_pcr(SHA256, ZEROS, selection(*CHOSEN), digest(SHA256, b"".join(VALUES)))
 BY_SYSTEM = policy.after_auth_value(SHA256, AFTER_PCRS)
 WAYS = BY_SYSTEM, policy.after_secret(SHA256, ZEROS, name_of(RH_ENDORSEMENT), REF)
 DISK = policy.after_command_code(SHA256, policy.after_or(SHA256, WAYS), CC.Unseal)

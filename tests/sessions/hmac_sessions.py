@@ -3,23 +3,18 @@ they authorize, and bound to another. Each of their hmacs was computed outside, 
 `entropy` gives new random bytes, so that each command has its own nonces.
 """
 
+from tests.common.policy_teller import PolicyTeller
 from tests.common.vocabulary import CC, ENDS, flipped, frames, NAMES, RH_ENDORSEMENT, RH_OWNER, SHA1
-from tests.common.vocabulary import SHA256, sized, Teller, Use, wrong_in
+from tests.common.vocabulary import SHA256, sized, Use, wrong_in
 
 AUTH = b"owner"
 
-tpm = Teller(__name__, __doc__)
+tpm = PolicyTeller(__name__, __doc__)
 
 
 def other_entry(words, name, *values):
     """The right command with other values of one part of its entry."""
     tpm.refused(words, *(right.but_entry(1, **{name: it}) for it in values))
-
-
-def with_key(key, by):
-    """A command whose hmac has another key than the rule gives."""
-    with tpm.breaking(key=lambda *_: key):
-        return tpm.change_auth(RH_OWNER, AUTH, by)
 
 
 tpm.accepted('ownerAuth is "owner" from here on', tpm.change_auth(RH_OWNER, AUTH, b""))
@@ -62,16 +57,19 @@ for bind, words in (
         tpm("It is no more: REFERENCE_S0").change_auth(RH_OWNER, AUTH, session)
 
 tpm.chapter("What is in the key of an hmac.")
+changing = tpm.change_auth, RH_OWNER, AUTH
 bound = tpm.start("A session bound to TPM_RH_OWNER", RH_OWNER)
 other = tpm.start("Another one, bound to TPM_RH_ENDORSEMENT", RH_ENDORSEMENT)
 unbound = tpm.start("And one that is unbound")
 said = tpm("Bound to the entity, and its authorization value in the key all the same: BAD_AUTH/s1")
-said.refused(with_key(bound.key + AUTH, bound))
+said.refused(tpm.with_key(bound.key + AUTH, *changing, bound))
 case = "Bound to another, without the entity's value, and with the value of that other one"
 keys = other.key, other.key + b"endorsement"
-tpm.refused(f"{case}: BAD_AUTH/s1", *(with_key(it, other) for it in keys))
+tpm.refused(f"{case}: BAD_AUTH/s1", *(tpm.with_key(it, *changing, other) for it in keys))
 said = tpm("Unbound, without the entity's value, and by no hmac at all: BAD_AUTH/s1")
-said.refused(*(with_key(b"", it) for it in (Use(unbound, shows_empty_key=True), unbound)))
+said.refused(
+    *(tpm.with_key(b"", *changing, it) for it in (Use(unbound, shows_empty_key=True), unbound))
+)
 for session, words in ((bound, "bound to it"), (other, "bound to another"), (unbound, "unbound")):
     tpm(f"As the rule is, {words}").change_auth(RH_OWNER, AUTH, session)
 said = tpm("The session that is bound to TPM_RH_OWNER on TPM_RH_ENDORSEMENT")

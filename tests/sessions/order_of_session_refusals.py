@@ -56,8 +56,7 @@ for words, text in (
 tpm.accepted("No fault is left", start(NULLS, frames.start_auth_session(bytes(16))[1], *uses))
 
 tpm.chapter("TPM2_PCR_Event into PCR 17 from locality 0, with two sessions and a cut parameter.")
-said = tpm("PCR 24, and no sessions (tag 8001): VALUE/h1")
-said.refused(tpm.prepare(CC.PCR_Event, [24], b""))
+tpm.refused("PCR 24, and no sessions (tag 8001): VALUE/h1", tpm.prepare(CC.PCR_Event, [24], b""))
 tpm.refused("No sessions (tag 8001): AUTH_MISSING", event(b""))
 case = "encrypt, as the first answer is no sized buffer, in the second entry: ATTRIBUTES/s2"
 tpm.refused(case, wrong_in(event(b"\0", first, second.encrypting), 1, 2))
