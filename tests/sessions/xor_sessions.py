@@ -47,9 +47,7 @@ def first_buffer(text):
 
 
 def is_masked(prepared, plain, place=1, auth_value=b""):
-    """The first buffer of a command is plain bytes with the mask of the caller's nonce and the
-    device's.
-    """
+    """A command's first buffer is plain bytes, masked by the caller's nonce and the device's."""
     use = prepared.uses[place - 1]
     wanted = mask(use, use.nonce, use.session.nonce_tpm, len(plain), auth_value)
     assert first_buffer(prepared.parameters) == exclusive_or(plain, wanted)
