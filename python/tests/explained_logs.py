@@ -19,8 +19,7 @@ LOCKED, MOVED = lines_with("do Unseal")[-1], lines_with("do PCR_Event 00000007")
 
 
 def events_of(*lines, answers=None):
-    play = Play(None, answers)
-    return list(play.events("\n".join(lines).encode()))
+    return list(Play(None, answers).events("\n".join(lines).encode()))
 
 
 def last(*lines):
@@ -30,9 +29,8 @@ def last(*lines):
 
 def explained(device):
     """The last event of a device's trace, as it is explained."""
-    log = "\n".join(device.trace).encode()
     play = Play()
-    events = list(play.events(log))
+    events = list(play.events("\n".join(device.trace).encode()))
     assert play.bad_line is None
     assert not any(it.differences for it in events)
     return events[-1]
@@ -41,8 +39,7 @@ def explained(device):
 def sessions_of(device):
     """What is known of each session of a trace."""
     play = Play()
-    for _ in play.events("\n".join(device.trace).encode()):
-        pass
+    list(play.events("\n".join(device.trace).encode()))
     return play.past.sessions.values()
 
 

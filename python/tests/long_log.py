@@ -1,7 +1,8 @@
-"""Writes a log of so many commands, of the usual ones: `long_log.py COUNT`. One in twenty has a wrong
-HMAC.
+"""Writes a log of so many commands, or some more, of the usual ones: `long_log.py COUNT`. One in
+twenty has a wrong HMAC.
 """
 
+import contextlib
 import random
 import sys
 
@@ -25,17 +26,14 @@ class Usual:
         self.key = self.tpm.create_primary(hmac_key(), data=b"key", user_auth=b"pin")
         self.plain = self.tpm.session(cipher=AES)
         self.bound = self.tpm.session(RH_OWNER, cipher=XOR)
-        self.kinds = (
-            *(self.measure, self.measure, self.measure, self.write, self.write, self.compute),
-            *(self.count, self.draw, self.policy, self.slip),
-        )
+        self.kinds = 3 * [self.measure] + 2 * [self.write] + [self.compute, self.count, self.draw]
+        self.kinds += [self.policy, self.slip]
 
     def measure(self):
         self.tpm.send(self.tpm.event(self.pick.randbytes(8), b"", pcr=self.pick.choice(PCRS)))
 
     def write(self):
-        data = self.pick.randbytes(8)
-        self.tpm.send(self.tpm.writing(self.index, data, self.plain.decrypting))
+        self.tpm.send(self.tpm.writing(self.index, self.pick.randbytes(8), self.plain.decrypting))
 
     def compute(self):
         self.tpm.send(self.tpm.hmac(self.key, self.pick.randbytes(20), SHA256, self.plain))
@@ -52,18 +50,16 @@ class Usual:
         self.tpm.send(self.tpm.flush(session))
 
     def slip(self):
-        if self.pick.random() < 0.5:
-            return
-        try:
-            self.tpm.send(wrong(self.tpm.hmac(self.key, b"text", SHA256, self.plain)))
-        except Refused:
-            pass
+        if self.pick.random() >= 0.5:
+            with contextlib.suppress(Refused):
+                self.tpm.send(wrong(self.tpm.hmac(self.key, b"text", SHA256, self.plain)))
 
 
 def main(count):
     usual = Usual(7)
-    while usual.device.commands < count:
-        usual.pick.choice(usual.kinds)()
+    while sum(it.startswith(("do ", "cmd ")) for it in usual.device.trace) < count:
+        for _ in range(50):
+            usual.pick.choice(usual.kinds)()
     print("\n".join(usual.device.trace))
 
 

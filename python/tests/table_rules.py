@@ -25,8 +25,7 @@ def plain(text):
 
 def anchor_of(title):
     """The anchor that a heading has."""
-    kept = re.sub(r"[^\w\- ]", "", title.lower())
-    return kept.replace(" ", "-")
+    return re.sub(r"[^\w\- ]", "", title.lower()).replace(" ", "-")
 
 
 def sections_of(page):
@@ -37,16 +36,14 @@ def sections_of(page):
 
 
 def section_at(link):
-    for _, found, text in sections_of(link.partition("#")[0]):
-        if found == link:
-            return text
-    raise KeyError(link)
+    texts = {found: text for _, found, text in sections_of(link.partition("#")[0])}
+    return texts[link]
 
 
 def paragraphs(text):
     """Those of a text, but for the one that leads to a definition and its code."""
-    found = re.split(r"\n\n+", text)
-    return [it for it in found if it.strip() and not it.startswith("Definition: ")]
+    found = filter(str.strip, re.split(r"\n\n+", text))
+    return [it for it in found if not it.startswith("Definition: ")]
 
 
 def table_rows(text):
@@ -86,10 +83,10 @@ class Rules:
     def add(self, key, text, link):
         assert key not in self.found, key
         text = plain(text)
-        is_word = text.partition(" ")[0].islower()
-        begin = text[0].upper() if is_word else text[0]
+        if text.partition(" ")[0].islower():
+            text = text[0].upper() + text[1:]
         end = "" if text.endswith((".", ":")) else "."
-        self.found[key] = begin + text[1:] + end, f"docs/table/{link}"
+        self.found[key] = text + end, f"docs/table/{link}"
 
     def general(self):
         """G1 to G11, and M."""
@@ -110,66 +107,50 @@ class Rules:
             if check == "G11":
                 self.add("G11/INSUFFICIENT", paragraphs(text)[-1], link)
         link = "order_of_refusals.md#sized-buffers"
-        of_buffers = paragraphs(section_at(link))
-        self.add("buffer/SIZE", of_buffers[1], link)
+        self.add("buffer/SIZE", paragraphs(section_at(link))[1], link)
         self.add("structure/SIZE", " ".join(items(section_at(link))[1:]), link)
 
     def conditions(self):
         for title, link, text in sections_of("policies.md"):
-            found = re.match(r"Condition (\d)", title)
-            if found:
+            if found := re.match(r"Condition (\d)", title):
                 self.add(f"condition/{found[1]}", f"{title}. {paragraphs(text)[0]}", link)
 
     def structures(self):
-        for page, title, key in (
-            ("objects.md", "Public areas", "public"),
-            ("nv.md", "The public area", "nvPublic"),
-        ):
-            link = f"{page}#{anchor_of(title)}"
-            for row in table_rows(section_at(link)):
-                if row[0] != "field":
-                    field = row[0].replace("parameters, of a ", "")
-                    self.add(f"{key}/{field}", f"{row[0]}: {row[1]}", link)
+        areas = {"public": "objects.md#public-areas", "nvPublic": "nv.md#the-public-area"}
+        for key, link in areas.items():
+            for field, text, *_ in table_rows(section_at(link)):
+                if field != "field":
+                    name = field.replace("parameters, of a ", "")
+                    self.add(f"{key}/{name}", f"{field}: {text}", link)
 
     def others(self):
         for key, link, begins, count in OTHERS:
             section = section_at(link)
-            text = section[section.index(begins) :]
-            those = paragraphs(text)
+            those = paragraphs(section[section.index(begins) :])
             words = " ".join(SENTENCE.split(those[0])[:count])
             self.add(key, words + (" " + those[1] if words.endswith(":") else ""), link)
 
     def commands(self):
         for page in sorted(TABLE.glob("*.md")):
             for title, link, text in sections_of(page.name):
-                found = re.match(r"TPM2_(\w+) \(", title)
-                if found:
+                if found := re.match(r"TPM2_(\w+) \(", title):
                     self.command(found[1], link, text)
 
     def command(self, name, link, text):
-        parameters = re.search(r"Parameters?: (.*?)(?:\sAnswer:|\n\n|$)", text, re.DOTALL)
-        if parameters:
-            self.add(f"{name}/parameters", parameters[1], link)
-        like = re.search(r"Checks and effect: those of TPM2_(\w+)", text)
-        if like:
-            section = [
-                it
-                for it in sections_of(link.partition("#")[0])
-                if it[0].startswith(f"TPM2_{like[1]} (")
-            ]
-            text, link = section[0][2], section[0][1]
-        for item in items(text):
-            own = OWN.match(item)
-            if own:
-                self.own(name, link, own)
+        if found := re.search(r"Parameters?: (.*?)(?:\sAnswer:|\n\n|$)", text, re.DOTALL):
+            self.add(f"{name}/parameters", found[1], link)
+        if like := re.search(r"Checks and effect: those of TPM2_(\w+)", text):
+            page = sections_of(link.partition("#")[0])
+            _, link, text = next(it for it in page if it[0].startswith(f"TPM2_{like[1]} ("))
+        for own in filter(None, map(OWN.match, items(text))):
+            self.own(name, link, own)
 
     def own(self, name, link, found):
         first, last, words = int(found[1]), int(found[2] or found[1]), found[3]
-        those = LIST_OF_CHECKS.search(words)
         if last == first:
             self.add(f"{name}/A{first}", words, link)
             return
-        target = those[1]
+        target = LIST_OF_CHECKS.search(words)[1]
         listed = [it for it in items(section_at(target)) if re.match(r"\d\. ", it)]
         for at in range(first, last + 1):
             self.add(f"{name}/A{at}", listed[at - first].partition(" ")[2], target)

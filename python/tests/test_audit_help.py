@@ -29,7 +29,7 @@ do NV_Write OWNER 01000001 pw:- 0000000000000002 0
 do StartAuthSession NULL NULL 00112233445566778899aabbccddeeff - 1 null sha256
 do PolicyNV OWNER 01000001 03000000 pw:- 0000000000000001 0 9"""
         printed = [line for _, line in played(script.encode())[0]]
-        for answered, told in ((printed[-2], 0), (printed[-2].replace("A5", "A4"), 1)):
+        for answered, is_fault in ((printed[-2], False), (printed[-2].replace("A5", "A4"), True)):
             log = "\n".join([*printed[:-2], answered, printed[-1], ""]).encode()
             auditor, fault = Auditor(start.new(), Log(log)), ""
             try:
@@ -37,9 +37,8 @@ do PolicyNV OWNER 01000001 03000000 pw:- 0000000000000001 0 9"""
             except Disagreement as found:
                 fault = str(found)
             words = "UNSIGNED_LE does not hold: 2 <= 1 is false"
-            self.assertEqual(fault.endswith(f": {words}"), bool(told))
-            if not told:
-                self.assertIn(
-                    "  line 5: PolicyNV is refused: POLICY (126), by check A5", report(auditor)
-                )
+            self.assertEqual(fault.endswith(f": {words}"), is_fault)
+            if not is_fault:
+                refused = "  line 5: PolicyNV is refused: POLICY (126), by check A5"
+                self.assertIn(refused, report(auditor))
                 self.assertIn(f"    {words}.", report(auditor))

@@ -52,14 +52,12 @@ do GetRandom 4
 """
         with Bent() as other:
             report = Comparison(other).play(script)
-        self.assertEqual(
-            told(pathlib.Path("script"), report),
-            [
-                "script: line 2: CreatePrimary: code: here success, there OBJECT_MEMORY",
-                "script: line 3: not comparable: 80000000 is not there, behind line 2",
-                "script: 4 commands, 1 differences, 0 that follow, 1 not comparable",
-            ],
+        lines = (
+            "line 2: CreatePrimary: code: here success, there OBJECT_MEMORY",
+            "line 3: not comparable: 80000000 is not there, behind line 2",
+            "4 commands, 1 differences, 0 that follow, 1 not comparable",
         )
+        self.assertEqual(told(pathlib.Path("script"), report), [f"script: {it}" for it in lines])
 
 
 class Others(unittest.TestCase):
@@ -74,5 +72,4 @@ class Others(unittest.TestCase):
 
     def test_wrong_words(self):
         for words in ("", "tpm", "swtpm:port=1", "mssim:path=x", "device:"):
-            with self.assertRaises(ValueError):
-                other_tpm(words)
+            self.assertRaises(ValueError, other_tpm, words)

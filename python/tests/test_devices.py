@@ -2,6 +2,7 @@
 
 import contextlib
 import doctest
+import functools
 import io
 import os
 import pathlib
@@ -30,6 +31,8 @@ SEED = b"seed"
 PACKAGE = pathlib.Path(__file__).resolve().parents[1]
 HOSTS_TIME = "time passes as it does on the host"
 NO_POWER = "the power is not switched here"
+NO_SNAPSHOTS = "there are no snapshots"
+NEEDS_LIBRARY = unittest.skipUnless(tpmsim.device.library.is_there(), "there is no libtpmsim.so.0")
 
 
 class Told(TwentyTests):
@@ -63,34 +66,32 @@ class Told(TwentyTests):
 
 
 class OverModel(Told, unittest.TestCase):
-    def device(self):
-        return ModelDevice(seed=SEED)
+    device = functools.partial(ModelDevice, seed=SEED)
 
 
 class OverChild(Told, unittest.TestCase):
-    def device(self):
-        return ChildDevice(seed=SEED)
+    device = functools.partial(ChildDevice, seed=SEED)
 
 
-@unittest.skipUnless(tpmsim.device.library.is_there(), "there is no libtpmsim.so.0")
+@NEEDS_LIBRARY
 class InProcess(Told, unittest.TestCase):
-    def device(self):
-        return LibraryDevice(seed=SEED, manufactured=bytes(range(256)))
+    device = functools.partial(LibraryDevice, seed=SEED, manufactured=bytes(range(256)))
 
 
 class OverSocket(TwentyTests, unittest.TestCase):
-    lacks = dict.fromkeys(
-        ("test_power_cycle", "test_lock_until_the_next_start", "test_saved_pcrs"), NO_POWER
-    )
-    lacks |= {
+    lacks = {
+        "test_power_cycle": NO_POWER,
+        "test_lock_until_the_next_start": NO_POWER,
+        "test_saved_pcrs": NO_POWER,
         "test_lockout": HOSTS_TIME,
-        "test_snapshot": "there are no snapshots",
+        "test_snapshot": NO_SNAPSHOTS,
         "test_policies": "the locality is not told here",
     }
 
     def device(self):
         folder = self.enterContext(tempfile.TemporaryDirectory())
         words = f"serve --socket {folder}/socket --image {folder}/image --entropy /dev/urandom"
+        words += " --locality 0 --connections 1"
 
         def ready(process):
             until = time.monotonic() + 60
@@ -98,11 +99,11 @@ class OverSocket(TwentyTests, unittest.TestCase):
                 time.sleep(0.001)
             return f"{folder}/socket"
 
-        words = words.split() + ["--locality", "0", "--connections", "1"]
-        return ServedDevice(self.enterContext(running(program_found(), *words, ready=ready)))
+        served = running(program_found(), *words.split(), ready=ready)
+        return ServedDevice(self.enterContext(served))
 
 
-@unittest.skipUnless(tpmsim.device.library.is_there(), "there is no libtpmsim.so.0")
+@NEEDS_LIBRARY
 class OverKeptState(TwentyTests, unittest.TestCase):
     lacks = {"test_lockout": HOSTS_TIME}
 
@@ -111,7 +112,7 @@ class OverKeptState(TwentyTests, unittest.TestCase):
 
 
 class OverSimulator(TwentyTests, unittest.TestCase):
-    lacks = {"test_lockout": HOSTS_TIME, "test_snapshot": "there are no snapshots"}
+    lacks = {"test_lockout": HOSTS_TIME, "test_snapshot": NO_SNAPSHOTS}
 
     def device(self):
         return SimulatorDevice(*self.enterContext(simulator()))
@@ -119,12 +120,7 @@ class OverSimulator(TwentyTests, unittest.TestCase):
 
 def differs(test):
     """A test that is to fail on another TPM, as that answers otherwise."""
-
-    @unittest.expectedFailure
-    def fails(self):
-        test(self)
-
-    return fails
+    return unittest.expectedFailure(lambda self: test(self))
 
 
 @unittest.skipUnless(shutil.which("swtpm"), "there is no swtpm")
@@ -132,9 +128,7 @@ class OverSwtpm(TwentyTests, unittest.TestCase):
     """docs/OTHER_TPMS.md tells the differences; that each is still there is a test of its own."""
 
     lacks = {"test_lockout": HOSTS_TIME}
-
-    def device(self):
-        return StartedSwtpm()
+    device = StartedSwtpm
 
     # A session that neither authorizes nor encrypts is refused there: ATTRIBUTES/s1.
     test_end_of_a_session = differs(TwentyTests.test_end_of_a_session)
@@ -152,6 +146,14 @@ class Devices(unittest.TestCase):
     def setUp(self):
         self.folder = pathlib.Path(self.enterContext(tempfile.TemporaryDirectory()))
 
+    def test_wrong_words(self):
+        """Those of a caller, whichever device it has."""
+        tpm = Caller(ModelDevice())
+        self.assertRaises(KeyError, tpm.call, "NoCommand")
+        self.assertRaises(TypeError, tpm.call, "PCR_Reset")
+        for arguments in ({}, {"bytesRequested": 1, "more": 1}):
+            self.assertRaises(TypeError, tpm.call, "GetRandom", **arguments)
+
     def test_image(self):
         path = self.folder / "image"
         with Device(path) as device:
@@ -164,11 +166,9 @@ class Devices(unittest.TestCase):
             tpm.call("ReadClock")
             self.assertEqual(path.read_bytes(), kept, "the clock alone is saved at the end")
         self.assertNotEqual(path.read_bytes(), kept)
-        with Device(path) as device:
-            Caller(device).start_up()
-            with self.assertRaises(Refused):
-                tpm.device = device
-                tpm.send(tpm.change_auth(RH_OWNER, b"", b""))
+        with Device(path) as tpm.device:
+            Caller(tpm.device).start_up()
+            self.assertRaises(Refused, tpm.send, tpm.change_auth(RH_OWNER, b"", b""))
 
     def test_image_but_its_clock(self):
         model = Model()
@@ -201,8 +201,7 @@ class Devices(unittest.TestCase):
             tpm.device = other
             tpm.send(tpm.change_auth(RH_OWNER, b"", b"owner"))
             other.power_cycle()
-            with self.assertRaisesRegex(Refused, "INITIALIZE"):
-                Caller(device).call("ReadClock")
+            self.assertRaisesRegex(Refused, "INITIALIZE", Caller(device).call, "ReadClock")
             self.assertEqual(device.save(), other.save())
             Caller(device).start_up()
             self.assertRaises(Unsupported, device.wait, 1)
@@ -229,8 +228,8 @@ class Devices(unittest.TestCase):
         with ChildDevice() as device, self.assertRaises(Unsupported):
             device.save()
         device = self.enterContext(ChildDevice())
-        with self.assertRaisesRegex(DeviceEnded, "status 2: tpmsim: script line"):
-            device.execute(bytes(40_000))
+        words = "status 2: tpmsim: script line"
+        self.assertRaisesRegex(DeviceEnded, words, device.execute, bytes(40_000))
 
     def test_readme(self):
         """Its examples run, and print what they say."""
@@ -249,8 +248,7 @@ class Documented(unittest.TestCase):
         given = {it: getattr(tpmsim.device, it) for it in tpmsim.device.__all__}
         given["Caller"] = Caller
         for name in ("told", "library", "child", "kept", "served", "swtpm"):
-            module = sys.modules[f"tpmsim.device.{name}"]
-            result = doctest.testmod(module, extraglobs=given)
+            result = doctest.testmod(sys.modules[f"tpmsim.device.{name}"], extraglobs=given)
             self.assertGreater(result.attempted, 0)
             self.assertEqual(result.failed, 0)
 

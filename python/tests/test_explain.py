@@ -52,9 +52,8 @@ class Logs(unittest.TestCase):
         """No refusal has a code alone, no script is a crash, and model and answers part nowhere."""
         refused = 0
         scripts = [*TOP.glob("tests/**/*.tpm"), *TOP.glob("examples/*.tpm")]
+        scripts = [it for it in scripts if it.stat().st_size <= MOST_BYTES]
         for script in sorted(it for it in scripts if it.with_suffix(".out").exists()):
-            if script.stat().st_size > MOST_BYTES:
-                continue
             beside = script.with_suffix(".trace")
             answers = beside if beside.exists() else script.with_suffix(".out")
             play = Play(None, answers.read_bytes())
@@ -77,21 +76,22 @@ class Logs(unittest.TestCase):
         self.assertEqual([(it.answers, it.differences) for it in events], [(1, []), (1, [])])
         bent = [it.replace("ok 00000000", "G5 00000100") for it in device.trace]
         (found,) = events_of(*bent)[0].differences
-        self.assertEqual(
-            (found.log, found.model), ("Startup L0 +0 G5 00000100", "Startup L0 +0 ok 00000000")
-        )
-        events = events_of("do Startup 0", "# 00000100", "# 80010000000a00000000")
-        self.assertEqual(
-            [it.words for it in events[0].differences], ["the response code is another one"]
-        )
-        events = events_of("do Startup 0", "# 80010000000a00000001")
-        words = "the response is another one from byte 9 on, in responseCode"
-        self.assertEqual([it.words for it in events[0].differences], [words])
-        events = events_of("# 10:11:12.131 Startup L0 +0 ok 00000000", "do Startup 0")
-        self.assertEqual((events[0].answers, events[0].differences), (1, []))
+        traced = "Startup L0 +0 G5 00000100", "Startup L0 +0 ok 00000000"
+        self.assertEqual((found.log, found.model), traced)
+
+    def test_answers_behind_a_line(self):
         others = "# 00000123 01234567", "# 54504d490002000000a200000000", "# 0123456", "# Startup"
-        events = events_of("do Startup 0", *others)
-        self.assertEqual((events[0].answers, events[0].differences), (0, []))
+        other_code = "the response code is another one"
+        other_byte = "the response is another one from byte 9 on, in responseCode"
+        for lines, answers, *wanted in (
+            (("do Startup 0", "# 00000100", "# 80010000000a00000000"), 2, other_code),
+            (("do Startup 0", "# 80010000000a00000001"), 1, other_byte),
+            (("# 10:11:12.131 Startup L0 +0 ok 00000000", "do Startup 0"), 1),
+            (("do Startup 0", *others), 0),
+        ):
+            event = events_of(*lines)[0]
+            told = event.answers, [it.words for it in event.differences]
+            self.assertEqual(told, (answers, wanted))
 
     def test_answers_beside(self):
         script = EXAMPLE.read_bytes().decode().splitlines()
@@ -99,9 +99,8 @@ class Logs(unittest.TestCase):
             answers = EXAMPLE.with_suffix(ending).read_bytes()
             events = events_of(*script, answers=answers)
             self.assertFalse(any(it.differences for it in events))
-            cut = events_of(
-                *script, answers=answers[: len(answers) // 2].rpartition(b"\n")[0] + b"\n"
-            )
+            half = answers[: len(answers) // 2].rpartition(b"\n")[0] + b"\n"
+            cut = events_of(*script, answers=half)
             self.assertEqual(cut[-1].differences[0].words, "the answers end before it")
 
 
@@ -117,8 +116,9 @@ class CommandLine(unittest.TestCase):
     def test_text(self):
         output, error, status = told(EXAMPLE, EXAMPLE.with_suffix(".trace"))
         self.assertEqual((error, status), ("", 0))
-        said = f"line {LOCKED}: Unseal is refused: POLICY_FAIL/s1 (99d), by check G9"
-        self.assertIn(said, output)
+        self.assertIn(
+            f"line {LOCKED}: Unseal is refused: POLICY_FAIL/s1 (99d), by check G9", output
+        )
         self.assertIn(f"PCR 7 was written by  line {MOVED} (PCR_Event of PCR 7)", output)
         self.assertTrue(output.rstrip().endswith("90 answers of the log are the model's."))
 
@@ -127,17 +127,14 @@ class CommandLine(unittest.TestCase):
         self.assertEqual(status, 0)
         self.assertNotIn(f"line {lines_with('do Unseal')[0]}", output)
         self.assertIn("itemHandle", output)
-        _, error, status = told(EXAMPLE, "--at", 1)
-        self.assertEqual(
-            (error, status), (f"tpmsim-explain: line 1 of {EXAMPLE} executes nothing\n", 2)
-        )
+        error = f"tpmsim-explain: line 1 of {EXAMPLE} executes nothing\n"
+        self.assertEqual(told(EXAMPLE, "--at", 1)[1:], (error, 2))
 
     def test_json(self):
         output, _, status = told(EXAMPLE, "--json")
         value = json.loads(output)
-        self.assertEqual(
-            (value["commands"], value["refused"], value["power_cycles"], status), (45, 6, 2, 0)
-        )
+        counts = [value[it] for it in ("commands", "refused", "power_cycles")]
+        self.assertEqual((counts, status), ([45, 6, 2], 0))
         lines = [(it["line"], it["refused"], it["reason"]["rule"]) for it in value["events"]]
         self.assertIn((LOCKED, "POLICY_FAIL/s1", "condition/8"), lines)
         whole = json.loads(told(EXAMPLE, "--json", "--at", LOCKED)[0])["events"]
@@ -148,17 +145,18 @@ class CommandLine(unittest.TestCase):
         output, error, status = told(bad)
         self.assertEqual((error, status), ("tpmsim-explain: script line 3\n", 2))
         self.assertIn("line 2: Startup is refused: INITIALIZE (100), by check G5", output)
-        other = self.file("other.tpm", "do Startup 0\n# 00000100\n")
-        self.assertEqual(told(other)[2], 1)
+        self.assertEqual(told(self.file("other.tpm", "do Startup 0\n# 00000100\n"))[2], 1)
         for words in (
-            (),
-            ("a", "b", "c"),
-            (bad, "--at"),
-            (bad, "--at", "x"),
-            (bad, "--what"),
-            (bad, "--json", "--html"),
+            "",
+            "a b c",
+            f"{bad} --at",
+            f"{bad} --at x",
+            f"{bad} --what",
+            f"{bad} --json --html",
         ):
-            self.assertEqual(told(*words)[1:], (f"tpmsim-explain: {command_line.USAGE}\n", 2))
+            self.assertEqual(
+                told(*words.split())[1:], (f"tpmsim-explain: {command_line.USAGE}\n", 2)
+            )
         self.assertEqual(told(self.folder / "none")[2], 2)
         image_file = self.file("image", b"TPMI")
         self.assertEqual(told(bad, "--image", image_file)[1:], ("tpmsim-explain: image Short\n", 2))

@@ -46,12 +46,10 @@ class Accepted(unittest.TestCase):
         named = 0
         for at in range(8):
             session = self.tpm.session(cipher=(AES, XOR)[at % 2])
+            data, use = b"secret %d" % at, session.decrypting
             with self.tpm.breaking(encrypted=without_value(self.tpm)):
-                prepared = self.tpm.child(
-                    parent, sealed(), session.decrypting, data=b"secret %d" % at
-                )
-            with self.assertRaises(Refused):
-                self.tpm.send(prepared)
+                prepared = self.tpm.child(parent, sealed(), use, data=data)
+            self.assertRaises(Refused, self.tpm.send, prepared)
             named += explained(self.device).reason.slips == ["mask without authValue"]
         self.assertEqual(named, 8)
 
@@ -65,9 +63,7 @@ class Accepted(unittest.TestCase):
     def test_nonce_used_again(self):
         session = self.tpm.session(RH_OWNER)
         for wanted in ([], ["nonceCaller used again"]):
-            self.tpm.call(
-                "GetRandom", uses=[Use(session, nonce=bytes(15) + b"1")], bytesRequested=1
-            )
+            self.tpm.send(self.tpm.random(1, Use(session, nonce=bytes(15) + b"1")))
             self.assertEqual(self.slips(), wanted)
 
     def test_index_without_written(self):
@@ -83,21 +79,16 @@ class Accepted(unittest.TestCase):
         handle = self.tpm.create_primary(key, data=b"x", user_auth=b"pin")
         prepared = self.tpm.hmac(handle, b"", SHA256, b"nip")
         for tries in range(1, 5):
-            with self.assertRaises(Refused):
-                self.tpm.send(prepared)
+            self.assertRaises(Refused, self.tpm.send, prepared)
             event = explained(self.device)
-            self.assertEqual(
-                [it.slips[0] for it in event.notes], ["one more try locks"] if tries == 2 else []
-            )
+            self.assertEqual(self.slips(), ["one more try locks"] if tries == 2 else [])
             if tries < 4:
                 self.assertIn(f"It counted as failed try {tries} of 3", event.reason.words)
         self.assertEqual(event.reason.rule, "tries")
-        self.assertIn(
-            "3 failed tries >= maxTries 3. One is forgiven in 1,000 s", event.reason.words
-        )
+        words = "3 failed tries >= maxTries 3. One is forgiven in 1,000 s"
+        self.assertIn(words, event.reason.words)
         self.device.wait(400_000)
-        with self.assertRaises(Refused):
-            self.tpm.send(self.tpm.hmac(handle, b"", SHA256, b"pin"))
+        self.assertRaises(Refused, self.tpm.send, self.tpm.hmac(handle, b"", SHA256, b"pin"))
         reason = explained(self.device).reason
         self.assertIn("One is forgiven in 600 s", reason.words)
         self.assertIn("right, and not looked at", [it.value for it in reason.facts])

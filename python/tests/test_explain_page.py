@@ -23,8 +23,13 @@ do NV_Write OWNER 01000001 pw:{HOSTILE[:32].encode().hex()} {b'<!--'.hex()} 0
 """
 
 
-def page_of(name, log, answers=None):
-    return page.of_log(name, Play(None, answers, None, True), log, Counts())
+def page_of(name, log, answers=None, play=None):
+    return page.of_log(name, play or Play(None, answers, None, True), log, Counts())
+
+
+def data_of(text):
+    """What a page shows, as its first script has it."""
+    return json.loads(Elements(text).scripts[0])
 
 
 class Elements(html.parser.HTMLParser):
@@ -57,12 +62,9 @@ class Elements(html.parser.HTMLParser):
 
 class Page(unittest.TestCase):
     def test_escaping(self):
-        plain, hostile = Elements(page_of("a.tpm", b"do Startup 0\n")), page_of(
-            HOSTILE, LOG.encode()
-        )
-        parsed = Elements(hostile)
-        tags = [tag for tag, _ in parsed.found]
-        self.assertEqual(tags, [tag for tag, _ in plain.found])
+        plain = Elements(page_of("a.tpm", b"do Startup 0\n"))
+        parsed = Elements(page_of(HOSTILE, LOG.encode()))
+        self.assertEqual([tag for tag, _ in parsed.found], [tag for tag, _ in plain.found])
         name = pathlib.PurePath(HOSTILE).name
         self.assertEqual(parsed.texts["title"], f"{name}, explained")
         self.assertEqual(parsed.texts["h1"], name)
@@ -77,10 +79,9 @@ class Page(unittest.TestCase):
     def test_nothing_is_fetched(self):
         text = page_of("disk_unlock.tpm", EXAMPLE.read_bytes())
         found = Elements(text).found
-        self.assertEqual(
-            [it for it in found if set(it[1]) & {"src", "href", "srcset", "action"}], []
-        )
-        self.assertEqual([tag for tag, _ in found if tag in ("link", "img", "iframe", "base")], [])
+        attributes = set().union(*(it for _, it in found))
+        self.assertFalse(attributes & {"src", "href", "srcset", "action"})
+        self.assertFalse({tag for tag, _ in found} & {"link", "img", "iframe", "base"})
         rules = next(it["content"] for tag, it in found if it.get("http-equiv"))
         self.assertTrue(rules.startswith("default-src 'none'; "))
         self.assertNotRegex(text, r"https?://|@import|url\(")
@@ -92,27 +93,23 @@ class Page(unittest.TestCase):
 
     def test_content(self):
         answers = EXAMPLE.with_suffix(".trace").read_bytes()
-        value = json.loads(
-            Elements(page_of("x/disk_unlock.tpm", EXAMPLE.read_bytes(), answers)).scripts[0]
-        )
+        value = data_of(page_of("x/disk_unlock.tpm", EXAMPLE.read_bytes(), answers))
         texts, events = value["texts"], value["events"]
         self.assertEqual((value["name"], len(events)), ("disk_unlock.tpm", 47))
         refused = [it for it in events if "x" in it]
         unseals, loads = lines_with("do Unseal"), lines_with("do Load")
-        wanted = [unseals[0], *unseals[2:], *loads[-2:]]
-        self.assertEqual([it["l"] for it in refused], wanted)
+        self.assertEqual([it["l"] for it in refused], [unseals[0], *unseals[2:], *loads[-2:]])
         self.assertEqual([texts[it["x"]] for it in refused][3], "POLICY_FAIL/s1")
         self.assertIn("The PCRs differ: PCR 7.", refused[3]["y"][0])
         self.assertEqual([it["m"] for it in events if "m" in it][:5], [0, 7, 4, 11, 11])
         handles = [it[0] for it in value["entities"]]
         self.assertEqual(handles.count("80000001"), 2, "two starts have an object of this handle")
         for at, it in enumerate(value["entities"]):
-            self.assertEqual(
-                it[2], [n for n, event in enumerate(events) if at in event.get("u", ())]
-            )
+            uses = [n for n, event in enumerate(events) if at in event.get("u", ())]
+            self.assertEqual(it[2], uses)
 
     def test_fields_cover_all_bytes(self):
-        value = json.loads(Elements(page_of("", EXAMPLE.read_bytes())).scripts[0])
+        value = data_of(page_of("", EXAMPLE.read_bytes()))
         for event in value["events"]:
             for hex_text, shape, meanings in (event[it] for it in ("q", "r") if it in event):
                 fields = value["shapes"][shape]
@@ -123,22 +120,18 @@ class Page(unittest.TestCase):
     def test_state(self):
         """The state behind the last event, put together from all changes, is the device's own."""
         play = Play(None, None, None, True)
-        text = page.of_log("", play, EXAMPLE.read_bytes(), Counts())
-        value = json.loads(Elements(text).scripts[0])
+        value = data_of(page_of("", EXAMPLE.read_bytes(), play=play))
         state = {}
         for flat in (value["first"], *(it["d"] for it in value["events"])):
             for key, text_number in zip(flat[::2], flat[1::2]):
                 state[tuple(value["keys"][key])] = text_number
         shown = {key: value["texts"][it] for key, it in state.items() if it >= 0}
-        pcr = play.model.banks[0x000B][7].hex()
-        self.assertEqual(shown["PCRs", "PCR 7", "SHA-256"], pcr)
+        self.assertEqual(shown["PCRs", "PCR 7", "SHA-256"], play.model.banks[0x000B][7].hex())
         self.assertEqual({key[1] for key in shown if key[0] == "Sessions"}, {"03000000"})
 
     def test_differences(self):
-        value = json.loads(Elements(page_of("", b"do Startup 0\n# 00000100\n")).scripts[0])
-        self.assertEqual(
-            value["events"][0]["z"], [["the response code is another one", "00000100", "00000000"]]
-        )
+        (event,) = data_of(page_of("", b"do Startup 0\n# 00000100\n"))["events"]
+        self.assertEqual(event["z"], [["the response code is another one", "00000100", "00000000"]])
 
     def test_shipped_files(self):
         names = {it.name for it in page.FILES.iterdir()}

@@ -30,15 +30,13 @@ class Plugin(unittest.TestCase):
         folder = pathlib.Path(self.enterContext(tempfile.TemporaryDirectory()))
         (folder / "test_it.py").write_text(TESTS)
         words = "-m pytest -p no:cacheprovider -p tpmsim.pytest_plugin test_it.py".split()
-        package = pathlib.Path(tpmsim.__file__).parents[1]
-        done = subprocess.run(
-            [sys.executable, *words],
-            cwd=folder,
-            env={**os.environ, "PYTHONPATH": str(package)},
-            capture_output=True,
-            text=True,
-        )
+        given = {**os.environ, "PYTHONPATH": str(pathlib.Path(tpmsim.__file__).parents[1])}
+        choices = {"cwd": folder, "env": given, "capture_output": True, "text": True}
+        done = subprocess.run([sys.executable, *words], **choices)
         self.assertEqual(done.returncode, 1, done.stderr)
-        self.assertIn("1 failed, 2 passed", done.stdout)
-        self.assertIn("what the TPM was told", done.stdout)
-        self.assertIn("# PCR_Reset L0 +0 A1 00000907", done.stdout)
+        for words in (
+            "1 failed, 2 passed",
+            "what the TPM was told",
+            "# PCR_Reset L0 +0 A1 00000907",
+        ):
+            self.assertIn(words, done.stdout)

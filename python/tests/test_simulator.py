@@ -37,14 +37,23 @@ class Simulator(unittest.TestCase):
     def client(self):
         return self.enterContext(SimulatorDevice(*self.address))
 
+    def started(self):
+        """A client, behind TPM2_Startup."""
+        device = self.client()
+        Caller(device).start_up()
+        return device
+
     def connection(self, port=0):
         host, first = self.address
         return self.enterContext(socket.create_connection((host, first + port), 60))
 
+    def asks(self, stream, text, answer):
+        stream.sendall(text)
+        self.assertEqual(stream.recv(len(answer), socket.MSG_WAITALL), answer)
+
     def test_faults_are_of_one_client(self):
         """One vanishes within a request, one never reads, one is slow, one says what is none."""
-        device = self.client()
-        Caller(device).start_up()
+        device = self.started()
         vanishing = self.connection()
         vanishing.sendall(request(GET_RANDOM)[:7])
         vanishing.close()
@@ -54,15 +63,14 @@ class Simulator(unittest.TestCase):
             while True:
                 deaf.send(request(GET_RANDOM) * 100)
         slow.sendall(request(GET_RANDOM)[:3])
-        wrong.sendall(number(99, 4))
-        self.assertEqual((wrong.recv(4), wrong.recv(4)), (number(1, 4), b""))
+        self.asks(wrong, number(99, 4), number(1, 4))
+        self.assertEqual(wrong.recv(4), b"")
         self.assertEqual(len(Caller(device).call("GetRandom", bytesRequested=8)["randomBytes"]), 8)
-        slow.sendall(request(GET_RANDOM)[3:])
-        self.assertEqual(slow.recv(4), number(28, 4))
+        self.asks(slow, request(GET_RANDOM)[3:], number(28, 4))
 
     def test_pieces_take_no_time(self):
         """A client whose host waits for acknowledgements sends a request in four pieces."""
-        Caller(self.client()).start_up()
+        self.started()
         stream, buffer = self.connection(), request(GET_RANDOM)
         began = time.monotonic()
         for _ in range(25):
@@ -74,22 +82,18 @@ class Simulator(unittest.TestCase):
         self.assertLess(time.monotonic() - began, 25 * 0.040)
 
     def test_power(self):
-        device = self.client()
-        Caller(device).start_up()
+        device = self.started()
         self.assertEqual(self.client().execute(STARTUP).response[6:10], number(0x100, 4))
         self.connection(1).sendall(number(17, 4))
         until = time.monotonic() + 60
         while device.execute(GET_RANDOM).response[6:10] != number(0x100, 4):
             self.assertLess(time.monotonic(), until)
         platform, commands = self.connection(1), self.connection()
-        platform.sendall(number(2, 4))
-        self.assertEqual(platform.recv(4), number(0, 4))
-        commands.sendall(request(STARTUP))
-        self.assertEqual(commands.recv(8, socket.MSG_WAITALL), bytes(8))
+        self.asks(platform, number(2, 4), number(0, 4))
+        self.asks(commands, request(STARTUP), bytes(8))
 
     def test_wrong_requests(self):
-        device = self.client()
-        Caller(device).start_up()
+        self.started()
         stream = self.connection()
         stream.sendall(request(GET_RANDOM, locality=5))
         self.assertEqual(stream.recv(18, socket.MSG_WAITALL)[10:14], number(0x907, 4))
@@ -97,59 +101,43 @@ class Simulator(unittest.TestCase):
         self.assertEqual(stream.recv(18, socket.MSG_WAITALL)[10:14], number(0x142, 4))
 
     def test_dynamic_launch(self):
-        device = self.client()
-        Caller(device).start_up()
-        stream = self.connection()
+        device, stream = self.started(), self.connection()
         for text in (number(5, 4), number(6, 4) + number(3, 4) + b"abc", number(7, 4)):
-            stream.sendall(text)
-            self.assertEqual(stream.recv(4), number(0, 4))
+            self.asks(stream, text, number(0, 4))
         values = Caller(device).send(Caller(device).read_pcr(17))["pcrValues"]
         self.assertEqual([it.hex() for it in values], LAUNCHED)
 
     def test_image(self):
         """What is written is in the file before it is answered, and is there for the next server."""
-        Caller(self.client()).start_up()
+        self.started()
         before = (self.folder / "image").read_bytes()
         stop = self.connection(1)
-        stop.sendall(STOP)
-        self.assertEqual(stop.recv(4), number(0, 4))
+        self.asks(stop, STOP, number(0, 4))
         self.assertEqual(before[:4], b"TPMI")
         until = time.monotonic() + 60
-        while not self.ends(stop):
+        while stop.recv(1):
             self.assertLess(time.monotonic(), until)
-        with simulator("--image", str(self.folder / "image")) as address:
-            with SimulatorDevice(*address) as device:
-                tpm = Caller(device)
-                tpm.start_up()
-                self.assertEqual(tpm.call("ReadClock")["currentTime"].resets, 2)
-
-    @staticmethod
-    def ends(stream):
-        return stream.recv(1) == b""
+        self.address = self.enterContext(simulator("--image", str(self.folder / "image")))
+        self.assertEqual(Caller(self.started()).call("ReadClock")["currentTime"].resets, 2)
 
     @unittest.skipUnless(shutil.which("tpm2_getrandom"), "there is no tpm2_getrandom")
     def test_tools(self):
         where = "mssim:host=%s,port=%d" % self.address
         for words in ("tpm2_startup -c", "tpm2_getrandom -f --hex 8"):
-            tool = [*words.split(), "-T", where]
-            done = subprocess.run(tool, capture_output=True, timeout=60)
+            done = subprocess.run([*words.split(), "-T", where], capture_output=True, timeout=60)
             self.assertEqual(done.returncode, 0, done.stderr)
         self.assertEqual(len(done.stdout), 16)
 
 
 class Words(unittest.TestCase):
     def test_wrong_words(self):
-        for words, status in (
-            (("--bind", ""), 2),
-            (("--bind", "localhost"), 2),
-            (("--port", "65535"), 2),
-            (("--image", "/nowhere/image"), 3),
+        for *words, status in (
+            ("--bind", "", 2),
+            ("--bind", "localhost", 2),
+            ("--port", "65535", 2),
+            ("--image", "/nowhere/image", 3),
         ):
-            done = subprocess.run(
-                [sys.executable, "-m", "tpmsim.simulator", *words],
-                capture_output=True,
-                text=True,
-                timeout=60,
-            )
+            program = [sys.executable, "-m", "tpmsim.simulator", *words]
+            done = subprocess.run(program, capture_output=True, text=True, timeout=60)
             self.assertEqual((done.returncode, done.stdout), (status, ""))
             self.assertTrue(done.stderr)

@@ -32,7 +32,7 @@ class TwentyTests:
             self.tpm.send(prepared)
         return caught.exception
 
-    def assert_refused(self, prepared, code, check):
+    def refused(self, prepared, code, check="G9"):
         """The check is told by devices that trace it."""
         refused = self.refusal(prepared)
         self.assertEqual(refused.code, code)
@@ -52,13 +52,11 @@ class TwentyTests:
         self.assertEqual([it.algorithm for it in event["digests"]], [SHA1, SHA256])
 
     def test_refusals(self):
-        self.assert_refused(self.tpm.reset(pcr=0), "AUTH_MISSING", "G7")
-        self.assert_refused(self.tpm.reset(b"", pcr=0), "LOCALITY", "A1")
-        missing = self.tpm.command("NV_Read", FIRST, FIRST, size=1, offset=0)
-        self.assert_refused(missing, "HANDLE/h1", "G6")
-        self.assert_refused(self.tpm.command("SelfTest", fullTest=2), "VALUE/p1", "G11")
-        wrong_password = wrong(self.tpm.change_auth(RH_OWNER, b"", b""))
-        self.assert_refused(wrong_password, "BAD_AUTH/s1", "G9")
+        self.refused(self.tpm.reset(pcr=0), "AUTH_MISSING", "G7")
+        self.refused(self.tpm.reset(b"", pcr=0), "LOCALITY", "A1")
+        self.refused(self.tpm.command("NV_Read", FIRST, FIRST, size=1, offset=0), "HANDLE/h1", "G6")
+        self.refused(self.tpm.command("SelfTest", fullTest=2), "VALUE/p1", "G11")
+        self.refused(wrong(self.tpm.change_auth(RH_OWNER, b"", b"")), "BAD_AUTH/s1")
         words = str(self.refusal(self.tpm.reset(b"", pcr=0)))
         self.assertIn(words, ("PCR_Reset: LOCALITY (907), by A1", "PCR_Reset: LOCALITY (907)"))
 
@@ -83,14 +81,12 @@ class TwentyTests:
                 return Answered(flipped(device.execute(buffer).response))
 
         self.tpm.device = Bent()
-        with self.assertRaises(WrongResponse):
-            self.tpm.call("GetRandom", uses=[session], bytesRequested=1)
+        self.assertRaises(WrongResponse, self.tpm.send, self.tpm.random(1, session))
 
     def test_objects(self):
         parent = self.tpm.create_primary(storage_key())
         made = self.tpm.create(parent, sealed(attributes=HERE, auth_policy=bytes(32)), data=b"data")
-        unsealing = self.tpm.unsealing(self.tpm.load(parent, made))
-        self.assert_refused(unsealing, "AUTH_UNAVAILABLE", "G9")
+        self.refused(self.tpm.unsealing(self.tpm.load(parent, made)), "AUTH_UNAVAILABLE")
         key = self.tpm.create(parent, hmac_key(), data=b"key", user_auth=b"pin")
         handle, session = self.tpm.load(parent, key), self.tpm.session()
         answer = self.tpm.send(self.tpm.hmac(handle, b"text", SHA256, session))
@@ -121,11 +117,10 @@ class TwentyTests:
         index = self.tpm.define(public, auth=b"pin")
         # No PCR has this digest, so that the second branch is told.
         use = self.tpm.policy(words)
-        self.assert_refused(self.tpm.writing(index, b"8 bytes.", use), "LOCALITY", "G9")
+        self.refused(self.tpm.writing(index, b"8 bytes.", use), "LOCALITY")
         self.tpm.device.locality = 1
         self.tpm.send(self.tpm.writing(index, b"8 bytes.", use))
-        reading = self.tpm.reading(index, 8, self.tpm.policy(words))
-        self.assert_refused(reading, "POLICY_CC/s1", "G9")
+        self.refused(self.tpm.reading(index, 8, self.tpm.policy(words)), "POLICY_CC/s1")
         trial = self.tpm.trial()
         self.tpm.tell(trial, words.replace("11" * 32, sha256(bytes(32)).hexdigest()))
         told = self.tpm.send(self.tpm.get_digest(trial))["policyDigest"]
@@ -133,9 +128,8 @@ class TwentyTests:
 
     def test_no_branch_is_met(self):
         pcr = f"PolicyPCR sha256:0 {'11' * 32}"
-        with self.assertRaises(Refused) as caught:
-            self.tpm.policy(f"either\n    {pcr}\nor\n    {pcr}\n    PolicyPassword\n")
-        self.assertEqual(caught.exception.code, "VALUE/p1")
+        words = f"either\n    {pcr}\nor\n    {pcr}\n    PolicyPassword\n"
+        self.assertRaisesRegex(Refused, "VALUE/p1", self.tpm.policy, words)
 
     def test_policy_of_an_index(self):
         index = self.tpm.define(area())
@@ -172,8 +166,7 @@ class TwentyTests:
         nonce, before = session.nonce_tpm, self.tpm.device.snapshot()
         for _ in range(2):
             session.nonce_tpm = nonce
-            unsealed = self.tpm.send(self.tpm.unsealing(handle, session))
-            self.assertEqual(unsealed["outData"], b"data")
+            self.assertEqual(self.tpm.send(self.tpm.unsealing(handle, session))["outData"], b"data")
             self.tpm.device.power_cycle()
             self.tpm.device.restore(before)
 
@@ -181,13 +174,12 @@ class TwentyTests:
         session = self.tpm.session()
         self.tpm.call("GetRandom", uses=[Use(session, 0)], bytesRequested=1)
         again = self.tpm.command("GetRandom", uses=[session], bytesRequested=1)
-        self.assert_refused(again, "REFERENCE_S0", "G8")
+        self.refused(again, "REFERENCE_S0", "G8")
 
     def test_wrong_hmac(self):
         """The session stays, and its nonce too."""
         session = self.tpm.session(RH_OWNER)
-        changing = wrong(self.tpm.change_auth(RH_OWNER, b"new", session))
-        self.assert_refused(changing, "BAD_AUTH/s1", "G9")
+        self.refused(wrong(self.tpm.change_auth(RH_OWNER, b"new", session)), "BAD_AUTH/s1")
         self.tpm.send(self.tpm.change_auth(RH_OWNER, b"new", session))
 
     def test_sealed_to_pcrs(self):
@@ -199,14 +191,13 @@ class TwentyTests:
         self.assertEqual(unsealed["outData"], b"data")
         use = self.tpm.policy(words)
         self.tpm.send(self.tpm.event(b"moved", b"", pcr=10))
-        self.assert_refused(self.tpm.unsealing(handle, use), "PCR_CHANGED", "G9")
+        self.refused(self.tpm.unsealing(handle, use), "PCR_CHANGED")
 
     def test_lock_until_the_next_start(self):
-        lasting = area(attributes=BY_OWNER | BY_VALUE | nv.Attribute.READ_STCLEAR)
-        index = self.tpm.define(lasting)
+        index = self.tpm.define(area(attributes=BY_OWNER | BY_VALUE | nv.Attribute.READ_STCLEAR))
         self.tpm.send(self.tpm.writing(index, b"8 bytes."))
         self.tpm.send(self.tpm.read_locking(index))
-        self.assert_refused(self.tpm.reading(index, 8), "NV_LOCKED", "A2")
+        self.refused(self.tpm.reading(index, 8), "NV_LOCKED", "A2")
         self.tpm.device.power_cycle()
         self.tpm.start_up()
         self.assertEqual(self.tpm.send(self.tpm.reading(index, 8))["data"], b"8 bytes.")
@@ -215,8 +206,7 @@ class TwentyTests:
         once = "PolicyNvWritten 0\n"
         index = self.tpm.define(area(attributes=BY_POLICY, auth_policy=digest_of(once)))
         self.tpm.send(self.tpm.writing(index, b"8 bytes.", self.tpm.policy(once)))
-        again = self.tpm.writing(index, b"No more.", self.tpm.policy(once))
-        self.assert_refused(again, "POLICY_FAIL/s1", "G9")
+        self.refused(self.tpm.writing(index, b"No more.", self.tpm.policy(once)), "POLICY_FAIL/s1")
 
     def test_pin(self):
         words = "PolicyAuthValue\n"
@@ -224,8 +214,7 @@ class TwentyTests:
         handle = self.tpm.create_primary(public, data=b"data", user_auth=b"pin")
         unsealed = self.tpm.send(self.tpm.unsealing(handle, self.tpm.policy(words)))
         self.assertEqual(unsealed["outData"], b"data")
-        guess = wrong(self.tpm.unsealing(handle, self.tpm.policy(words)))
-        self.assert_refused(guess, "AUTH_FAIL/s1", "G9")
+        self.refused(wrong(self.tpm.unsealing(handle, self.tpm.policy(words))), "AUTH_FAIL/s1")
 
     def test_saved_pcrs(self):
         self.tpm.send(self.tpm.event(b"measured", b"", pcr=0))
@@ -239,5 +228,5 @@ class TwentyTests:
         self.tpm.send(self.tpm.change_auth(RH_OWNER, b"owner", b""))
         index = self.tpm.define(area())
         self.tpm.send(self.tpm.clearing(RH_LOCKOUT))
-        self.assert_refused(self.tpm.command("NV_ReadPublic", index), "HANDLE/h1", "G6")
+        self.refused(self.tpm.command("NV_ReadPublic", index), "HANDLE/h1", "G6")
         self.tpm.send(self.tpm.change_auth(RH_OWNER, b"new", b""))

@@ -3,33 +3,28 @@ has to show the entity's authorization value, in an hmac or as a password. They 
 digest.
 """
 
-from tests.common.vocabulary import CC, policy, Teller, zeros
+from tests.common.policy_teller import PolicyTeller
+from tests.common.vocabulary import CC, policy, zeros
 
-tpm = Teller(__name__, __doc__)
+tpm = PolicyTeller(__name__, __doc__)
 
 for session in tpm.each_session():
-    after = policy.after_auth_value(session.algorithm, zeros(session))
-    twice = policy.after_auth_value(session.algorithm, after)
+    once = policy.after_auth_value(session.algorithm, zeros(session))
+    twice = policy.after_auth_value(session.algorithm, once)
     tpm("TPM2_PolicyAuthValue").auth_value_told(session)
-    tpm.digest_is("Its digest is the hash of zeros and 0000016B", session, after)
+    tpm.digest_is("Its digest is the hash of zeros and 0000016B", session, once)
     tpm("TPM2_PolicyPassword behind it").password_told(session)
     tpm.digest_is("The hash of that and 0000016B once more", session, twice)
     tpm.restarts(session)
     tpm("TPM2_PolicyPassword").password_told(session)
-    tpm.digest_is("The digest is the same as that of TPM2_PolicyAuthValue", session, after)
+    tpm.digest_is("The digest is the same as that of TPM2_PolicyAuthValue", session, once)
     tpm("TPM2_PolicyAuthValue behind it").auth_value_told(session)
     tpm.digest_is("Also in this order", session, twice)
-    tpm.says(
-        "There are no parameters: a byte behind the handle: SIZE",
-        tpm.told(CC.PolicyAuthValue, session, b"\0"),
-        tpm.told(CC.PolicyPassword, session, b"\0"),
-    )
+    said = tpm("There are no parameters: a byte behind the handle: SIZE")
+    said.says(*(tpm.told(it, session, b"\0") for it in (CC.PolicyAuthValue, CC.PolicyPassword)))
     tpm.digest_is("The digest is as it was", session, twice)
 
     said = tpm("TPM2_PolicyAuthValue with the session itself as an entry")
     said.auth_value_told(session, session)
     tpm("TPM2_PolicyPassword with it").password_told(session, session)
-    fourth = policy.after_auth_value(
-        session.algorithm, policy.after_auth_value(session.algorithm, twice)
-    )
-    tpm.digest_is("The digest is four times behind zeros", session, fourth)
+    tpm.digest_is("The digest is four times behind zeros", session)

@@ -2,76 +2,68 @@
 parameters are the digest that they should have, if any, and the selection of PCRs.
 """
 
-from tests.common.vocabulary import CC, digest, frames, is_trial, number, policy, RH_NULL, selection
-from tests.common.vocabulary import SHA1, SHA256, sized, Teller, zeros
+from tests.common.policy_teller import PolicyTeller
+from tests.common.vocabulary import CC, digest, flipped, frames, is_trial, number, policy, RH_NULL
+from tests.common.vocabulary import selection, SHA1, SHA256, sized, zeros
 
-ALL = range(24)
+ALL, ZERO, EMPTY = range(24), [(SHA256, [0])], sized(b"")
 
-tpm = Teller(__name__, __doc__)
-
-
-def values_digest(session, banks):
-    """The hash of the values of a selection, bank by bank, and in each by number."""
-    values = (tpm.script.device.banks[alg][pcr] for alg, pcrs in banks for pcr in sorted(pcrs))
-    return digest(session.algorithm, b"".join(values))
+tpm = PolicyTeller(__name__, __doc__)
 
 
-def after(session, banks, old=None, given=b""):
-    before = zeros(session) if old is None else old
-    hashed = given or values_digest(session, banks)
-    return policy.after_pcr(session.algorithm, before, selection(*banks), hashed)
-
-
-def changed(what, session, banks):
+def changed(what, banks=ZERO):
     """Refused in a policy session, and not in a trial session."""
     outcome = "SUCCESS" if is_trial(session) else "PCR_CHANGED"
     tpm(f"{what}: {outcome}").pcrs(session, banks)
 
 
-def raw(session, text):
-    return tpm.told(CC.PolicyPCR, session, text)
+def values_digest(banks):
+    """The hash of the values of a selection, bank by bank, and in each by number."""
+    return tpm.history.pcrs.digest(session.algorithm, [(bank, sorted(it)) for bank, it in banks])
+
+
+def texts(words, *those, front=EMPTY):
+    """Parameters whose pcrDigest is empty where no other is given."""
+    tpm.texts(words, CC.PolicyPCR, session, *(front + it for it in those))
+
+
+def from_the_start(words="From the start"):
+    tpm.restarts(session)
+    tpm(words).pcrs(session, ZERO)
+
+
+def extended(what, pcr, *values):
+    tpm.accepted(what, tpm.prepare(CC.PCR_Extend, [pcr], frames.digests(*values), b""))
+
+
+def event(what="TPM2_PCR_Event into PCR 0", pcr=0, data=b"abc"):
+    tpm.accepted(what, tpm.event(data, b"", pcr=pcr))
 
 
 for pcr in (0, 1, 7, 8, 16, 23):
-    tpm.accepted(f"TPM2_PCR_Event into PCR {pcr}", tpm.event(b"event %d" % pcr, b"", pcr=pcr))
+    event(f"TPM2_PCR_Event into PCR {pcr}", pcr, b"event %d" % pcr)
 
 for session in tpm.each_session():
     # What is refused of the parameters, and the digest is zeros behind it.
-    one = selection((SHA256, [0]))
-    said = tpm("pcrDigest that is cut: INSUFFICIENT/p1")
-    said.says(*(raw(session, it) for it in (b"", b"\0", b"\0\x01", number(32, 2) + bytes(31))))
-    tpm.says(
-        "One of 33 bytes, whole or cut: SIZE/p1",
-        raw(session, sized(bytes(33)) + one),
-        raw(session, number(33, 2)),
-        raw(session, b"\xff\xff"),
-    )
-    tpm.says(
+    one, of_one = selection((SHA256, [0])), number(1, 4) + number(SHA256, 2)
+    case = "pcrDigest that is cut: INSUFFICIENT/p1"
+    texts(case, b"", b"\0", b"\0\x01", number(32, 2) + bytes(31), front=b"")
+    case = "One of 33 bytes, whole or cut: SIZE/p1"
+    texts(case, sized(bytes(33)) + one, number(33, 2), b"\xff\xff", front=b"")
+    texts(
         "The selection that is cut: within its number, before its first bank, within the bank's "
         "hash, before its size, within its bits, and where it has a bank less than it says: "
         "INSUFFICIENT/p2",
-        *(raw(session, sized(b"") + one[:it]) for it in (0, 3, 4, 5, 6, 7, 9)),
-        raw(session, sized(b"") + number(2, 4) + one[4:]),
+        *(one[:it] for it in (0, 3, 4, 5, 6, 7, 9)),
+        number(2, 4) + one[4:],
     )
-    tpm.says(
-        "Of seventeen banks, whole, and with nothing behind that number: SIZE/p2",
-        raw(session, sized(b"") + selection(*17 * [(SHA256, [0])])),
-        raw(session, sized(b"") + number(17, 4)),
-        raw(session, sized(b"") + number(0xFFFF_FFFF, 4)),
-    )
-    tpm.says(
-        "A hash that is neither SHA-1 nor SHA-256: TPM_ALG_NULL, and SHA-384 as the second: "
-        "HASH/p2",
-        raw(session, sized(b"") + selection((0x0010, [0]))),
-        raw(session, sized(b"") + selection((SHA1, [0]), (0x000C, [0]))),
-    )
-    tpm.says(
-        "A bank of two octets, and of four: VALUE/p2",
-        raw(session, sized(b"") + number(1, 4) + number(SHA256, 2) + b"\2\0\0"),
-        raw(session, sized(b"") + number(1, 4) + number(SHA256, 2) + b"\4\0\0\0\0"),
-    )
-    said = tpm("A byte behind them, also where pcrDigest is another: SIZE")
-    said.says(raw(session, sized(b"") + one + b"\0"), raw(session, sized(bytes(32)) + one + b"\0"))
+    case = "Of seventeen banks, whole, and with nothing behind that number: SIZE/p2"
+    texts(case, selection(*17 * ZERO), number(17, 4), number(0xFFFF_FFFF, 4))
+    case = "A hash that is neither SHA-1 nor SHA-256: TPM_ALG_NULL, and SHA-384 as the second"
+    texts(f"{case}: HASH/p2", selection((0x0010, [0])), selection((SHA1, [0]), (0x000C, [0])))
+    texts("A bank of two octets, and of four: VALUE/p2", of_one + b"\2\0\0", of_one + b"\4\0\0\0\0")
+    case = "A byte behind them, also where pcrDigest is another: SIZE"
+    texts(case, EMPTY + one + b"\0", sized(bytes(32)) + one + b"\0", front=b"")
     tpm.digest_is("The digest is zeros", session, zeros(session))
     for what, banks in (
         ("No bank at all, and so no value", []),
@@ -90,24 +82,23 @@ for session in tpm.each_session():
         ("Sixteen banks with all PCRs", 16 * [(SHA256, ALL)]),
     ):
         tpm.says(f"{what}: SUCCESS", tpm.restart(session), tpm.pcrs(session, banks))
-        tpm.digest_is("Its digest", session, after(session, banks))
+        told = zeros(session), selection(*banks), values_digest(banks)
+        tpm.digest_is("Its digest", session, policy.after_pcr(session.algorithm, *told))
 
     tpm.chapter("A digest that is given.")
     both = [(SHA1, [1]), (SHA256, [0, 23])]
-    right = values_digest(session, both)
+    right = values_digest(both)
     tpm.restarts(session)
     tpm("The right one").pcrs(session, both, right)
-    once = after(session, both)
+    once = policy.after_pcr(session.algorithm, zeros(session), selection(*both), right)
     tpm.digest_is("It is as if none were given", session, once)
-    nothing = digest(session.algorithm, b"")
-    tpm("The right one of no values").pcrs(session, [], nothing)
-    twice = after(session, [], once)
-    tpm.digest_is("Its digest, behind the one before", session, twice)
+    tpm("The right one of no values").pcrs(session, [], digest(session.algorithm, b""))
+    tpm.digest_is("Its digest, behind the one before", session)
     for words, given in (
-        ("Another, by one bit", right[:-1] + bytes([right[-1] ^ 1])),
+        ("Another, by one bit", flipped(right)),
         ("One that is a byte too short", right[:-1]),
         ("The first of its bytes alone", right[:1]),
-        ("That of other values", values_digest(session, [(SHA256, [0, 1])])),
+        ("That of other values", values_digest([(SHA256, [0, 1])])),
         ("Zeros of its size", bytes(len(right))),
         ("Zeros of another size", bytes(52 - len(right))),
         ("The right one and a byte behind it", (right + b"\0")[:32]),
@@ -115,81 +106,65 @@ for session in tpm.each_session():
         if given == right:
             continue
         tpm.restarts(session)
-        outcome = "SUCCESS" if is_trial(session) else "VALUE/p1"
-        tpm(f"{words}: {outcome}").pcrs(session, both, given)
-        wanted = after(session, both, given=given) if is_trial(session) else zeros(session)
-        words = "It is in the digest as it is" if is_trial(session) else "The digest is as it was"
-        tpm.digest_is(words, session, wanted)
+        if is_trial(session):
+            tpm.makes(
+                words, session, tpm.pcrs(session, both, given), "It is in the digest as it is"
+            )
+        else:
+            tpm(f"{words}: VALUE/p1").pcrs(session, both, given)
+            tpm.digest_is("The digest is as it was", session, zeros(session))
 
     tpm.chapter("PCRs that change behind it.")
-    zero = [(SHA256, [0])]
-    tpm.restarts(session)
-    tpm("PCR 0").pcrs(session, zero)
-    tpm("Once more, and nothing has changed").pcrs(session, zero)
-    value = digest(SHA256, b"more")
-    extend = frames.digests((SHA256, value))
-    tpm.accepted("TPM2_PCR_Extend of PCR 0", tpm.prepare(CC.PCR_Extend, [0], extend, b""))
-    changed("TPM2_PolicyPCR again", session, zero)
-    changed("And of PCRs that are as they were, or of none", session, [(SHA256, [1])])
-    changed("", session, [])
-    tpm(
-        "With a wrong digest it is no other refusal: "
-        + ("SUCCESS" if is_trial(session) else "PCR_CHANGED")
-    ).pcrs(session, zero, b"wrong")
-    tpm.restarts(session)
-    tpm("A policy from the start has the new value").pcrs(session, zero)
-    tpm.digest_is("Its digest", session, after(session, zero))
-    said = tpm("PCR 16, which is not selected, is extended in one bank")
-    said.accepted(tpm.prepare(CC.PCR_Extend, [16], frames.digests((SHA1, bytes(20))), b""))
-    changed("TPM2_PolicyPCR again", session, zero)
-    tpm.restarts(session)
-    tpm("From the start").pcrs(session, zero)
+    from_the_start("PCR 0")
+    tpm("Once more, and nothing has changed").pcrs(session, ZERO)
+    extended("TPM2_PCR_Extend of PCR 0", 0, (SHA256, digest(SHA256, b"more")))
+    changed("TPM2_PolicyPCR again")
+    changed("And of PCRs that are as they were, or of none", [(SHA256, [1])])
+    changed("", [])
+    outcome = "SUCCESS" if is_trial(session) else "PCR_CHANGED"
+    tpm(f"With a wrong digest it is no other refusal: {outcome}").pcrs(session, ZERO, b"wrong")
+    from_the_start("A policy from the start has the new value")
+    tpm.digest_is("Its digest", session)
+    extended("PCR 16, which is not selected, is extended in one bank", 16, (SHA1, bytes(20)))
+    changed("TPM2_PolicyPCR again")
+    from_the_start()
     tpm.accepted("TPM2_PCR_Reset of PCR 23", tpm.reset(b"", pcr=23))
-    changed("TPM2_PolicyPCR again", session, zero)
-    tpm.restarts(session)
-    tpm("From the start").pcrs(session, zero)
-    tpm.accepted("TPM2_PCR_Event into PCR 23", tpm.event(b"abc", b"", pcr=23))
-    changed("TPM2_PolicyPCR again", session, zero)
+    changed("TPM2_PolicyPCR again")
+    from_the_start()
+    event("TPM2_PCR_Event into PCR 23", 23)
+    changed("TPM2_PolicyPCR again")
 
     tpm.chapter("What changes no PCR.")
-    tpm.restarts(session)
-    tpm("From the start").pcrs(session, zero)
-    tpm.accepted("TPM2_PCR_Event on TPM_RH_NULL", tpm.event(b"abc", b"", pcr=RH_NULL))
-    said = tpm("TPM2_PCR_Extend of PCR 0 by no digest")
-    said.accepted(tpm.prepare(CC.PCR_Extend, [0], frames.digests(), b""))
+    from_the_start()
+    event("TPM2_PCR_Event on TPM_RH_NULL", RH_NULL)
+    extended("TPM2_PCR_Extend of PCR 0 by no digest", 0)
     tpm.refused("TPM2_PCR_Reset of PCR 0: LOCALITY", tpm.reset(b"", pcr=0))
     tpm.refused("TPM2_PCR_Event by a wrong password: BAD_AUTH/s1", tpm.event(b"a", b"x"))
     tpm.accepted("TPM2_PCR_Read", tpm.read_pcr(0))
-    tpm("TPM2_PolicyPCR again").pcrs(session, zero)
-    twice = after(session, zero, after(session, zero))
-    tpm.digest_is("Its digest, of twice the same", session, twice)
+    tpm("TPM2_PolicyPCR again").pcrs(session, ZERO)
+    tpm.digest_is("Its digest, of twice the same", session)
 
 tpm.chapter("Other assertions are not refused where a PCR has changed.")
 session = tpm.policy("A policy session")
-zero = [(SHA256, [0])]
-tpm("TPM2_PolicyPCR").pcrs(session, zero)
-told = after(session, zero)
-tpm.accepted("TPM2_PCR_Event into PCR 0", tpm.event(b"abc", b"", pcr=0))
-tpm("TPM2_PolicyAuthValue").auth_value_told(session)
-told = policy.after_auth_value(session.algorithm, told)
-tpm.digest_is("Its digest", session, told)
+tpm("TPM2_PolicyPCR").pcrs(session, ZERO)
+event()
+tpm.makes("TPM2_PolicyAuthValue", session, tpm.auth_value_told(session))
 
 tpm.chapter("That nothing changes is asked from the first one on, also where it selects none.")
 tpm.restarts(session)
 tpm("No PCR").pcrs(session, [])
-tpm.accepted("TPM2_PCR_Event into PCR 0", tpm.event(b"abc", b"", pcr=0))
-tpm("PCR 0: PCR_CHANGED").pcrs(session, zero)
+event()
+tpm("PCR 0: PCR_CHANGED").pcrs(session, ZERO)
 
 tpm.chapter("But not from one that was refused.")
 tpm.restarts(session)
-tpm("A wrong digest: VALUE/p1").pcrs(session, zero, bytes(32))
+tpm("A wrong digest: VALUE/p1").pcrs(session, ZERO, bytes(32))
 tpm.digest_is("The digest is zeros", session, zeros(session))
-tpm.accepted("TPM2_PCR_Event into PCR 0", tpm.event(b"abc", b"", pcr=0))
-tpm("PCR 0").pcrs(session, zero)
-tpm.digest_is("Its digest", session, after(session, zero))
+event()
+tpm.makes("PCR 0", session, tpm.pcrs(session, ZERO))
 
 tpm.chapter("Each session by itself.")
 other = tpm.policy("Another policy session")
 tpm.accepted("TPM2_PCR_Reset of PCR 16", tpm.reset(b""))
-tpm("It has not been told of a PCR").pcrs(other, zero)
-tpm("But the one before has: PCR_CHANGED").pcrs(session, zero)
+tpm("It has not been told of a PCR").pcrs(other, ZERO)
+tpm("But the one before has: PCR_CHANGED").pcrs(session, ZERO)

@@ -2,17 +2,16 @@
 keeps all else.
 """
 
-from tests.common.vocabulary import CC, digest_bytes, frames, is_trial, policy, RH_OWNER, SHA1
-from tests.common.vocabulary import SHA256, Teller, Use, zeros
+from tests.common.policy_teller import PolicyTeller
+from tests.common.vocabulary import CC, digest_bytes, is_trial, RH_OWNER, SHA1, SHA256, Use, zeros
 
-tpm = Teller(__name__, __doc__)
+tpm = PolicyTeller(__name__, __doc__)
 PCR_0 = [(SHA256, [0])]
 
 
-def forgets(what, session, *told):
-    """What is told, restarted, and what was in its way."""
-    for prepared in told:
-        tpm.says(f"{what}: SUCCESS", prepared)
+def forgets(what, told):
+    """What is told, and restarted."""
+    tpm.says(f"{what}: SUCCESS", told)
     tpm.restarts(session)
     tpm.digest_is("The digest is zeros", session, zeros(session))
 
@@ -25,17 +24,13 @@ for session in tpm.each_session():
 
     tpm("TPM2_PolicyCommandCode of Unseal").command_code(session, 0x15E)
     tpm("Of NV_Read: VALUE/p1").command_code(session, 0x14E)
-    forgets("Of Unseal again", session, tpm.command_code(session, 0x15E))
-    tpm("Of NV_Read").command_code(session, 0x14E)
-    code_digest = policy.after_command_code(session.algorithm, zeros(session), 0x14E)
-    tpm.digest_is("From zeros", session, code_digest)
+    forgets("Of Unseal again", tpm.command_code(session, 0x15E))
+    tpm.makes("Of NV_Read", session, tpm.command_code(session, 0x14E), "From zeros")
 
     tpm("TPM2_PolicyLocality of locality 0").locality(session, 1)
     tpm("Of locality 4: RANGE/p1").locality(session, 16)
-    forgets("Of locality 0 again", session, tpm.locality(session, 1))
-    tpm("Of locality 4").locality(session, 16)
-    locality_digest = policy.after_locality(session.algorithm, zeros(session), 16)
-    tpm.digest_is("From zeros", session, locality_digest)
+    forgets("Of locality 0 again", tpm.locality(session, 1))
+    tpm.makes("Of locality 4", session, tpm.locality(session, 16), "From zeros")
     tpm("Of locality 0: RANGE/p1").locality(session, 1)
 
     size = digest_bytes(session.algorithm)
@@ -43,7 +38,7 @@ for session in tpm.each_session():
     tpm.accepted("TPM2_PolicySecret with a cpHash", tpm.secret(session, cp_hash=one))
     if not is_trial(session):
         tpm.refused("With another: CPHASH", tpm.secret(session, cp_hash=other))
-    forgets("TPM2_PolicyPassword", session, tpm.password_told(session))
+    forgets("TPM2_PolicyPassword", tpm.password_told(session))
     tpm.accepted("TPM2_PolicySecret with the other", tpm.secret(session, cp_hash=other))
     if not is_trial(session):
         tpm.refused("With the first: CPHASH", tpm.secret(session, cp_hash=one))
@@ -52,27 +47,25 @@ for session in tpm.each_session():
     tpm.accepted("TPM2_PCR_Event into PCR 16", tpm.event(b"abc", b""))
     if not is_trial(session):
         tpm("TPM2_PolicyPCR of PCR 0: PCR_CHANGED").pcrs(session, PCR_0)
-    forgets("TPM2_PolicyAuthValue", session, tpm.auth_value_told(session))
+    forgets("TPM2_PolicyAuthValue", tpm.auth_value_told(session))
     tpm("TPM2_PolicyPCR of PCR 0").pcrs(session, PCR_0)
 
 tpm.chapter("The nonce, the key, the hash and the encryption stay.")
 for algorithm in (SHA1, SHA256):
-    session = tpm.policy(
-        "A session bound to TPM_RH_OWNER", bind=RH_OWNER, algorithm=algorithm, aes=True
-    )
+    said = tpm("A session bound to TPM_RH_OWNER")
+    session = said.policy(bind=RH_OWNER, algorithm=algorithm, aes=True)
     tpm.restarts(session)
     said = tpm("TPM2_PolicySecret with its nonceTPM")
     said.accepted(tpm.secret(session, nonce_tpm=session.nonce_tpm))
     tpm("TPM2_PolicyRestart by its own hmac").restart(session, session)
     tpm.digest_is("The digest is zeros", session, zeros(session))
-    tpm("TPM2_GetRandom, which it encrypts").random(8, Use(session, frames.ENCRYPT | 1))
+    tpm("TPM2_GetRandom, which it encrypts").random(8, session.encrypting)
 
 tpm.chapter("Only the session that is named is restarted.")
 other = tpm.policy("Another one")
 tpm("TPM2_PolicyAuthValue in it").auth_value_told(other)
 tpm("TPM2_PolicyRestart of the one before").restart(session)
-told = policy.after_auth_value(other.algorithm, zeros(other))
-tpm.digest_is("The other one's digest stays", other, told)
+tpm.digest_is("The other one's digest stays", other)
 said = tpm("TPM2_PolicyRestart without continueSession|it is restarted, and ends")
 said.restart(other, Use(other, 0))
 tpm("It is no more: REFERENCE_H0").get_digest(other)

@@ -3,37 +3,51 @@ of an entity, and shows it now. Its parameters are nonceTPM, cpHashA, policyRef 
 by the empty password alone.
 """
 
+from tests.common.policy_teller import ENTITIES, PolicyTeller
 from tests.common.vocabulary import digest_bytes, flipped, frames, is_trial, name_of, number, policy
-from tests.common.vocabulary import RH_ENDORSEMENT, RH_LOCKOUT, RH_OWNER, RH_PLATFORM, SHA1, SHA256
-from tests.common.vocabulary import sized, Teller, Use, zeros
+from tests.common.vocabulary import RH_OWNER, SHA1, SHA256, sized, Use, wrong_in, zeros
 
-ENTITIES = (
-    (RH_OWNER, "TPM_RH_OWNER"),
-    (RH_ENDORSEMENT, "TPM_RH_ENDORSEMENT"),
-    (RH_PLATFORM, "TPM_RH_PLATFORM"),
-    (RH_LOCKOUT, "TPM_RH_LOCKOUT"),
-    (0, "PCR 0"),
-    (23, "PCR 23"),
-)
+EMPTY = sized(b"")
 
-tpm = Teller(__name__, __doc__)
+tpm = PolicyTeller(__name__, __doc__)
 
 
-def after(session, old, of=RH_ENDORSEMENT, policy_ref=b""):
-    return policy.after_secret(session.algorithm, old, name_of(of), policy_ref)
+def accepted(what, **parameters):
+    tpm.accepted(what, tpm.secret(session, **parameters))
 
 
-def raw(session, text):
-    return tpm.secret(session).but(parameters=text)
+def refused(words, *choices):
+    """TPM2_PolicySecret with each of these choices."""
+    tpm.refused(words, *(tpm.secret(session, **it) for it in choices))
+
+
+def refused_but_in_trial(words, *choices):
+    if not is_trial(session):
+        refused(words, *choices)
+
+
+def not_looked_at(what, outcome, **others):
+    """Wrong ones of a parameter, which a trial session takes all the same."""
+    ((name, values),) = others.items()
+    if not is_trial(session):
+        refused(f"{what}: {outcome}", *({name: it} for it in values))
+        return
+    for it in values:
+        words = f"{what}, which a trial session does not look at" if it is values[0] else ""
+        accepted(words, **{name: it})
+
+
+def raw(words, *texts):
+    tpm.refused(words, *(tpm.secret(session).but(parameters=it) for it in texts))
 
 
 for session in tpm.each_session():
-    for handle, name in ENTITIES:
+    for handle, name in ENTITIES.items():
         tpm.restarts(session)
-        tpm.accepted(f"By {name}", tpm.secret(session, of=handle))
-        tpm.digest_is("Its digest", session, after(session, zeros(session), handle))
+        accepted(f"By {name}", of=handle)
+        wanted = policy.after_secret(session.algorithm, zeros(session), name_of(handle), b"")
+        tpm.digest_is("Its digest", session, wanted)
     tpm.restarts(session)
-    digest = zeros(session)
     for policy_ref, words in (
         (b"", "No policyRef, which is hashed all the same"),
         (b"r", "One of a byte"),
@@ -41,122 +55,68 @@ for session in tpm.each_session():
         (bytes(range(32)), "Of 32 bytes"),
         (b"", "None again"),
     ):
-        tpm.accepted(words, tpm.secret(session, policy_ref=policy_ref))
-        digest = after(session, digest, policy_ref=policy_ref)
-        tpm.digest_is("Its digest", session, digest)
+        accepted(words, policy_ref=policy_ref)
+        tpm.digest_is("Its digest", session)
     tpm.restarts(session)
     right = session.nonce_tpm
-    tpm.accepted("nonceTPM, the right one", tpm.secret(session, nonce_tpm=right))
-    digest = after(session, zeros(session))
-    tpm.digest_is("It is not in the digest", session, digest)
-    tpm.accepted("And once more, as it is the session's yet", tpm.secret(session, nonce_tpm=right))
+    accepted("nonceTPM, the right one", nonce_tpm=right)
+    tpm.digest_is("It is not in the digest", session)
+    accepted("And once more, as it is the session's yet", nonce_tpm=right)
     wrong = (flipped(right), flipped(right, 0), right[:-1], right[:1], (right + b"\0")[:32], b"\0")
     wrong = [it for it in wrong if it != right]
-    what = "Wrong ones: another bit, fewer bytes, more, one"
-    buffers = [tpm.secret(session, nonce_tpm=it) for it in wrong]
-    digest = after(session, digest)
-    if is_trial(session):
-        tpm.accepted(f"{what}, which a trial session does not look at", buffers[0])
-        for it in buffers[1:]:
-            tpm.accepted("", it)
-        for _ in buffers:
-            digest = after(session, digest)
-    else:
-        tpm.refused(f"{what}: NONCE/p1", *buffers)
-    tpm.digest_is("Its digest", session, digest)
+    not_looked_at("Wrong ones: another bit, fewer bytes, more, one", "NONCE/p1", nonce_tpm=wrong)
+    tpm.digest_is("Its digest", session)
     tpm("The session has a new nonce, by TPM2_GetRandom").random(1, session)
-    if not is_trial(session):
-        tpm.refused("The one before: NONCE/p1", tpm.secret(session, nonce_tpm=right))
-    tpm.accepted("The new one", tpm.secret(session, nonce_tpm=session.nonce_tpm))
-    tpm.digest_is("Its digest", session, after(session, digest))
+    refused_but_in_trial("The one before: NONCE/p1", dict(nonce_tpm=right))
+    accepted("The new one", nonce_tpm=session.nonce_tpm)
+    tpm.digest_is("Its digest", session)
     size = digest_bytes(session.algorithm)
     one, other = bytes([1]) * size, bytes(size)
     tpm.restarts(session)
-    tpm.refused(
-        "cpHashA of another size than the session's digests, also where it is in a trial session: "
-        "SIZE/p2",
-        *(tpm.secret(session, cp_hash=bytes(it)) for it in (1, 19, 21, 31) if it != size),
-        tpm.secret(session, cp_hash=bytes(52 - size)),
-    )
-    tpm.accepted("One that is a digest", tpm.secret(session, cp_hash=one))
-    digest = after(session, zeros(session))
-    tpm.digest_is("It is not in the digest", session, digest)
-    tpm.accepted("The same again", tpm.secret(session, cp_hash=one))
-    tpm.accepted("None, which leaves it", tpm.secret(session))
-    digest = after(session, after(session, digest))
-    what = "Another one, by a bit, and zeros"
-    buffers = [tpm.secret(session, cp_hash=it) for it in (flipped(one), flipped(one, 0), other)]
-    if is_trial(session):
-        tpm.accepted(f"{what}, which a trial session does not look at", buffers[0])
-        tpm.accepted("", buffers[1])
-        tpm.accepted("", buffers[2])
-        for _ in buffers:
-            digest = after(session, digest)
-    else:
-        tpm.refused(f"{what}: CPHASH", *buffers)
-    tpm.accepted("The first", tpm.secret(session, cp_hash=one))
-    tpm.digest_is("Its digest", session, after(session, digest))
+    case = "cpHashA of another size than the session's digests, also where it is in a trial session"
+    sizes = [it for it in (1, 19, 21, 31) if it != size] + [52 - size]
+    refused(f"{case}: SIZE/p2", *(dict(cp_hash=bytes(it)) for it in sizes))
+    accepted("One that is a digest", cp_hash=one)
+    tpm.digest_is("It is not in the digest", session)
+    accepted("The same again", cp_hash=one)
+    accepted("None, which leaves it")
+    others = flipped(one), flipped(one, 0), other
+    not_looked_at("Another one, by a bit, and zeros", "CPHASH", cp_hash=others)
+    accepted("The first", cp_hash=one)
+    tpm.digest_is("Its digest", session)
     tpm.restarts(session)
-    said = tpm("One in a command that is refused: VALUE/p4")
-    said.refused(tpm.secret(session, cp_hash=one, expiration=1))
-    if not is_trial(session):
-        refused = tpm.secret(session, cp_hash=one, nonce_tpm=b"x")
-        tpm.refused("And by its nonceTPM: NONCE/p1", refused)
+    refused("One in a command that is refused: VALUE/p4", dict(cp_hash=one, expiration=1))
+    refused_but_in_trial("And by its nonceTPM: NONCE/p1", dict(cp_hash=one, nonce_tpm=b"x"))
     tpm.digest_is("The digest is zeros", session, zeros(session))
-    tpm.accepted("Zeros as the first one", tpm.secret(session, cp_hash=other))
-    if not is_trial(session):
-        tpm.refused("Another: CPHASH", tpm.secret(session, cp_hash=one))
+    accepted("Zeros as the first one", cp_hash=other)
+    refused_but_in_trial("Another: CPHASH", dict(cp_hash=one))
     tpm.restarts(session)
-    tpm.refused(
-        "expiration that is not 0, of either sign: VALUE/p4",
-        *(tpm.secret(session, expiration=it) for it in (1, 0x100, 0x0100_0000, 0xFFFF_FFFF)),
-        tpm.secret(session, expiration=0x8000_0000),
-    )
-    empty = sized(b"")
-    for place, name, before, behind in (
-        (1, "nonceTPM", b"", 2 * empty + bytes(4)),
-        (2, "cpHashA", empty, empty + bytes(4)),
-        (3, "policyRef", 2 * empty, bytes(4)),
-    ):
-        tpm.refused(
-            f"{name} that is cut: before its size, within it, and within its bytes: "
-            f"INSUFFICIENT/p{place}",
-            *(raw(session, before + it) for it in (b"", b"\0", b"\0\1", b"\0\x20" + bytes(31))),
-        )
-        tpm.refused(
-            f"Of 33 bytes, whole or cut: SIZE/p{place}",
-            raw(session, before + sized(bytes(33)) + behind),
-            raw(session, before + number(33, 2)),
-            raw(session, before + b"\xff\xff"),
-        )
-    said = tpm("expiration that is cut: INSUFFICIENT/p4")
-    said.refused(*(raw(session, 3 * empty + bytes(it)) for it in (0, 1, 3)))
-    tpm.refused(
-        "A byte behind them, also where expiration is 1: SIZE",
-        raw(session, frames.policy_secret() + b"\0"),
-        raw(session, frames.policy_secret(expiration=1) + b"\0"),
-    )
+    expirations = 1, 0x100, 0x0100_0000, 0xFFFF_FFFF, 0x8000_0000
+    case = "expiration that is not 0, of either sign: VALUE/p4"
+    refused(case, *(dict(expiration=it) for it in expirations))
+    for place, name in enumerate(("nonceTPM", "cpHashA", "policyRef"), 1):
+        front, behind = (place - 1) * EMPTY, (3 - place) * EMPTY + bytes(4)
+        case = f"{name} that is cut: before its size, within it, and within its bytes"
+        cut = b"", b"\0", b"\0\1", b"\0\x20" + bytes(31)
+        raw(f"{case}: INSUFFICIENT/p{place}", *(front + it for it in cut))
+        long = sized(bytes(33)) + behind, number(33, 2), b"\xff\xff"
+        raw(f"Of 33 bytes, whole or cut: SIZE/p{place}", *(front + it for it in long))
+    raw("expiration that is cut: INSUFFICIENT/p4", *(3 * EMPTY + bytes(it) for it in (0, 1, 3)))
+    whole = frames.policy_secret(), frames.policy_secret(expiration=1)
+    raw("A byte behind them, also where expiration is 1: SIZE", *(it + b"\0" for it in whole))
     tpm.digest_is("The digest is zeros", session, zeros(session))
 
 tpm.chapter("A nonceTPM of 32 bytes, of a session of SHA-256.")
 session = tpm.policy("The session", size=32)
-tpm.accepted("Its nonce", tpm.secret(session, nonce_tpm=session.nonce_tpm))
-tpm.refused("Half of it: NONCE/p1", tpm.secret(session, nonce_tpm=session.nonce_tpm[:16]))
+accepted("Its nonce", nonce_tpm=session.nonce_tpm)
+refused("Half of it: NONCE/p1", dict(nonce_tpm=session.nonce_tpm[:16]))
 other = tpm.policy("Another session", size=32)
-tpm.refused("The other's: NONCE/p1", tpm.secret(session, nonce_tpm=other.nonce_tpm))
+refused("The other's: NONCE/p1", dict(nonce_tpm=other.nonce_tpm))
 tpm.refused("The other way round: NONCE/p1", tpm.secret(other, nonce_tpm=session.nonce_tpm))
-
-tpm("nonceTPM, cpHashA and policyRef of 32 bytes, and two entries of 32 bytes each behind").secret(
-    session,
-    b"",
-    session,
-    Use(other, shows_empty_key=True),
-    nonce_tpm=session.nonce_tpm,
-    cp_hash=bytes(range(32)),
-    policy_ref=bytes(32),
-)
-digest = after(session, after(session, zeros(session)), policy_ref=bytes(32))
-tpm.digest_is("Its digest", session, digest)
+said = tpm("nonceTPM, cpHashA and policyRef of 32 bytes, and two entries of 32 bytes each behind")
+largest = dict(nonce_tpm=session.nonce_tpm, cp_hash=bytes(range(32)), policy_ref=bytes(32))
+said.secret(session, b"", session, Use(other, shows_empty_key=True), **largest)
+tpm.digest_is("Its digest", session)
 
 tpm.chapter("On the policy session that is named as a further entry too.")
 session = tpm.policy("The session, bound to TPM_RH_OWNER", bind=RH_OWNER, algorithm=SHA256)
@@ -165,14 +125,11 @@ said = tpm("With its nonceTPM of before, as it has the new one behind the comman
 said.secret(session, b"", session, nonce_tpm=old)
 tpm("The same again: NONCE/p1").secret(session, b"", session, nonce_tpm=old)
 tpm("With the new one").secret(session, b"", session, nonce_tpm=session.nonce_tpm)
-twice = after(session, after(session, zeros(session)))
-tpm.digest_is("Its digest", session, twice)
-right = tpm.secret(session, b"", session)
-said = tpm("Its hmac is wrong: BAD_AUTH/s2")
-said.refused(right.but_entry(2, hmac=flipped(right.entries[1].hmac)))
+tpm.digest_is("Its digest", session)
+tpm.refused("Its hmac is wrong: BAD_AUTH/s2", wrong_in(tpm.secret(session, b"", session), 2))
 tpm("It ends with the command").secret(session, b"", Use(session, 0))
 tpm("It is no more: REFERENCE_H0").get_digest(session)
 unbound = tpm.policy("One that is bound to nothing", algorithm=SHA1)
 tpm("It has neither key nor hmac").secret(unbound, b"", unbound)
 tpm("With an hmac by the empty key").secret(unbound, b"", Use(unbound, shows_empty_key=True))
-tpm.digest_is("Its digest", unbound, after(unbound, after(unbound, zeros(unbound))))
+tpm.digest_is("Its digest", unbound)

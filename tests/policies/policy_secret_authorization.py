@@ -3,74 +3,58 @@ handle, in a password or an HMAC session, as any other command. Of the policy se
 asked.
 """
 
-from tests.common.vocabulary import HASHES, name_of, policy, RH_ENDORSEMENT, RH_LOCKOUT, RH_OWNER
-from tests.common.vocabulary import RH_PLATFORM, SHA1, SHA256, Teller, Use, wrong_in, zeros
+from tests.common.policy_teller import HIERARCHIES, PolicyTeller
+from tests.common.vocabulary import HASHES, RH_LOCKOUT, RH_OWNER, SHA1, SHA256, Use, wrong_in
 
-VALUES = (
-    (RH_OWNER, "TPM_RH_OWNER", b"owner"),
-    (RH_ENDORSEMENT, "TPM_RH_ENDORSEMENT", b"endorsement"),
-    (RH_PLATFORM, "TPM_RH_PLATFORM", b"platform"),
-    (RH_LOCKOUT, "TPM_RH_LOCKOUT", b"lockout"),
-)
+# The value of TPM_RH_OWNER is "owner", and so on.
+VALUES = {it: name.rpartition("_")[2].lower().encode() for it, name in HIERARCHIES.items()}
 
-tpm = Teller(__name__, __doc__, tries=True)
-
+tpm = PolicyTeller(__name__, __doc__, tries=True)
 
 tpm.script.wait_each_time()
-for handle, name, value in VALUES:
-    tpm.accepted(f'The value of {name} is "{value.decode()}"', tpm.change_auth(handle, value, b""))
+for handle, value in VALUES.items():
+    said = tpm(f'The value of {HIERARCHIES[handle]} is "{value.decode()}"')
+    said.accepted(tpm.change_auth(handle, value, b""))
 target = tpm.policy("The policy session, with AES", aes=True)
 trial = tpm.trial("And a trial session, of SHA-1", algorithm=SHA1)
 unbound = tpm.start("An HMAC session that is bound to nothing")
-after = {it.handle: zeros(it) for it in (target, trial)}
 
 
 def accepted(what, session, *uses, of, **parameters):
     tpm.accepted(what, tpm.secret(session, *uses, of=of, **parameters))
-    policy_ref = parameters.get("policy_ref", b"")
-    old = after[session.handle]
-    after[session.handle] = policy.after_secret(session.algorithm, old, name_of(of), policy_ref)
 
 
-for handle, name, value in VALUES:
-    tpm.chapter(f"{name}.")
+def digests():
+    for session in (target, trial):
+        tpm.digest_is("The digest", session)
+
+
+for handle, value in VALUES.items():
+    tpm.chapter(f"{HIERARCHIES[handle]}.")
     code = "AUTH_FAIL/s1" if handle == RH_LOCKOUT else "BAD_AUTH/s1"
     bound = tpm.start("An HMAC session that is bound to it", handle, aes=True)
     for session in (target, trial):
         accepted("The right password", session, value, of=handle)
         accepted("And with zeros behind it", session, value + b"\0\0", of=handle)
-        tpm.refused(
-            f"Wrong passwords: none, fewer bytes, more, and that of another: {code}",
-            *(
-                tpm.secret(session, it, of=handle)
-                for it in (b"", value[:-1], value + b"x", b"another")
-            ),
-        )
+        case = f"Wrong passwords: none, fewer bytes, more, and that of another: {code}"
+        wrong = b"", value[:-1], value + b"x", b"another"
+        tpm.refused(case, *(tpm.secret(session, it, of=handle) for it in wrong))
         accepted("By the session that is bound to it", session, bound, of=handle)
         tpm.refused(f"A wrong hmac of it: {code}", wrong_in(tpm.secret(session, bound, of=handle)))
         accepted("By the session that is bound to nothing", session, unbound, of=handle)
-        tpm.refused(
-            f"A wrong hmac of it, and none: {code}",
-            wrong_in(tpm.secret(session, unbound, of=handle)),
-            tpm.secret(session, unbound, of=handle).but_entry(1, hmac=b""),
-        )
+        right = tpm.secret(session, unbound, of=handle)
+        none = tpm.secret(session, unbound, of=handle).but_entry(1, hmac=b"")
+        tpm.refused(f"A wrong hmac of it, and none: {code}", wrong_in(right), none)
     right = tpm.secret(target, bound, of=handle)
     said = tpm(f"The right hmac, and another policy session than it is of: {code}")
     said.refused(right.but(handles=[handle, trial.handle]))
     said = tpm(f"Another policyRef than it is of: {code}")
     said.refused(right.but(parameters=tpm.secret(target, policy_ref=b"r").parameters))
-    case = "As the first entry it decrypts nonceTPM"
-    accepted(case, target, Use(bound, 0x21), of=handle, nonce_tpm=target.nonce_tpm)
-    accepted(
-        "It ends, and decrypts and encrypts, though there is nothing to encrypt",
-        target,
-        Use(bound, 0x60),
-        of=handle,
-        nonce_tpm=target.nonce_tpm,
-        policy_ref=b"reference",
-    )
-    for session in (target, trial):
-        tpm.digest_is("The digest", session, after[session.handle])
+    case, given = "As the first entry it decrypts nonceTPM", dict(nonce_tpm=target.nonce_tpm)
+    accepted(case, target, Use(bound, 0x21), of=handle, **given)
+    case = "It ends, and decrypts and encrypts, though there is nothing to encrypt"
+    accepted(case, target, Use(bound, 0x60), of=handle, **given, policy_ref=b"reference")
+    digests()
 
 tpm.chapter("A PCR, whose value is empty.")
 for algorithm, hash_name in HASHES:
@@ -81,18 +65,15 @@ for algorithm, hash_name in HASHES:
     accepted("By it on another, PCR 8", target, bound, of=8)
 accepted("By the session that is bound to nothing, with no hmac", trial, unbound, of=7)
 tpm.refused("A password: BAD_AUTH/s1", tpm.secret(target, b"x", of=7))
-for session in (target, trial):
-    tpm.digest_is("The digest", session, after[session.handle])
+digests()
 
 tpm.chapter("With further entries.")
 bound = tpm.start("An HMAC session that is bound to TPM_RH_LOCKOUT", RH_LOCKOUT, algorithm=SHA1)
 accepted("Behind a password", target, b"owner", bound, of=RH_OWNER)
 case = "Behind a session, and before the policy session"
 accepted(case, target, unbound, bound, target, of=RH_OWNER)
-tpm.refused(
-    "A wrong hmac behind a password, of a session that is bound to TPM_RH_LOCKOUT: AUTH_FAIL/s2",
-    wrong_in(tpm.secret(target, b"owner", bound, of=RH_OWNER), 2),
-)
+case = "A wrong hmac behind a password, of a session that is bound to TPM_RH_LOCKOUT: AUTH_FAIL/s2"
+tpm.refused(case, wrong_in(tpm.secret(target, b"owner", bound, of=RH_OWNER), 2))
 said = tpm("A wrong one behind it: BAD_AUTH/s3")
 said.refused(wrong_in(tpm.secret(target, b"owner", bound, target, of=RH_OWNER), 3))
 locked = tpm.policy("A policy session that is bound to TPM_RH_LOCKOUT", bind=RH_LOCKOUT)
@@ -104,5 +85,4 @@ said = tpm("A wrong hmac of it, where the first entry is of TPM_RH_LOCKOUT: BAD_
 said.refused(wrong_in(tpm.secret(target, b"lockout", owned, of=RH_LOCKOUT), 2))
 case = "A right one, on TPM_RH_OWNER: it has the session's key alone, and no authorization value"
 accepted(case, target, b"owner", owned, of=RH_OWNER)
-for session in (target, trial):
-    tpm.digest_is("The digest", session, after[session.handle])
+digests()

@@ -11,9 +11,8 @@ NAMES = {SE_HMAC: "HMAC", SE_POLICY: "policy", SE_TRIAL: "trial"}
 tpm = Teller(__name__, __doc__, starts=False)
 
 
-def start(kind, place, what=None, **choices):
-    words = f"A {NAMES[kind]} session" if what is None else what
-    session = tpm.start(words, kind=kind, **choices)
+def start(kind, place, what, **choices):
+    session = tpm.start(what, kind=kind, **choices)
     assert session.handle & 0xFF_FFFF == place
     return session
 
@@ -28,8 +27,20 @@ def get_digest(handle):
 
 def random_by(handle):
     """TPM2_GetRandom with a session of which nothing is known but its handle."""
-    prepared = tpm.random(1)
-    return prepared.but(entries=[Entry(handle, b"", 1, b"")])
+    return tpm.random(1).but(entries=[Entry(handle, b"", 1, b"")])
+
+
+def tell(session, code, mask, cp_hash):
+    """Something of each kind, of which a session takes no other later."""
+    said = tpm("TPM2_PolicyCommandCode, TPM2_PolicyLocality, TPM2_PolicyPCR: SUCCESS")
+    said.says(
+        tpm.command_code(session, code), tpm.locality(session, mask), tpm.pcrs(session, PCR_0)
+    )
+    tpm.accepted("TPM2_PolicySecret", tpm.secret(session, b"", cp_hash=cp_hash))
+
+
+def is_policy_session(session):
+    tpm("As no trial session it is refused a wrong list: VALUE/p1").branches(session, b"x", b"y")
 
 
 tpm.startup()
@@ -47,11 +58,9 @@ tpm.says("Each has zeros: SUCCESS", *map(tpm.get_digest, sessions))
 tpm("The ninth is told something").auth_value_told(sessions[8])
 tpm.digest_is("The eleventh is not", sessions[10], zeros(sessions[10]))
 tpm("Three of them beside TPM2_GetRandom").random(4, *sessions[2:5])
-ending = tpm.prepare(
-    CC.StartAuthSession, *frames.start_auth_session(bytes(16), kind=SE_POLICY), Use(sessions[4], 0)
-)
 said = tpm("A session beside it that would end gives its place up too late: SESSION_MEMORY")
-said.refused(ending)
+new = frames.start_auth_session(bytes(16), kind=SE_POLICY)
+said.prepare(CC.StartAuthSession, *new, Use(sessions[4], 0))
 flushed = sessions[5], sessions[3]
 tpm.says("The sixth and the fourth are flushed: SUCCESS", *map(tpm.flush, flushed))
 tpm.says("They are no more: REFERENCE_H0", *map(tpm.get_digest, flushed))
@@ -78,24 +87,6 @@ tpm("As an entry: REFERENCE_S0").random(1, hmac)
 tpm.chapter("A new session in the place of one that was told something knows nothing of it.")
 CP_HASHES = bytes([1]) * 32, bytes([2]) * 32
 PCR_0 = [(SHA256, [0])]
-
-
-def tell(session, code, mask, cp_hash):
-    """Something of each kind, of which a session takes no other later."""
-    tpm.says(
-        "TPM2_PolicyCommandCode, TPM2_PolicyLocality, TPM2_PolicyPCR: SUCCESS",
-        tpm.command_code(session, code),
-        tpm.locality(session, mask),
-        tpm.pcrs(session, PCR_0),
-    )
-    tpm.accepted("TPM2_PolicySecret", tpm.secret(session, b"", cp_hash=cp_hash))
-
-
-def is_policy_session(session):
-    branches = tpm.branches(session, b"x", b"y")
-    tpm.says("As no trial session it is refused a wrong list: VALUE/p1", branches)
-
-
 tpm("A trial session ends").flush(sessions[7])
 told = start(SE_POLICY, 7, "A policy session in its place")
 is_policy_session(told)
@@ -109,10 +100,7 @@ tpm.accepted("TPM2_PCR_Reset of PCR 16", tpm.reset(b""))
 tpm("It ends by TPM2_FlushContext").flush(told)
 told = start(SE_TRIAL, 7, "A trial session in its place")
 tell(told, 0x15E, 4, CP_HASHES[0])
-
-session = told
-tpm("As a trial session it takes any").branches(session, b"x", b"y")
-
+tpm("As a trial session it takes any").branches(told, b"x", b"y")
 tpm("It ends by TPM2_FlushContext").flush(told)
 told = start(SE_POLICY, 7, "And a policy session again")
 tpm.digest_is("It begins with zeros", told, zeros(told))
@@ -167,14 +155,8 @@ again = start(SE_POLICY, 0, "The first place is free again", algorithm=SHA1)
 tpm.chapter("A session of each kind, by what it was started with.")
 for bind, words in ((frames.RH_NULL, "nothing"), (RH_LOCKOUT, "TPM_RH_LOCKOUT"), (7, "PCR 7")):
     for algorithm, size in ((SHA1, 16), (SHA1, 20), (SHA256, 16), (SHA256, 32)):
+        choices = dict(bind=bind, algorithm=algorithm, size=size, aes=size > 16)
         for kind in (SE_POLICY, SE_TRIAL):
-            session = start(
-                kind,
-                1,
-                f"A {NAMES[kind]} session that is bound to {words}, with a nonce of {size} bytes",
-                bind=bind,
-                algorithm=algorithm,
-                size=size,
-                aes=size > 16,
-            )
+            what = f"A {NAMES[kind]} session that is bound to {words}, with a nonce of {size} bytes"
+            session = start(kind, 1, what, **choices)
             tpm("TPM2_GetRandom, and it ends").random(1, Use(session, 0))

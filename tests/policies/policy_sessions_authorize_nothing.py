@@ -3,20 +3,11 @@ Hierarchies and PCRs have none: they are authorized by their authorization value
 session never authorizes.
 """
 
-from tests.common.vocabulary import CC, CONTINUE_SESSION, DECRYPT, Entry, flipped, frames
+from tests.common.vocabulary import CC, CONTINUE_SESSION, DECRYPT, DECRYPTS, Entry, frames
 from tests.common.vocabulary import RH_ENDORSEMENT, RH_LOCKOUT, RH_NULL, RH_OWNER, RH_PLATFORM
-from tests.common.vocabulary import Teller, Use, zeros
+from tests.common.vocabulary import Teller, Use, wrong_in, zeros
 
 tpm = Teller(__name__, __doc__)
-
-tpm.accepted('ownerAuth is "owner"', tpm.change_auth(RH_OWNER, b"owner", b""))
-hmac = tpm.start("An HMAC session, bound to TPM_RH_OWNER, with AES", RH_OWNER, aes=True)
-policy = tpm.policy("A policy session, bound to nothing, and so without a key")
-bound = tpm.policy("One that is bound to TPM_RH_OWNER, with AES", bind=RH_OWNER, aes=True)
-lockout = tpm.policy("One that is bound to TPM_RH_LOCKOUT", bind=RH_LOCKOUT)
-trial = tpm.trial("A trial session, without a key")
-keyed = tpm.trial("One that is bound to TPM_RH_OWNER, with AES", bind=RH_OWNER, aes=True)
-target = tpm.policy("A policy session that is to be told something")
 
 
 def commands(session):
@@ -33,24 +24,34 @@ def commands(session):
         yield tpm.secret(target, session, of=handle)
 
 
-WHAT = "TPM2_PCR_Reset, Extend, Event, HierarchyChangeAuth and PolicySecret"
-for words, session in (
-    ("without a key", policy),
-    ("bound to TPM_RH_OWNER", bound),
-    ("bound to TPM_RH_LOCKOUT", lockout),
-):
-    tpm.refused(f"{WHAT}, by the policy session {words}: AUTH_UNAVAILABLE", *commands(session))
-for words, session in (("without a key", trial), ("bound to TPM_RH_OWNER", keyed)):
-    tpm.refused(f"{WHAT}, by the trial session {words}: ATTRIBUTES/s1", *commands(session))
-
-tpm.chapter("Whatever the session was told.")
-for what, told in (
-    ("TPM2_PolicyAuthValue", tpm.auth_value_told),
-    ("TPM2_PolicyPassword", tpm.password_told),
-):
-    tpm.says(f"{what}: SUCCESS", told(policy), told(trial))
+def reset_by_both():
     tpm("TPM2_PCR_Reset by the policy session: AUTH_UNAVAILABLE").reset(policy)
     tpm("By the trial session: ATTRIBUTES/s1").reset(trial)
+
+
+tpm.accepted('ownerAuth is "owner"', tpm.change_auth(RH_OWNER, b"owner", b""))
+hmac = tpm.start("An HMAC session, bound to TPM_RH_OWNER, with AES", RH_OWNER, aes=True)
+policy = tpm.policy("A policy session, bound to nothing, and so without a key")
+bound = tpm.policy("One that is bound to TPM_RH_OWNER, with AES", bind=RH_OWNER, aes=True)
+lockout = tpm.policy("One that is bound to TPM_RH_LOCKOUT", bind=RH_LOCKOUT)
+trial = tpm.trial("A trial session, without a key")
+keyed = tpm.trial("One that is bound to TPM_RH_OWNER, with AES", bind=RH_OWNER, aes=True)
+target = tpm.policy("A policy session that is to be told something")
+WHAT = "TPM2_PCR_Reset, Extend, Event, HierarchyChangeAuth and PolicySecret"
+for words, session in (
+    ("policy session without a key: AUTH_UNAVAILABLE", policy),
+    ("policy session bound to TPM_RH_OWNER: AUTH_UNAVAILABLE", bound),
+    ("policy session bound to TPM_RH_LOCKOUT: AUTH_UNAVAILABLE", lockout),
+    ("trial session without a key: ATTRIBUTES/s1", trial),
+    ("trial session bound to TPM_RH_OWNER: ATTRIBUTES/s1", keyed),
+):
+    tpm.refused(f"{WHAT}, by the {words}", *commands(session))
+
+tpm.chapter("Whatever the session was told.")
+tpm.says("TPM2_PolicyAuthValue: SUCCESS", *map(tpm.auth_value_told, (policy, trial)))
+reset_by_both()
+tpm.says("TPM2_PolicyPassword: SUCCESS", *map(tpm.password_told, (policy, trial)))
+reset_by_both()
 for session in (policy, trial):
     tpm.says(
         "TPM2_PolicyCommandCode of another command, and of locality 4: SUCCESS",
@@ -60,29 +61,19 @@ for session in (policy, trial):
     )
 said = tpm("PCR 16 changes behind TPM2_PolicyPCR, by the session bound to TPM_RH_OWNER")
 said.event(b"abc", hmac)
-tpm("TPM2_PCR_Reset by the policy session: AUTH_UNAVAILABLE").reset(policy)
-tpm("By the trial session: ATTRIBUTES/s1").reset(trial)
+reset_by_both()
 
 tpm.chapter("It comes before its own hmac, right or wrong, and before the entries behind.")
-reset = tpm.reset(bound, hmac)
-tpm.refused(
-    "The hmac wrong, left out, and that of the second entry wrong: AUTH_UNAVAILABLE",
-    reset.but_entry(1, hmac=flipped(reset.entries[0].hmac)),
-    reset.but_entry(1, hmac=b""),
-    reset.but_entry(2, hmac=flipped(reset.entries[1].hmac)),
-)
-reset = tpm.reset(keyed, hmac)
-tpm.refused(
-    "The same of the trial session: ATTRIBUTES/s1",
-    reset.but_entry(1, hmac=flipped(reset.entries[0].hmac)),
-    reset.but_entry(1, hmac=b""),
-    reset.but_entry(2, hmac=flipped(reset.entries[1].hmac)),
-)
-tpm.refused(
-    "A wrong hmac on TPM_RH_LOCKOUT is no try at its value, as no value is looked at: "
-    "AUTH_UNAVAILABLE",
-    tpm.change_auth(RH_LOCKOUT, b"x", lockout).but_entry(1, hmac=bytes(32)),
-)
+case = "The hmac wrong, left out, and that of the second entry wrong"
+for words, session in (
+    (f"{case}: AUTH_UNAVAILABLE", bound),
+    ("The same of the trial session: ATTRIBUTES/s1", keyed),
+):
+    reset = tpm.reset(session, hmac)
+    tpm.refused(words, wrong_in(reset, 1), reset.but_entry(1, hmac=b""), wrong_in(reset, 2))
+wrong = tpm.change_auth(RH_LOCKOUT, b"x", lockout).but_entry(1, hmac=bytes(32))
+case = "A wrong hmac on TPM_RH_LOCKOUT is no try at its value, as no value is looked at"
+tpm.refused(f"{case}: AUTH_UNAVAILABLE", wrong)
 
 tpm.chapter("But what is refused of entries whatever their hmacs are comes before.")
 absent = Entry(0x0300_0009, b"", CONTINUE_SESSION, b"")
@@ -92,11 +83,11 @@ for session in (bound, keyed):
     said.refused(right.but(entries=[*right.entries, absent]))
     tpm.refused("The same session twice: HANDLE/s2", right.but(entries=2 * right.entries))
     said = tpm("decrypt, where the first parameter is no sized buffer: ATTRIBUTES/s1")
-    said.refused(right.but_entry(1, attributes=CONTINUE_SESSION | DECRYPT))
+    said.refused(right.but_entry(1, attributes=DECRYPTS))
     tpm.refused("A reserved attribute: RESERVED_BITS/s1", right.but_entry(1, attributes=0x08))
 for session in (policy, trial):
     said = tpm("decrypt in a session without AES, TPM2_PCR_Event: SYMMETRIC/s1")
-    said.event(b"abc", Use(session, CONTINUE_SESSION | DECRYPT))
+    said.event(b"abc", session.decrypting)
 said = tpm("A parameter that cannot be decrypted comes behind: AUTH_UNAVAILABLE")
 said.refused(tpm.event(b"abc", Use(bound, DECRYPT)).but(parameters=b"\0"))
 said = tpm("And in a trial session: ATTRIBUTES/s1")

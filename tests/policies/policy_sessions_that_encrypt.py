@@ -3,185 +3,159 @@ they authorize nothing there, and are held against their hmac as HMAC sessions a
 and encrypt, and keep what they were told.
 """
 
+from tests.common.policy_teller import PolicyTeller
 from tests.common.script_caller import KINDS
 from tests.common.vocabulary import CC, CONTINUE_SESSION, DECRYPTS, digest, ENCRYPT, ENCRYPTS
-from tests.common.vocabulary import flipped, frames, HASHES, name_of, policy, RH_ENDORSEMENT
-from tests.common.vocabulary import RH_LOCKOUT, RH_OWNER, SE_POLICY, SE_TRIAL, SHA1, Teller, Use
-from tests.common.vocabulary import wrong_in, zeros
+from tests.common.vocabulary import flipped, frames, HASHES, RH_ENDORSEMENT, RH_LOCKOUT, RH_OWNER
+from tests.common.vocabulary import SE_POLICY, SE_TRIAL, SHA1, Use, wrong_in, zeros
 
-
-tpm = Teller(__name__, __doc__, tries=True)
-
-
-tpm.accepted('ownerAuth is "owner"', tpm.change_auth(RH_OWNER, b"owner", b""))
-hmac = tpm.start("An HMAC session, bound to TPM_RH_OWNER, with AES", RH_OWNER, aes=True)
-
-for algorithm, hash_name in HASHES:
-    for kind, name in KINDS:
-        tpm.chapter(f"A {name} session of {hash_name}, bound to TPM_RH_OWNER.")
-        said = tpm("It is started")
-        session = said.start(RH_OWNER, algorithm=algorithm, aes=True, kind=kind, size=20)
-        tpm("TPM2_PolicyAuthValue").auth_value_told(session)
-        told = policy.after_auth_value(algorithm, zeros(session))
-        said = tpm("TPM2_PCR_Event by a password, and the data is encrypted by it")
-        said.event(b"event data", b"", Use(session, DECRYPTS))
-        said = tpm("TPM2_HierarchyChangeAuth by a password: its key has no authorization value")
-        said.change_auth(RH_OWNER, b"another", b"owner", Use(session, DECRYPTS))
-        said = tpm("By an HMAC session, whose hmac has its nonce")
-        said.change_auth(RH_OWNER, b"owner", hmac, Use(session, DECRYPTS))
-        tpm("TPM2_GetRandom, which it encrypts").random(20, Use(session, ENCRYPTS))
-        tpm("TPM2_GetRandom that it does not encrypt").random(20, hmac, session)
-        tpm.digest_is("Its digest is as it was", session, told)
-        encrypted = tpm.get_digest(session, Use(session, ENCRYPTS))
-        tpm.accepted("TPM2_PolicyGetDigest, which it encrypts itself", encrypted)
-        tpm("And which the HMAC session encrypts").get_digest(session, session, Use(hmac, ENCRYPTS))
-        right = tpm.event(b"event data", b"", Use(session, DECRYPTS))
-        tpm.refused(
-            "A wrong hmac: by a bit, none, and the attribute taken away: BAD_AUTH/s2",
-            wrong_in(right, 2),
-            right.but_entry(2, hmac=b""),
-            right.but_entry(2, attributes=CONTINUE_SESSION),
-        )
-        with tpm.breaking(key=lambda *_: session.key + b"owner"):
-            valued = tpm.event(b"event data", b"", Use(session, DECRYPTS))
-        tpm.refused("ownerAuth in its key: BAD_AUTH/s2", valued)
-        said = tpm("Parameters that cannot be decrypted: INSUFFICIENT/p1")
-        said.prepare(CC.PCR_Event, [16], b"\0\1", b"", Use(session, DECRYPTS))
-        tpm.accepted("The right one", right)
-        tpm.refused("It is of a nonce that is past: BAD_AUTH/s2", right)
-        tpm.digest_is("Its digest is as it was", session, told)
-
-        tpm(
-            "TPM2_PolicyPCR whose digest it decrypts itself|and its digest is of the plain one"
-        ).pcrs(session, [], digest(algorithm, b""), [Use(session, DECRYPTS)])
-        told = policy.after_pcr(algorithm, told, frames.selection(), digest(algorithm, b""))
-        tpm.digest_is("Its digest", session, told)
-        tpm("TPM2_PolicySecret, of which it decrypts nonceTPM itself: the one of before").secret(
-            session, b"owner", Use(session, DECRYPTS), of=RH_OWNER, nonce_tpm=session.nonce_tpm
-        )
-        said = tpm("And which the HMAC session decrypts, that authorizes")
-        said.secret(session, Use(hmac, DECRYPTS), session, of=RH_OWNER, nonce_tpm=session.nonce_tpm)
-        tpm("Decrypted by it, where the HMAC session authorizes and encrypts").secret(
-            session,
-            Use(hmac, ENCRYPTS),
-            Use(session, DECRYPTS),
-            of=RH_OWNER,
-            nonce_tpm=session.nonce_tpm,
-        )
-        said = tpm("It encrypts, behind a password, and there is nothing to encrypt")
-        said.secret(session, b"owner", Use(session, ENCRYPTS), of=RH_OWNER)
-        for _ in range(4):
-            told = policy.after_secret(algorithm, told, name_of(RH_OWNER), b"")
-        tpm.digest_is("Its digest", session, told)
-        if kind == SE_POLICY:
-            given = tpm.secret(
-                session,
-                b"owner",
-                Use(session, DECRYPTS),
-                of=RH_OWNER,
-                nonce_tpm=flipped(session.nonce_tpm),
-            )
-            tpm.refused("Another nonceTPM, decrypted: NONCE/p1", given)
-        tpm.refused(
-            "encrypt, where no sized buffer is answered: TPM2_PolicyPCR and TPM2_PolicyRestart: "
-            "ATTRIBUTES/s1",
-            tpm.pcrs(session, [], b"", [Use(session, ENCRYPTS)]),
-            tpm.restart(session, Use(session, ENCRYPTS)),
-        )
-        parameters = frames.sized_list(bytes(20), bytes(20))
-        tpm.refused(
-            "decrypt, where the first parameter is no sized buffer: TPM2_PolicyOR, "
-            "TPM2_PolicyGetDigest, TPM2_PolicyRestart, TPM2_PolicyCommandCode, "
-            "TPM2_PolicyLocality, TPM2_PolicyAuthValue and TPM2_PolicyPassword: ATTRIBUTES/s1",
-            *(
-                tpm.prepare(code, [session.handle], text, session).but_entry(1, attributes=DECRYPTS)
-                for code, text in (
-                    (CC.PolicyOR, parameters),
-                    (CC.PolicyGetDigest, b""),
-                    (CC.PolicyRestart, b""),
-                    (CC.PolicyCommandCode, bytes(4)),
-                    (CC.PolicyLocality, b"\1"),
-                    (CC.PolicyAuthValue, b""),
-                    (CC.PolicyPassword, b""),
-                )
-            ),
-        )
-        tpm.refused(
-            "encrypt on the others: TPM2_PolicyOR, TPM2_PolicyCommandCode, TPM2_PolicyLocality, "
-            "TPM2_PolicyAuthValue and TPM2_PolicyPassword: ATTRIBUTES/s1",
-            *(
-                tpm.prepare(code, [session.handle], text, session).but_entry(1, attributes=ENCRYPTS)
-                for code, text in (
-                    (CC.PolicyOR, parameters),
-                    (CC.PolicyCommandCode, bytes(4)),
-                    (CC.PolicyLocality, b"\1"),
-                    (CC.PolicyAuthValue, b""),
-                    (CC.PolicyPassword, b""),
-                )
-            ),
-        )
-        tpm("It encrypts, and ends").random(20, Use(session, ENCRYPT))
-
-tpm.chapter("Without a key: the hmac may be left out.")
-for algorithm, hash_name in HASHES:
-    for kind, name in KINDS:
-        session = tpm.start(
-            f"A {name} session of {hash_name} that is bound to nothing",
-            algorithm=algorithm,
-            aes=True,
-            kind=kind,
-        )
-        said = tpm("Behind a password, with no hmac|and none is answered")
-        said.event(b"event data", b"", Use(session, DECRYPTS))
-        said = tpm("With an hmac by the empty key")
-        said.event(b"event data", b"", Use(session, DECRYPTS, shows_empty_key=True))
-        shown = tpm.event(b"event data", b"", Use(session, DECRYPTS, shows_empty_key=True))
-        said = tpm("With a wrong one, and with a byte: BAD_AUTH/s2")
-        said.refused(wrong_in(shown, 2), shown.but_entry(2, hmac=b"\0"))
-        tpm.accepted("The right one", shown)
-        tpm("TPM2_GetRandom, which it encrypts without a key").random(8, Use(session, ENCRYPTS))
-        tpm("TPM2_PolicyGetDigest, which it encrypts").get_digest(session, Use(session, ENCRYPTS))
-        tpm.digest_is("Its digest is zeros", session, zeros(session))
-        tpm("It is flushed").flush(session)
-
-tpm.chapter("Without AES.")
-plain = tpm.policy("A policy session", bind=RH_OWNER)
-tpm.refused(
-    "decrypt and encrypt: SYMMETRIC/s1",
-    tpm.pcrs(plain, [], b"", [Use(plain, DECRYPTS)]),
-    tpm.get_digest(plain, Use(plain, ENCRYPTS)),
+# Commands whose first parameter is no sized buffer.
+PLAIN = (
+    (CC.PolicyOR, frames.sized_list(bytes(20), bytes(20))),
+    (CC.PolicyGetDigest, b""),
+    (CC.PolicyRestart, b""),
+    (CC.PolicyCommandCode, bytes(4)),
+    (CC.PolicyLocality, b"\1"),
+    (CC.PolicyAuthValue, b""),
+    (CC.PolicyPassword, b""),
 )
-tpm("Behind a password: SYMMETRIC/s2").event(b"a", b"", Use(plain, DECRYPTS))
 
-tpm.chapter("Started beside others, and with others beside it.")
-first = tpm.policy("A policy session, with AES", bind=RH_OWNER, aes=True)
-said = tpm("TPM2_StartAuthSession of another, by which it is encrypted in both directions")
-second = said.start(RH_ENDORSEMENT, kind=SE_TRIAL, aes=True, uses=[Use(first, DECRYPTS | ENCRYPT)])
-said = tpm("Of an HMAC session: the trial session decrypts and the policy session encrypts")
-third = said.start(RH_OWNER, aes=True, uses=[Use(second, DECRYPTS), Use(first, ENCRYPTS)])
-tpm("Three beside a password would be four; two").event(b"a", b"", first, second)
-tpm(
-    "TPM2_HierarchyChangeAuth by the HMAC session, with both: the first hmac has the nonce of the "
-    "one that decrypts"
-).change_auth(RH_OWNER, b"owner", third, second, Use(first, DECRYPTS))
-with tpm.breaking(nonces_of_others=lambda *_: []):
-    left_out = tpm.change_auth(RH_OWNER, b"owner", third, second, Use(first, DECRYPTS))
-tpm.refused("Where it is left out: BAD_AUTH/s1", left_out)
+tpm = PolicyTeller(__name__, __doc__, tries=True)
+
+
+def event(**choices):
+    return tpm.event(b"event data", b"", Use(session, DECRYPTS, **choices))
+
+
+def with_attributes(attributes, commands):
+    for code, text in commands:
+        yield tpm.told(code, session, text, session).but_entry(1, attributes=attributes)
+
+
+def as_a_further_entry():
+    tpm("TPM2_PolicyAuthValue").auth_value_told(session)
+    tpm.accepted("TPM2_PCR_Event by a password, and the data is encrypted by it", event())
+    said = tpm("TPM2_HierarchyChangeAuth by a password: its key has no authorization value")
+    said.change_auth(RH_OWNER, b"another", b"owner", session.decrypting)
+    said = tpm("By an HMAC session, whose hmac has its nonce")
+    said.change_auth(RH_OWNER, b"owner", hmac, session.decrypting)
+    tpm("TPM2_GetRandom, which it encrypts").random(20, session.encrypting)
+    tpm("TPM2_GetRandom that it does not encrypt").random(20, hmac, session)
+    tpm.digest_is("Its digest is as it was", session)
+    tpm("TPM2_PolicyGetDigest, which it encrypts itself").get_digest(session, session.encrypting)
+    tpm("And which the HMAC session encrypts").get_digest(session, session, hmac.encrypting)
+    right = event()
+    tpm.refused(
+        "A wrong hmac: by a bit, none, and the attribute taken away: BAD_AUTH/s2",
+        wrong_in(right, 2),
+        *(right.but_entry(2, **it) for it in (dict(hmac=b""), dict(attributes=CONTINUE_SESSION))),
+    )
+    tpm.refused("ownerAuth in its key: BAD_AUTH/s2", tpm.with_key(session.key + b"owner", event))
+    said = tpm("Parameters that cannot be decrypted: INSUFFICIENT/p1")
+    said.prepare(CC.PCR_Event, [16], b"\0\1", b"", session.decrypting)
+    tpm.accepted("The right one", right)
+    tpm.refused("It is of a nonce that is past: BAD_AUTH/s2", right)
+    tpm.digest_is("Its digest is as it was", session)
+
+
+def of_its_own_policy():
+    said = tpm("TPM2_PolicyPCR whose digest it decrypts itself|and its digest is of the plain one")
+    said.pcrs(session, [], digest(session.algorithm, b""), [session.decrypting])
+    tpm.digest_is("Its digest", session)
+
+    def secret(words, *uses, nonce_tpm=None):
+        given = session.nonce_tpm if nonce_tpm is None else nonce_tpm
+        tpm(words).secret(session, *uses, of=RH_OWNER, nonce_tpm=given)
+
+    case = "TPM2_PolicySecret, of which it decrypts nonceTPM itself: the one of before"
+    secret(case, b"owner", session.decrypting)
+    secret("And which the HMAC session decrypts, that authorizes", hmac.decrypting, session)
+    case = "Decrypted by it, where the HMAC session authorizes and encrypts"
+    secret(case, hmac.encrypting, session.decrypting)
+    case = "It encrypts, behind a password, and there is nothing to encrypt"
+    secret(case, b"owner", session.encrypting, nonce_tpm=b"")
+    tpm.digest_is("Its digest", session)
+    if session.kind == SE_POLICY:
+        case = "Another nonceTPM, decrypted: NONCE/p1"
+        secret(case, b"owner", session.decrypting, nonce_tpm=flipped(session.nonce_tpm))
+    tpm.refused(
+        "encrypt, where no sized buffer is answered: TPM2_PolicyPCR and TPM2_PolicyRestart: "
+        "ATTRIBUTES/s1",
+        tpm.pcrs(session, [], b"", [session.encrypting]),
+        tpm.restart(session, session.encrypting),
+    )
+    tpm.refused(
+        "decrypt, where the first parameter is no sized buffer: TPM2_PolicyOR, "
+        "TPM2_PolicyGetDigest, TPM2_PolicyRestart, TPM2_PolicyCommandCode, "
+        "TPM2_PolicyLocality, TPM2_PolicyAuthValue and TPM2_PolicyPassword: ATTRIBUTES/s1",
+        *with_attributes(DECRYPTS, PLAIN),
+    )
+    tpm.refused(
+        "encrypt on the others: TPM2_PolicyOR, TPM2_PolicyCommandCode, TPM2_PolicyLocality, "
+        "TPM2_PolicyAuthValue and TPM2_PolicyPassword: ATTRIBUTES/s1",
+        *with_attributes(ENCRYPTS, PLAIN[:1] + PLAIN[3:]),
+    )
+    tpm("It encrypts, and ends").random(20, Use(session, ENCRYPT))
 
 
 def secret(*uses):
     return tpm.secret(first, third, *uses, of=RH_OWNER, nonce_tpm=first.nonce_tpm)
 
 
+tpm.accepted('ownerAuth is "owner"', tpm.change_auth(RH_OWNER, b"owner", b""))
+hmac = tpm.start("An HMAC session, bound to TPM_RH_OWNER, with AES", RH_OWNER, aes=True)
+for algorithm, hash_name in HASHES:
+    for kind, name in KINDS:
+        tpm.chapter(f"A {name} session of {hash_name}, bound to TPM_RH_OWNER.")
+        said = tpm("It is started")
+        session = said.start(RH_OWNER, algorithm=algorithm, aes=True, kind=kind, size=20)
+        as_a_further_entry()
+        of_its_own_policy()
+
+tpm.chapter("Without a key: the hmac may be left out.")
+for algorithm, hash_name in HASHES:
+    for kind, name in KINDS:
+        said = tpm(f"A {name} session of {hash_name} that is bound to nothing")
+        session = said.start(algorithm=algorithm, aes=True, kind=kind)
+        tpm.accepted("Behind a password, with no hmac|and none is answered", event())
+        tpm.accepted("With an hmac by the empty key", event(shows_empty_key=True))
+        shown = event(shows_empty_key=True)
+        said = tpm("With a wrong one, and with a byte: BAD_AUTH/s2")
+        said.refused(wrong_in(shown, 2), shown.but_entry(2, hmac=b"\0"))
+        tpm.accepted("The right one", shown)
+        tpm("TPM2_GetRandom, which it encrypts without a key").random(8, session.encrypting)
+        tpm("TPM2_PolicyGetDigest, which it encrypts").get_digest(session, session.encrypting)
+        tpm.digest_is("Its digest is zeros", session, zeros(session))
+        tpm("It is flushed").flush(session)
+
+tpm.chapter("Without AES.")
+plain = tpm.policy("A policy session", bind=RH_OWNER)
+decrypting = tpm.pcrs(plain, [], b"", [plain.decrypting])
+said = tpm("decrypt and encrypt: SYMMETRIC/s1")
+said.refused(decrypting, tpm.get_digest(plain, plain.encrypting))
+tpm("Behind a password: SYMMETRIC/s2").event(b"a", b"", plain.decrypting)
+
+tpm.chapter("Started beside others, and with others beside it.")
+first = tpm.policy("A policy session, with AES", bind=RH_OWNER, aes=True)
+said = tpm("TPM2_StartAuthSession of another, by which it is encrypted in both directions")
+second = said.start(RH_ENDORSEMENT, kind=SE_TRIAL, aes=True, uses=[Use(first, DECRYPTS | ENCRYPT)])
+said = tpm("Of an HMAC session: the trial session decrypts and the policy session encrypts")
+third = said.start(RH_OWNER, aes=True, uses=[second.decrypting, first.encrypting])
+tpm("Three beside a password would be four; two").event(b"a", b"", first, second)
+tpm(
+    "TPM2_HierarchyChangeAuth by the HMAC session, with both: the first hmac has the nonce of the "
+    "one that decrypts"
+).change_auth(RH_OWNER, b"owner", third, second, first.decrypting)
+changing = tpm.change_auth, RH_OWNER, b"owner", third, second, first.decrypting
+tpm.refused("Where it is left out: BAD_AUTH/s1", tpm.with_nonces_of([], *changing))
 tpm.accepted(
     "TPM2_PolicySecret in the policy session, which encrypts, and the trial session decrypts: the "
     "first hmac has the nonces of both, in this order",
-    secret(Use(first, ENCRYPTS), Use(second, DECRYPTS)),
+    secret(first.encrypting, second.decrypting),
 )
-tpm.accepted("The other way round", secret(Use(first, DECRYPTS), Use(second, ENCRYPTS)))
+tpm.accepted("The other way round", secret(first.decrypting, second.encrypting))
 tpm.accepted("One does both", secret(second, Use(first, DECRYPTS | ENCRYPT)))
-with tpm.breaking(nonces_of_others=lambda *_: [first.nonce_tpm, second.nonce_tpm]):
-    turned = secret(Use(first, ENCRYPTS), Use(second, DECRYPTS))
+turned = tpm.with_nonces_of([first, second], secret, first.encrypting, second.decrypting)
 tpm.refused("In the other order: BAD_AUTH/s1", turned)
 tpm.restarts(first)
 for it, kind in ((first, SE_POLICY), (second, SE_TRIAL)):

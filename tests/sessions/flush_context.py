@@ -9,50 +9,48 @@ from tests.common.vocabulary import SHA1, Teller
 tpm = Teller(__name__, __doc__, starts=False)
 
 
-def flush(handle, behind=b""):
-    return command(CC.FlushContext, number(handle, 4) + behind)
+def texts(words, *those, tag=frames.NO_SESSIONS):
+    tpm.raw(words, *(command(CC.FlushContext, it, tag) for it in those))
 
 
-def with_sessions(area_text, handle=0x0200_0000):
-    return command(CC.FlushContext, area_text + number(handle, 4), frames.SESSIONS)
+def flushes(words, *handles):
+    texts(words, *(number(it, 4) for it in handles))
 
 
-tpm.raw("Before TPM2_Startup: INITIALIZE", flush(0x0200_0000))
+flushes("Before TPM2_Startup: INITIALIZE", 0x0200_0000)
 tpm.startup()
-tpm.raw("While there is no session: HANDLE/p1", flush(0x0200_0000), flush(0x0200_000F))
+flushes("While there is no session: HANDLE/p1", 0x0200_0000, 0x0200_000F)
 session = tpm.start("An HMAC session, 02000000", RH_OWNER)
 
 tpm.chapter("What is refused, and ends nothing.")
-tpm.raw(
+areas = area(entry()), area(entry(session.handle)), area()
+texts(
     "With sessions (tag 8002), whatever the authorization area holds: a password, the session, "
     "nothing, or a size that is cut: AUTH_CONTEXT",
-    with_sessions(area(entry())),
-    with_sessions(area(entry(session.handle))),
-    with_sessions(area()),
-    command(CC.FlushContext, b"", frames.SESSIONS),
+    *(it + number(0x0200_0000, 4) for it in areas),
+    b"",
+    tag=frames.SESSIONS,
 )
-said = tpm("No handle, and three bytes of one: INSUFFICIENT/p1")
-said.raw(command(CC.FlushContext, b""), command(CC.FlushContext, bytes([2, 0, 0])))
-said = tpm("A byte behind it, also where the handle is no session's: SIZE")
-said.raw(flush(session.handle, b"\0"), flush(RH_OWNER, b"\0"))
-tpm.raw(
+texts("No handle, and three bytes of one: INSUFFICIENT/p1", b"", bytes([2, 0, 0]))
+case = "A byte behind it, also where the handle is no session's: SIZE"
+texts(case, *(number(it, 4) + b"\0" for it in (session.handle, RH_OWNER)))
+flushes(
     "A handle that is neither a session's nor a transient object's: PCR 2, an NV index, "
     "TPM_RH_OWNER, TPM_RH_NULL, TPM_RS_PW, a persistent object, and numbers of no kind: VALUE/p1",
-    *map(flush, (2, 0x0100_0000, RH_OWNER, RH_NULL, RS_PW, 0x8100_0000, 0x0400_0000, 0xFFFF_FFFF)),
+    *(2, 0x0100_0000, RH_OWNER, RH_NULL, RS_PW, 0x8100_0000, 0x0400_0000, 0xFFFF_FFFF),
 )
-tpm.raw(
+flushes(
     "A session that is not there: another number, far numbers, and a policy session with the "
     "number of the HMAC session: HANDLE/p1",
-    *map(flush, (0x0200_0001, 0x0200_0010, 0x0200_0100, 0x02FF_FFFF, 0x0300_0000)),
+    *(0x0200_0001, 0x0200_0010, 0x0200_0100, 0x02FF_FFFF, 0x0300_0000),
 )
-said = tpm("A transient object, while there is none: HANDLE/p1")
-said.raw(flush(0x8000_0000), flush(0x80FF_FFFF))
+flushes("A transient object, while there is none: HANDLE/p1", 0x8000_0000, 0x80FF_FFFF)
 tpm("The session is as it was").reset(session)
 
 tpm.chapter("What ends a session.")
 other = tpm.start("Another one, 02000001", algorithm=SHA1, aes=True)
 tpm.accepted("The first is flushed", tpm.flush(session))
-tpm.raw("Once more: HANDLE/p1", flush(session.handle))
+flushes("Once more: HANDLE/p1", session.handle)
 tpm("TPM2_PCR_Reset by it: REFERENCE_S0").reset(session)
 tpm("By the other, which is as it was").reset(other)
 again = tpm.start("The next session has its number, but not its key", RH_OWNER)
@@ -63,4 +61,4 @@ tpm("TPM2_PCR_Reset by the old key: BAD_AUTH/s1").reset(session)
 tpm.accepted("By its own", stale)
 tpm.accepted("Both are flushed", tpm.flush(other))
 tpm.accepted("", tpm.flush(again))
-tpm.raw("And there is none: HANDLE/p1", flush(0x0200_0000), flush(0x0200_0001), flush(0x0200_0002))
+flushes("And there is none: HANDLE/p1", 0x0200_0000, 0x0200_0001, 0x0200_0002)

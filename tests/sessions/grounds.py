@@ -3,30 +3,17 @@ grounds are lost in tests/sessions/lost_grounds.tpm. A ground is a password, the
 session, or a policy session whose policy holds.
 """
 
-from dataclasses import dataclass
-from typing import Callable
+from functools import partial
+from typing import Callable, NamedTuple
 
 from tests.common.vocabulary import AUTH_VALUE, BY_OWNER, BY_PLATFORM, BY_POLICY, CC, ENDS, HERE
 from tests.common.vocabulary import name_of, NvAttribute, ObjectAttribute, PASSWORD, policy
 from tests.common.vocabulary import RH_ENDORSEMENT, RH_LOCKOUT, RH_NULL, RH_OWNER, RH_PLATFORM
 from tests.common.vocabulary import sealed, SHA1, SHA256, Use
-from tests.sessions.grounds_caller import (
-    AFTER_AUTH_VALUE,
-    AFTER_LOCALITY_1,
-    AFTER_PCR_16,
-    AT_LOCALITY_1,
-    DATA,
-)
-from tests.sessions.grounds_caller import (
-    OWNER,
-    PCR_16,
-    PIN,
-    SECRET,
-    ZEROS,
-    GroundsCaller,
-    after_code,
-)
-from tests.sessions.grounds_caller import after_equal_data, after_secret
+from tests.sessions.grounds_caller import AFTER_AUTH_VALUE, after_code, after_equal_data
+from tests.sessions.grounds_caller import AFTER_LOCALITY_1, AFTER_PCR_16, after_secret
+from tests.sessions.grounds_caller import AT_LOCALITY_1, DATA, GroundsCaller, OWNER, PCR_16, PIN
+from tests.sessions.grounds_caller import SECRET, ZEROS
 
 USER = ObjectAttribute.USER_WITH_AUTH
 KEPT = 0x8100_0001
@@ -40,12 +27,11 @@ HIERARCHIES = {
 
 tpm = GroundsCaller(__name__, __doc__)
 
+# The null hierarchy has no other use of its value, which is empty.
+at_null = partial(tpm.primary, RH_NULL, sealed(), data=SECRET)
 
-# Authorization values: by a password, and in the key of an HMAC session.
 
-
-@dataclass(frozen=True)
-class Entity:
+class Entity(NamedTuple):
     """What its value authorizes: its handle, a command for it, and how an entry does it."""
 
     words: str
@@ -53,207 +39,77 @@ class Entity:
     command: str
     prepare: Callable
 
-    @property
-    def value(self):
-        return tpm.auth_value(self.handle)
-
-
-def hierarchy(handle):
-    name, value = HIERARCHIES[handle]
-    return Entity(
-        name, handle, "TPM2_HierarchyChangeAuth", lambda by: tpm.change_auth(handle, value, by)
-    )
-
-
-def entities():
-    """All kinds of entities that have an authorization value."""
-    tpm.chapter('The entities of this script. The value of objects and indices is "pin".')
-    for handle, (name, value) in HIERARCHIES.items():
-        what = f'{name}, whose value is empty at first, and "{value.decode("ascii")}" from here on'
-        tpm(what).change_auth(handle, value, b"")
-    loaded = tpm.sealed_object("An object with userWithAuth", attributes=HERE | USER, by=RH_OWNER)
-    tpm.keep("A persistent copy of it", RH_OWNER, loaded, KEPT)
-    to_write = tpm.index("An index with AUTHWRITE", NvAttribute.AUTHWRITE | NvAttribute.OWNERREAD)
-    tpm("It is written").writing(to_write, DATA)
-    said = tpm("One with AUTHREAD, which the owner writes")
-    to_read = said.written_index(NvAttribute.AUTHREAD | NvAttribute.OWNERWRITE)
-    of_owner = tpm.written_index("One with OWNERWRITE and OWNERREAD", BY_OWNER)
-    of_platform = tpm.index("One with PPWRITE and PPREAD", BY_PLATFORM)
-    tpm("It is written").writing(of_platform, DATA, by=RH_PLATFORM)
-
-    def writes(words, asker, index):
-        use = lambda by: tpm.writing(index, DATA, by, by=asker)
-        return Entity(words, asker, "TPM2_NV_Write", use)
-
-    def reads(words, asker, index):
-        use = lambda by: tpm.reading(index, len(DATA), by, by=asker)
-        return Entity(words, asker, "TPM2_NV_Read", use)
-
-    def unseals(words, handle):
-        return Entity(words, handle, "TPM2_Unseal", lambda by: tpm.unsealing(handle, by))
-
-    return (
-        *map(hierarchy, HIERARCHIES),
-        unseals("The object", loaded),
-        unseals("The persistent object", KEPT),
-        writes("The index with AUTHWRITE", to_write, to_write),
-        reads("The index with AUTHREAD", to_read, to_read),
-        writes("The owner, for an index with OWNERWRITE", RH_OWNER, of_owner),
-        reads("The owner, for an index with OWNERREAD", RH_OWNER, of_owner),
-        writes("The platform, for an index with PPWRITE", RH_PLATFORM, of_platform),
-        reads("The platform, for an index with PPREAD", RH_PLATFORM, of_platform),
-    )
-
-
-def at_null(*uses):
-    """The null hierarchy has no other use of its value, which is empty."""
-    return tpm.primary(RH_NULL, sealed(), *uses, data=SECRET)
-
-
-# Policies.
-
-
-@dataclass(frozen=True)
-class Condition:
-    """What a policy asks for: its digest; what a session is told before it authorizes a command,
-    as assertions and the words of them; and what is demanded, and from where the command comes.
-    """
-
-    words: str
-    auth_policy: bytes
-    told: str
-    assertions: Callable
-    demand: str = None
-    locality: int = 0
-
-
-def uses_of(handle, index):
-    """A command on an object that a policy authorizes, and two on an index."""
-    return (
-        ("TPM2_Unseal", lambda by: tpm.unsealing(handle, by)),
-        ("TPM2_NV_Write by POLICYWRITE", lambda by: tpm.writing(index, DATA, by)),
-        ("TPM2_NV_Read by POLICYREAD", lambda by: tpm.reading(index, len(DATA), by)),
-    )
-
 
 def with_policy(auth_policy):
-    """A sealed object and an index that this policy alone authorizes."""
+    """A sealed object, and commands on it and on an index that this policy alone authorizes."""
     handle = tpm.sealed_object("An object and an index with this policy", auth_policy)
-    return handle, tpm.index("", BY_POLICY, auth_policy)
-
-
-def conditions():
-    """In the order of docs/table/policies.md."""
-    branches = AFTER_PCR_16, AFTER_AUTH_VALUE
-    either = policy.after_or(SHA256, branches)
-    one_to_three, three_or_four = 0b01110, 0b11000
-    at_three = policy.after_locality(
-        SHA256, policy.after_locality(SHA256, ZEROS, one_to_three), three_or_four
-    )
-    compared = tpm.written_index("An index that TPM2_PolicyNV looks at", BY_OWNER)
-
-    def pcrs(session, _):
-        return [tpm.pcrs(session, PCR_16)]
-
-    def value(session, _):
-        return [tpm.auth_value_told(session)]
-
-    def or_behind(first):
-        return lambda session, prepared: [
-            *first(session, prepared),
-            tpm.branches(session, *branches),
-        ]
-
-    def secret_of(handle, uses_cp_hash=False, **parameters):
-        def told(session, prepared):
-            cp_hash = tpm.cp_hash(prepared) if uses_cp_hash else b""
-            value = tpm.auth_value(handle)
-            return [tpm.secret(session, value, of=handle, cp_hash=cp_hash, **parameters)]
-
-        return told
-
-    return (
-        Condition(
-            "TPM2_PolicyPCR: no PCR has changed between the assertion and the command.",
-            AFTER_PCR_16,
-            "TPM2_PolicyPCR of PCR 16",
-            pcrs,
-        ),
-        Condition(
-            "TPM2_PolicyOR of two branches. The first one: PCR 16 is as it was.",
-            either,
-            "TPM2_PolicyPCR of PCR 16, TPM2_PolicyOR",
-            or_behind(pcrs),
-        ),
-        Condition(
-            "TPM2_PolicyOR of the same branches. The second one: the value is known.",
-            either,
-            "TPM2_PolicyAuthValue, TPM2_PolicyOR",
-            or_behind(value),
-            AUTH_VALUE,
-        ),
-        Condition(
-            "TPM2_PolicyAuthValue: the value of the entity is in the key of the hmac.",
-            AFTER_AUTH_VALUE,
-            "TPM2_PolicyAuthValue",
-            value,
-            AUTH_VALUE,
-        ),
-        Condition(
-            "TPM2_PolicyPassword: the hmac is the value of the entity in plain.",
-            AFTER_AUTH_VALUE,
-            "TPM2_PolicyPassword",
-            lambda session, _: [tpm.password_told(session)],
-            PASSWORD,
-        ),
-        Condition(
-            "TPM2_PolicyLocality: the command comes from locality 1.",
-            AFTER_LOCALITY_1,
-            "TPM2_PolicyLocality of 1",
-            lambda session, _: [tpm.locality(session, AT_LOCALITY_1)],
-            locality=1,
-        ),
-        Condition(
-            "TPM2_PolicyLocality twice: the command comes from what both have, locality 3.",
-            at_three,
-            "TPM2_PolicyLocality of 1 to 3, of 3 and 4",
-            lambda session, _: [tpm.locality(session, it) for it in (one_to_three, three_or_four)],
-            locality=3,
-        ),
-        Condition(
-            "TPM2_PolicySecret of the owner, with a policyRef: its value was known.",
-            after_secret(name_of(RH_OWNER), REF),
-            "TPM2_PolicySecret",
-            secret_of(RH_OWNER, policy_ref=REF),
-        ),
-        Condition(
-            "TPM2_PolicySecret of the persistent object. It records a cpHash: the command has just "
-            "this one.",
-            after_secret(tpm.name(KEPT)),
-            "TPM2_PolicySecret with the cpHash of the command",
-            secret_of(KEPT, uses_cp_hash=True),
-        ),
-        Condition(
-            "TPM2_PolicyNV: an index held what it was compared with.",
-            after_equal_data(tpm.name(compared)),
-            "TPM2_PolicyNV",
-            lambda session, _: [tpm.comparing(session, compared, DATA, by=RH_OWNER)],
-        ),
+    index = tpm.index("", BY_POLICY, auth_policy)
+    return handle, (
+        ("TPM2_Unseal", partial(tpm.unsealing, handle)),
+        ("TPM2_NV_Write by POLICYWRITE", partial(tpm.writing, index, DATA)),
+        ("TPM2_NV_Read by POLICYREAD", partial(tpm.reading, index, len(DATA))),
     )
 
 
-found = entities()
+def condition(words, auth_policy, told, *assertions, demand=None, locality=0):
+    """What a policy asks for: a session is told the assertions, of which one may be made of the
+    command that it then authorizes; and what is demanded, and from where the command comes.
+    """
+    tpm.chapter(words)
+    handle, commands = with_policy(auth_policy)
+    if locality:
+        tpm.locality_is(locality)
+    for name, prepare in commands:
+        prepared = prepare(Use(session, demand=demand))
+        those = (it(prepared) if callable(it) else it for it in assertions)
+        tpm.asserts(f"{told}, and {name}", *those)
+        tpm.does("", prepared)
+    if locality:
+        tpm.locality_is(0)
+    tpm.flushed(handle)
+
+
+tpm.chapter('The entities of this script. The value of objects and indices is "pin".')
+for handle, (name, value) in HIERARCHIES.items():
+    what = f'{name}, whose value is empty at first, and "{value.decode("ascii")}" from here on'
+    tpm(what).change_auth(handle, value, b"")
+loaded = tpm.sealed_object("An object with userWithAuth", attributes=HERE | USER, by=RH_OWNER)
+tpm.keep("A persistent copy of it", RH_OWNER, loaded, KEPT)
+to_write = tpm.index("An index with AUTHWRITE", NvAttribute.AUTHWRITE | NvAttribute.OWNERREAD)
+tpm("It is written").writing(to_write, DATA)
+said = tpm("One with AUTHREAD, which the owner writes")
+to_read = said.written_index(NvAttribute.AUTHREAD | NvAttribute.OWNERWRITE)
+of_owner = tpm.written_index("One with OWNERWRITE and OWNERREAD", BY_OWNER)
+of_platform = tpm.index("One with PPWRITE and PPREAD", BY_PLATFORM)
+tpm("It is written").writing(of_platform, DATA, by=RH_PLATFORM)
+owner, platform = (f"The {it}, for an index with" for it in ("owner", "platform"))
+write, read, unseal = "TPM2_NV_Write", "TPM2_NV_Read", "TPM2_Unseal"
+writes = lambda index, asker: partial(tpm.writing, index, DATA, by=asker)
+reads = lambda index, asker: partial(tpm.reading, index, len(DATA), by=asker)
+found = (
+    *(
+        Entity(name, it, "TPM2_HierarchyChangeAuth", partial(tpm.change_auth, it, value))
+        for it, (name, value) in HIERARCHIES.items()
+    ),
+    Entity("The object", loaded, unseal, partial(tpm.unsealing, loaded)),
+    Entity("The persistent object", KEPT, unseal, partial(tpm.unsealing, KEPT)),
+    Entity("The index with AUTHWRITE", to_write, write, writes(to_write, to_write)),
+    Entity("The index with AUTHREAD", to_read, read, reads(to_read, to_read)),
+    Entity(f"{owner} OWNERWRITE", RH_OWNER, write, writes(of_owner, RH_OWNER)),
+    Entity(f"{owner} OWNERREAD", RH_OWNER, read, reads(of_owner, RH_OWNER)),
+    Entity(f"{platform} PPWRITE", RH_PLATFORM, write, writes(of_platform, RH_PLATFORM)),
+    Entity(f"{platform} PPREAD", RH_PLATFORM, read, reads(of_platform, RH_PLATFORM)),
+)
 
 tpm.chapter("PASSWORDS. The password is the authorization value of the entity.")
 for entity in found:
-    tpm.does(f"{entity.words}: {entity.command}", entity.prepare(entity.value))
+    tpm.does(f"{entity.words}: {entity.command}", entity.prepare(tpm.auth_value(entity.handle)))
 tpm("A PCR, whose value is always empty: TPM2_PCR_Reset").reset(b"")
 tpm.flushed_new("TPM_RH_NULL, whose is too: TPM2_CreatePrimary", at_null(b""))
 for entity in found[:8]:
     what = "With zeros behind the value, which do not count" if entity is found[0] else ""
-    tpm.does(what, entity.prepare(entity.value + bytes(2)))
+    tpm.does(what, entity.prepare(tpm.auth_value(entity.handle) + bytes(2)))
 tpm("And where it is empty").reset(bytes(32))
-
 
 tpm.chapter(
     "HMAC SESSIONS. The key of the hmac is the session key, which an unbound session has not, "
@@ -277,17 +133,14 @@ tpm.does("Of the persistent object, and the key is the session key", kept.prepar
 tpm.flushed(bound)
 
 tpm.chapter("Key and hmac are both empty: a session bound to nothing, and an empty value.")
-openly = tpm.sealed_object(
-    "An object with userWithAuth, whose value is empty", attributes=HERE | USER, value=b""
-)
+said = tpm("An object with userWithAuth, whose value is empty")
+openly = said.sealed_object(attributes=HERE | USER, value=b"")
 tpm("A PCR: TPM2_PCR_Reset").reset(unbound)
 tpm.flushed_new("TPM_RH_NULL: TPM2_CreatePrimary", at_null(unbound))
 tpm.unseal("The object: TPM2_Unseal", openly, SECRET, unbound)
-shown = Use(unbound, shows_empty_key=True)
-tpm.unseal("Or it is the hmac of the empty key", openly, SECRET, shown)
+tpm.unseal("Or it is the hmac of the empty key", openly, SECRET, Use(unbound, shows_empty_key=True))
 tpm.unseal("A session that has a key shows it", openly, SECRET, other)
 tpm.flushed(openly, unbound, other)
-
 
 tpm.chapter(
     "POLICY SESSIONS, on objects and NV indices: nothing else has a policy. The session is no "
@@ -301,11 +154,10 @@ tpm.chapter(
     "Nothing is demanded: the key of the hmac is the session key alone. Here the policy has no "
     "assertion either: authPolicy is the digest that a session starts with, 32 zeros."
 )
-handle, index = with_policy(ZEROS)
-for name, prepare in uses_of(handle, index):
+handle, commands = with_policy(ZEROS)
+for name, prepare in commands:
     tpm.does(f"{name}: key and hmac are both empty", prepare(session))
-    shown = Use(session, shows_empty_key=True)
-    tpm.does("Or it is the hmac of the empty key", prepare(shown))
+    tpm.does("Or it is the hmac of the empty key", prepare(Use(session, shows_empty_key=True)))
     tpm.does("Or by the session that has a key", prepare(bound))
 tpm.flushed(handle)
 both = tpm.sealed_object("An object with userWithAuth and this policy", ZEROS, HERE | USER)
@@ -313,19 +165,44 @@ tpm.unseal("TPM2_Unseal by the policy", both, SECRET, session)
 tpm.unseal("And by the password", both, SECRET, PIN)
 tpm.flushed(both)
 
-for condition in conditions():
-    # An object and an index are authorized under a condition.
-    tpm.chapter(condition.words)
-    handle, index = with_policy(condition.auth_policy)
-    if condition.locality:
-        tpm.locality_is(condition.locality)
-    for name, prepare in uses_of(handle, index):
-        prepared = prepare(Use(session, demand=condition.demand))
-        tpm.asserts(f"{condition.told}, and {name}", *condition.assertions(session, prepared))
-        tpm.does("", prepared)
-    if condition.locality:
-        tpm.locality_is(0)
-    tpm.flushed(handle)
+# In the order of docs/table/policies.md.
+BRANCHES = AFTER_PCR_16, AFTER_AUTH_VALUE
+EITHER = policy.after_or(SHA256, BRANCHES)
+ONE_TO_THREE, THREE_OR_FOUR = 0b01110, 0b11000
+AFTER_ONE_TO_THREE = policy.after_locality(SHA256, ZEROS, ONE_TO_THREE)
+AT_THREE = policy.after_locality(SHA256, AFTER_ONE_TO_THREE, THREE_OR_FOUR)
+compared = tpm.written_index("An index that TPM2_PolicyNV looks at", BY_OWNER)
+pcr_16, either = tpm.pcrs(session, PCR_16), tpm.branches(session, *BRANCHES)
+value, password = tpm.auth_value_told(session), tpm.password_told(session)
+at_one, one_to_three, three_or_four = (
+    tpm.locality(session, it) for it in (AT_LOCALITY_1, ONE_TO_THREE, THREE_OR_FOUR)
+)
+by_owner = tpm.secret(session, OWNER, of=RH_OWNER, policy_ref=REF)
+by_kept = lambda it: tpm.secret(session, PIN, of=KEPT, cp_hash=tpm.cp_hash(it))
+equal = tpm.comparing(session, compared, DATA, by=RH_OWNER)
+words = "TPM2_PolicyPCR: no PCR has changed between the assertion and the command."
+condition(words, AFTER_PCR_16, "TPM2_PolicyPCR of PCR 16", pcr_16)
+words = "TPM2_PolicyOR of two branches. The first one: PCR 16 is as it was."
+condition(words, EITHER, "TPM2_PolicyPCR of PCR 16, TPM2_PolicyOR", pcr_16, either)
+words = "TPM2_PolicyOR of the same branches. The second one: the value is known."
+told = "TPM2_PolicyAuthValue, TPM2_PolicyOR"
+condition(words, EITHER, told, value, either, demand=AUTH_VALUE)
+words = "TPM2_PolicyAuthValue: the value of the entity is in the key of the hmac."
+condition(words, AFTER_AUTH_VALUE, "TPM2_PolicyAuthValue", value, demand=AUTH_VALUE)
+words = "TPM2_PolicyPassword: the hmac is the value of the entity in plain."
+condition(words, AFTER_AUTH_VALUE, "TPM2_PolicyPassword", password, demand=PASSWORD)
+words = "TPM2_PolicyLocality: the command comes from locality 1."
+condition(words, AFTER_LOCALITY_1, "TPM2_PolicyLocality of 1", at_one, locality=1)
+words = "TPM2_PolicyLocality twice: the command comes from what both have, locality 3."
+told = "TPM2_PolicyLocality of 1 to 3, of 3 and 4"
+condition(words, AT_THREE, told, one_to_three, three_or_four, locality=3)
+words = "TPM2_PolicySecret of the owner, with a policyRef: its value was known."
+condition(words, after_secret(name_of(RH_OWNER), REF), "TPM2_PolicySecret", by_owner)
+words = "TPM2_PolicySecret of the persistent object. It records a cpHash: the command has just this"
+told = "TPM2_PolicySecret with the cpHash of the command"
+condition(f"{words} one.", after_secret(tpm.name(KEPT)), told, by_kept)
+words = "TPM2_PolicyNV: an index held what it was compared with."
+condition(words, after_equal_data(tpm.name(compared)), "TPM2_PolicyNV", equal)
 
 tpm.chapter("What is demanded, with other keys and other values.")
 handle = tpm.sealed_object("An object whose policy is either of the two", AFTER_AUTH_VALUE)
@@ -333,8 +210,7 @@ tpm.asserts_value(bound)
 demanded = Use(bound, demand=AUTH_VALUE)
 tpm.unseal("TPM2_Unseal: the key is the session key and the value", handle, SECRET, demanded)
 tpm.asserts_password(bound)
-demanded = Use(bound, demand=PASSWORD)
-tpm.unseal("TPM2_Unseal by the value, and by no key", handle, SECRET, demanded)
+tpm.unseal("TPM2_Unseal by the value, and by no key", handle, SECRET, Use(bound, demand=PASSWORD))
 to_it = tpm.policy("A policy session bound to the object", bind=handle)
 tpm.asserts_value(to_it)
 said = tpm("TPM2_Unseal: here the value is in the key all the same")
@@ -348,7 +224,6 @@ for told, demand in ((tpm.asserts_value, AUTH_VALUE), (tpm.asserts_password, PAS
     tpm.unseal("TPM2_Unseal by an empty hmac", openly, SECRET, Use(unbound, demand=demand))
 tpm.flushed(unbound, openly)
 
-
 tpm.chapter(
     "TPM2_PolicyCommandCode: the command is the one that is recorded. So an object and two "
     "indices have each a policy of their own. All three are in the USER role."
@@ -358,39 +233,34 @@ said = tpm("An index for TPM2_NV_Write")
 written = said.index(NvAttribute.POLICYWRITE | NvAttribute.OWNERREAD, after_code(CC.NV_Write))
 said = tpm("One for TPM2_NV_Read, which the owner writes")
 read = said.written_index(NvAttribute.POLICYREAD | NvAttribute.OWNERWRITE, after_code(CC.NV_Read))
-for name, code, prepared in (
-    ("TPM2_Unseal", CC.Unseal, lambda: tpm.unsealing(handle, session)),
-    ("TPM2_NV_Write", CC.NV_Write, lambda: tpm.writing(written, DATA, session)),
-    ("TPM2_NV_Read", CC.NV_Read, lambda: tpm.reading(read, len(DATA), session)),
-):
-    tpm.asserts_code(session, code, name)
-    tpm.does(name, prepared())
+tpm.asserts_code(session)
+tpm.unseal("TPM2_Unseal", handle, SECRET, session)
+tpm.asserts_code(session, CC.NV_Write)
+tpm("TPM2_NV_Write").writing(written, DATA, session)
+tpm.asserts_code(session, CC.NV_Read)
+tpm.read("TPM2_NV_Read", read, DATA, session)
 tpm.flushed(handle)
-
 
 tpm.chapter(
     "The ADMIN role, in which TPM2_NV_ChangeAuth alone authorizes: the command is recorded. No "
     "attribute of the index is asked for."
 )
-code, name = CC.NV_ChangeAuth, "TPM2_NV_ChangeAuth"
-recorded = after_code(code)
+recorded = after_code(CC.NV_ChangeAuth)
 index = tpm.index("An index whose policy is that command", BY_OWNER, recorded)
-tpm.asserts_code(session, code, name)
-tpm(name).changing_auth(index, b"new", session)
+tpm.asserts_code(session, CC.NV_ChangeAuth)
+tpm("TPM2_NV_ChangeAuth").changing_auth(index, b"new", session)
 said = tpm("One whose policy has TPM2_PolicyAuthValue or TPM2_PolicyPassword behind it")
 index = said.index(BY_OWNER, policy.after_auth_value(SHA256, recorded))
-tpm.asserts_code(session, code, name)
+tpm.asserts_code(session, CC.NV_ChangeAuth)
 tpm.asserts_value(session)
-said = tpm(f"{name} by the value, and its answer is by the new one")
+said = tpm("TPM2_NV_ChangeAuth by the value, and its answer is by the new one")
 said.changing_auth(index, b"new", Use(session, demand=AUTH_VALUE))
-tpm.asserts_code(session, code, name)
+tpm.asserts_code(session, CC.NV_ChangeAuth)
 tpm.asserts_password(session)
-tpm(f"{name} by it").changing_auth(index, PIN, Use(session, demand=PASSWORD))
-
+tpm("TPM2_NV_ChangeAuth by it").changing_auth(index, PIN, Use(session, demand=PASSWORD))
 
 tpm.chapter("All at once: a PCR, a locality, a command, a cpHash and the value.")
-auth_policy = AFTER_PCR_16
-auth_policy = policy.after_locality(SHA256, auth_policy, AT_LOCALITY_1)
+auth_policy = policy.after_locality(SHA256, AFTER_PCR_16, AT_LOCALITY_1)
 auth_policy = policy.after_command_code(SHA256, auth_policy, CC.NV_Write)
 auth_policy = policy.after_secret(SHA256, auth_policy, name_of(RH_OWNER), b"")
 auth_policy = policy.after_auth_value(SHA256, auth_policy)

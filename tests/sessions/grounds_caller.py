@@ -2,11 +2,11 @@
 indices, whose value is "pin", and the policies that they have.
 """
 
-from tpmsim.caller import HERE, area, sealed
+from tpmsim.caller import area, HERE, sealed
 from tpmsim.model.capability import LOCKOUT_COUNTER, PROPERTIES
-from tpmsim.standard import CC, RH_OWNER, RH_PLATFORM, SHA256, digest, digest_bytes, frames, number
-from tpmsim.standard import policy
-from tests.common.teller import Teller
+from tpmsim.standard import CC, digest, digest_bytes, frames, number, policy, RH_OWNER, RH_PLATFORM
+from tpmsim.standard import SHA256
+from tests.common.policy_teller import PolicyTeller
 
 OWNER, PIN, SECRET, DATA = b"owner", b"pin", b"secret", b"8 bytes."
 PCR_16 = [(SHA256, [16])]
@@ -33,7 +33,7 @@ def after_equal_data(name, old=ZEROS):
     return policy.after_nv(SHA256, old, compared, name)
 
 
-class GroundsCaller(Teller):
+class GroundsCaller(PolicyTeller):
     def __init__(self, name, told, **choices):
         super().__init__(name, told, **choices)
         self.free_indices = iter(range(0x0100_0001, 0x0100_0020))
@@ -77,11 +77,9 @@ class GroundsCaller(Teller):
         """Assertions, in their order."""
         self.says(f"{what}: SUCCESS", *told)
 
-    def asserts_code(self, session, code=CC.Unseal, name="TPM2_Unseal"):
-        self.asserts(f"TPM2_PolicyCommandCode of {name}", self.command_code(session, code))
-
-    def asserts_pcr(self, session):
-        self.asserts("TPM2_PolicyPCR of PCR 16", self.pcrs(session, PCR_16))
+    def asserts_code(self, session, code=CC.Unseal):
+        told = self.command_code(session, code)
+        self.asserts(f"TPM2_PolicyCommandCode of TPM2_{code.name}", told)
 
     def asserts_value(self, session):
         self.asserts("TPM2_PolicyAuthValue", self.auth_value_told(session))

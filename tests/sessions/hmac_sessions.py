@@ -3,19 +3,23 @@ they authorize, and bound to another. Each of their hmacs was computed outside, 
 `entropy` gives new random bytes, so that each command has its own nonces.
 """
 
+from tests.common.policy_teller import PolicyTeller
 from tests.common.vocabulary import CC, ENDS, flipped, frames, NAMES, RH_ENDORSEMENT, RH_OWNER, SHA1
-from tests.common.vocabulary import SHA256, sized, Teller, Use
+from tests.common.vocabulary import SHA256, sized, Use, wrong_in
 
 AUTH = b"owner"
 
-tpm = Teller(__name__, __doc__)
+tpm = PolicyTeller(__name__, __doc__)
+
+
+def other_entry(words, name, *values):
+    """The right command with other values of one part of its entry."""
+    tpm.refused(words, *(right.but_entry(1, **{name: it}) for it in values))
 
 
 tpm.accepted('ownerAuth is "owner" from here on', tpm.change_auth(RH_OWNER, AUTH, b""))
 said = tpm('endorsementAuth is "endorsement"')
 said.accepted(tpm.change_auth(RH_ENDORSEMENT, b"endorsement", b""))
-
-
 for bind, words in (
     (frames.RH_NULL, "to nothing"),
     (RH_OWNER, "to TPM_RH_OWNER"),
@@ -30,25 +34,18 @@ for bind, words in (
         right = tpm.change_auth(RH_OWNER, AUTH, session)
         # Each part of an authorized TPM2_HierarchyChangeAuth with one bit changed.
         entry = right.entries[0]
-        tpm.refused(
-            "A wrong hmac: in its last byte, in its first, of half the length, and of no bytes: "
-            "BAD_AUTH/s1",
-            right.but_entry(1, hmac=flipped(entry.hmac)),
-            right.but_entry(1, hmac=flipped(entry.hmac, 0)),
-            right.but_entry(1, hmac=entry.hmac[: len(entry.hmac) // 2]),
-            right.but_entry(1, hmac=b""),
-        )
-        said = tpm(f"And a byte too long: {'BAD_AUTH' if session.algorithm == SHA1 else 'SIZE'}/s1")
-        said.refused(right.but_entry(1, hmac=entry.hmac + b"\0"))
-        said = tpm("Another nonce than the one that the hmac is of, and none: BAD_AUTH/s1")
-        said.refused(right.but_entry(1, nonce=flipped(entry.nonce)), right.but_entry(1, nonce=b""))
-        said = tpm("Other attributes, without continueSession: BAD_AUTH/s1")
-        said.refused(right.but_entry(1, attributes=ENDS))
-        tpm.refused(
-            "Other parameters, one bit of them or one byte less: BAD_AUTH/s1",
-            right.but(parameters=flipped(right.parameters)),
-            right.but(parameters=sized(AUTH[:-1])),
-        )
+        hmac, nonce = entry.hmac, entry.nonce
+        case = "A wrong hmac: in its last byte, in its first, of half the length, and of no bytes"
+        hmacs = flipped(hmac), flipped(hmac, 0), hmac[: len(hmac) // 2], b""
+        other_entry(f"{case}: BAD_AUTH/s1", "hmac", *hmacs)
+        refusal = "BAD_AUTH/s1" if algorithm == SHA1 else "SIZE/s1"
+        other_entry(f"And a byte too long: {refusal}", "hmac", hmac + b"\0")
+        case = "Another nonce than the one that the hmac is of, and none: BAD_AUTH/s1"
+        other_entry(case, "nonce", flipped(nonce), b"")
+        other_entry("Other attributes, without continueSession: BAD_AUTH/s1", "attributes", ENDS)
+        texts = flipped(right.parameters), sized(AUTH[:-1])
+        said = tpm("Other parameters, one bit of them or one byte less: BAD_AUTH/s1")
+        said.refused(*(right.but(parameters=it) for it in texts))
         said = tpm("Another command, TPM2_PCR_Event, with the handle PCR 16: BAD_AUTH/s1")
         said.refused(right.but(code=CC.PCR_Event, handles=[16]))
         said = tpm("Another handle, TPM_RH_ENDORSEMENT: BAD_AUTH/s1")
@@ -60,29 +57,18 @@ for bind, words in (
         tpm("It is no more: REFERENCE_S0").change_auth(RH_OWNER, AUTH, session)
 
 tpm.chapter("What is in the key of an hmac.")
+changing = tpm.change_auth, RH_OWNER, AUTH
 bound = tpm.start("A session bound to TPM_RH_OWNER", RH_OWNER)
 other = tpm.start("Another one, bound to TPM_RH_ENDORSEMENT", RH_ENDORSEMENT)
 unbound = tpm.start("And one that is unbound")
-
-
-def with_key(key, build, *arguments):
-    """A command whose hmac has another key than the rule gives."""
-    with tpm.breaking(key=lambda *_: key):
-        return build(*arguments)
-
-
 said = tpm("Bound to the entity, and its authorization value in the key all the same: BAD_AUTH/s1")
-said.refused(with_key(bound.key + AUTH, tpm.change_auth, RH_OWNER, AUTH, bound))
-tpm.refused(
-    "Bound to another, without the entity's value, and with the value of that other one: "
-    "BAD_AUTH/s1",
-    with_key(other.key, tpm.change_auth, RH_OWNER, AUTH, other),
-    with_key(other.key + b"endorsement", tpm.change_auth, RH_OWNER, AUTH, other),
-)
-tpm.refused(
-    "Unbound, without the entity's value, and by no hmac at all: BAD_AUTH/s1",
-    with_key(b"", tpm.change_auth, RH_OWNER, AUTH, Use(unbound, shows_empty_key=True)),
-    with_key(b"", tpm.change_auth, RH_OWNER, AUTH, unbound),
+said.refused(tpm.with_key(bound.key + AUTH, *changing, bound))
+case = "Bound to another, without the entity's value, and with the value of that other one"
+keys = other.key, other.key + b"endorsement"
+tpm.refused(f"{case}: BAD_AUTH/s1", *(tpm.with_key(it, *changing, other) for it in keys))
+said = tpm("Unbound, without the entity's value, and by no hmac at all: BAD_AUTH/s1")
+said.refused(
+    *(tpm.with_key(b"", *changing, it) for it in (Use(unbound, shows_empty_key=True), unbound))
 )
 for session, words in ((bound, "bound to it"), (other, "bound to another"), (unbound, "unbound")):
     tpm(f"As the rule is, {words}").change_auth(RH_OWNER, AUTH, session)
@@ -91,8 +77,7 @@ said.change_auth(RH_ENDORSEMENT, b"endorsement", bound)
 tpm("And on PCR 16, whose authorization value is empty").reset(bound)
 
 tpm.chapter("A refused command leaves the session's nonce, whatever refused it.")
-tried = tpm.reset(bound, pcr=0)
-tpm.refused("TPM2_PCR_Reset of PCR 0, which has a right hmac: LOCALITY", tried)
+tpm.refused("TPM2_PCR_Reset of PCR 0, which has a right hmac: LOCALITY", tpm.reset(bound, pcr=0))
 said = tpm("The same without continueSession, and the session does not end: LOCALITY")
 said.reset(Use(bound, ENDS), pcr=0)
 tpm("TPM2_PCR_Event of 1,025 bytes, with a right hmac: SIZE/p1").event(bytes(1025), bound)
@@ -104,11 +89,8 @@ tpm.chapter("Empty keys: an unbound session on an entity whose authorization val
 tpm("An empty hmac, which is answered by an empty one").reset(unbound)
 tpm("An hmac by the empty key, which is answered by one").reset(Use(unbound, shows_empty_key=True))
 shown = tpm.reset(Use(unbound, shows_empty_key=True))
-tpm.refused(
-    "A wrong one, here one byte, and with a wrong bit: BAD_AUTH/s1",
-    shown.but_entry(1, hmac=b"\0"),
-    shown.but_entry(1, hmac=flipped(shown.entries[0].hmac)),
-)
+case = "A wrong one, here one byte, and with a wrong bit: BAD_AUTH/s1"
+tpm.refused(case, shown.but_entry(1, hmac=b"\0"), wrong_in(shown))
 tpm.accepted("The right one", shown)
 said = tpm("With no hmac where the key is that of a session bound to TPM_RH_OWNER: BAD_AUTH/s1")
 said.refused(tpm.reset(bound).but_entry(1, hmac=b""))
@@ -125,8 +107,7 @@ tpm.chapter("Sessions that authorize nothing, as entries of TPM2_GetRandom.")
 tpm("One, bound to TPM_RH_OWNER").random(4, bound)
 tpm("Three, of which the unbound one has an empty hmac").random(4, other, unbound, bound)
 wrong = tpm.random(4, other, unbound, bound)
-said = tpm("The third with a wrong hmac: BAD_AUTH/s3")
-said.refused(wrong.but_entry(3, hmac=flipped(wrong.entries[2].hmac)))
+tpm.refused("The third with a wrong hmac: BAD_AUTH/s3", wrong_in(wrong, 3))
 tpm.refused("The unbound one with a wrong hmac: BAD_AUTH/s2", wrong.but_entry(2, hmac=bytes(32)))
 tpm.accepted("The right ones", wrong)
 tpm("TPM2_PCR_Reset by a password, and two sessions beside it").reset(b"", other, bound)
@@ -156,12 +137,8 @@ tpm.accepted("Once more, and the random bytes are others", again)
 tpm.refused("So it is not accepted again: BAD_AUTH/s1", again)
 
 tpm.chapter("The longest response that there is, 601 bytes.")
-tpm(
-    "TPM2_PCR_Read of sixteen banks, with three sessions of SHA-256 and nonces of 32 bytes"
-).prepare(
-    CC.PCR_Read,
-    [],
-    frames.selection((SHA256, range(8)), *15 * [(SHA256, range(24))]),
-    *(tpm.start("A session with a nonce of 32 bytes", RH_OWNER, size=32) for _ in range(3)),
-)
+banks = frames.selection((SHA256, range(8)), *15 * [(SHA256, range(24))])
+three = [tpm.start("A session with a nonce of 32 bytes", RH_OWNER, size=32) for _ in range(3)]
+said = tpm("TPM2_PCR_Read of sixteen banks, with three sessions of SHA-256 and nonces of 32 bytes")
+said.prepare(CC.PCR_Read, [], banks, *three)
 assert len(tpm.last.response) == 601

@@ -9,23 +9,10 @@ from tests.common.vocabulary import AUTH_VALUE, BY_OWNER, BY_POLICY, BY_VALUE, C
 from tests.common.vocabulary import frames, HERE, name_of, NvAttribute, ObjectAttribute, PASSWORD
 from tests.common.vocabulary import policy, RH_ENDORSEMENT, RH_LOCKOUT, RH_NULL, RH_OWNER
 from tests.common.vocabulary import RH_PLATFORM, sealed, SHA1, SHA256, Use
-from tests.sessions.grounds_caller import (
-    AFTER_AUTH_VALUE,
-    AFTER_LOCALITY_1,
-    AFTER_PCR_16,
-    AT_LOCALITY_1,
-    DATA,
-)
-from tests.sessions.grounds_caller import (
-    OWNER,
-    PCR_16,
-    PIN,
-    SECRET,
-    ZEROS,
-    GroundsCaller,
-    after_code,
-)
-from tests.sessions.grounds_caller import after_equal_data, after_secret
+from tests.sessions.grounds_caller import AFTER_AUTH_VALUE, after_code, after_equal_data
+from tests.sessions.grounds_caller import AFTER_LOCALITY_1, AFTER_PCR_16, after_secret
+from tests.sessions.grounds_caller import AT_LOCALITY_1, DATA, GroundsCaller, OWNER, PCR_16, PIN
+from tests.sessions.grounds_caller import SECRET, ZEROS
 
 USER = ObjectAttribute.USER_WITH_AUTH
 AFTER_UNSEAL = after_code(CC.Unseal)
@@ -36,208 +23,43 @@ tpm = GroundsCaller(__name__, __doc__, tries=True)
 lost = tpm.lost
 
 
-# Passwords and HMAC sessions.
-
-
-def with_key(key, prepare, *arguments):
-    """A command with an hmac under another key than the rule gives."""
-    with tpm.breaking(key=lambda *_: key):
-        return prepare(*arguments)
-
-
 def by_key(key, handle, session):
-    return with_key(key, tpm.unsealing, handle, Use(session, shows_empty_key=True))
+    return tpm.with_key(key, tpm.unsealing, handle, Use(session, shows_empty_key=True))
 
 
-def other_texts(index, unbound):
-    tpm.chapter("AN HMAC. It is of another text: here TPM2_NV_Write of a protected index.")
-    old = tpm.writing(index, DATA, unbound)
-    tpm.does("Right, and the nonceTPM is new", old)
-    lost("With the nonceTPM of before: AUTH_FAIL/s1", old)
-    other = tpm.written_index("Another index, with the same attributes", BY_OWNER | BY_VALUE)
-    right = tpm.writing(index, DATA, unbound)
-    entry = right.entries[0]
-    for what, *bent in (
-        (
-            "Another hmac: by its last bit, by its first byte, and half of it",
-            right.but_entry(1, hmac=flipped(entry.hmac)),
-            right.but_entry(1, hmac=flipped(entry.hmac, 0)),
-            right.but_entry(1, hmac=entry.hmac[:16]),
-        ),
-        (
-            "Another nonceCaller, and none",
-            right.but_entry(1, nonce=flipped(entry.nonce)),
-            right.but_entry(1, nonce=b""),
-        ),
-        ("Other attributes: the session ends", right.but_entry(1, attributes=ENDS)),
-        ("Other parameters", right.but(parameters=frames.nv_write(DATA[::-1]))),
-        ("Another handle, which has another Name", right.but(handles=[other, other])),
-        ("Another command, TPM2_NV_Increment", right.but(code=CC.NV_Increment)),
-    ):
-        lost(f"{what}: AUTH_FAIL/s1", *bent)
-    tpm.does("Right, by the nonceTPM that is the same since the first", right)
+def told_pcr(words):
+    said = tpm(f"TPM2_PolicyRestart, TPM2_PolicyPCR, and {words}")
+    said.asserts(tpm.restart(session), tpm.pcrs(session, PCR_16))
 
 
-def other_keys(handle, unbound):
-    tpm.chapter("One under another key: here TPM2_Unseal of a protected object.")
-    bound = tpm.start("A session bound to the object", handle)
-    other = tpm.start("One bound to TPM_RH_ENDORSEMENT", RH_ENDORSEMENT)
-    case = "Unbound, with another value in the key, and with none: AUTH_FAIL/s1"
-    lost(case, by_key(b"other", handle, unbound), by_key(b"", handle, unbound))
-    tpm.unseal("With the value", handle, SECRET, unbound)
-    lost(
-        "Bound to the object, with the value in the key all the same, and by another session's "
-        "key: AUTH_FAIL/s1",
-        by_key(bound.key + PIN, handle, bound),
-        by_key(other.key, handle, bound),
-    )
-    tpm.unseal("By the session key alone", handle, SECRET, bound)
-    lost("Bound to another, without the value: AUTH_FAIL/s1", by_key(other.key, handle, other))
-    tpm.unseal("With it", handle, SECRET, other)
-
-    tpm.chapter("An empty one, where there is a key.")
-    for session, words in ((unbound, "the value"), (bound, "the session key")):
-        empty = tpm.unsealing(handle, session).but_entry(1, hmac=b"")
-        lost(f"The key is {words}: AUTH_FAIL/s1", empty)
-    tpm.flushed(bound, other)
+def is_lost(words, write):
+    told_pcr(words)
+    tpm.does("", write)
+    lost("TPM2_Unseal: PCR_CHANGED", tpm.unsealing(handle, session))
 
 
-# Policy sessions: the conditions of a use, in the order of docs/table/policies.md.
+def asserts_secret(words, cp_hash):
+    said = tpm(f"TPM2_PolicySecret with the cpHash of {words}")
+    said.secret(session, OWNER, of=RH_OWNER, cp_hash=cp_hash)
 
 
 def extending(pcr, *values):
     return tpm.prepare(CC.PCR_Extend, [pcr], digests(*values), b"")
 
 
-def changed_pcrs(session):
-    tpm.chapter("A PCR was written behind TPM2_PolicyPCR (condition 3), here of PCR 16.")
-    handle = tpm.sealed_object("An object whose policy is that PCR 16 is zeros", AFTER_PCR_16)
-    value = SHA256, b"\1" * 32
-
-    def told(words):
-        said = tpm(f"TPM2_PolicyRestart, TPM2_PolicyPCR, and {words}")
-        said.asserts(tpm.restart(session), tpm.pcrs(session, PCR_16))
-
-    def is_lost(words, write):
-        told(words)
-        tpm.does("", write)
-        lost("TPM2_Unseal: PCR_CHANGED", tpm.unsealing(handle, session))
-
-    is_lost("TPM2_PCR_Extend of PCR 16", extending(16, value))
-    told("no more")
-    other = tpm.unsealing(handle, session)
-    lost("TPM2_Unseal: POLICY_FAIL/s1, as the digest is another", other)
-    tpm("TPM2_PCR_Reset of PCR 16 makes it zeros").reset(b"")
-    is_lost("TPM2_PCR_Reset of PCR 16, which is zeros already", tpm.reset(b""))
-    is_lost("TPM2_PCR_Event of PCR 23, which is not selected", tpm.event(b"event", b"", pcr=23))
-    is_lost("TPM2_Clear, which writes none", tpm.clearing(RH_PLATFORM))
-    tpm('ownerAuth is "owner" again').change_auth(RH_OWNER, OWNER, b"")
-    told("what neither writes one nor clears")
-    tpm.says("SUCCESS", extending(16), tpm.event(b"event", b"", pcr=RH_NULL))
-    tpm.unseal("TPM2_Unseal", handle, SECRET, session)
-
-    tpm.chapter("And behind TPM2_PolicyOR, which leaves of the branch the condition.")
-    branches = AFTER_PCR_16, AFTER_UNSEAL
-    either = tpm.sealed_object("An object with its policy", policy.after_or(SHA256, branches))
-    both = tpm.pcrs(session, PCR_16), tpm.branches(session, *branches)
-    tpm.asserts("TPM2_PolicyPCR and TPM2_PolicyOR", *both)
-    tpm("TPM2_PCR_Event of PCR 23").event(b"event", b"", pcr=23)
-    lost("TPM2_Unseal: PCR_CHANGED", tpm.unsealing(either, session))
-    tpm.asserts("Both from the start", tpm.restart(session), *both)
-    tpm.unseal("TPM2_Unseal", either, SECRET, session)
-    tpm.flushed(handle, either)
-
-
-def other_cp_hashes(session):
-    tpm.chapter(
-        "The command has another cpHash than TPM2_PolicySecret has recorded (condition 5). The "
-        "policy digest is the same for each."
-    )
-    auth_policy = after_secret(name_of(RH_OWNER))
-    first = tpm.index("An index with this policy", BY_POLICY, auth_policy)
-    second = tpm.index("Another one", BY_POLICY, auth_policy)
-    writing = lambda: tpm.writing(first, DATA, session)
-    before = tpm.cp_hash(writing())
-
-    def asserts(words, cp_hash):
-        told = tpm.secret(session, OWNER, of=RH_OWNER, cp_hash=cp_hash)
-        tpm.does(f"TPM2_PolicySecret with the cpHash of {words}", told)
-
-    asserts("TPM2_NV_Write of the first one", before)
-    lost("Other parameters: POLICY_FAIL/s1", tpm.writing(first, DATA[::-1], session))
-    lost("Another handle: POLICY_FAIL/s1", tpm.writing(second, DATA, session))
-    lost("Another command: POLICY_FAIL/s1", tpm.reading(first, 8, session))
-    tpm.does("TPM2_NV_Write of the first one", writing())
-    asserts("before", before)
-    lost("The same, of the Name that the first write gave it: POLICY_FAIL/s1", writing())
-    tpm.restarts(session)
-    asserts("now", tpm.cp_hash(writing()))
-    tpm.does("TPM2_NV_Write", writing())
-
-
-def other_digests(session):
-    """A policy of four assertions, of which one at a time is another."""
-    tpm.chapter("The policy digest is not the authPolicy (condition 8): an assertion differs.")
-    compared = tpm.written_index("An index that TPM2_PolicyNV looks at", BY_OWNER)
-    auth_policy = policy.after_locality(SHA256, AFTER_PCR_16, AT_LOCALITY_0_OR_1)
-    auth_policy = policy.after_secret(SHA256, auth_policy, name_of(RH_OWNER), b"disk")
-    auth_policy = after_equal_data(tpm.name(compared), auth_policy)
-    handle = tpm.sealed_object("An object with a policy of four assertions", auth_policy)
-    use = lambda: tpm.unsealing(handle, session)
-    restart = tpm.restart(session)
-
-    def secret(of=RH_OWNER, policy_ref=b"disk"):
-        value = tpm.auth_value(of)
-        return tpm.secret(session, value, of=of, policy_ref=policy_ref)
-
-    def nv(operation=EQUAL):
-        return tpm.comparing(session, compared, DATA, operation=operation, by=RH_OWNER)
-
-    pcrs, localities = tpm.pcrs(session, PCR_16), tpm.locality(session, AT_LOCALITY_0_OR_1)
-    all_localities = tpm.locality(session, ALL_LOCALITIES)
-    lost("Nothing is asserted: POLICY_FAIL/s1", use())
-    for what, *told in (
-        (
-            "PCR 23 in place of PCR 16, both zeros",
-            tpm.pcrs(session, [(SHA256, [23])]),
-            localities,
-            secret(),
-            nv(),
-        ),
-        ("All localities in place of two", pcrs, all_localities, secret(), nv()),
-        ("The value of another entity", pcrs, localities, secret(of=RH_ENDORSEMENT), nv()),
-        ("Another policyRef", pcrs, localities, secret(policy_ref=b"tape"), nv()),
-        ("At least the data, in place of just them", pcrs, localities, secret(), nv(AT_LEAST)),
-        ("One assertion less", pcrs, localities, secret()),
-        ("One more", pcrs, localities, secret(), nv(), all_localities),
-        ("Another order", localities, pcrs, secret(), nv()),
-        ("Just the policy, and TPM2_PolicyRestart", pcrs, localities, secret(), nv(), restart),
-    ):
-        tpm.asserts(what, restart, *told)
-        lost("TPM2_Unseal: POLICY_FAIL/s1", use())
-    tpm.asserts("Just the policy", pcrs, localities, secret(), nv())
-    tpm.does("TPM2_Unseal", use())
-    lost("Once more: POLICY_FAIL/s1, as it has counted for one command", use())
-    tpm.flushed(handle)
-    return compared
-
-
 tpm('ownerAuth is "owner" from here on').change_auth(RH_OWNER, OWNER, b"")
 openly = tpm.sealed_object("A protected object with userWithAuth", attributes=HERE | USER)
 hmac = tpm.start("An HMAC session, which is unbound")
 
-handle = openly
 tpm.chapter("PASSWORDS. The password is not the value. Protected is what has no noDA.")
 lost("A hierarchy: BAD_AUTH/s1", tpm.change_auth(RH_OWNER, OWNER, b"other"))
 tpm("By the value").change_auth(RH_OWNER, OWNER, OWNER)
 lost("A PCR, whose value is empty: BAD_AUTH/s1", tpm.reset(b"other"))
 tpm("By the empty one").reset(b"")
-lost(
-    "A protected object: another password, a part of the value, more than it, and none: "
-    "AUTH_FAIL/s1",
-    *(tpm.unsealing(handle, it) for it in (b"other", PIN[:-1], PIN + b"1", b"")),
-)
-tpm.unseal("By the value", handle, SECRET, PIN)
+passwords = b"other", PIN[:-1], PIN + b"1", b""
+case = "A protected object: another password, a part of the value, more than it, and none"
+lost(f"{case}: AUTH_FAIL/s1", *(tpm.unsealing(openly, it) for it in passwords))
+tpm.unseal("By the value", openly, SECRET, PIN)
 for words, attributes, outcome in (
     ("A protected index", BY_VALUE, "AUTH_FAIL/s1"),
     ("An index with NO_DA", BY_VALUE | NvAttribute.NO_DA, "BAD_AUTH/s1"),
@@ -246,66 +68,95 @@ for words, attributes, outcome in (
     lost(f"By another password: {outcome}", tpm.writing(index, DATA, b"other"))
     tpm("By the value").writing(index, DATA)
 
-
 tpm.chapter("THE VALUE IS OF NO USE. It is right, in a password and in an HMAC session.")
 closed = tpm.sealed_object("An object without userWithAuth", AFTER_UNSEAL)
-lost("TPM2_Unseal: AUTH_UNAVAILABLE", tpm.unsealing(closed, PIN), tpm.unsealing(closed, hmac))
+lost("TPM2_Unseal: AUTH_UNAVAILABLE", *(tpm.unsealing(closed, it) for it in (PIN, hmac)))
 usable = tpm.sealed_object("The same with userWithAuth", AFTER_UNSEAL, HERE | USER)
 tpm.unseal("TPM2_Unseal by the password", usable, SECRET, PIN)
 tpm.unseal("And by the HMAC session", usable, SECRET, hmac)
 tpm.flushed(closed, usable)
 said = tpm("An index with AUTHWRITE and without AUTHREAD")
 to_write = said.written_index(NvAttribute.AUTHWRITE | BY_OWNER)
-case = "TPM2_NV_Read: AUTH_UNAVAILABLE"
-lost(case, tpm.reading(to_write, 8, PIN), tpm.reading(to_write, 8, hmac))
+lost("TPM2_NV_Read: AUTH_UNAVAILABLE", *(tpm.reading(to_write, 8, it) for it in (PIN, hmac)))
 tpm("TPM2_NV_Write").writing(to_write, DATA, PIN)
 said = tpm("One with AUTHREAD and without AUTHWRITE")
 to_read = said.written_index(NvAttribute.AUTHREAD | BY_OWNER)
-case = "TPM2_NV_Write: AUTH_UNAVAILABLE"
-lost(case, tpm.writing(to_read, DATA, PIN), tpm.writing(to_read, DATA, hmac))
+lost("TPM2_NV_Write: AUTH_UNAVAILABLE", *(tpm.writing(to_read, DATA, it) for it in (PIN, hmac)))
 tpm.read("TPM2_NV_Read", to_read, DATA, PIN)
 said = tpm("One whose policy is the command TPM2_NV_ChangeAuth")
 admin = said.index(BY_VALUE, after_code(CC.NV_ChangeAuth))
 case = "TPM2_NV_ChangeAuth, which is in the ADMIN role: AUTH_UNAVAILABLE"
-lost(case, tpm.changing_auth(admin, PIN, PIN), tpm.changing_auth(admin, PIN, hmac))
+lost(case, *(tpm.changing_auth(admin, PIN, it) for it in (PIN, hmac)))
 tpm("TPM2_NV_Write, in the USER role").writing(admin, DATA, PIN)
-tpm.refused_by(
-    "A1",
-    "The owner, for this index without OWNERREAD, is refused by the command: NV_AUTHORIZATION",
-    tpm.reading(admin, 8, by=RH_OWNER),
-)
+case = "The owner, for this index without OWNERREAD, is refused by the command: NV_AUTHORIZATION"
+tpm.refused_by("A1", case, tpm.reading(admin, 8, by=RH_OWNER))
 tpm.read("And not for one that has it", to_read, DATA, by=RH_OWNER)
 
-other_texts(to_write, hmac)
-other_keys(openly, hmac)
+tpm.chapter("AN HMAC. It is of another text: here TPM2_NV_Write of a protected index.")
+old = tpm.writing(to_write, DATA, hmac)
+tpm.does("Right, and the nonceTPM is new", old)
+lost("With the nonceTPM of before: AUTH_FAIL/s1", old)
+other = tpm.written_index("Another index, with the same attributes", BY_OWNER | BY_VALUE)
+right = tpm.writing(to_write, DATA, hmac)
+entry = right.entries[0]
+hmacs = flipped(entry.hmac), flipped(entry.hmac, 0), entry.hmac[:16]
+case = "Another hmac: by its last bit, by its first byte, and half of it: AUTH_FAIL/s1"
+lost(case, *(right.but_entry(1, hmac=it) for it in hmacs))
+nonces = flipped(entry.nonce), b""
+case = "Another nonceCaller, and none: AUTH_FAIL/s1"
+lost(case, *(right.but_entry(1, nonce=it) for it in nonces))
+for what, bent in (
+    ("Other attributes: the session ends", right.but_entry(1, attributes=ENDS)),
+    ("Other parameters", right.but(parameters=frames.nv_write(DATA[::-1]))),
+    ("Another handle, which has another Name", right.but(handles=[other, other])),
+    ("Another command, TPM2_NV_Increment", right.but(code=CC.NV_Increment)),
+):
+    lost(f"{what}: AUTH_FAIL/s1", bent)
+tpm.does("Right, by the nonceTPM that is the same since the first", right)
+
+tpm.chapter("One under another key: here TPM2_Unseal of a protected object.")
+bound = tpm.start("A session bound to the object", openly)
+other = tpm.start("One bound to TPM_RH_ENDORSEMENT", RH_ENDORSEMENT)
+case = "Unbound, with another value in the key, and with none: AUTH_FAIL/s1"
+lost(case, by_key(b"other", openly, hmac), by_key(b"", openly, hmac))
+tpm.unseal("With the value", openly, SECRET, hmac)
+keys = bound.key + PIN, other.key
+case = "Bound to the object, with the value in the key all the same, and by another session's key"
+lost(f"{case}: AUTH_FAIL/s1", *(by_key(it, openly, bound) for it in keys))
+tpm.unseal("By the session key alone", openly, SECRET, bound)
+lost("Bound to another, without the value: AUTH_FAIL/s1", by_key(other.key, openly, other))
+tpm.unseal("With it", openly, SECRET, other)
+
+tpm.chapter("An empty one, where there is a key.")
+for session, words in ((hmac, "the value"), (bound, "the session key")):
+    lost(f"The key is {words}: AUTH_FAIL/s1", tpm.unsealing(openly, session).but_entry(1, hmac=b""))
+tpm.flushed(bound, other)
 
 tpm.chapter("A binding that has lapsed, by another value or by another Name.")
 bound = tpm.start("A session bound to the owner", RH_OWNER)
 tpm("ownerAuth is another").change_auth(RH_OWNER, b"other", OWNER)
 changing = tpm.change_auth, RH_OWNER, OWNER, bound
-lost("Without the value in the key: BAD_AUTH/s1", with_key(bound.key, *changing))
+lost("Without the value in the key: BAD_AUTH/s1", tpm.with_key(bound.key, *changing))
 tpm("With it, and ownerAuth is as it was").change_auth(RH_OWNER, OWNER, bound)
 tpm("Without it, as it holds again").change_auth(RH_OWNER, OWNER, bound)
 index = tpm.index("An index that is not written", BY_VALUE)
 to_index = tpm.start("A session bound to it", index)
 tpm("TPM2_NV_Write gives it another Name").writing(index, DATA)
 writing = tpm.writing, index, DATA, to_index
-lost("Without the value in the key: AUTH_FAIL/s1", with_key(to_index.key, *writing))
+lost("Without the value in the key: AUTH_FAIL/s1", tpm.with_key(to_index.key, *writing))
 tpm("With it").writing(index, DATA, to_index)
 tpm.flushed(bound, to_index)
 
 named = tpm.sealed_object("An object whose policy is the command TPM2_Unseal", AFTER_UNSEAL)
 session = tpm.policy("A policy session, which is unbound")
 
-handle = named
 tpm.chapter("A POLICY. The session is a trial session (condition 1).")
 trial = tpm.trial("It is started")
 tpm.asserts_code(trial)
-lost("TPM2_Unseal by it: ATTRIBUTES/s1", tpm.unsealing(handle, trial))
+lost("TPM2_Unseal by it: ATTRIBUTES/s1", tpm.unsealing(named, trial))
 tpm.asserts_code(session)
-tpm.unseal("By a policy session", handle, SECRET, session)
+tpm.unseal("By a policy session", named, SECRET, session)
 tpm.flushed(trial)
-
 
 tpm.chapter("The entity cannot have a policy (condition 2). No policy is asserted here.")
 lost("An object with an empty authPolicy: AUTH_UNAVAILABLE", tpm.unsealing(openly, session))
@@ -322,38 +173,78 @@ for words, attributes, auth_policy, authorized in (
     ("One of 32 zeros, without POLICYWRITE", NvAttribute.POLICYREAD, ZEROS, CC.NV_Read),
 ):
     index = tpm.written_index(words, attributes | BY_OWNER, auth_policy)
-    for code, name, prepare in (
-        (CC.NV_Write, "TPM2_NV_Write", lambda: tpm.writing(index, DATA, session)),
-        (CC.NV_Read, "TPM2_NV_Read", lambda: tpm.reading(index, 8, session)),
-    ):
-        if code == authorized:
-            tpm.does(name, prepare())
+    for prepared in (tpm.writing(index, DATA, session), tpm.reading(index, 8, session)):
+        name = f"TPM2_{prepared.code.name}"
+        if prepared.code == authorized:
+            tpm.does(name, prepared)
         else:
-            lost(f"{name}: AUTH_UNAVAILABLE", prepare())
+            lost(f"{name}: AUTH_UNAVAILABLE", prepared)
 
-changed_pcrs(session)
+tpm.chapter("A PCR was written behind TPM2_PolicyPCR (condition 3), here of PCR 16.")
+handle = tpm.sealed_object("An object whose policy is that PCR 16 is zeros", AFTER_PCR_16)
+value = SHA256, b"\1" * 32
+
+is_lost("TPM2_PCR_Extend of PCR 16", extending(16, value))
+told_pcr("no more")
+lost("TPM2_Unseal: POLICY_FAIL/s1, as the digest is another", tpm.unsealing(handle, session))
+tpm("TPM2_PCR_Reset of PCR 16 makes it zeros").reset(b"")
+is_lost("TPM2_PCR_Reset of PCR 16, which is zeros already", tpm.reset(b""))
+is_lost("TPM2_PCR_Event of PCR 23, which is not selected", tpm.event(b"event", b"", pcr=23))
+is_lost("TPM2_Clear, which writes none", tpm.clearing(RH_PLATFORM))
+tpm('ownerAuth is "owner" again').change_auth(RH_OWNER, OWNER, b"")
+told_pcr("what neither writes one nor clears")
+tpm.says("SUCCESS", extending(16), tpm.event(b"event", b"", pcr=RH_NULL))
+tpm.unseal("TPM2_Unseal", handle, SECRET, session)
+
+tpm.chapter("And behind TPM2_PolicyOR, which leaves of the branch the condition.")
+branches = AFTER_PCR_16, AFTER_UNSEAL
+either = tpm.sealed_object("An object with its policy", policy.after_or(SHA256, branches))
+both = tpm.pcrs(session, PCR_16), tpm.branches(session, *branches)
+tpm.asserts("TPM2_PolicyPCR and TPM2_PolicyOR", *both)
+tpm("TPM2_PCR_Event of PCR 23").event(b"event", b"", pcr=23)
+lost("TPM2_Unseal: PCR_CHANGED", tpm.unsealing(either, session))
+tpm.asserts("Both from the start", tpm.restart(session), *both)
+tpm.unseal("TPM2_Unseal", either, SECRET, session)
+tpm.flushed(handle, either)
 
 tpm.chapter("The command is another than the one recorded (condition 4).")
 said = tpm("An index whose policy is TPM2_NV_Read")
 index = said.written_index(BY_POLICY | BY_OWNER, after_code(CC.NV_Read))
-tpm.asserts_code(session, CC.NV_Read, "TPM2_NV_Read")
+tpm.asserts_code(session, CC.NV_Read)
 lost("TPM2_NV_Write: POLICY_CC/s1", tpm.writing(index, DATA, session))
 tpm.read("TPM2_NV_Read", index, DATA, session)
-
 
 tpm.chapter("The ADMIN role, and no command is recorded (condition 5), or another.")
 index = tpm.index("An index whose authPolicy is 32 zeros", BY_POLICY, ZEROS)
 lost("TPM2_NV_ChangeAuth: POLICY_FAIL/s1", tpm.changing_auth(index, PIN, session))
 tpm("TPM2_NV_Write, in the USER role").writing(index, DATA, session)
-said = tpm("One whose policy is TPM2_NV_ChangeAuth")
-admin = said.index(BY_POLICY, after_code(CC.NV_ChangeAuth))
-tpm.asserts_code(session, CC.NV_Read, "TPM2_NV_Read")
+admin = tpm("One whose policy is TPM2_NV_ChangeAuth").index(BY_POLICY, after_code(CC.NV_ChangeAuth))
+tpm.asserts_code(session, CC.NV_Read)
 lost("TPM2_NV_ChangeAuth: POLICY_CC/s1", tpm.changing_auth(admin, PIN, session))
 tpm.restarts(session)
-tpm.asserts_code(session, CC.NV_ChangeAuth, "TPM2_NV_ChangeAuth")
+tpm.asserts_code(session, CC.NV_ChangeAuth)
 tpm("TPM2_NV_ChangeAuth").changing_auth(admin, PIN, session)
 
-other_cp_hashes(session)
+tpm.chapter(
+    "The command has another cpHash than TPM2_PolicySecret has recorded (condition 5). The "
+    "policy digest is the same for each."
+)
+auth_policy = after_secret(name_of(RH_OWNER))
+first = tpm.index("An index with this policy", BY_POLICY, auth_policy)
+second = tpm.index("Another one", BY_POLICY, auth_policy)
+writing = lambda: tpm.writing(first, DATA, session)
+before = tpm.cp_hash(writing())
+
+asserts_secret("TPM2_NV_Write of the first one", before)
+lost("Other parameters: POLICY_FAIL/s1", tpm.writing(first, DATA[::-1], session))
+lost("Another handle: POLICY_FAIL/s1", tpm.writing(second, DATA, session))
+lost("Another command: POLICY_FAIL/s1", tpm.reading(first, 8, session))
+tpm.does("TPM2_NV_Write of the first one", writing())
+asserts_secret("before", before)
+lost("The same, of the Name that the first write gave it: POLICY_FAIL/s1", writing())
+tpm.restarts(session)
+asserts_secret("now", tpm.cp_hash(writing()))
+tpm.does("TPM2_NV_Write", writing())
 
 tpm.chapter("The policy is for an NV index that is not written (condition 6).")
 unwritten = policy.after_nv_written(SHA256, ZEROS, False)
@@ -368,7 +259,6 @@ lost("The second one: POLICY_FAIL/s1", tpm.writing(index, DATA, session))
 tpm.restarts(session)
 tpm.flushed(handle)
 
-
 tpm.chapter("The command comes from a locality that is not named (condition 7).")
 handle = tpm.sealed_object("An object whose policy is locality 1", AFTER_LOCALITY_1)
 tpm.asserts("TPM2_PolicyLocality of 1", tpm.locality(session, AT_LOCALITY_1))
@@ -380,29 +270,60 @@ tpm.unseal("From locality 1", handle, SECRET, session)
 tpm.locality_is(0)
 tpm.flushed(handle)
 
-
-handle = named
 tpm.chapter("The hash of the session is not the nameAlg of the entity (condition 8).")
 by_sha1 = tpm.policy("A policy session of SHA-1", algorithm=SHA1)
 tpm.asserts_code(by_sha1)
-lost("The nameAlg is SHA-256: POLICY_FAIL/s1", tpm.unsealing(handle, by_sha1))
+lost("The nameAlg is SHA-256: POLICY_FAIL/s1", tpm.unsealing(named, by_sha1))
 said = tpm("An object with nameAlg SHA-1")
 of_sha1 = said.sealed_object(after_code(CC.Unseal, SHA1), algorithm=SHA1)
 tpm.unseal("It is authorized", of_sha1, SECRET, by_sha1)
 tpm.asserts_code(session)
 lost("And not by a session of SHA-256: POLICY_FAIL/s1", tpm.unsealing(of_sha1, session))
-tpm.unseal("Which authorizes what has its hash", handle, SECRET, session)
+tpm.unseal("Which authorizes what has its hash", named, SECRET, session)
 tpm.flushed(by_sha1, of_sha1)
 
-compared = other_digests(session)
+tpm.chapter("The policy digest is not the authPolicy (condition 8): an assertion differs.")
+compared = tpm.written_index("An index that TPM2_PolicyNV looks at", BY_OWNER)
+auth_policy = policy.after_locality(SHA256, AFTER_PCR_16, AT_LOCALITY_0_OR_1)
+auth_policy = policy.after_secret(SHA256, auth_policy, name_of(RH_OWNER), b"disk")
+auth_policy = after_equal_data(tpm.name(compared), auth_policy)
+handle = tpm.sealed_object("An object with a policy of four assertions", auth_policy)
+use = lambda: tpm.unsealing(handle, session)
+restart = tpm.restart(session)
+pcr_16, pcr_23 = (tpm.pcrs(session, [(SHA256, [it])]) for it in (16, 23))
+two, all_of_them = (tpm.locality(session, it) for it in (AT_LOCALITY_0_OR_1, ALL_LOCALITIES))
+secret, other_ref = (
+    tpm.secret(session, OWNER, of=RH_OWNER, policy_ref=it) for it in (b"disk", b"tape")
+)
+other_value = tpm.secret(session, policy_ref=b"disk")
+equal, at_least = (
+    tpm.comparing(session, compared, DATA, operation=it, by=RH_OWNER) for it in (EQUAL, AT_LEAST)
+)
+lost("Nothing is asserted: POLICY_FAIL/s1", use())
+for what, *told in (
+    ("PCR 23 in place of PCR 16, both zeros", pcr_23, two, secret, equal),
+    ("All localities in place of two", pcr_16, all_of_them, secret, equal),
+    ("The value of another entity", pcr_16, two, other_value, equal),
+    ("Another policyRef", pcr_16, two, other_ref, equal),
+    ("At least the data, in place of just them", pcr_16, two, secret, at_least),
+    ("One assertion less", pcr_16, two, secret),
+    ("One more", pcr_16, two, secret, equal, all_of_them),
+    ("Another order", two, pcr_16, secret, equal),
+    ("Just the policy, and TPM2_PolicyRestart", pcr_16, two, secret, equal, restart),
+):
+    tpm.asserts(what, restart, *told)
+    lost("TPM2_Unseal: POLICY_FAIL/s1", use())
+tpm.asserts("Just the policy", pcr_16, two, secret, equal)
+tpm.does("TPM2_Unseal", use())
+lost("Once more: POLICY_FAIL/s1, as it has counted for one command", use())
+tpm.flushed(handle)
 
 tpm.chapter("THE HMAC OF A POLICY SESSION. Nothing is demanded: the key is the session key.")
 handle = tpm.sealed_object("An object whose authPolicy is 32 zeros", ZEROS)
 bound = tpm.policy("A policy session bound to TPM_RH_OWNER, which has a key", bind=RH_OWNER)
 right = tpm.unsealing(handle, bound)
 lost("By no hmac: BAD_AUTH/s1", right.but_entry(1, hmac=b""))
-with_value = by_key(bound.key + PIN, handle, bound)
-lost("With the value of the object in the key: BAD_AUTH/s1", with_value)
+lost("With the value of the object in the key: BAD_AUTH/s1", by_key(bound.key + PIN, handle, bound))
 tpm.unseal("By its key", handle, SECRET, bound)
 lost("With the nonceTPM of before: BAD_AUTH/s1", right)
 tpm.unseal("With that of now", handle, SECRET, bound)
@@ -411,7 +332,6 @@ lost("An unbound session, whose key is empty: by another key: BAD_AUTH/s1", show
 tpm.unseal("By none", handle, SECRET, session)
 tpm.flushed(bound)
 undemanding = handle
-
 
 tpm.chapter("TPM2_PolicyPassword: the hmac is not the value in plain.")
 said = tpm("An object with its policy, which is that of TPM2_PolicyAuthValue, too")
@@ -434,7 +354,6 @@ lost("The value is there in plain: AUTH_FAIL/s1", by_password())
 tpm.does("The value is in the key", by_value())
 demanding = handle
 
-
 # What is right, and refused, as the failed tries of this script lock.
 tpm.chapter("LOCKOUT. Who would compare the value of a protected entity is refused.")
 bound = tpm.start("A session bound to the object", openly)
@@ -452,7 +371,6 @@ for what, by in (("By the password, and by both sessions", PIN), ("", hmac), (""
 tpm.asserts_value(session)
 tpm.does("By the policy that demands the value", use())
 tpm.flushed(bound, demanding, undemanding)
-
 
 tpm.chapter(
     "WHAT IS ASKED ONCE. TPM2_PolicyNV and TPM2_PolicySecret look at data and at a value as "

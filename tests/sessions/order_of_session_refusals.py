@@ -3,13 +3,22 @@ faults one after the other is repaired. What is answered is the first that is le
 docs/table/order_of_refusals.md.
 """
 
-from tests.common.vocabulary import CC, CONTINUE_SESSION, DECRYPTS, ENCRYPT, Entry, frames, number
-from tests.common.vocabulary import RH_NULL, RH_OWNER, sized, Teller, Use, wrong_in
+from functools import partial
 
-ENCRYPTS = CONTINUE_SESSION | ENCRYPT
+from tests.common.vocabulary import CC, DECRYPTS, ENCRYPT, Entry, frames, number, RH_NULL, RH_OWNER
+from tests.common.vocabulary import sized, Teller, Use, wrong_in
+
 NULLS = [RH_NULL, RH_NULL]
 
 tpm = Teller(__name__, __doc__)
+start = partial(tpm.prepare, CC.StartAuthSession)
+event = partial(tpm.prepare, CC.PCR_Event, [17])
+change = partial(tpm.prepare, CC.HierarchyChangeAuth, [RH_OWNER])
+flush = partial(frames.command, CC.FlushContext)
+
+
+def masked(tail, nonce=15, salt=b"\1", kind=b"\0"):
+    return sized(bytes(nonce)) + sized(salt) + kind + tail
 
 
 first = tpm.start("A session", RH_OWNER, aes=True)
@@ -19,87 +28,57 @@ tpm.chapter(
     "TPM2_StartAuthSession with two sessions that decrypt and encrypt; its first parameter is cut, "
     "and the hmacs of both are wrong."
 )
-
-
-def start(handles, parameters, *uses):
-    return tpm.prepare(CC.StartAuthSession, handles, parameters, *uses)
-
-
-uses = Use(first, DECRYPTS), Use(second, ENCRYPTS)
-cut = sized(bytes(16))[:-1]
-absent = Entry(0x0200_0005, b"", 0xFF, b"")
-said = tpm("tpmKey is not TPM_RH_NULL, and bind is not there: VALUE/h1")
-said.refused(wrong_in(start([RH_OWNER, 0x8000_0000], cut, *uses), 1, 2).but(entries=[absent]))
-said = tpm("An object that is not there, as bind: REFERENCE_H1")
-said.refused(wrong_in(start([RH_NULL, 0x8000_0000], cut, *uses), 1, 2).but(entries=[absent]))
-said = tpm("An NV index that is not there: HANDLE/h2")
-said.refused(wrong_in(start([RH_NULL, 0x0100_0000], cut, *uses), 1, 2).but(entries=[absent]))
-said = tpm("A bind that is no entity: VALUE/h2")
-said.refused(wrong_in(start([RH_NULL, 0x0200_0000], cut, *uses), 1, 2).but(entries=[absent]))
-said = tpm("A session that is not there, as the first entry: REFERENCE_S0")
-said.refused(start(NULLS, cut, *uses).but(entries=[absent]))
-tpm.refused(
-    "As the second, whose fault comes before the first one's wrong hmac: REFERENCE_S1",
-    wrong_in(start(NULLS, cut, uses[0]), 1).but(
-        entries=[*wrong_in(start(NULLS, cut, uses[0]), 1).entries, absent]
-    ),
-)
+uses = first.decrypting, second.encrypting
+cut, absent = sized(bytes(16))[:-1], Entry(0x0200_0005, b"", 0xFF, b"")
+for words, *handles in (
+    ("tpmKey is not TPM_RH_NULL, and bind is not there: VALUE/h1", RH_OWNER, 0x8000_0000),
+    ("An object that is not there, as bind: REFERENCE_H1", RH_NULL, 0x8000_0000),
+    ("An NV index that is not there: HANDLE/h2", RH_NULL, 0x0100_0000),
+    ("A bind that is no entity: VALUE/h2", RH_NULL, 0x0200_0000),
+    ("A session that is not there, as the first entry: REFERENCE_S0", *NULLS),
+):
+    tpm.refused(words, start(handles, cut, *uses).but(entries=[absent]))
+wrong = wrong_in(start(NULLS, cut, uses[0]), 1)
+said = tpm("As the second, whose fault comes before the first one's wrong hmac: REFERENCE_S1")
+said.refused(wrong.but(entries=[*wrong.entries, absent]))
 tpm.refused("Both hmacs: BAD_AUTH/s1", wrong_in(start(NULLS, cut, *uses), 1, 2))
 tpm.refused("The second one's: BAD_AUTH/s2", wrong_in(start(NULLS, cut, *uses), 2))
-said = tpm("The first parameter, which cannot be decrypted: INSUFFICIENT/p1")
-said.refused(start(NULLS, cut, *uses))
 no_type = sized(bytes(15)) + sized(b"\1") + b"\2" + frames.symmetric(False) + number(4, 2) + b"\0"
-tpm.refused("It is whole, and sessionType is 02: VALUE/p3", start(NULLS, no_type, *uses))
 hmac = sized(bytes(15)) + sized(b"\1") + b"\0" + frames.symmetric(False) + number(4, 2)
-tpm.refused("A byte behind the parameters: SIZE", start(NULLS, hmac + b"\0", *uses))
-tpm.refused("A nonce of 15 bytes: SIZE/p1", start(NULLS, hmac, *uses))
-said = tpm("A salt: VALUE/p2")
-said.refused(start(NULLS, frames.start_auth_session(bytes(16), salt=b"\1")[1], *uses))
+for words, text in (
+    ("The first parameter, which cannot be decrypted: INSUFFICIENT/p1", cut),
+    ("It is whole, and sessionType is 02: VALUE/p3", no_type),
+    ("A byte behind the parameters: SIZE", hmac + b"\0"),
+    ("A nonce of 15 bytes: SIZE/p1", hmac),
+    ("A salt: VALUE/p2", frames.start_auth_session(bytes(16), salt=b"\1")[1]),
+):
+    tpm.refused(words, start(NULLS, text, *uses))
 tpm.accepted("No fault is left", start(NULLS, frames.start_auth_session(bytes(16))[1], *uses))
 
 tpm.chapter("TPM2_PCR_Event into PCR 17 from locality 0, with two sessions and a cut parameter.")
-
-
-def event(text, *uses, pcr=17):
-    return tpm.prepare(CC.PCR_Event, [pcr], text, *uses)
-
-
-tpm.refused("PCR 24, and no sessions (tag 8001): VALUE/h1", event(b"", pcr=24))
+tpm.refused("PCR 24, and no sessions (tag 8001): VALUE/h1", tpm.prepare(CC.PCR_Event, [24], b""))
 tpm.refused("No sessions (tag 8001): AUTH_MISSING", event(b""))
-said = tpm("encrypt, as the first answer is no sized buffer, in the second entry: ATTRIBUTES/s2")
-said.refused(wrong_in(event(b"\0", first, Use(second, ENCRYPTS)), 1, 2))
-said = tpm("The first hmac of two that are wrong: BAD_AUTH/s1")
-said.refused(wrong_in(event(b"\0", first, Use(second, DECRYPTS)), 1, 2))
-tpm.refused("A wrong password: BAD_AUTH/s1", wrong_in(event(b"\0", b"x", Use(second, DECRYPTS)), 2))
-tpm.refused(
-    "The second hmac: BAD_AUTH/s2",
-    wrong_in(event(b"\0", first, Use(second, DECRYPTS)), 2),
-    wrong_in(event(b"\0", b"", Use(second, DECRYPTS)), 2),
-)
-said = tpm("The third hmac: BAD_AUTH/s3")
-said.refused(wrong_in(event(b"\0", b"", first, Use(second, DECRYPTS)), 3))
-tpm.refused(
-    "The parameter that is cut: INSUFFICIENT/p1",
-    event(b"\0", first, Use(second, DECRYPTS)),
-    event(b"\xff\xff", first, Use(second, DECRYPTS)),
-)
-said = tpm("One that is too long, and a byte behind it: SIZE/p1")
-said.refused(event(sized(bytes(1025)) + b"\0", first, Use(second, DECRYPTS)))
-said = tpm("A byte behind it: SIZE")
-said.refused(event(sized(bytes(1024)) + b"\0", first, Use(second, DECRYPTS)))
-tpm.refused("The locality: LOCALITY", event(sized(bytes(1024)), first, Use(second, DECRYPTS)))
+case = "encrypt, as the first answer is no sized buffer, in the second entry: ATTRIBUTES/s2"
+tpm.refused(case, wrong_in(event(b"\0", first, second.encrypting), 1, 2))
+case = "The first hmac of two that are wrong: BAD_AUTH/s1"
+tpm.refused(case, wrong_in(event(b"\0", first, second.decrypting), 1, 2))
+tpm.refused("A wrong password: BAD_AUTH/s1", wrong_in(event(b"\0", b"x", second.decrypting), 2))
+second_wrong = (wrong_in(event(b"\0", it, second.decrypting), 2) for it in (first, b""))
+tpm.refused("The second hmac: BAD_AUTH/s2", *second_wrong)
+tpm.refused("The third hmac: BAD_AUTH/s3", wrong_in(event(b"\0", b"", first, second.decrypting), 3))
+for words, *texts in (
+    ("The parameter that is cut: INSUFFICIENT/p1", b"\0", b"\xff\xff"),
+    ("One that is too long, and a byte behind it: SIZE/p1", sized(bytes(1025)) + b"\0"),
+    ("A byte behind it: SIZE", sized(bytes(1024)) + b"\0"),
+    ("The locality: LOCALITY", sized(bytes(1024))),
+):
+    tpm.refused(words, *(event(it, first, second.decrypting) for it in texts))
 tpm.locality_is(3)
 said = tpm("From locality 3 no fault is left")
-said.accepted(event(sized(bytes(1024)), first, Use(second, DECRYPTS)))
+said.accepted(event(sized(bytes(1024)), first, second.decrypting))
 tpm.locality_is(0)
 
 tpm.chapter("TPM2_HierarchyChangeAuth of TPM_RH_OWNER.")
-
-
-def change(text, *uses):
-    return tpm.prepare(CC.HierarchyChangeAuth, [RH_OWNER], text, *uses)
-
-
 said = tpm("A wrong hmac, and a value that is too long: BAD_AUTH/s1")
 said.refused(wrong_in(change(sized(bytes(33)), first), 1))
 tpm.refused("That value, and a byte behind it: SIZE/p1", change(sized(bytes(33)) + b"\0", first))
@@ -107,43 +86,35 @@ tpm.refused("The byte behind it: SIZE", change(sized(b"abc") + b"\0", first))
 tpm.accepted("No fault is left", change(sized(b"abc"), first))
 
 tpm.chapter("TPM2_FlushContext of the first session.")
-
-
-def flush(text, tag=frames.NO_SESSIONS):
-    return frames.command(CC.FlushContext, text, tag)
-
-
-said = tpm("With sessions (tag 8002) and nothing behind the header: AUTH_CONTEXT")
-said.raw(flush(b"", frames.SESSIONS))
-tpm.raw("No handle: INSUFFICIENT/p1", flush(b""))
-tpm.raw("A byte behind a handle that is no session's: SIZE", flush(number(RH_OWNER, 4) + b"\0"))
-tpm.raw("That handle: VALUE/p1", flush(number(RH_OWNER, 4)))
-tpm.raw("A session that is not there: HANDLE/p1", flush(number(0x0200_0009, 4)))
-tpm.raw("The session: SUCCESS", flush(number(first.handle, 4)))
+case = "With sessions (tag 8002) and nothing behind the header: AUTH_CONTEXT"
+tpm.raw(case, flush(b"", frames.SESSIONS))
+for words, text in (
+    ("No handle: INSUFFICIENT/p1", b""),
+    ("A byte behind a handle that is no session's: SIZE", number(RH_OWNER, 4) + b"\0"),
+    ("That handle: VALUE/p1", number(RH_OWNER, 4)),
+    ("A session that is not there: HANDLE/p1", number(0x0200_0009, 4)),
+    ("The session: SUCCESS", number(first.handle, 4)),
+):
+    tpm.raw(words, flush(text))
 
 tpm.chapter(
     "TPM2_StartAuthSession with TPM_ALG_XOR of another hash, by a session that masks the nonce."
 )
 masking = tpm.start("A session with TPM_ALG_XOR", RH_OWNER, xor=True)
-
-
-def masked(tail, nonce=15, salt=b"\1", kind=b"\0"):
-    return sized(bytes(nonce)) + sized(salt) + kind + tail
-
-
 WRONG_HASH = number(frames.XOR, 2) + number(0x000C, 2)
 OTHER_HASH = number(frames.XOR, 2) + number(frames.SHA1, 2) + number(frames.SHA256, 2)
-uses = (Use(masking, DECRYPTS | ENCRYPT),)
-tpm.refused("Its hmac: BAD_AUTH/s1", wrong_in(start(NULLS, cut, *uses), 1))
-tpm.refused("The nonce, which is cut: INSUFFICIENT/p1", start(NULLS, cut, *uses))
-said = tpm("It has 33 bytes once it is whole: SIZE/p1")
-said.refused(start(NULLS, masked(WRONG_HASH, 33), *uses))
-tpm.refused("sessionType 02: VALUE/p3", start(NULLS, masked(WRONG_HASH, kind=b"\2"), *uses))
-said = tpm("A hash that is none, and no authHash: HASH/p4")
-said.refused(start(NULLS, masked(WRONG_HASH), *uses))
-tpm.refused("A byte behind the parameters: SIZE", start(NULLS, masked(OTHER_HASH + b"\0"), *uses))
-tpm.refused("A nonce of 15 bytes: SIZE/p1", start(NULLS, masked(OTHER_HASH), *uses))
-tpm.refused("A salt: VALUE/p2", start(NULLS, masked(OTHER_HASH, 16), *uses))
-tpm.refused("Another hash than authHash: HASH/p4", start(NULLS, masked(OTHER_HASH, 16, b""), *uses))
+both = Use(masking, DECRYPTS | ENCRYPT)
+tpm.refused("Its hmac: BAD_AUTH/s1", wrong_in(start(NULLS, cut, both), 1))
+for words, text in (
+    ("The nonce, which is cut: INSUFFICIENT/p1", cut),
+    ("It has 33 bytes once it is whole: SIZE/p1", masked(WRONG_HASH, 33)),
+    ("sessionType 02: VALUE/p3", masked(WRONG_HASH, kind=b"\2")),
+    ("A hash that is none, and no authHash: HASH/p4", masked(WRONG_HASH)),
+    ("A byte behind the parameters: SIZE", masked(OTHER_HASH + b"\0")),
+    ("A nonce of 15 bytes: SIZE/p1", masked(OTHER_HASH)),
+    ("A salt: VALUE/p2", masked(OTHER_HASH, 16)),
+    ("Another hash than authHash: HASH/p4", masked(OTHER_HASH, 16, b"")),
+):
+    tpm.refused(words, start(NULLS, text, both))
 same = frames.start_auth_session(bytes(16), xor=frames.SHA256)[1]
-tpm.accepted("No fault is left", start(NULLS, same, *uses))
+tpm.accepted("No fault is left", start(NULLS, same, both))

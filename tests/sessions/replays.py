@@ -6,11 +6,10 @@ command of a session has random bytes of its own, where nothing else is said.
 
 from dataclasses import replace
 
-from tests.common.vocabulary import AUTH_VALUE, BY_POLICY, BY_VALUE, CC, CLEAR, DECRYPTS, ENCRYPTS
-from tests.common.vocabulary import ENDS, FIRST, frames, NvAttribute, PASSWORD, RH_ENDORSEMENT
-from tests.common.vocabulary import RH_LOCKOUT, RH_NULL, RH_OWNER, SE_HMAC, SE_POLICY, SHA256, STATE
-from tests.common.vocabulary import Use
-from tests.sessions.grounds_caller import AFTER_AUTH_VALUE, DATA, OWNER, ZEROS, GroundsCaller
+from tests.common.vocabulary import AUTH_VALUE, BY_POLICY, BY_VALUE, CC, CLEAR, ENDS, FIRST, frames
+from tests.common.vocabulary import NvAttribute, PASSWORD, RH_ENDORSEMENT, RH_LOCKOUT, RH_NULL
+from tests.common.vocabulary import RH_OWNER, SE_HMAC, SE_POLICY, SHA256, STATE, Use
+from tests.sessions.grounds_caller import AFTER_AUTH_VALUE, DATA, GroundsCaller, OWNER, ZEROS
 
 VALUE, LOCKOUT_AUTH, OTHER_DATA = b"a", b"lockout", b"to write"
 RECOVERY = 1_000_000  # milliseconds of recoveryTime and lockoutRecovery, as they are at first
@@ -40,9 +39,13 @@ class Start:
 
     def sent(self, what, seed, nonce):
         handles, parameters = frames.start_auth_session(nonce, self.bind, kind=self.kind)
-        start = tpm.prepare(CC.StartAuthSession, handles, parameters)
-        answer = with_random(what, seed, start)
+        answer = with_random(what, seed, tpm.prepare(CC.StartAuthSession, handles, parameters))
         return tpm.started(answer, nonce, self.bind, SHA256, self.kind)
+
+    def anew(self):
+        """The session ends, and begins again."""
+        tpm.flushed(self.session)
+        self.again()
 
     def again(self):
         """The session is then what it was at first."""
@@ -55,16 +58,9 @@ class Start:
         assert self.sent(what, seed, nonce or self.nonce).handle == self.session.handle
 
 
-# Sending again.
-
-
 def again(words, prepared, check="G9"):
     """Sends a command again, which this check must refuse."""
     tpm.refused_by(check, words, prepared)
-
-
-def accepted_again(what, prepared):
-    tpm.does(what, prepared)
 
 
 def accepted(what, prepared):
@@ -73,215 +69,39 @@ def accepted(what, prepared):
     return prepared
 
 
+def replayed(what, prepared, refusal, check="G9"):
+    """Sends a command the first time, and again."""
+    again(f"The same again: {refusal}", accepted(what, prepared), check)
+    return prepared
+
+
 def write(by, data=DATA, index=FIRST):
     return tpm.writing(index, data, by)
 
 
-# What a replay is refused by, and what counts it.
-
-
-def counted_otherwise(session):
-    tpm.chapter("LOCKOUTAUTH. A wrong entry closes it for lockoutRecovery.")
-    tpm('It is "lockout"').change_auth(RH_LOCKOUT, LOCKOUT_AUTH, b"")
-    first = accepted("TPM2_DictionaryAttackLockReset by the session", tpm.lock_reset(session))
-    again("The same again: AUTH_FAIL/s1", first)
-    tpm.tries_are("It is no failed try", 0)
-    again("But lockoutAuth is closed: the same again: LOCKOUT", first)
-    again("And the password: LOCKOUT", tpm.lock_reset())
-    tpm.wait(RECOVERY)
-    tpm("lockoutRecovery later, the password").lock_reset()
-
-    tpm.chapter(
-        "A SESSION THAT WAS BOUND TO THE PROTECTED INDEX. Its wrong entry is a try wherever no "
-        "other value is compared."
-    )
-    bound = tpm.start("TPM2_StartAuthSession", FIRST)
-    first = accepted("TPM2_NV_Write of the index", write(bound))
-    again("The same again: AUTH_FAIL/s1", first)
-    tpm.tries_are("A failed try", 1)
-    first = accepted("TPM2_GetRandom, where it authorizes nothing", tpm.random(2, bound))
-    again("The same again: AUTH_FAIL/s1", first, "G10")
-    tpm.tries_are("A failed try", 2)
-    tpm.unlocks()
-    tpm.flushed(bound)
-
-
-# Places.
-
-
-def other_places(session, to_endorsement):
-    tpm.chapter(
-        "OTHER PLACES. No command has two handles to authorize, so that the sessions in the second "
-        "and in the third entry authorize nothing. The first entry is here a password."
-    )
-    aes = tpm.start("A session with AES, bound to TPM_RH_ENDORSEMENT", RH_ENDORSEMENT, aes=True)
-    unbound = tpm.start("One without, bound to nothing")
-    for what, outcome, prepare in (
-        (
-            "TPM2_NV_Write, with a session in the second entry",
-            "BAD_AUTH/s2",
-            lambda: tpm.writing(FIRST, DATA, VALUE, to_endorsement),
-        ),
-        (
-            "With one in the second entry, whose key and hmac are empty, and one in the third",
-            "BAD_AUTH/s3",
-            lambda: tpm.writing(FIRST, DATA, VALUE, unbound, to_endorsement),
-        ),
-        (
-            "TPM2_NV_Read, and the session encrypts",
-            "BAD_AUTH/s2",
-            lambda: tpm.reading(FIRST, 8, VALUE, Use(aes, ENCRYPTS)),
-        ),
-    ):
-        again(f"The same again: {outcome}", accepted(what, prepare()), "G10")
-    case = "TPM2_NV_Write, and the session decrypts"
-    decrypting = accepted(case, tpm.writing(FIRST, OTHER_DATA, VALUE, Use(aes, DECRYPTS)))
-    tpm.does("Other data are written", write(VALUE))
-    again("What decrypts again: BAD_AUTH/s2", decrypting, "G10")
-    tpm.read("The data are as they were", FIRST, DATA, VALUE)
-    first = accepted("TPM2_GetRandom: the first entry authorizes nothing", tpm.random(2, aes))
-    again("The same again: BAD_AUTH/s1", first, "G10")
-    tpm.tries_are("None of these was a failed try", 0)
-    case = "TPM2_NV_Write by a session, and another one decrypts"
-    both = accepted(case, tpm.writing(FIRST, DATA, session, Use(aes, DECRYPTS)))
-    again("The same again: AUTH_FAIL/s1, which the first entry refuses", both)
-    tpm.tries_are("And that is a failed try", 1)
-    tpm.unlocks()
-    tpm.flushed(aes, unbound)
-
-
-def compared_with_nothing(session):
-    tpm.chapter("NOTHING IS COMPARED where key and hmac are empty, and a password has no nonce.")
-    first = accepted("TPM2_PCR_Event by an empty hmac", tpm.event(b"event", session))
-    accepted_again("The same again, and PCR 16 is extended twice", first)
-    shown = tpm.event(b"event", Use(session, shows_empty_key=True))
-    tpm.does("By an hmac of the empty key", shown)
-    again("The same again: BAD_AUTH/s1", shown)
-    by_password = accepted("TPM2_NV_Write by the password", write(VALUE))
-    accepted_again("The same again", by_password)
-
-    tpm.chapter("Parameter encryption has the nonce in its key all the same.")
-    aes = tpm.start("A session with AES, bound to nothing", aes=True)
-    case = "TPM2_NV_Write by the password, and this session decrypts, whose hmac is empty"
-    decrypting = accepted(case, tpm.writing(FIRST, OTHER_DATA, VALUE, Use(aes, DECRYPTS)))
-    tpm.read("What was written", FIRST, OTHER_DATA, VALUE)
-    accepted_again("The same again", decrypting)
-    answer = tpm("Other bytes were written").reading(FIRST, 8, VALUE)
-    assert len(answer) == 10 and answer[2:] not in (OTHER_DATA, DATA)
-    tpm.flushed(aes)
-
-
-# Policy sessions.
-
-
-def policy_sessions():
-    tpm.chapter(
-        "A POLICY SESSION forgets what it was told with each use. Where it is told that again, the "
-        "hmac is compared."
-    )
-    zeros = tpm.index("An index whose authPolicy is 32 zeros", BY_POLICY, ZEROS)
-    start = Start("A policy session, bound to TPM_RH_OWNER, which has a key", RH_OWNER, SE_POLICY)
-    bound = start.session
-    tpm.does("TPM2_NV_Write", write(bound, index=zeros))
-    first = accepted("TPM2_NV_Write, now that it is written", write(bound, index=zeros))
-    again("The same again: BAD_AUTH/s1", first)
-    tpm.restarts(bound)
-    again("The same again: BAD_AUTH/s1, as TPM2_PolicyRestart gives no nonce back", first)
-    unsent = write(bound, index=zeros)
-    tpm.restarts(bound)
-    tpm.does("It takes none away either: what was not sent yet", unsent)
-
-    tpm.chapter("The same with what TPM2_PolicyAuthValue and TPM2_PolicyPassword demand.")
-    said = tpm("An index of their policy")
-    value = said.written_index(BY_POLICY | NvAttribute.OWNERWRITE, AFTER_AUTH_VALUE)
-    tpm.asserts_value(bound)
-    first = accepted("TPM2_NV_Write", write(Use(bound, demand=AUTH_VALUE), index=value))
-    again("The same again: POLICY_FAIL/s1, as nothing was told", first)
-    tpm.asserts_value(bound)
-    again("The same again: AUTH_FAIL/s1", first)
-    tpm.tries_are("The index is protected: a failed try", 1)
-    tpm.restarts(bound)
-    tpm.asserts_value(bound)
-    again("And behind TPM2_PolicyRestart: AUTH_FAIL/s1", first)
-    tpm.tries_are("Another one", 2)
-    tpm.restarts(bound)
-    tpm.unlocks()
-    tpm.asserts_password(bound)
-    first = accepted("TPM2_NV_Write", write(Use(bound, demand=PASSWORD), index=value))
-    again("The same again: POLICY_FAIL/s1, as nothing was told", first)
-    tpm.asserts_password(bound)
-    accepted_again("The same again|as a password has no nonce", first)
-
-    tpm.chapter("And where key and hmac are empty.")
-    unbound = tpm.policy("A policy session, bound to nothing")
-    first = accepted("TPM2_NV_Write of the first index", write(unbound, index=zeros))
-    accepted_again("The same again", first)
-    tpm.flushed(bound, unbound)
-
-
-# Sessions that begin again.
-
-
-def new_names(start):
-    tpm.chapter("The hmac is of the Name, too, which the first write of an index changes.")
-    index = tpm.index("An index", BY_VALUE, value=VALUE)
-    public = tpm.publics[index]
-    start.again()
-    first = accepted("TPM2_NV_Write", write(start.session, index=index))
-    tpm.flushed(start.session)
-    start.again()
-    again("The same again: AUTH_FAIL/s1", first)
-    tpm("It is undefined").undefining(index)
-    tpm.define("And defined as it was", public, auth=VALUE)
-    accepted_again("The same again", first)
-    tpm.unlocks()
-    tpm.flushed(start.session)
-
-
-def repeated_nonces(start):
-    tpm.chapter(
-        "ONE NONCE TWICE IN ONE SESSION, as random bytes come again. Here the session goes on."
-    )
-    start.again()
-    session = start.session
-    with_random("TPM2_NV_Write", OTHER_SEED, write(session))
-    first = write(session, OTHER_DATA)
-    with_random("Another, by which the nonce becomes what it was", OTHER_SEED, first)
-    with_random("The same again", OTHER_SEED, first)
-    accepted_again("And once more, with random bytes of its own", first)
-    again("And once more: AUTH_FAIL/s1", first)
-    with_random("TPM2_NV_Write, with the random bytes of before", OTHER_SEED, write(session))
-    accepted_again("The same again, of a nonce that was past", first)
-    again("And once more: AUTH_FAIL/s1", first)
-    tpm.unlocks()
-    tpm.flushed(session)
-
-
 tpm('ownerAuth is "owner"').change_auth(RH_OWNER, OWNER, b"")
-assert FIRST == tpm.index(
-    'An index with AUTHWRITE and AUTHREAD, whose value is "a"', BY_VALUE, value=VALUE
-)
+said = tpm('An index with AUTHWRITE and AUTHREAD, whose value is "a"')
+assert FIRST == said.index(BY_VALUE, value=VALUE)
 tpm.does("It is written, so that its Name stays from here on", write(VALUE))
 
 # An unbound session, and a command of it that was accepted.
 tpm.chapter("A PROTECTED INDEX. It is no index with NO_DA, so each wrong entry is a try.")
 start = Start("TPM2_StartAuthSession of an HMAC session, bound to nothing")
 session = start.session
-first = accepted("TPM2_NV_Write by it, and it goes on", write(session))
-again("The same again: AUTH_FAIL/s1", first)
+guarded = replayed("TPM2_NV_Write by it, and it goes on", write(session), "AUTH_FAIL/s1")
 tpm.tries_are("That is a failed try", 1)
 tpm.does("A refusal has left the nonce, by which another is accepted", write(session))
 tpm.tries_are("It takes no try away", 1)
-again("The first again, two nonces later: AUTH_FAIL/s1", first)
-again("And once more: AUTH_FAIL/s1", first)
+again("The first again, two nonces later: AUTH_FAIL/s1", guarded)
+again("And once more: AUTH_FAIL/s1", guarded)
 tpm.tries_are("Three failed tries, as many as maxTries", 3)
 right = write(session, OTHER_DATA)
-again("The index is locked: the first again: LOCKOUT", first)
+again("The index is locked: the first again: LOCKOUT", guarded)
 again("And one by the nonce of now: LOCKOUT", right)
 tpm.tries_are("Neither is a try", 3)
 tpm.wait(RECOVERY)
 tpm.tries_are("recoveryTime later one try is forgiven", 2)
-again("The first again: AUTH_FAIL/s1", first)
+again("The first again: AUTH_FAIL/s1", guarded)
 tpm.tries_are("It is locked again", 3)
 tpm.unlocks()
 tpm.does("What LOCKOUT has refused was no use, and is accepted now", right)
@@ -289,24 +109,128 @@ again("But not again: AUTH_FAIL/s1", right)
 tpm.unlocks()
 
 said = tpm("A session bound to TPM_RH_ENDORSEMENT, which is not protected")
-to_endorsement = said.start(RH_ENDORSEMENT)
+endorsed = said.start(RH_ENDORSEMENT)
 
 session = start.session
+
 tpm.chapter("WHAT IS NOT PROTECTED. A wrong entry is no try.")
 openly = tpm.index("An index with NO_DA", BY_VALUE | NvAttribute.NO_DA, value=VALUE)
 tpm.does("", write(VALUE, index=openly))
-for what, prepare in (
-    ("TPM2_NV_Write of it", lambda: write(session, index=openly)),
-    ("TPM2_HierarchyChangeAuth of the owner", lambda: tpm.change_auth(RH_OWNER, OWNER, session)),
-    ("TPM2_PCR_Event by a session with a key", lambda: tpm.event(b"event", to_endorsement)),
-):
-    again("The same again: BAD_AUTH/s1", accepted(what, prepare()))
+replayed("TPM2_NV_Write of it", write(session, index=openly), "BAD_AUTH/s1")
+case = "TPM2_HierarchyChangeAuth of the owner"
+replayed(case, tpm.change_auth(RH_OWNER, OWNER, session), "BAD_AUTH/s1")
+replayed("TPM2_PCR_Event by a session with a key", tpm.event(b"event", endorsed), "BAD_AUTH/s1")
 tpm.tries_are("There is no failed try", 0)
 
-counted_otherwise(start.session)
-other_places(start.session, to_endorsement)
-compared_with_nothing(start.session)
-policy_sessions()
+tpm.chapter("LOCKOUTAUTH. A wrong entry closes it for lockoutRecovery.")
+tpm('It is "lockout"').change_auth(RH_LOCKOUT, LOCKOUT_AUTH, b"")
+case = "TPM2_DictionaryAttackLockReset by the session"
+first = replayed(case, tpm.lock_reset(start.session), "AUTH_FAIL/s1")
+tpm.tries_are("It is no failed try", 0)
+again("But lockoutAuth is closed: the same again: LOCKOUT", first)
+again("And the password: LOCKOUT", tpm.lock_reset())
+tpm.wait(RECOVERY)
+tpm("lockoutRecovery later, the password").lock_reset()
+
+tpm.chapter(
+    "A SESSION THAT WAS BOUND TO THE PROTECTED INDEX. Its wrong entry is a try wherever no "
+    "other value is compared."
+)
+bound = tpm.start("TPM2_StartAuthSession", FIRST)
+replayed("TPM2_NV_Write of the index", write(bound), "AUTH_FAIL/s1")
+tpm.tries_are("A failed try", 1)
+replayed("TPM2_GetRandom, where it authorizes nothing", tpm.random(2, bound), "AUTH_FAIL/s1", "G10")
+tpm.tries_are("A failed try", 2)
+tpm.unlocks()
+tpm.flushed(bound)
+
+tpm.chapter(
+    "OTHER PLACES. No command has two handles to authorize, so that the sessions in the second "
+    "and in the third entry authorize nothing. The first entry is here a password."
+)
+aes = tpm.start("A session with AES, bound to TPM_RH_ENDORSEMENT", RH_ENDORSEMENT, aes=True)
+unbound = tpm.start("One without, bound to nothing")
+case = "TPM2_NV_Write, with a session in the second entry"
+replayed(case, tpm.writing(FIRST, DATA, VALUE, endorsed), "BAD_AUTH/s2", "G10")
+case = "With one in the second entry, whose key and hmac are empty, and one in the third"
+replayed(case, tpm.writing(FIRST, DATA, VALUE, unbound, endorsed), "BAD_AUTH/s3", "G10")
+case = "TPM2_NV_Read, and the session encrypts"
+replayed(case, tpm.reading(FIRST, 8, VALUE, aes.encrypting), "BAD_AUTH/s2", "G10")
+case = "TPM2_NV_Write, and the session decrypts"
+decrypting = accepted(case, tpm.writing(FIRST, OTHER_DATA, VALUE, aes.decrypting))
+tpm.does("Other data are written", write(VALUE))
+again("What decrypts again: BAD_AUTH/s2", decrypting, "G10")
+tpm.read("The data are as they were", FIRST, DATA, VALUE)
+case = "TPM2_GetRandom: the first entry authorizes nothing"
+replayed(case, tpm.random(2, aes), "BAD_AUTH/s1", "G10")
+tpm.tries_are("None of these was a failed try", 0)
+case = "TPM2_NV_Write by a session, and another one decrypts"
+both = tpm.writing(FIRST, DATA, start.session, aes.decrypting)
+replayed(case, both, "AUTH_FAIL/s1, which the first entry refuses")
+tpm.tries_are("And that is a failed try", 1)
+tpm.unlocks()
+tpm.flushed(aes, unbound)
+
+tpm.chapter("NOTHING IS COMPARED where key and hmac are empty, and a password has no nonce.")
+first = accepted("TPM2_PCR_Event by an empty hmac", tpm.event(b"event", start.session))
+tpm.does("The same again, and PCR 16 is extended twice", first)
+shown = tpm.event(b"event", Use(start.session, shows_empty_key=True))
+tpm.does("By an hmac of the empty key", shown)
+again("The same again: BAD_AUTH/s1", shown)
+by_password = accepted("TPM2_NV_Write by the password", write(VALUE))
+tpm.does("The same again", by_password)
+
+tpm.chapter("Parameter encryption has the nonce in its key all the same.")
+aes = tpm.start("A session with AES, bound to nothing", aes=True)
+case = "TPM2_NV_Write by the password, and this session decrypts, whose hmac is empty"
+decrypting = accepted(case, tpm.writing(FIRST, OTHER_DATA, VALUE, aes.decrypting))
+tpm.read("What was written", FIRST, OTHER_DATA, VALUE)
+tpm.does("The same again", decrypting)
+answer = tpm("Other bytes were written").reading(FIRST, 8, VALUE)
+assert len(answer) == 10 and answer[2:] not in (OTHER_DATA, DATA)
+tpm.flushed(aes)
+
+tpm.chapter(
+    "A POLICY SESSION forgets what it was told with each use. Where it is told that again, the "
+    "hmac is compared."
+)
+zeros = tpm.index("An index whose authPolicy is 32 zeros", BY_POLICY, ZEROS)
+case = "A policy session, bound to TPM_RH_OWNER, which has a key"
+bound = Start(case, RH_OWNER, SE_POLICY).session
+tpm.does("TPM2_NV_Write", write(bound, index=zeros))
+first = replayed("TPM2_NV_Write, now that it is written", write(bound, index=zeros), "BAD_AUTH/s1")
+tpm.restarts(bound)
+again("The same again: BAD_AUTH/s1, as TPM2_PolicyRestart gives no nonce back", first)
+unsent = write(bound, index=zeros)
+tpm.restarts(bound)
+tpm.does("It takes none away either: what was not sent yet", unsent)
+
+tpm.chapter("The same with what TPM2_PolicyAuthValue and TPM2_PolicyPassword demand.")
+said = tpm("An index of their policy")
+value = said.written_index(BY_POLICY | NvAttribute.OWNERWRITE, AFTER_AUTH_VALUE)
+tpm.asserts_value(bound)
+by_value = write(Use(bound, demand=AUTH_VALUE), index=value)
+first = replayed("TPM2_NV_Write", by_value, "POLICY_FAIL/s1, as nothing was told")
+tpm.asserts_value(bound)
+again("The same again: AUTH_FAIL/s1", first)
+tpm.tries_are("The index is protected: a failed try", 1)
+tpm.restarts(bound)
+tpm.asserts_value(bound)
+again("And behind TPM2_PolicyRestart: AUTH_FAIL/s1", first)
+tpm.tries_are("Another one", 2)
+tpm.restarts(bound)
+tpm.unlocks()
+tpm.asserts_password(bound)
+by_password = write(Use(bound, demand=PASSWORD), index=value)
+first = replayed("TPM2_NV_Write", by_password, "POLICY_FAIL/s1, as nothing was told")
+tpm.asserts_password(bound)
+tpm.does("The same again|as a password has no nonce", first)
+
+tpm.chapter("And where key and hmac are empty.")
+unbound = tpm.policy("A policy session, bound to nothing")
+first = accepted("TPM2_NV_Write of the first index", write(unbound, index=zeros))
+tpm.does("The same again", first)
+tpm.flushed(bound, unbound)
 
 tpm.chapter(
     "A NEW SESSION WITH THE SAME BYTES. The nonceTPM is of the random bytes: where they come "
@@ -314,38 +238,35 @@ tpm.chapter(
 )
 session = start.session
 tpm.flushed(session)
-again("The first TPM2_NV_Write again: REFERENCE_S0, as there is no session", first, "G8")
+again("The first TPM2_NV_Write again: REFERENCE_S0, as there is no session", guarded, "G8")
 start.again()
-accepted_again("The first TPM2_NV_Write again", first)
-again("And once more: AUTH_FAIL/s1", first)
+tpm.does("The first TPM2_NV_Write again", guarded)
+again("And once more: AUTH_FAIL/s1", guarded)
 tpm.tries_are("That is a failed try", 1)
 
 tpm.flushed(session)
 
 tpm.chapter("Other bytes.")
 start.otherwise("With other random bytes", OTHER_SEED)
-again("The first again: AUTH_FAIL/s1", first)
+again("The first again: AUTH_FAIL/s1", guarded)
 tpm.flushed(session)
-start.otherwise(
-    "With another nonceCaller, which is in no key of an unbound session", nonce=tpm.nonce()
-)
-accepted_again("The first again", first)
+case = "With another nonceCaller, which is in no key of an unbound session"
+start.otherwise(case, nonce=tpm.nonce())
+tpm.does("The first again", guarded)
 tpm.unlocks()
 tpm.flushed(session)
 other = tpm.policy("A policy session is started in its place")
-again("The first again: REFERENCE_S0, as this is no HMAC session", first, "G8")
+again("The first again: REFERENCE_S0, as this is no HMAC session", guarded, "G8")
 elsewhere = start.sent("The same bytes, which start it in another place", SEED, start.nonce)
 assert replace(elsewhere, handle=session.handle) == start.at_first
-again("The first again: REFERENCE_S0, as its handle is of no session", first, "G8")
+again("The first again: REFERENCE_S0, as its handle is of no session", guarded, "G8")
 tpm.flushed(other, elsewhere)
 
 tpm.chapter("A bound session, whose key is of its nonceCaller and of the value.")
 bound = Start("TPM2_StartAuthSession, bound to TPM_RH_OWNER", RH_OWNER)
-event = accepted("TPM2_PCR_Event", tpm.event(b"event", bound.session))
-again("The same again: BAD_AUTH/s1", event)
-tpm.flushed(bound.session)
-bound.again()
-accepted_again("The same again", event)
+event = replayed("TPM2_PCR_Event", tpm.event(b"event", bound.session), "BAD_AUTH/s1")
+bound.anew()
+tpm.does("The same again", event)
 tpm.flushed(bound.session)
 bound.otherwise("With another nonceCaller", nonce=tpm.nonce())
 again("The same again: BAD_AUTH/s1", event)
@@ -356,62 +277,80 @@ again("The same again: BAD_AUTH/s1", event)
 tpm.flushed(bound.session)
 tpm("ownerAuth is as it was").change_auth(RH_OWNER, OWNER, b"other")
 bound.again()
-accepted_again("The same again", event)
+tpm.does("The same again", event)
 tpm.flushed(bound.session)
 
-new_names(start)
-repeated_nonces(start)
+tpm.chapter("The hmac is of the Name, too, which the first write of an index changes.")
+index = tpm.index("An index", BY_VALUE, value=VALUE)
+public = tpm.publics[index]
+start.again()
+first = accepted("TPM2_NV_Write", write(start.session, index=index))
+start.anew()
+again("The same again: AUTH_FAIL/s1", first)
+tpm("It is undefined").undefining(index)
+tpm.define("And defined as it was", public, auth=VALUE)
+tpm.does("The same again", first)
+tpm.unlocks()
+tpm.flushed(start.session)
+
+tpm.chapter("ONE NONCE TWICE IN ONE SESSION, as random bytes come again. Here the session goes on.")
+start.again()
+session = start.session
+with_random("TPM2_NV_Write", OTHER_SEED, write(session))
+first = write(session, OTHER_DATA)
+with_random("Another, by which the nonce becomes what it was", OTHER_SEED, first)
+with_random("The same again", OTHER_SEED, first)
+tpm.does("And once more, with random bytes of its own", first)
+again("And once more: AUTH_FAIL/s1", first)
+with_random("TPM2_NV_Write, with the random bytes of before", OTHER_SEED, write(session))
+tpm.does("The same again, of a nonce that was past", first)
+again("And once more: AUTH_FAIL/s1", first)
+tpm.unlocks()
+tpm.flushed(session)
 
 tpm.chapter("A POWER CYCLE ends all sessions.")
 start.again()
 told = tpm.policy("A policy session beside it")
 for kind, words in ((CLEAR, "CLEAR"), (STATE, "STATE")):
-    accepted_again("The first TPM2_NV_Write of the protected index", first)
-    again("The same again: AUTH_FAIL/s1", first)
+    tpm.does("The first TPM2_NV_Write of the protected index", guarded)
+    again("The same again: AUTH_FAIL/s1", guarded)
     tpm(f"TPM2_Shutdown({words})").shutting_down(kind)
     tpm.power()
-    again("The same again: INITIALIZE, as the device is not started", first, "G5")
+    again("The same again: INITIALIZE, as the device is not started", guarded, "G5")
     tpm.start_up(f"TPM2_Startup({words})", kind)
-    again("The same again: REFERENCE_S0, as the session is gone", first, "G8")
-    tpm.refused_by(
-        "G6", "TPM2_PolicyGetDigest of the policy session: REFERENCE_H0", tpm.get_digest(told)
-    )
+    again("The same again: REFERENCE_S0, as the session is gone", guarded, "G8")
+    again("TPM2_PolicyGetDigest of the policy session: REFERENCE_H0", tpm.get_digest(told), "G6")
     tpm.tries_are("The failed try is kept, and there is no other", 1)
     tpm.unlocks()
     start.again()
-accepted_again("The first TPM2_NV_Write again", first)
-again("And once more: AUTH_FAIL/s1", first)
+tpm.does("The first TPM2_NV_Write again", guarded)
+again("And once more: AUTH_FAIL/s1", guarded)
 tpm.unlocks()
 
-to_endorsement = tpm.start("A session bound to TPM_RH_ENDORSEMENT", RH_ENDORSEMENT)
+endorsed = tpm.start("A session bound to TPM_RH_ENDORSEMENT", RH_ENDORSEMENT)
 
 tpm.chapter("WITHOUT continueSession a session ends with the use of it.")
-tpm.flushed(start.session)
+start.anew()
+last = replayed("TPM2_NV_Write", write(Use(start.session, ENDS)), "REFERENCE_S0", "G8")
 start.again()
-last = accepted("TPM2_NV_Write", write(Use(start.session, ENDS)))
-again("The same again: REFERENCE_S0", last, "G8")
-start.again()
-accepted_again("The same again", last)
+tpm.does("The same again", last)
 again("And once more: REFERENCE_S0", last, "G8")
-for what, outcome, uses in (
-    ("In the second entry", "REFERENCE_S1", [VALUE]),
-    ("In the third entry", "REFERENCE_S2", [VALUE, to_endorsement]),
+for what, outcome, *uses in (
+    ("In the second entry", "REFERENCE_S1", VALUE),
+    ("In the third entry", "REFERENCE_S2", VALUE, endorsed),
 ):
     start.again()
-    uses = [*uses, Use(start.session, ENDS)]
-    last = accepted(what, tpm.writing(FIRST, DATA, *uses))
-    again(f"The same again: {outcome}", last, "G8")
+    replayed(what, tpm.writing(FIRST, DATA, *uses, Use(start.session, ENDS)), outcome, "G8")
 tpm.tries_are("None of these was a failed try", 0)
-
 
 tpm.chapter(
     "WHAT WAS REFUSED can be sent again until it is accepted: a refusal makes no nonce new."
 )
-reset = tpm.reset(to_endorsement, pcr=20)
+reset = tpm.reset(endorsed, pcr=20)
 again("TPM2_PCR_Reset of PCR 20 from locality 0: LOCALITY", reset, "A1")
 again("The same again: LOCALITY", reset, "A1")
 tpm.locality_is(4)
-accepted_again("The same from locality 4", reset)
+tpm.does("The same from locality 4", reset)
 again("And once more: BAD_AUTH/s1", reset)
 tpm.locality_is(0)
 again("From locality 0: BAD_AUTH/s1", reset)

@@ -3,20 +3,15 @@ attribute decrypt has encrypted the bytes of the first parameter, and one with e
 first answer.
 """
 
+from functools import partial
+
+from tests.common.policy_teller import PolicyTeller
 from tests.common.vocabulary import CC, CONTINUE_SESSION, DECRYPT, DECRYPTS, ENCRYPT, flipped
 from tests.common.vocabulary import frames, NAMES, RH_ENDORSEMENT, RH_OWNER, SHA1, SHA256, sized
-from tests.common.vocabulary import Teller, Use
+from tests.common.vocabulary import Use
 
-ENCRYPTS = CONTINUE_SESSION | ENCRYPT
-
-tpm = Teller(__name__, __doc__)
-
-
-def others_are(*sessions):
-    """The nonces of others that an entry's hmac is made of, other than by the rule."""
-    nonces = [it.nonce_tpm for it in sessions]
-    return tpm.breaking(nonces_of_others=lambda *_: nonces)
-
+tpm = PolicyTeller(__name__, __doc__)
+set_by = partial(tpm.prepare, CC.HierarchyChangeAuth, [RH_OWNER])
 
 tpm.accepted('ownerAuth is "owner"', tpm.change_auth(RH_OWNER, b"owner", b""))
 said = tpm('endorsementAuth is "endorsement"')
@@ -30,82 +25,72 @@ for algorithm, size in ((SHA1, 16), (SHA1, 20), (SHA256, 16), (SHA256, 32)):
     tpm(
         "The bound one authorizes TPM2_HierarchyChangeAuth of TPM_RH_OWNER and decrypts: the key "
         "of encryption has ownerAuth, which the hmac's key has not"
-    ).change_auth(RH_OWNER, b"a new value", Use(bound, DECRYPTS))
+    ).change_auth(RH_OWNER, b"a new value", bound.decrypting)
     said = tpm("The unbound one does, to 32 bytes")
-    said.change_auth(RH_OWNER, b"0123456789abcdef" * 2, Use(unbound, DECRYPTS))
+    said.change_auth(RH_OWNER, b"0123456789abcdef" * 2, unbound.decrypting)
     said = tpm("What was set is a password now, and sets the first value")
     said.accepted(tpm.change_auth(RH_OWNER, b"owner", b"0123456789abcdef" * 2))
-    said = tpm("A value of which only zeros are sent")
-    said.change_auth(RH_OWNER, bytes(20), Use(bound, DECRYPTS))
+    tpm("A value of which only zeros are sent").change_auth(RH_OWNER, bytes(20), bound.decrypting)
     said = tpm("It is empty now: the unbound one has no key and no hmac, and encrypts all the same")
-    said.change_auth(RH_OWNER, b"owner", Use(unbound, DECRYPTS))
+    said.change_auth(RH_OWNER, b"owner", unbound.decrypting)
     said = tpm("TPM2_PCR_Event into PCR 16, by the bound one|with the digests of the data in plain")
-    said.event(b"event data", Use(bound, DECRYPTS))
-    tpm("TPM2_GetRandom of 20 bytes").random(20, Use(bound, ENCRYPTS))
-    tpm("And by the unbound one").random(20, Use(unbound, ENCRYPTS))
+    said.event(b"event data", bound.decrypting)
+    tpm("TPM2_GetRandom of 20 bytes").random(20, bound.encrypting)
+    tpm("And by the unbound one").random(20, unbound.encrypting)
     for session in (bound, unbound):
         tpm.accepted("It is flushed", tpm.flush(session))
 
 tpm.chapter("Sizes. Blocks have 16 bytes, and the last may be cut.")
 session = tpm.start("A session, bound to TPM_RH_OWNER", RH_OWNER, aes=True)
 for count in (0, 1, 15, 16, 17, 31, 32):
-    tpm(f"TPM2_GetRandom of {count} bytes").random(count, Use(session, ENCRYPTS))
+    tpm(f"TPM2_GetRandom of {count} bytes").random(count, session.encrypting)
 for count in (0, 1, 15, 16, 17, 1024):
-    tpm(f"TPM2_PCR_Event of {count} bytes").event(b"e" * count, Use(session, DECRYPTS))
+    tpm(f"TPM2_PCR_Event of {count} bytes").event(b"e" * count, session.decrypting)
 tpm.accepted("TPM2_PCR_Read of PCR 16", tpm.read_pcr(16))
 
 tpm.chapter("A session that decrypts beside the one that authorizes.")
 other = tpm.start("Another session, bound to TPM_RH_ENDORSEMENT", RH_ENDORSEMENT, aes=True)
 third = tpm.start("A third one, bound to nothing", aes=True, size=32)
-tpm(
+said = tpm(
     "Beside a password: it authorizes nothing, and no authorization value is in any key of it"
-).change_auth(RH_OWNER, b"owner", b"owner", Use(session, DECRYPTS))
-said = tpm("Beside a password and another session")
-said.change_auth(RH_OWNER, b"owner", b"owner", other, Use(session, DECRYPTS))
-said = tpm("Beside a session: its nonce is in the first entry's hmac")
-said.change_auth(RH_OWNER, b"owner", session, Use(other, DECRYPTS))
-with others_are():
-    left_out = tpm.change_auth(RH_OWNER, b"owner", session, Use(other, DECRYPTS))
-tpm.refused("Where it is left out: BAD_AUTH/s1", left_out)
-with others_are(other, other):
-    twice = tpm.change_auth(RH_OWNER, b"owner", session, Use(other, DECRYPTS))
-tpm.refused("Where it stands twice: BAD_AUTH/s1", twice)
-with others_are(session):
-    own = tpm.change_auth(RH_OWNER, b"owner", session, Use(other, DECRYPTS))
-tpm.refused("Where the first entry's own stands in its place: BAD_AUTH/s1", own)
-said = tpm("As the third entry of three")
-said.change_auth(RH_OWNER, b"owner", session, third, Use(other, DECRYPTS))
-said = tpm("As the second entry of three, with a nonce of 32 bytes and an empty key")
-said.change_auth(RH_OWNER, b"owner", session, Use(third, DECRYPTS), other)
-said = tpm("Where the first entry decrypts itself no other nonce stands in any hmac")
-said.change_auth(RH_OWNER, b"owner", Use(session, DECRYPTS), other, third)
-with others_are(session):
-    own = tpm.change_auth(RH_OWNER, b"owner", Use(session, DECRYPTS), other)
-tpm.refused("With its own nonce once more: BAD_AUTH/s1", own)
-right = tpm.event(b"event data", session, Use(other, DECRYPTS), third)
-with others_are(other):
-    everywhere = tpm.event(b"event data", session, Use(other, DECRYPTS), third)
-tpm.refused(
-    "The second entry's hmac has no other nonce: BAD_AUTH/s2",
-    right.but(
-        entries=[right.entries[0], everywhere.entries[1], right.entries[2]],
-        parameters=right.parameters,
-    ),
 )
+said.change_auth(RH_OWNER, b"owner", b"owner", session.decrypting)
+said = tpm("Beside a password and another session")
+said.change_auth(RH_OWNER, b"owner", b"owner", other, session.decrypting)
+said = tpm("Beside a session: its nonce is in the first entry's hmac")
+said.change_auth(RH_OWNER, b"owner", session, other.decrypting)
+for words, *others in (
+    ("Where it is left out: BAD_AUTH/s1",),
+    ("Where it stands twice: BAD_AUTH/s1", other, other),
+    ("Where the first entry's own stands in its place: BAD_AUTH/s1", session),
+):
+    changing = tpm.change_auth, RH_OWNER, b"owner", session, other.decrypting
+    tpm.refused(words, tpm.with_nonces_of(others, *changing))
+tpm("As the third entry of three").change_auth(RH_OWNER, b"owner", session, third, other.decrypting)
+said = tpm("As the second entry of three, with a nonce of 32 bytes and an empty key")
+said.change_auth(RH_OWNER, b"owner", session, third.decrypting, other)
+said = tpm("Where the first entry decrypts itself no other nonce stands in any hmac")
+said.change_auth(RH_OWNER, b"owner", session.decrypting, other, third)
+changing = tpm.change_auth, RH_OWNER, b"owner", session.decrypting, other
+tpm.refused("With its own nonce once more: BAD_AUTH/s1", tpm.with_nonces_of([session], *changing))
+right = tpm.event(b"event data", session, other.decrypting, third)
+by = session, other.decrypting, third
+everywhere = tpm.with_nonces_of([other], tpm.event, b"event data", *by)
+entries = [right.entries[0], everywhere.entries[1], right.entries[2]]
+tpm.refused("The second entry's hmac has no other nonce: BAD_AUTH/s2", right.but(entries=entries))
 tpm.accepted("Nothing was changed by the refusals", right)
 tpm("It ends as it decrypts").change_auth(RH_OWNER, b"owner", session, Use(other, DECRYPT))
-tpm("And is no more: REFERENCE_S1").change_auth(RH_OWNER, b"owner", session, Use(other, DECRYPTS))
+tpm("And is no more: REFERENCE_S1").change_auth(RH_OWNER, b"owner", session, other.decrypting)
 
 tpm.chapter("Sessions that encrypt where nothing is authorized.")
 other = tpm.start("Another session, bound to TPM_RH_ENDORSEMENT", RH_ENDORSEMENT, aes=True)
-tpm("TPM2_GetRandom: the second of two").random(32, session, Use(other, ENCRYPTS))
-tpm("The first of three").random(32, Use(other, ENCRYPTS), session, third)
+tpm("TPM2_GetRandom: the second of two").random(32, session, other.encrypting)
+tpm("The first of three").random(32, other.encrypting, session, third)
 tpm("The third of three, which ends").random(32, session, third, Use(other, ENCRYPT))
-with others_are(third):
-    foreign = tpm.random(32, session, Use(third, ENCRYPTS))
+foreign = tpm.with_nonces_of([third], tpm.random, 32, session, third.encrypting)
 said = tpm("No other nonce stands in the first entry's hmac, as it authorizes nothing: BAD_AUTH/s1")
 said.refused(foreign)
-tpm("Without").random(32, session, Use(third, ENCRYPTS))
+tpm("Without").random(32, session, third.encrypting)
 
 tpm.chapter(
     "TPM2_StartAuthSession has a sized buffer in both directions. The new session's key is of the "
@@ -114,42 +99,34 @@ tpm.chapter(
 other = tpm.start("Another session, bound to TPM_RH_ENDORSEMENT", RH_ENDORSEMENT, aes=True)
 for words, uses in (
     ("One session decrypts and encrypts", [Use(session, DECRYPTS | ENCRYPT)]),
-    ("Two sessions", [Use(session, DECRYPTS), Use(other, ENCRYPTS)]),
-    ("The other way round", [Use(session, ENCRYPTS), Use(other, DECRYPTS)]),
-    ("Three sessions", [third, Use(session, DECRYPTS), Use(other, ENCRYPTS)]),
+    ("Two sessions", [session.decrypting, other.encrypting]),
+    ("The other way round", [session.encrypting, other.decrypting]),
+    ("Three sessions", [third, session.decrypting, other.encrypting]),
     ("One of three does both", [session, third, Use(other, DECRYPTS | ENCRYPT)]),
 ):
     new = tpm.start(words, RH_OWNER, size=20, aes=True, uses=uses)
     tpm("By the new session, which ends").change_auth(RH_OWNER, b"owner", Use(new, DECRYPT))
 
 tpm.chapter("What is refused, with right hmacs.")
-
-
-def changing(parameters, *uses):
-    return tpm.prepare(CC.HierarchyChangeAuth, [RH_OWNER], parameters, *uses)
-
-
+cut = b"", b"\0", b"\0\x01", b"\0\x20" + bytes(31), b"\0\x21" + bytes(32), b"\xff\xff"
 tpm.refused(
     "decrypt, and the first parameter is cut: no size, half of it, or fewer bytes, also where it "
     "says too many: INSUFFICIENT/p1",
-    *(
-        changing(it, Use(session, DECRYPTS))
-        for it in (b"", b"\0", b"\0\x01", b"\0\x20" + bytes(31), b"\0\x21" + bytes(32), b"\xff\xff")
-    ),
+    *(set_by(it, session.decrypting) for it in cut),
 )
 said = tpm("Without decrypt a size that says too many is a fault of its own: SIZE/p1")
-said.refused(changing(b"\0\x21" + bytes(32), session), changing(b"\xff\xff", session))
+said.refused(set_by(b"\0\x21" + bytes(32), session), set_by(b"\xff\xff", session))
 tpm.refused(
     "decrypt, and the first parameter is whole and too long: SIZE/p1",
-    changing(sized(bytes(33)), Use(session, DECRYPTS)),
-    changing(sized(b"owner" + bytes(28)), b"owner", Use(session, DECRYPTS)),
-    tpm.event(bytes(1025), Use(session, DECRYPTS)),
+    set_by(sized(bytes(33)), session.decrypting),
+    set_by(sized(b"owner" + bytes(28)), b"owner", session.decrypting),
+    tpm.event(bytes(1025), session.decrypting),
 )
 said = tpm("TPM2_StartAuthSession with 33 bytes: SIZE/p1")
-said.prepare(CC.StartAuthSession, *frames.start_auth_session(bytes(33)), Use(session, DECRYPTS))
+said.prepare(CC.StartAuthSession, *frames.start_auth_session(bytes(33)), session.decrypting)
 said = tpm("A byte behind the first parameter, which is not encrypted: SIZE")
-said.refused(changing(sized(b"owner") + b"\0", Use(session, DECRYPTS)))
-wrong = tpm.change_auth(RH_OWNER, b"owner", Use(session, DECRYPTS))
+said.refused(set_by(sized(b"owner") + b"\0", session.decrypting))
+wrong = tpm.change_auth(RH_OWNER, b"owner", session.decrypting)
 said = tpm("One bit of the encrypted bytes, which the hmac is of: BAD_AUTH/s1")
 said.refused(wrong.but(parameters=flipped(wrong.parameters)))
 tpm.refused("The same bytes in plain: BAD_AUTH/s1", wrong.but(parameters=sized(b"owner")))

@@ -35,22 +35,22 @@ class Stage:
         self.script, self.history = Script(__file__, head, name), History()
         self.script.device.tell = self.history.add
         self.callers = [ScriptCaller(self.script) for _ in range(3)]
-        for number_of, caller in enumerate(self.callers, 1):
-            caller.nonces = 1000 * number_of
+        for number, caller in enumerate(self.callers, 1):
+            caller.nonces = 1000 * number
 
     def check(self):
         differences = list(self.history.differences(self.script.device))
         assert not differences, differences
 
     def sends(self, caller, what, prepared):
-        """A command that may be refused; its answer, if it is accepted."""
+        """A command that may be refused."""
         device = copy.deepcopy(self.script.device)
         device.tell = lambda event: None
-        answered = device.execute(prepared.buffer(), 0, self.script.random)
-        if answered.refused:
-            caller.fails(f"{what}: {answered.refused}", prepared)
-            return None
-        return caller.does(what, prepared)
+        refused = device.execute(prepared.buffer(), 0, self.script.random).refused
+        if refused:
+            caller.fails(f"{what}: {refused}", prepared)
+        else:
+            caller.does(what, prepared)
 
 
 def extending(caller, handle):
@@ -59,18 +59,15 @@ def extending(caller, handle):
 
 def measuring(stage, caller):
     """PCR 10 is extended by zeros, and read; and late it is extended again."""
-    caller.says("The first caller extends PCR 10 by zeros: SUCCESS", extending(caller, 10))
-    yield
+    yield caller.says("The first caller extends PCR 10 by zeros: SUCCESS", extending(caller, 10))
     for _ in range(2):
         reading = caller.prepare(CC.PCR_Read, [], selection(*CHOSEN))
         response = caller.says("The first caller reads PCR 10: SUCCESS", reading)
         assert response.endswith(stage.history.pcrs.values[SHA256, 10])
         yield
         on_null = "The first caller extends TPM_RH_NULL, which changes nothing"
-        caller.says(f"{on_null}: SUCCESS", extending(caller, RH_NULL))
-        yield
-    caller.says("The first caller extends PCR 10 again: SUCCESS", extending(caller, 10))
-    yield
+        yield caller.says(f"{on_null}: SUCCESS", extending(caller, RH_NULL))
+    yield caller.says("The first caller extends PCR 10 again: SUCCESS", extending(caller, 10))
 
 
 def unsealing(stage, caller):
@@ -96,17 +93,16 @@ def replaying(stage, caller):
     index = caller.define("The third caller defines an index", public, auth=b"a")
     yield
     first = caller.writing(index, bytes(8))
-    caller.does("The third caller writes the index once, by the password", first)
-    yield
+    yield caller.does("The third caller writes the index once, by the password", first)
     session = caller.start("The third caller starts an HMAC session")
     yield
     writing = caller.writing(index, b"8 bytes.", session)
-    caller.does("The third caller writes in the session", writing)
-    yield
-    caller.fails("The third caller sends the same buffer again: AUTH_FAIL/s1", writing)
-    yield
-    caller.says("The third caller flushes the session: SUCCESS", caller.flush(session))
-    yield
+    yield caller.does("The third caller writes in the session", writing)
+    yield caller.fails("The third caller sends the same buffer again: AUTH_FAIL/s1", writing)
+    yield caller.says("The third caller flushes the session: SUCCESS", caller.flush(session))
+
+
+PLAYS = measuring, unsealing, replaying
 
 
 def interleaved(plays, is_in_turn):
@@ -126,22 +122,15 @@ def interleaved(plays, is_in_turn):
 def write(name, head, order, is_in_turn):
     stage = Stage(name, head)
     stage.script.startup()
-    plays = [
-        play(stage, caller)
-        for play, caller in zip((measuring, unsealing, replaying), stage.callers)
-    ]
-    for _ in interleaved([plays[it] for it in order], is_in_turn):
+    plays = [PLAYS[it](stage, stage.callers[it]) for it in order]
+    for _ in interleaved(plays, is_in_turn):
         stage.check()
     stage.script.write()
 
 
 MEANWHILE = "Each has one command executed, and then the next one has its turn."
 write("callers_in_turn", f"Three callers of one device take turns. {MEANWHILE}", (0, 1, 2), True)
-write(
-    "callers_in_reverse_turn",
-    f"Three callers of one device take turns, the third one first. {MEANWHILE}",
-    (2, 1, 0),
-    True,
-)
+REVERSE = f"Three callers of one device take turns, the third one first. {MEANWHILE}"
+write("callers_in_reverse_turn", REVERSE, (2, 1, 0), True)
 ONE_BY_ONE = "Three callers of one device come one after another."
 write("callers_one_after_another", ONE_BY_ONE, (0, 1, 2), False)

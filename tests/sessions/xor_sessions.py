@@ -10,10 +10,11 @@ import hashlib
 import hmac
 
 from tpmsim.standard import COMMAND_BYTES
+from tests.common.script import RANDOM_BYTES, SEED_BYTES
 from tests.common.vocabulary import area, AUTH_VALUE, CC, CONTINUE_SESSION, DECRYPT, DECRYPTS
-from tests.common.vocabulary import ENCRYPT, ENCRYPTS, FIRST, flipped, frames, HERE, hmac_key, NAMES
-from tests.common.vocabulary import number, OPEN, PASSWORD, policy, RH_ENDORSEMENT, RH_OWNER
-from tests.common.vocabulary import SE_TRIAL, sealed, SHA1, SHA256, sized, storage_key, Teller, Use
+from tests.common.vocabulary import ENCRYPT, ENCRYPTS, FIRST, flipped, frames, hmac_key, NAMES
+from tests.common.vocabulary import number, PASSWORD, policy, RH_ENDORSEMENT, RH_OWNER, SE_TRIAL
+from tests.common.vocabulary import sealed, SHA1, SHA256, sized, storage_key, Teller, Use
 
 BOTH = DECRYPTS | ENCRYPT
 HASHES = {SHA1: hashlib.sha1, SHA256: hashlib.sha256}
@@ -25,16 +26,13 @@ SIZES = 0, 1, 20, 21, 32, 33, 1024
 tpm = Teller(__name__, __doc__, tries=True)
 
 
-# The masks, by the book.
-
-
-def mask(algorithm, key, newer, older, size):
+def mask(use, newer, older, size, auth_value):
     """SP 800-108 in counter mode, with HMAC: blocks i, "XOR", 0, both nonces, and the bits."""
-    given, block = b"", 0
+    key, given, block = use.session.key + auth_value, b"", 0
     while len(given) < size:
         block += 1
         text = block.to_bytes(4, "big") + b"XOR\0" + newer + older + (8 * size).to_bytes(4, "big")
-        given += hmac.new(key, text, HASHES[algorithm]).digest()
+        given += hmac.new(key, text, HASHES[use.session.algorithm]).digest()
     return given[:size]
 
 
@@ -48,13 +46,16 @@ def first_buffer(text):
     return text[2 : 2 + int.from_bytes(text[:2], "big")]
 
 
-def masking(what, prepared, plain, place=1, auth_value=b""):
-    """A command that is accepted, whose first buffer is plain bytes with the mask of the caller's
-    nonce and the device's.
-    """
-    session, nonce = prepared.uses[place - 1].session, prepared.uses[place - 1].nonce
-    wanted = mask(session.algorithm, session.key + auth_value, nonce, session.nonce_tpm, len(plain))
+def is_masked(prepared, plain, place=1, auth_value=b""):
+    """A command's first buffer is plain bytes, masked by the caller's nonce and the device's."""
+    use = prepared.uses[place - 1]
+    wanted = mask(use, use.nonce, use.session.nonce_tpm, len(plain), auth_value)
     assert first_buffer(prepared.parameters) == exclusive_or(plain, wanted)
+
+
+def masking(what, prepared, plain, place=1, auth_value=b""):
+    """Such a command, which is accepted; its answer."""
+    is_masked(prepared, plain, place, auth_value)
     return tpm.accepted(what, prepared)[1]
 
 
@@ -62,25 +63,29 @@ def masked(what, prepared, plain, place=1, auth_value=b""):
     """The same of an answer: the mask is that of the device's new nonce and the caller's."""
     use = prepared.uses[place - 1]
     tpm.accepted(what, prepared)
-    body = tpm.last.response[10:]
-    if prepared.code == CC.StartAuthSession:
-        body = body[4:]
-    given = first_buffer(body[4:])
-    session = use.session
-    wanted = mask(
-        session.algorithm, session.key + auth_value, session.nonce_tpm, use.nonce, len(given)
-    )
+    given = first_buffer(tpm.last.response[14:])
+    wanted = mask(use, use.session.nonce_tpm, use.nonce, len(given), auth_value)
     assert len(given) == len(plain) and exclusive_or(given, wanted) == plain, what
     assert not plain or given != plain
 
 
 def drawn(count):
     """What TPM2_GetRandom gives: random bytes from the front, which the next seed has."""
-    return (seed_of(tpm.script.seeds + 1) * 256)[:count]
+    seed = hashlib.sha256(b"entropy %d" % (tpm.script.seeds + 1)).digest()[:SEED_BYTES]
+    return (seed * RANDOM_BYTES)[:count]
 
 
-def seed_of(number):
-    return hashlib.sha256(b"entropy %d" % number).digest()[:7]
+def both_ways(what, attributes, *more, to, back, auth_values):
+    """TPM2_HMAC, whose data and whose answer are masked by the entries of two places."""
+    prepared = tpm.hmac(key, TEXT, SHA256, Use(session, attributes), *more)
+    is_masked(prepared, TEXT, to, auth_values[0])
+    masked(what, prepared, KNOWN, back, auth_values[1])
+
+
+def of_size(size):
+    """TPM2_PCR_Event in an entry whose nonce and hmac are both empty."""
+    entries = [frames.entry(empty.handle, b"", DECRYPTS)]
+    return frames.on_handle(CC.PCR_Event, 16, sized(bytes(size)), entries)
 
 
 tpm.accepted('ownerAuth is "owner"', tpm.change_auth(RH_OWNER, OWNER_AUTH, b""))
@@ -94,34 +99,25 @@ for algorithm, nonce_size in ((SHA1, 16), (SHA1, 20), (SHA256, 16), (SHA256, 32)
     for size in SIZES:
         data = bytes(it * 7 % 256 for it in range(size))
         case = f"TPM2_PCR_Event of {size:,} bytes, beside the digests of them in plain"
-        answer = masking(case, tpm.event(data, Use(bound, DECRYPTS)), data)
+        answer = masking(case, tpm.event(data, bound.decrypting), data)
         digests = number(2, 4) + number(SHA1, 2) + hashlib.sha1(data).digest()
         assert answer == digests + number(SHA256, 2) + hashlib.sha256(data).digest()
-        masking("By the unbound one", tpm.event(data, Use(unbound, DECRYPTS)), data)
+        masking("By the unbound one", tpm.event(data, unbound.decrypting), data)
     for size in (0, 1, 20, 21, 32):
-        case = f"TPM2_GetRandom of {size} bytes"
-        masked(case, tpm.random(size, Use(bound, ENCRYPTS)), drawn(size))
-        masked("By the unbound one", tpm.random(size, Use(unbound, ENCRYPTS)), drawn(size))
+        masked(f"TPM2_GetRandom of {size} bytes", tpm.random(size, bound.encrypting), drawn(size))
+        masked("By the unbound one", tpm.random(size, unbound.encrypting), drawn(size))
     for size in SIZES:
         data = bytes(size) if size == 33 else bytes(it * 11 % 256 for it in range(size))
         case = f"TPM2_NV_Write of {size:,} bytes by the index itself, whose value is in the key"
-        masking(case, tpm.writing(FIRST, data, Use(bound, DECRYPTS)), data, auth_value=b"index")
+        masking(case, tpm.writing(FIRST, data, bound.decrypting), data, auth_value=b"index")
         case = "TPM2_NV_Read of them, by the unbound session"
-        masked(case, tpm.reading(FIRST, size, Use(unbound, ENCRYPTS)), data, auth_value=b"index")
+        masked(case, tpm.reading(FIRST, size, unbound.encrypting), data, auth_value=b"index")
     tpm.read("In plain", FIRST, bytes(it * 11 % 256 for it in range(1024)))
-    masking(
-        "TPM2_HierarchyChangeAuth by the bound one: ownerAuth is in the key of the mask, which is "
-        "not in that of the hmac",
-        tpm.change_auth(RH_OWNER, b"another", Use(bound, DECRYPTS)),
-        b"another",
-        auth_value=OWNER_AUTH,
-    )
-    masking(
-        "And back, by the unbound one",
-        tpm.change_auth(RH_OWNER, OWNER_AUTH, Use(unbound, DECRYPTS)),
-        OWNER_AUTH,
-        auth_value=b"another",
-    )
+    changing = tpm.change_auth(RH_OWNER, b"another", bound.decrypting)
+    case = "TPM2_HierarchyChangeAuth by the bound one: ownerAuth is in the key of the mask, which"
+    masking(f"{case} is not in that of the hmac", changing, b"another", auth_value=OWNER_AUTH)
+    changing = tpm.change_auth(RH_OWNER, OWNER_AUTH, unbound.decrypting)
+    masking("And back, by the unbound one", changing, OWNER_AUTH, auth_value=b"another")
     for session in (bound, unbound):
         tpm.accepted("It is flushed", tpm.flush(session))
 
@@ -134,77 +130,48 @@ key = said.create(parent, hmac_key(), user_auth=b"key", data=b"Jefe")
 key = tpm.load("TPM2_Load", parent, key)
 TEXT = b"what do ya want for nothing?"
 KNOWN = bytes.fromhex("5bdcc146bf60754e6a042426089575c75a003f089d2739839dec58b964ec3843")
-
-
-def both_ways(what, attributes, *more, to, back, auth_values):
-    """TPM2_HMAC, whose data and whose answer are masked by the entries of two places."""
-    prepared = tpm.hmac(key, TEXT, SHA256, Use(session, attributes), *more)
-    use = prepared.uses[to - 1]
-    wanted = mask(
-        use.session.algorithm,
-        use.session.key + auth_values[0],
-        use.nonce,
-        use.session.nonce_tpm,
-        len(TEXT),
-    )
-    assert first_buffer(prepared.parameters) == exclusive_or(TEXT, wanted)
-    masked(what, prepared, KNOWN, back, auth_values[1])
-
-
 case = "TPM2_HMAC of 28 bytes: the nonces are exchanged between both, and the device's is new"
 both_ways(case, BOTH, to=1, back=1, auth_values=(b"key", b"key"))
 case = "The second entry unmasks, in which nothing is authorized"
-both_ways(case, ENCRYPTS, Use(other, DECRYPTS), to=2, back=1, auth_values=(b"", b"key"))
+both_ways(case, ENCRYPTS, other.decrypting, to=2, back=1, auth_values=(b"", b"key"))
 case = "The other way round"
-both_ways(case, DECRYPTS, Use(other, ENCRYPTS), to=1, back=2, auth_values=(b"key", b""))
+both_ways(case, DECRYPTS, other.encrypting, to=1, back=2, auth_values=(b"key", b""))
 aes = tpm.start("A session with AES", RH_ENDORSEMENT, aes=True)
 sha1 = tpm.start("One with SHA-1", RH_ENDORSEMENT, algorithm=SHA1, size=20, xor=True)
-prepared = tpm.hmac(key, TEXT, SHA256, Use(session, ENCRYPTS), Use(aes, DECRYPTS))
+prepared = tpm.hmac(key, TEXT, SHA256, session.encrypting, aes.decrypting)
 masked("AES in, TPM_ALG_XOR back", prepared, KNOWN, 1, b"key")
-prepared = tpm.hmac(key, TEXT, SHA256, Use(session, DECRYPTS), Use(aes, ENCRYPTS))
+prepared = tpm.hmac(key, TEXT, SHA256, session.decrypting, aes.encrypting)
 answer = masking("TPM_ALG_XOR in, AES back", prepared, TEXT, auth_value=b"key")
 assert answer == sized(KNOWN)
 case = "A mask of SHA-1 in a command whose first hmac is of SHA-256"
 both_ways(case, CONTINUE_SESSION, Use(sha1, BOTH), to=2, back=2, auth_values=(b"", b""))
 tpm.accepted("The key is flushed", tpm.flush(key))
-tpm.forget(key)
 
 tpm.chapter("What an object answers.")
 said = tpm('Sealed data, whose value is "value"')
 made = said.create(parent, sealed(), user_auth=b"value", data=b"s" * 128)
 handle = tpm.load("TPM2_Load", parent, made)
 case = "TPM2_Unseal through the session: the data, with the mask on them"
-masked(case, tpm.unsealing(handle, Use(session, ENCRYPTS)), b"s" * 128, auth_value=b"value")
+masked(case, tpm.unsealing(handle, session.encrypting), b"s" * 128, auth_value=b"value")
 case = "Beside the password"
-masked(case, tpm.unsealing(handle, b"value", Use(other, ENCRYPTS)), b"s" * 128, place=2)
-for name, made_by, demand, in_key in (
-    ("TPM2_PolicyAuthValue", tpm.auth_value_told, AUTH_VALUE, b"pin"),
-    ("TPM2_PolicyPassword", tpm.password_told, PASSWORD, b"pin"),
+masked(case, tpm.unsealing(handle, b"value", other.encrypting), b"s" * 128, place=2)
+template = sealed(auth_policy=policy.after_auth_value(SHA256, bytes(32)))
+for name, made_by, demand in (
+    ("TPM2_PolicyAuthValue", tpm.auth_value_told, AUTH_VALUE),
+    ("TPM2_PolicyPassword", tpm.password_told, PASSWORD),
 ):
     told = tpm.policy(f"A policy session, for {name}", bind=RH_ENDORSEMENT, xor=True)
-    by_policy = tpm.load(
-        "TPM2_Load",
-        parent,
-        tpm.create(
-            "TPM2_Create of data with that policy",
-            parent,
-            sealed(attributes=HERE | OPEN, auth_policy=policy.after_auth_value(SHA256, bytes(32))),
-            user_auth=b"pin",
-            data=b"behind a policy",
-        ),
-    )
+    said = tpm("TPM2_Create of data with that policy")
+    made = said.create(parent, template, user_auth=b"pin", data=b"behind a policy")
+    by_policy = tpm.load("TPM2_Load", parent, made)
     tpm.says(f"{name}: SUCCESS", made_by(told))
-    masked(
-        "TPM2_Unseal: its value is in the key of the mask, whatever the policy demands",
-        tpm.unsealing(by_policy, Use(told, ENCRYPTS, demand=demand)),
-        b"behind a policy",
-        auth_value=in_key,
-    )
+    unsealing = tpm.unsealing(by_policy, Use(told, ENCRYPTS, demand=demand))
+    case = "TPM2_Unseal: its value is in the key of the mask, whatever the policy demands"
+    masked(case, unsealing, b"behind a policy", auth_value=b"pin")
     tpm.accepted("It is flushed", tpm.flush(by_policy))
-    tpm.forget(by_policy)
     tpm.accepted("And the session", tpm.flush(told))
 trial = tpm.start("A trial session", kind=SE_TRIAL, xor=True)
-masked("TPM2_GetRandom by it", tpm.random(32, Use(trial, ENCRYPTS)), drawn(32))
+masked("TPM2_GetRandom by it", tpm.random(32, trial.encrypting), drawn(32))
 tpm.accepted("It is flushed", tpm.flush(trial))
 
 tpm.chapter(
@@ -219,52 +186,36 @@ tpm.chapter(
     "so is one of 1,025 bytes."
 )
 empty = tpm.start("A session that is bound to nothing, with an empty key", xor=True)
-
-
-def of_size(size):
-    """TPM2_PCR_Event in an entry whose nonce and hmac are both empty."""
-    entries = [frames.entry(empty.handle, b"", DECRYPTS)]
-    return frames.on_handle(CC.PCR_Event, 16, sized(bytes(size)), entries)
-
-
 LONGEST = COMMAND_BYTES - len(of_size(0))
 assert (LONGEST, len(of_size(LONGEST))) == (4067, 4096)
 for size in (1025, LONGEST):
     tpm.raw(f"TPM2_PCR_Event of {size:,} bytes: SIZE/p1", of_size(size), fresh=True)
 tpm.raw("And of one byte more: COMMAND_SIZE", of_size(LONGEST + 1), fresh=True)
-room = COMMAND_BYTES - len(tpm.event(b"", Use(session, DECRYPTS)).buffer())
-said = tpm(f"With a nonce and an hmac, of {room:,} bytes: SIZE/p1")
-said.event(bytes(room), Use(session, DECRYPTS))
-tpm.refused(
-    "What is cut cannot be unmasked: no size, half of it, and a byte too few: INSUFFICIENT/p1",
-    *(
-        tpm.prepare(CC.PCR_Event, [16], it, Use(session, DECRYPTS))
-        for it in (b"", b"\0", number(21, 2) + bytes(20), number(LONGEST, 2) + bytes(1024))
-    ),
-)
-masking("Of 1,024 bytes", tpm.event(bytes(1024), Use(session, DECRYPTS)), bytes(1024))
+room = COMMAND_BYTES - len(tpm.event(b"", session.decrypting).buffer())
+tpm(f"With a nonce and an hmac, of {room:,} bytes: SIZE/p1").event(bytes(room), session.decrypting)
+case = "What is cut cannot be unmasked: no size, half of it, and a byte too few: INSUFFICIENT/p1"
+cut = b"", b"\0", number(21, 2) + bytes(20), number(LONGEST, 2) + bytes(1024)
+tpm.refused(case, *(tpm.prepare(CC.PCR_Event, [16], it, session.decrypting) for it in cut))
+masking("Of 1,024 bytes", tpm.event(bytes(1024), session.decrypting), bytes(1024))
 
 tpm.chapter("What is refused, with right hmacs.")
 said = tpm("TPM_ALG_XOR of SHA-1 for a session of SHA-256: HASH/p4")
 said.refused(tpm.prepare(CC.StartAuthSession, *frames.start_auth_session(bytes(16), xor=SHA1)))
 assert tpm.last.response == bytes.fromhex("80010000000a000004c3")
-right = tpm.event(b"event data", Use(session, DECRYPTS))
+right = tpm.event(b"event data", session.decrypting)
 said = tpm("One bit of the masked bytes, which the hmac is of: BAD_AUTH/s1")
 said.refused(right.but(parameters=flipped(right.parameters)))
 tpm.refused("The same bytes in plain: BAD_AUTH/s1", right.but(parameters=sized(b"event data")))
 said = tpm("The attribute decrypt taken away: BAD_AUTH/s1")
 said.refused(right.but_entry(1, attributes=CONTINUE_SESSION))
 said = tpm("A second session that unmasks: ATTRIBUTES/s2")
-said.event(b"event data", Use(session, DECRYPTS), Use(other, DECRYPTS))
-tpm.refused(
-    "decrypt and encrypt where there is no such buffer: ATTRIBUTES/s1",
-    tpm.reset(Use(session, DECRYPTS)),
-    tpm.reset(Use(session, ENCRYPTS)),
-    tpm.event(b"event data", Use(session, ENCRYPTS)),
-)
+said.event(b"event data", session.decrypting, other.decrypting)
+resets = [tpm.reset(Use(session, it)) for it in (DECRYPTS, ENCRYPTS)]
+said = tpm("decrypt and encrypt where there is no such buffer: ATTRIBUTES/s1")
+said.refused(*resets, tpm.event(b"event data", session.encrypting))
 masking("No refusal has changed its nonce", right, b"event data")
 plain = tpm.start("A session without a cipher", RH_OWNER)
-tpm("It masks nothing: SYMMETRIC/s1").event(b"event data", Use(plain, DECRYPTS))
+tpm("It masks nothing: SYMMETRIC/s1").event(b"event data", plain.decrypting)
 
 tpm.chapter("The cipher of an object is AES, and no TPM_ALG_XOR.")
 template = storage_key().text

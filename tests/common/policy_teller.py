@@ -1,0 +1,60 @@
+"""A caller whose device is held against its history: what a policy session has come to is what it was
+told, by the commands that were accepted.
+"""
+
+from typing import Any, Callable, Sequence
+
+from tpmsim.caller import Prepared, Session
+from tpmsim.model.history import History
+from tpmsim.standard import CC, RH_ENDORSEMENT, RH_LOCKOUT, RH_OWNER, RH_PLATFORM
+from tests.common.teller import Teller
+
+HIERARCHIES = {
+    RH_OWNER: "TPM_RH_OWNER",
+    RH_ENDORSEMENT: "TPM_RH_ENDORSEMENT",
+    RH_PLATFORM: "TPM_RH_PLATFORM",
+    RH_LOCKOUT: "TPM_RH_LOCKOUT",
+}
+ENTITIES = {**HIERARCHIES, 0: "PCR 0", 23: "PCR 23"}
+
+
+class PolicyTeller(Teller):
+    def __init__(self, name: str, told: str, tries: bool = False) -> None:
+        super().__init__(name, told, tries)
+        self.history = History()
+        self.script.device.tell = self.history.add
+
+    def digest_of(self, session: Session) -> bytes:
+        """The digest that the accepted assertions make."""
+        return self.history.sessions.live[session.handle].policy.digest
+
+    def digest_is(self, what: str, session: Session, wanted: bytes | None = None) -> None:
+        """It is asked for. Where another one is wanted than its assertions make, there is a fault."""
+        told = self.digest_of(session)
+        assert wanted in (None, told), what
+        assert not list(self.history.differences(self.script.device)), what
+        super().digest_is(what, session, told)
+
+    def makes(
+        self, what: str, session: Session, told: Prepared, digest: str = "Its digest"
+    ) -> None:
+        """An assertion that must be accepted, and the digest behind it."""
+        self.does(what, told)
+        self.digest_is(digest, session)
+
+    def texts(self, words: str, code: CC, session: Session, *texts: bytes) -> None:
+        """A command of a policy with each of these parameters, whatever they are."""
+        self.says(words, *(self.told(code, session, it) for it in texts))
+
+    # Commands whose hmacs are made by other rules.
+
+    def with_key(self, key: bytes, prepare: Callable[..., Prepared], *those: Any) -> Prepared:
+        with self.breaking(key=lambda *_: key):
+            return prepare(*those)
+
+    def with_nonces_of(
+        self, others: Sequence[Session], prepare: Callable[..., Prepared], *those: Any
+    ) -> Prepared:
+        nonces = [it.nonce_tpm for it in others]
+        with self.breaking(nonces_of_others=lambda *_: nonces):
+            return prepare(*those)
