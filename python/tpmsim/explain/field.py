@@ -62,8 +62,14 @@ class Walk:
         return int.from_bytes(self.data[self.at : min(self.at + 2, self.end)], "big")
 
     def buffer(self, name: str, meaning: Callable[[bytes], str] | None = None) -> bytes:
-        said = meaning or (lambda it: text_words(it) or words.plural(len(it), "byte"))
-        return self.take(2 + self.peek(), name, said, 2)
+        return self.take(2 + self.peek(), name, meaning or said_bytes, 2)
+
+    def elements(self, name: str, word: str) -> Iterator[int]:
+        """The numbers, from 1, of a list's elements, which stand within it."""
+        for at in range(self.number(4, name, lambda it: words.plural(it, word))):
+            self.depth += 1
+            yield at + 1
+            self.depth -= 1
 
     @contextmanager
     def group(self, name: str, size: int | None = None, front: int = 0) -> Iterator[None]:
@@ -84,7 +90,7 @@ class Walk:
 
     def rest(self, name: str) -> None:
         if self.at < self.end:
-            self.take(self.end - self.at, name, lambda it: words.plural(len(it), "byte"))
+            self.take(self.end - self.at, name, lambda it: words.size_words(len(it)))
 
     def algorithm(self, name: str) -> int:
         return self.number(2, name, algorithm_words)
@@ -98,6 +104,6 @@ def said_handle(handle: int) -> str:
     return kind if said in (kind, f"{handle:08x}", "the password") else said
 
 
-def text_words(data: bytes) -> str:
-    """The text of bytes that are one."""
-    return f'"{data.decode("ascii")}"' if words.printable(data) else ""
+def said_bytes(data: bytes) -> str:
+    """The text of bytes that are one, and else how many they are."""
+    return f'"{data.decode("ascii")}"' if words.printable(data) else words.size_words(len(data))

@@ -2,10 +2,9 @@
 
 from typing import Any
 
-from tpmsim.explain import dissection
 from tpmsim.explain.field import Field
 from tpmsim.explain.play import Event
-from tpmsim.explain.reason import Fact, Reason
+from tpmsim.explain.reason import Reason
 from tpmsim.explain.text import Counts, name_of
 from tpmsim.standard import NUMBERED
 
@@ -30,12 +29,12 @@ def of_log(events: list[Event], counts: Counts, bad_line: int | None, is_whole: 
 
 def of_event(event: Event, is_whole: bool) -> Value:
     scene = event.scene
-    if event.outcome is None:
+    if event.is_power:
         return {"line": event.line, "power": True}
     told: Value = {
         "line": event.line,
         "command": name_of(event) if scene.number in NUMBERED else None,
-        "code": event.outcome.response[6:10].hex(),
+        "code": event.response[6:10].hex(),
         "refused": event.refused or None,
         "check": scene.check,
         "locality": scene.locality,
@@ -45,15 +44,15 @@ def of_event(event: Event, is_whole: bool) -> Value:
         "differences": [vars(it) for it in event.differences],
     }
     if is_whole:
-        code, response = NUMBERED.get(scene.number), event.outcome.response
-        asked = dissection.fields_of_command(scene.buffer, scene.plain)
-        told["buffer"] = scene.buffer.hex()
-        told["plain"] = None if scene.plain is None else scene.plain.hex()
-        told["fields"] = [of_field(it) for it in asked]
-        told["response"] = response.hex()
-        answered = dissection.fields_of_response(code, response, event.answered)
-        told["response_fields"] = [of_field(it) for it in answered]
-        told["entries"] = {str(at): [of_fact(it) for it in facts] for at, facts in event.entries}
+        asked, answered = (list(map(of_field, fields)) for fields in event.fields())
+        told |= {
+            "buffer": scene.buffer.hex(),
+            "plain": None if scene.plain is None else scene.plain.hex(),
+            "fields": asked,
+            "response": event.response.hex(),
+            "response_fields": answered,
+            "entries": {str(at): [vars(it) for it in facts] for at, facts in event.entries},
+        }
     return told
 
 
@@ -65,12 +64,8 @@ def of_reason(reason: Reason) -> Value:
         "words": reason.words,
         "at": reason.at,
         "slips": reason.slips,
-        "facts": [of_fact(it) for it in reason.facts],
+        "facts": [vars(it) for it in reason.facts],
     }
-
-
-def of_fact(fact: Fact) -> Value:
-    return dict(vars(fact))
 
 
 def of_field(field: Field) -> Value:

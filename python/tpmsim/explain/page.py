@@ -11,9 +11,9 @@ import pathlib
 import re
 from typing import Any, Iterator
 
-from tpmsim.explain import dissection, own_nv
+from tpmsim.explain import own_nv
 from tpmsim.explain.field import Field
-from tpmsim.explain.past import Past
+from tpmsim.explain.past import Past, WRITES_PCR
 from tpmsim.explain.play import Event, Play
 from tpmsim.explain.reason import Reason
 from tpmsim.explain.text import Counts, name_of
@@ -126,7 +126,6 @@ def of_device(model: Model) -> Iterator[tuple[str, str]]:
 
 LONG_HEX = re.compile(r"[0-9A-Fa-f]{13,}")
 PCR_HANDLE = re.compile(r"000000[01][0-9a-f]")
-WRITES_PCR = CC.PCR_Extend, CC.PCR_Event, CC.PCR_Reset
 
 Value = dict[str, Any]
 
@@ -214,9 +213,8 @@ class PageData:
         found = list(scene.handles)
         if scene.known is not None:
             found += [it.handle for it in scene.command.entries or []]
-        assert event.outcome is not None
         if not event.refused and scene.code.answers_handle:
-            found.append(int.from_bytes(event.outcome.response[10:14], "big"))
+            found.append(int.from_bytes(event.response[10:14], "big"))
         if scene.code == CC.FlushContext and len(scene.buffer) >= 14:
             found.append(int.from_bytes(scene.buffer[10:14], "big"))
         return [it for it in found if it not in (RS_PW, RH_NULL)]
@@ -239,18 +237,14 @@ class PageData:
         self.events.append(told)
 
     def add_command(self, event: Event, told: Value) -> None:
-        scene, outcome = event.scene, event.outcome
-        assert outcome is not None
-        code = NUMBERED.get(scene.number)
+        scene, (asked, answered) = event.scene, event.fields()
         told["n"] = self.texts.of(name_of(event))
         words = lines.line_of(scene.buffer) if event.text.startswith("cmd") else event.text[3:]
         told["w"] = self.texts.of(words or f"cmd {scene.buffer.hex()}")
         told["s"] = self.texts.of(short_words(words or ""))
         told["u"] = self.used(event)
-        asked = dissection.fields_of_command(scene.buffer, scene.plain)
         told["q"] = [scene.buffer.hex(), *self.fields(asked)]
-        answered = dissection.fields_of_response(code, outcome.response, event.answered)
-        told["r"] = [outcome.response.hex(), *self.fields(answered)]
+        told["r"] = [event.response.hex(), *self.fields(answered)]
         if scene.plain is not None and scene.plain != scene.command.parameters:
             told["p"] = [scene.parameters_at, scene.plain.hex()]
         if event.refused:
@@ -260,7 +254,8 @@ class PageData:
             if given:
                 told[key] = given
         self.add_reasons(event, told)
-        if code in WRITES_PCR and not event.refused and handle_kinds.is_pcr(scene.handles[0]):
+        writes = scene.number in WRITES_PCR and not event.refused
+        if writes and handle_kinds.is_pcr(scene.handles[0]):
             told["m"] = scene.handles[0]
         if self.play.model.lockout.failed_tries:
             told["f"] = self.play.model.lockout.failed_tries

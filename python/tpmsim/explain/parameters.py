@@ -6,7 +6,7 @@ from tpmsim.explain import dissection, encryption
 from tpmsim.explain.field import Field
 from tpmsim.explain.reason import Reason, RULES
 from tpmsim.explain.scene import Scene
-from tpmsim.explain.words import algorithm_words, plural
+from tpmsim.explain.words import algorithm_words, size_words
 from tpmsim.model.general import Refusal
 from tpmsim.model.machine import ROWS
 from tpmsim.model.parameters import Parameters, Request
@@ -53,9 +53,8 @@ class Traced(Parameters):
     def take(self, count: int) -> bytes:
         left = len(self.fields.data)
         if count > left:
-            self.trace.set(
-                self.at, plural(count, "byte"), plural(left, "byte"), self.short == "SIZE"
-            )
+            ends_structure = self.short == "SIZE"
+            self.trace.set(self.at, size_words(count), size_words(left), ends_structure)
         self.trace.last_at, self.trace.last_size = self.at, count
         return super().take(count)
 
@@ -87,9 +86,7 @@ class Traced(Parameters):
         value = read(fields)
         if fields.fields.data:
             left = len(fields.fields.data)
-            self.trace.set(
-                fields.at, "the end of the structure", f"{plural(left, 'byte')} more", True
-            )
+            self.trace.set(fields.at, "the end of the structure", f"{size_words(left)} more", True)
             raise self.refusal("SIZE")
         return value
 
@@ -110,7 +107,7 @@ class Traced(Parameters):
     def end(self) -> None:
         left = len(self.fields.data)
         if left:
-            self.trace.set(self.at, "the end of the command", f"{plural(left, 'byte')} more")
+            self.trace.set(self.at, "the end of the command", f"{size_words(left)} more")
         super().end()
         raise Whole
 

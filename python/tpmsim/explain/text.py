@@ -4,11 +4,10 @@ import textwrap
 from dataclasses import dataclass, field
 from typing import Iterable, Iterator
 
-from tpmsim.explain import dissection
 from tpmsim.explain.field import Field
 from tpmsim.explain.play import Event
 from tpmsim.explain.reason import Fact, Reason
-from tpmsim.explain.words import command_words, plural
+from tpmsim.explain.words import command_words, plural, size_words
 from tpmsim.standard import NUMBERED
 
 WIDTH = 100
@@ -71,13 +70,9 @@ def told(event: Event) -> Iterator[str]:
 
 
 def title(event: Event) -> str:
-    assert event.outcome is not None
-    if not event.refused:
-        return f"{name_of(event)} is accepted"
-    code = int.from_bytes(event.outcome.response[6:10], "big")
-    return (
-        f"{name_of(event)} is refused: {event.refused} ({code:03x}), by check {event.scene.check}"
-    )
+    name, code = name_of(event), int.from_bytes(event.response[6:10], "big")
+    refused = f"is refused: {event.refused} ({code:03x}), by check {event.scene.check}"
+    return f"{name} {refused if event.refused else 'is accepted'}"
 
 
 def told_words(reason: Reason) -> Iterator[str]:
@@ -110,19 +105,16 @@ def whole(event: Event) -> Iterator[str]:
     if event.is_power:
         yield f"line {event.line}: a power cycle"
         return
-    assert event.outcome is not None
-    scene = event.scene
+    scene, response, (asked, answered) = event.scene, event.response, event.fields()
     yield f"line {event.line}: {title(event)}"
     yield f"{INDENT}locality {scene.locality}, {scene.elapsed:,} ms after the command before"
-    yield f"{INDENT}the command, {plural(len(scene.buffer), 'byte')}"
-    yield from fields_words(dissection.fields_of_command(scene.buffer, scene.plain), scene.buffer)
+    yield f"{INDENT}the command, {size_words(len(scene.buffer))}"
+    yield from fields_words(asked, scene.buffer)
     for place, facts in event.entries:
         yield f"{INDENT}the HMAC of entry {place}"
         yield from facts_words(facts)
-    response = event.outcome.response
-    yield f"{INDENT}the response, {plural(len(response), 'byte')}"
-    code = NUMBERED.get(scene.number)
-    yield from fields_words(dissection.fields_of_response(code, response, event.answered), response)
+    yield f"{INDENT}the response, {size_words(len(response))}"
+    yield from fields_words(answered, response)
     yield ""
 
 
@@ -130,5 +122,5 @@ def fields_words(fields: list[Field], data: bytes) -> Iterator[str]:
     """Each field with its first byte, its bytes, its name and what it says."""
     for it in fields:
         said = data[it.at + it.front : it.at + it.size].hex() if not it.is_group else ""
-        name = "  " * it.depth + it.name
-        yield f"{INDENT}  {it.at:4}  {name:26} {said} {f'({it.meaning})' if it.meaning else ''}".rstrip()
+        name, meaning = "  " * it.depth + it.name, f"({it.meaning})" if it.meaning else ""
+        yield f"{INDENT}  {it.at:4}  {name:26} {said} {meaning}".rstrip()

@@ -88,6 +88,10 @@ def plural(count: int, word: str) -> str:
     return f"{count:,} {word}" if count == 1 else f"{count:,} {word}s"
 
 
+def size_words(count: int) -> str:
+    return plural(count, "byte")
+
+
 def listed(words: Iterable[str]) -> str:
     """a, b and c."""
     *before, last = list(words) or [""]
