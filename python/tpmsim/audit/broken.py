@@ -5,8 +5,9 @@ TPM2_PolicyOR that none takes.
 
 from typing import Iterator, Sequence
 
-from tpmsim.audit.session_lines import Asserted, PolicyOr
+from tpmsim.audit.session_lines import Asserted
 from tpmsim.policies.policy_texts import Policy, policy_digest, policy_texts, texts_after, zeros
+from tpmsim.standard import CC
 from tpmsim.standard.sessions import digest
 
 Told = Sequence[Asserted]
@@ -23,7 +24,7 @@ def explanation(algorithm: int, policy: Policy, told: Told) -> str:
 def wrong_or(algorithm: int, policy: Policy, told: Told) -> str | None:
     """A TPM2_PolicyOR that no device accepts."""
     for it in told:
-        if isinstance(it.said, PolicyOr) and it.before not in it.said.digests:
+        if it.said.code == CC.PolicyOR and it.before not in it.said.values:
             return f"line {it.line}: TPM2_PolicyOR is accepted without the digest before it"
     return None
 
@@ -31,8 +32,7 @@ def wrong_or(algorithm: int, policy: Policy, told: Told) -> str | None:
 def session_texts(algorithm: int, told: Told) -> Iterator[tuple[bytes, int]]:
     """The texts that a session hashed, each with the line of its assertion."""
     for it in told:
-        old = zeros(algorithm) if isinstance(it.said, PolicyOr) else it.before
-        for text in texts_after(algorithm, old, it.said.update(algorithm)):
+        for text in texts_after(algorithm, it.before, it.said.update(algorithm)):
             yield text, it.line
 
 

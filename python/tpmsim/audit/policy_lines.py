@@ -11,7 +11,7 @@ from tpmsim.audit import broken
 from tpmsim.audit.conditions import Finding
 from tpmsim.audit.entities import Entities, Entity
 from tpmsim.audit.ground import Grounds, Use
-from tpmsim.audit.session_lines import Asserted, PolicyOr
+from tpmsim.audit.session_lines import Asserted
 from tpmsim.explain.words import command_words
 from tpmsim.model.parameters import Parameters
 from tpmsim.policies.policy_file import PolicyFile
@@ -65,7 +65,7 @@ def steps_of(algorithm: int, of: Policy, told: Sequence[Asserted]) -> list[Step 
 def steps_at_or(algorithm: int, of: Policy, told: Sequence[Asserted]) -> list[Step | Choice]:
     """Those of the branch whose digest TPM2_PolicyOR found."""
     head = f"policy line {of.line}, either"
-    if not told or not isinstance(told[-1].said, PolicyOr):
+    if not told or told[-1].said.code != CC.PolicyOR:
         raise NotMet(f"{head}: TPM2_PolicyOR was not asserted")
     *earlier, latest = told
     fault = NotMet(f"{head}: before line {latest.line} (PolicyOR) the digest is that of no branch")

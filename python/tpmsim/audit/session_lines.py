@@ -9,23 +9,10 @@ from tpmsim.audit.watch import Seen
 from tpmsim.explain.past import said_words
 from tpmsim.explain.words import command_words, handle_words, SESSIONS
 from tpmsim.model import history
-from tpmsim.model.history import Accepted, History, LiveSession, Pcrs
-from tpmsim.policies.policy_texts import or_update
-from tpmsim.policies.written import Said, Update
-from tpmsim.standard import CC, frames, HASH_WORDS, SE_HMAC, values
+from tpmsim.model.history import History, LiveSession, Pcrs
+from tpmsim.policies.written import Said, said_of
+from tpmsim.standard import CC, HASH_WORDS, SE_HMAC
 from tpmsim.standard.lines import handle_word
-
-
-@dataclass(frozen=True)
-class PolicyOr:
-    """The digest before it is one of these."""
-
-    digests: tuple[bytes, ...]
-    code = CC.PolicyOR
-    words = "PolicyOR"
-
-    def update(self, algorithm: int) -> Update:
-        return or_update(self.digests)
 
 
 @dataclass(frozen=True)
@@ -35,7 +22,7 @@ class Asserted:
     """
 
     line: int
-    said: Said | PolicyOr
+    said: Said
     of: str
     before: bytes
     digest: bytes
@@ -52,29 +39,17 @@ ASK_VALUE = CC.PolicyAuthValue, CC.PolicyPassword
 
 
 def asserted_by(seen: Seen, before: LiveSession, after: LiveSession, pcrs: Pcrs) -> Asserted:
-    """The assertion of an event, with its session before and after it, and the PCRs."""
+    """The assertion of an event, with its session before and after it, and the PCRs. Of a policy
+    session TPM2_PolicyPCR asserts the values of now.
+    """
     event, of = seen.accepted, ""
     if event.code in (CC.PolicySecret, CC.PolicyNV):
         of = handle_words(event.handles[0 if event.code == CC.PolicySecret else 1])
-    said = said_by(event, before.algorithm, pcrs)
+    said = said_of(
+        *(CC(event.code), event.parameters, event.names),
+        lambda selected, _: pcrs.digest(before.algorithm, selected),
+    )
     return Asserted(seen.line, said, of, before.policy.digest, after.policy.digest)
-
-
-def said_by(event: Accepted, algorithm: int, pcrs: Pcrs) -> Said | PolicyOr:
-    """Of a policy session TPM2_PolicyPCR asserts the values of now."""
-    code = CC(event.code)
-    given = values.read_all(code.parameters, event.parameters)
-    match code:
-        case CC.PolicyPCR:
-            of_now = pcrs.digest(algorithm, given["pcrs"])
-            return Said(code, (frames.selection(*given["pcrs"]), of_now))
-        case CC.PolicyOR:
-            return PolicyOr(tuple(given["pHashList"]))
-        case CC.PolicySecret:
-            return Said(code, (event.names[0], given["policyRef"]))
-        case CC.PolicyNV:
-            return Said(code, (event.names[1], *given.values()))
-    return Said(code, tuple(given.values()))
 
 
 @dataclass

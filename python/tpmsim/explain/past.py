@@ -6,45 +6,55 @@ be tried.
 from __future__ import annotations
 
 from dataclasses import dataclass, field, replace
-from typing import Any, Callable, Iterable
+from typing import Any, Iterable
 
 from tpmsim.explain.words import command_words, handle_words
 from tpmsim.model import nv_commands, object_rules
 from tpmsim.model.general import Command
 from tpmsim.model.machine import Model, Session
 from tpmsim.model.parameters import Parameters
-from tpmsim.standard import CC, digest, DIGEST_BYTES, Fields, frames, handle_kinds, is_policy, lines
-from tpmsim.standard import policy, RH_ENDORSEMENT, RH_LOCKOUT, RH_OWNER, RH_PLATFORM
+from tpmsim.policies.policy_texts import digest_after, texts_after
+from tpmsim.policies.written import Said, said_of
+from tpmsim.standard import CC, digest, Fields, frames, handle_kinds, HIERARCHIES, is_policy, lines
+from tpmsim.standard import values
+from tpmsim.standard.values import Bank
 
-# Selected PCRs, and the values of all.
-Selection = list[tuple[int, list[int]]]
+# The values of all PCRs.
 Banks = dict[int, list[bytes]]
 
 
 @dataclass(frozen=True)
 class Step:
-    """An assertion: its line in the log, its words, and the digest that it makes of an old one and
-    of its arguments. The last argument of those with a selection of PCRs or a handle is `given`: the
-    digest of these PCRs, or the Name at that time.
+    """An assertion: its line in the log, what it says, and its words; with the PCRs that it selects,
+    or what has the Name that it says.
     """
 
     line: int
-    code: CC
+    said: Said
     words: str
-    made: Callable[..., bytes]
-    arguments: tuple[Any, ...] = ()
-    selected: Selection | None = None
+    selected: list[Bank] | None = None
     handle: int | None = None
-    given: bytes = b""
 
-    def after(self, algorithm: int, old: bytes) -> bytes:
-        has_given = self.selected is not None or self.handle is not None
-        given = (self.given,) if has_given else ()
-        return self.made(algorithm, old, *self.arguments, *given)
+    @property
+    def code(self) -> CC:
+        return self.said.code
+
+    @property
+    def place(self) -> int:
+        """Where among its values the digest of the PCRs stands, or the Name."""
+        return 0 if self.selected is None else 1
+
+    @property
+    def given(self) -> bytes:
+        return bytes(self.said.values[self.place])
 
     def but(self, given: bytes) -> Step:
         """The same of another Name, or of PCRs with another digest."""
-        return replace(self, given=given)
+        values = *self.said.values[: self.place], given, *self.said.values[self.place + 1 :]
+        return replace(self, said=Said(self.code, values))
+
+    def after(self, algorithm: int, old: bytes) -> bytes:
+        return digest_after(algorithm, texts_after(algorithm, old, self.said.update(algorithm)))
 
 
 def banks_of(model: Model) -> Banks:
@@ -58,49 +68,15 @@ def values_digest(algorithm: int, selected: Iterable[Any], banks: Banks) -> byte
 
 def step_of(line: int, command: Command, plain: bytes, model: Model, names: list[bytes]) -> Step:
     """That of an accepted assertion, by the Names that its handles had before it."""
-    words, fields, code = (
-        said_words(command.code, command.handles, plain),
-        Parameters(plain),
-        command.code,
+    code, handles = command.code, command.handles
+    algorithm = model.sessions[handles[-1]].algorithm
+    said = said_of(
+        *(code, plain, names),
+        lambda those, given: given or values_digest(algorithm, those, model.banks),
     )
-    if code == CC.PolicyPCR:
-        algorithm = model.sessions[command.handles[0]].algorithm
-        given, selected = fields.sized(DIGEST_BYTES), fields.selection()
-        values = given or values_digest(algorithm, selected, model.banks)
-        arguments = (frames.selection(*selected),)
-        return Step(line, code, words, policy.after_pcr, arguments, selected, None, values)
-    if code == CC.PolicySecret:
-        _, _, reference = (fields.sized(DIGEST_BYTES) for _ in range(3))
-        handle, name = command.handles[0], names[0]
-        return Step(line, code, words, after_secret, (reference,), None, handle, name)
-    if code == CC.PolicyNV:
-        compared, handle = (fields.sized(DIGEST_BYTES) + fields.take(4),), command.handles[1]
-        return Step(line, code, words, policy.after_nv, compared, None, handle, names[1])
-    return Step(line, code, words, *simple(code, fields))
-
-
-def after_secret(algorithm: int, old: bytes, reference: bytes, name: bytes) -> bytes:
-    return policy.after_secret(algorithm, old, name, reference)
-
-
-def after_or(algorithm: int, old: bytes, branches: list[bytes]) -> bytes:
-    return policy.after_or(algorithm, branches)
-
-
-def simple(code: CC, fields: Parameters) -> tuple[Callable[..., bytes], tuple[Any, ...]]:
-    """The assertions that hang on their parameter alone."""
-    match code:
-        case CC.PolicyOR:
-            return after_or, (fields.sized_list(policy.LEAST_BRANCHES, policy.MOST_BRANCHES),)
-        case CC.PolicyCommandCode:
-            return policy.after_command_code, (fields.number(4),)
-        case CC.PolicyCpHash:
-            return policy.after_cp_hash, (fields.sized(DIGEST_BYTES),)
-        case CC.PolicyNvWritten:
-            return policy.after_nv_written, (bool(fields.number(1)),)
-        case CC.PolicyLocality:
-            return policy.after_locality, (fields.number(1),)
-    return policy.after_auth_value, ()
+    selected = values.read_all(code.parameters, plain).get("pcrs")
+    handle = handles[-2] if code in (CC.PolicySecret, CC.PolicyNV) else None
+    return Step(line, said, said_words(code, handles, plain), selected, handle)
 
 
 def said_words(code: CC, handles: list[int], plain: bytes) -> str:
@@ -116,8 +92,6 @@ def said_words(code: CC, handles: list[int], plain: bytes) -> str:
 WRITES_PCR = CC.PCR_Extend, CC.PCR_Event, CC.PCR_Reset
 # How many states of the PCRs are kept.
 MOST_STATES = 64
-
-HIERARCHIES = RH_OWNER, RH_ENDORSEMENT, RH_PLATFORM, RH_LOCKOUT
 
 
 @dataclass(frozen=True)

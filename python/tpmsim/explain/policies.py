@@ -11,6 +11,7 @@ from tpmsim.explain.scene import Scene
 from tpmsim.explain.words import algorithm_words, command_words, handle_words, listed
 from tpmsim.explain.words import localities_words
 from tpmsim.model import nv_commands
+from tpmsim.policies.written import Said
 from tpmsim.standard import CC, command_hash, digest_bytes, Fact, policy
 
 
@@ -161,16 +162,13 @@ def variants(use: Use, steps: Sequence[Step]) -> Iterator[tuple[list[Step], str,
 
 def further(use: Use) -> Iterator[Step]:
     """Assertions that may be missing at the end."""
-    either = "PolicyAuthValue or PolicyPassword"
-    yield Step(0, CC.PolicyAuthValue, either, policy.after_auth_value)
-    named = policy.after_command_code
-    yield Step(0, CC.PolicyCommandCode, f"PolicyCommandCode {use.code.name}", named, (use.code,))
-    for it in (False, True):
-        words = f"PolicyNvWritten {int(it)}"
-        yield Step(0, CC.PolicyNvWritten, words, policy.after_nv_written, (it,))
+    yield Step(0, Said(CC.PolicyAuthValue), "PolicyAuthValue or PolicyPassword")
+    named = Said(CC.PolicyCommandCode, (use.code,))
+    yield Step(0, named, f"PolicyCommandCode {use.code.name}")
+    for it in (0, 1):
+        yield Step(0, Said(CC.PolicyNvWritten, (it,)), f"PolicyNvWritten {it}")
     for bits in range(1, policy.ALL_LOCALITIES + 1):
-        words = f"PolicyLocality {bits:#x}"
-        yield Step(0, CC.PolicyLocality, words, policy.after_locality, (bits,))
+        yield Step(0, Said(CC.PolicyLocality, (bits,)), f"PolicyLocality {bits:#x}")
 
 
 # How many commands that wrote PCRs are named.

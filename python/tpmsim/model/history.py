@@ -8,7 +8,7 @@ but what an event shows; its rules are those of docs/THEOREMS.md.
 from __future__ import annotations
 
 from dataclasses import dataclass, field, replace
-from typing import Any, Callable, Iterator, TYPE_CHECKING
+from typing import Any, Callable, Iterable, Iterator, TYPE_CHECKING
 
 from tpmsim.model import nv_commands, object_rules, pcrs, policy_state, state
 from tpmsim.model.parameters import Parameters
@@ -123,7 +123,7 @@ class Pcrs:
             banks.append((bank, fields.take(digest_bytes(bank))))
         return banks
 
-    def digest(self, algorithm: int, selection: list[tuple[int, list[int]]]) -> bytes:
+    def digest(self, algorithm: int, selection: Iterable[tuple[int, Iterable[int]]]) -> bytes:
         values = [self.values[bank, pcr] for bank, numbers in selection for pcr in numbers]
         return digest(algorithm, b"".join(values))
 

@@ -3,20 +3,10 @@ their words in docs/USING.md, what they put into the digest, and what a session 
 """
 
 from dataclasses import dataclass
-from typing import Any, Callable
+from typing import Any, Callable, Sequence
 
-from tpmsim.standard import (
-    CC,
-    DIGEST_BYTES,
-    Fields,
-    HIERARCHIES,
-    Kind,
-    NUMBERED,
-    PCRS,
-    SHA1,
-    SHA256,
-)
-from tpmsim.standard import digest, digest_bytes, name_of, number, sized, values
+from tpmsim.standard import CC, DIGEST_BYTES, digest, digest_bytes, Fields, frames, HIERARCHIES
+from tpmsim.standard import Kind, name_of, number, NUMBERED, PCRS, SHA1, SHA256, sized, values
 from tpmsim.standard.lines import HANDLE_NAMES, Wrong, bytes_of, handle_word, hex_word
 from tpmsim.standard.lines import WORDS, number_up_to
 
@@ -32,13 +22,14 @@ HASHED_NAMES = {number(it, 2): 2 + digest_bytes(it) for it in (SHA1, SHA256)}
 class Update:
     """What an assertion puts into the digest: the code of its command, what it is about, and
     policyRef, where it has one; and the text that is hashed apart, where it is about the hash of
-    one.
+    one. One that forgets has zeros in place of the digest before it.
     """
 
     code: CC
     about: bytes = b""
     reference: bytes | None = None
     apart: tuple[bytes, ...] = ()
+    forgets: bool = False
 
 
 class Unsaid(Exception):
@@ -162,7 +153,8 @@ class Said:
     PolicyCommandCode, PolicyCpHash and PolicyLocality (bit n for locality n), such a command; of
     PolicyNvWritten, an NV index that is written, or is not; of PolicySecret, that the entity of the
     Name was authorized for the policyRef; and of PolicyNV, that the bytes of the index of the Name
-    from the offset on compare so with the operand.
+    from the offset on compare so with the operand. PolicyOR, which is not written so, has the digests
+    of its branches.
     """
 
     code: CC
@@ -170,11 +162,13 @@ class Said:
 
     @property
     def words(self) -> str:
-        pairs = zip(FORMS[self.code], self.values)
+        pairs = zip(FORMS.get(self.code, ()), self.values)
         return " ".join([str(self.code.name), *(word.written(it) for word, it in pairs)])
 
     def update(self, algorithm: int) -> Update:
         match self.code, *self.values:
+            case CC.PolicyOR, *digests:
+                return Update(self.code, b"".join(digests), forgets=True)
             case CC.PolicyPassword, *_:
                 return Update(CC.PolicyAuthValue)
             case CC.PolicyPCR, selection, values_digest:
@@ -206,6 +200,30 @@ class Said:
         """The Name of the entity or the index that it is about, if it is about one."""
         is_about = self.code in (CC.PolicySecret, CC.PolicyNV)
         return bytes(self.values[0]) if is_about else b""
+
+
+def said_of(
+    code: CC,
+    parameters: bytes,
+    names: Sequence[bytes],
+    pcr_digest: Callable[[list[values.Bank], bytes], bytes],
+) -> Said:
+    """What a command asserts, by the Names of its handles, and by the digest of a selection of PCRs
+    and of what TPM2_PolicyPCR was given of it.
+    """
+    given = values.read_all(code.parameters, parameters)
+    match code:
+        case CC.PolicyPCR:
+            selected = given["pcrs"]
+            found = pcr_digest(selected, given["pcrDigest"])
+            return Said(code, (frames.selection(*selected), found))
+        case CC.PolicyOR:
+            return Said(code, tuple(given["pHashList"]))
+        case CC.PolicySecret:
+            return Said(code, (names[0], given["policyRef"]))
+        case CC.PolicyNV:
+            return Said(code, (names[1], *given.values()))
+    return Said(code, tuple(given.values()))
 
 
 def read_word(word: Word, given: bytes) -> Any:
