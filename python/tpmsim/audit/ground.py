@@ -13,7 +13,7 @@ from tpmsim.audit.watch import Seen, View
 from tpmsim.explain.words import SESSIONS, command_words
 from tpmsim.model.general import Command
 from tpmsim.model.history import History, LiveSession
-from tpmsim.standard import CC, DECRYPT, ENCRYPT, Entry, RS_PW, aes_tables, command_hash
+from tpmsim.standard import CC, DECRYPT, ENCRYPT, Entry, RS_PW, command_hash
 from tpmsim.standard import is_policy, policy, sessions, trimmed
 from tpmsim.standard.lines import handle_word
 
@@ -170,7 +170,4 @@ class Grounds:
         session = self.history.sessions.live[entry.handle]
         key = session.key + (b"" if handle is None else self.history.auth_values.of(handle))
         given = session.cipher, session.algorithm, key, entry.nonce, session.nonce_tpm
-        return sessions.on_first_buffer(
-            lambda data: sessions.decrypted(*given, data, aes_tables.encrypt_block),
-            command.parameters,
-        )
+        return sessions.first_decrypted(*given, command.parameters)

@@ -14,7 +14,6 @@ from tpmsim.caller.entries import Means, Prepared, Session, Use
 from tpmsim.standard import CC, CONTINUE_SESSION, DECRYPT, ENCRYPT, Entry, Fields, frames
 from tpmsim.standard import handle_kinds, nv, policy, RH_ENDORSEMENT, RH_LOCKOUT, RH_NULL, RH_OWNER
 from tpmsim.standard import RH_PLATFORM, RS_PW, sessions, TRANSIENT, trimmed, values
-from tpmsim.standard.aes_tables import encrypt_block
 
 NONCE_BYTES = 16
 
@@ -116,30 +115,19 @@ class Knowledge:
 
     def encrypted(self, use: Use, handle: int | None, parameters: bytes) -> bytes:
         """Parameters of a command with the bytes of the first one encrypted."""
-        session = use.session
-        nonces = use.nonce or b"", session.nonce_tpm
-        return self.changed(sessions.encrypted, session, handle, nonces, parameters)
+        session, key = use.session, use.session.key + self.auth_value(handle)
+        given = session.cipher, session.algorithm, key, use.nonce or b"", session.nonce_tpm
+        return sessions.first_encrypted(*given, parameters)
 
-    def decrypted(self, use: Use, handle: int | None, parameters: bytes) -> bytes:
-        """The other way round."""
-        session = use.session
-        nonces = use.nonce or b"", session.nonce_tpm
-        return self.changed(sessions.decrypted, session, handle, nonces, parameters)
-
-    def changed(
-        self,
-        change: Callable[..., bytes],
-        session: Session,
-        handle: int | None,
-        nonces: tuple[bytes, bytes],
-        parameters: bytes,
+    def decrypted(
+        self, use: Use, handle: int | None, parameters: bytes, is_answer: bool = False
     ) -> bytes:
-        key = session.key + self.auth_value(handle)
-        return sessions.on_first_buffer(
-            lambda data: change(
-                *(session.cipher, session.algorithm, key, *nonces, data, encrypt_block)
-            ),
-            parameters,
+        """The other way round, of a command's parameters or of those that answer it."""
+        session, key = use.session, use.session.key + self.auth_value(handle)
+        nonces = use.nonce or b"", session.nonce_tpm
+        newer, older = reversed(nonces) if is_answer else nonces
+        return sessions.first_decrypted(
+            session.cipher, session.algorithm, key, newer, older, parameters
         )
 
     def entry(self, prepared: Prepared, place: int) -> Entry:
@@ -295,8 +283,5 @@ class Knowledge:
     def plain_answer(self, prepared: Prepared, parameters: bytes) -> bytes:
         for place, use in enumerate(prepared.uses, 1):
             if isinstance(use, Use) and use.attributes & ENCRYPT:
-                session = use.session
-                nonces = session.nonce_tpm, use.nonce or b""
-                handle = prepared.authorized(place)
-                return self.changed(sessions.decrypted, session, handle, nonces, parameters)
+                return self.decrypted(use, prepared.authorized(place), parameters, True)
         return parameters

@@ -12,7 +12,6 @@ from tpmsim.model.general import Command
 from tpmsim.model.machine import MANUFACTURED, Model, Session
 from tpmsim.standard import ALG_NULL, DECRYPT, ENCRYPT, Entry, Fields, NUMBERED, SESSIONS, Short
 from tpmsim.standard import frames, sessions
-from tpmsim.standard.aes_tables import encrypt_block
 from tpmsim.standard.frames import NO_SESSIONS
 from tpmsim.standard.values import read_all
 
@@ -61,7 +60,7 @@ class Reference:
     """
 
     def __init__(self) -> None:
-        self.model = Model(MANUFACTURED, encrypt_block)
+        self.model = Model()
         is_there = library.is_there()
         self.device: Device = (
             LibraryDevice(manufactured=MANUFACTURED) if is_there else ChildDevice()
@@ -103,19 +102,12 @@ class Reference:
         """The parameters, decrypted where a session of the command asks for it and can."""
         found = command.with_attribute(DECRYPT)
         session = self.model.sessions.get(found[1].handle) if found else None
-        if (
-            not found
-            or session is None
-            or session.cipher == ALG_NULL
-            or not command.code.takes_sized
-        ):
+        is_encrypted = session and session.cipher != ALG_NULL and command.code.takes_sized
+        if not found or not session or not is_encrypted:
             return command.parameters
         key = self.model.encryption_key(session, found[2])
-        nonces = found[1].nonce, session.nonce_tpm
-        given = session.cipher, session.algorithm, key, *nonces
-        return sessions.on_first_buffer(
-            lambda data: sessions.decrypted(*given, data, encrypt_block), command.parameters
-        )
+        given = session.cipher, session.algorithm, key, found[1].nonce, session.nonce_tpm
+        return sessions.first_decrypted(*given, command.parameters)
 
     def encrypting(self, command: Command) -> Session | None:
         """The session that will encrypt the answer, which may end with it."""
@@ -131,7 +123,5 @@ class Reference:
         if found and session:
             key = self.model.encryption_key(session, found[2])
             given = session.cipher, session.algorithm, key, session.nonce_tpm, found[1].nonce
-            parameters = sessions.on_first_buffer(
-                lambda data: sessions.decrypted(*given, data, encrypt_block), parameters
-            )
+            parameters = sessions.first_decrypted(*given, parameters)
         return Received(b"", handle, read_all(command.code.answered_parameters, parameters))

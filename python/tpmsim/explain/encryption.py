@@ -6,7 +6,6 @@ from typing import Iterator
 from tpmsim.explain.ingredients import Use, use_of
 from tpmsim.explain.scene import Scene
 from tpmsim.standard import DECRYPT, Fields, frames, sessions, Short
-from tpmsim.standard.aes_tables import encrypt_block
 
 
 @dataclass(frozen=True)
@@ -33,47 +32,44 @@ def decrypting_use(scene: Scene) -> Use | None:
 def otherwise(scene: Scene) -> Iterator[Otherwise]:
     """Each mistake once, with what it comes to."""
     use = decrypting_use(scene)
-    if use is None:
-        return
-    sent, seen = scene.command.parameters, {scene.plain}
-    for name, words, plain in mistakes(use, sent):
-        if plain not in seen:
-            seen.add(plain)
-            yield Otherwise(name, words, plain)
+    seen = {scene.plain}
+    for it in mistakes(use, scene.command.parameters) if use else ():
+        if it.plain not in seen:
+            seen.add(it.plain)
+            yield it
 
 
-def mistakes(use: Use, sent: bytes) -> Iterator[tuple[str, str, bytes]]:
+def mistakes(use: Use, sent: bytes) -> Iterator[Otherwise]:
     session, value, nonce = use.session, use.auth_value, use.entry.nonce
-    key, older = session.key, session.nonce_tpm
-    yield "not encrypted", "it was sent in plain, and the entry has the attribute decrypt", sent
+
+    def by(
+        name: str,
+        words: str,
+        key: bytes = session.key + value,
+        newer: bytes = nonce,
+        older: bytes = session.nonce_tpm,
+        cipher: int = session.cipher,
+    ) -> Otherwise:
+        algorithm = session.algorithm
+        plain = sessions.first_decrypted(cipher, algorithm, key, newer, older, sent)
+        return Otherwise(name, words, plain)
+
+    words = "it was sent in plain, and the entry has the attribute decrypt"
+    yield Otherwise("not encrypted", words, sent)
     if value:
         words = "the authValue was left out of the key of the encryption, where it always is"
-        yield "mask without authValue", words, plain_by(use, sent, key, nonce, older)
-    if key:
+        yield by("mask without authValue", words, session.key)
+    if session.key:
         words = "the session key was left out of the key of the encryption"
-        yield "mask without session key", words, plain_by(use, sent, value, nonce, older)
+        yield by("mask without session key", words, value)
     words = "the nonces were swapped in the key of the encryption"
-    yield "mask with nonces swapped", words, plain_by(use, sent, key + value, older, nonce)
+    yield by("mask with nonces swapped", words, newer=session.nonce_tpm, older=nonce)
     for past in use.begun.nonces[-4:-1] if use.begun else []:
         words = f"it was encrypted with the nonceTPM of line {past.line}, which is past"
-        plain = plain_by(use, sent, key + value, nonce, past.value)
-        yield "mask with an old nonceTPM", words, plain
-    for since in use.scene.past.values.get(use.handle, [])[:-1] if use.handle is not None else []:
+        yield by("mask with an old nonceTPM", words, older=past.value)
+    for since in use.past_values:
         words = f"it was encrypted with the authValue of line {since.line}, which is past"
-        plain = plain_by(use, sent, key + since.value, nonce, older)
-        yield "mask with an old authValue", words, plain
+        yield by("mask with an old authValue", words, session.key + since.value)
     other = frames.XOR if session.cipher == frames.AES else frames.AES
     words = "it was encrypted by the other cipher, XOR for AES or AES for XOR"
-    yield "other cipher", words, plain_by(use, sent, key + value, nonce, older, other)
-
-
-def plain_by(
-    use: Use, sent: bytes, key: bytes, newer: bytes, older: bytes, cipher: int | None = None
-) -> bytes:
-    of = cipher or use.session.cipher
-    return sessions.on_first_buffer(
-        lambda data: sessions.decrypted(
-            of, use.session.algorithm, key, newer, older, data, encrypt_block
-        ),
-        sent,
-    )
+    yield by("other cipher", words, cipher=other)

@@ -3,7 +3,7 @@
 import hmac
 from dataclasses import dataclass
 
-from tpmsim.explain.past import Begun
+from tpmsim.explain.past import Begun, Since
 from tpmsim.explain.reason import Fact
 from tpmsim.explain.scene import Scene
 from tpmsim.explain.words import attribute_words, bytes_words, handle_words
@@ -80,6 +80,11 @@ class Use:
     @property
     def auth_value(self) -> bytes:
         return self.scene.model.auth_value(self.handle)
+
+    @property
+    def past_values(self) -> list[Since]:
+        """Those that what it authorizes had before."""
+        return [] if self.handle is None else self.scene.past.values.get(self.handle, [])[:-1]
 
     @property
     def takes_value(self) -> bool:

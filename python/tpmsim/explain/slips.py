@@ -12,6 +12,7 @@ from typing import Any, Iterator
 from tpmsim.explain import encryption
 from tpmsim.explain.ingredients import Ingredients, Use
 from tpmsim.explain.words import ALGORITHMS, attribute_words, handle_words
+from tpmsim.model.machine import Model
 from tpmsim.standard import DECRYPT, ENCRYPT, name_of, sessions, SHA1, SHA256, sized, trimmed
 
 
@@ -60,12 +61,10 @@ def auth_values(use: Use) -> Iterator[Slip]:
     if not use.takes_value and value:
         words = f"the authValue of {said} was put into the key: {use.value_words()}"
         yield value_slip("authValue put in", words, value)
-    for past in use.scene.past.values.get(use.handle, [])[:-1]:
+    for past in use.past_values:
         if past.value:
-            words = (
-                f"the key has the authValue that {said} had since line {past.line}, which is past"
-            )
-            yield value_slip("old authValue", words, past.value)
+            since = f"{said} had since line {past.line}, which is past"
+            yield value_slip("old authValue", f"the key has the authValue that {since}", past.value)
     new = new_value(use)
     if new:
         words = "the key has the new authValue; a command has the old one, its response the new one"
@@ -262,13 +261,12 @@ def parameters(use: Use) -> Iterator[Slip]:
     decrypting = encryption.decrypting_use(use.scene)
     if decrypting is None:
         return
-    session, key = decrypting.session, decrypting.session.key + decrypting.auth_value
-    plain = encryption.plain_by(decrypting, sent, key, decrypting.entry.nonce, session.nonce_tpm)
+    plain = Model.plain_parameters(use.scene.model, use.command)
     words = "cpHash has the parameters in plain; a right one has them encrypted, as they are sent"
     yield slip("parameters hashed plain", words, parameters=plain)
-    for _, mistake, otherwise in encryption.mistakes(decrypting, sent):
-        words = f"cpHash has the parameters in plain, and {mistake}"
-        yield slip("parameters hashed plain", words, parameters=otherwise)
+    for it in encryption.mistakes(decrypting, sent):
+        words = f"cpHash has the parameters in plain, and {it.words}"
+        yield slip("parameters hashed plain", words, parameters=it.plain)
 
 
 def hashes(use: Use) -> Iterator[Slip]:

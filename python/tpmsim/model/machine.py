@@ -358,14 +358,9 @@ class Model(
         except Short:
             raise Refusal("INSUFFICIENT/p1", "G10") from None
         session = self.sessions[entry.handle]
-        key = self.encryption_key(session, handle)
-        return sessions.on_first_buffer(
-            lambda data: sessions.decrypted(
-                *(session.cipher, session.algorithm, key, entry.nonce, session.nonce_tpm, data),
-                self.block_cipher,
-            ),
-            command.parameters,
-        )
+        given = session.cipher, session.algorithm, self.encryption_key(session, handle)
+        nonces = entry.nonce, session.nonce_tpm
+        return sessions.first_decrypted(*given, *nonces, command.parameters, self.block_cipher)
 
     # Responses. The effect has come before.
 
@@ -406,14 +401,9 @@ class Model(
             return parameters
         _, entry, handle = found
         session = self.sessions[entry.handle]
-        key = self.encryption_key(session, handle)
-        return sessions.on_first_buffer(
-            lambda data: sessions.encrypted(
-                *(session.cipher, session.algorithm, key, session.nonce_tpm, entry.nonce, data),
-                self.block_cipher,
-            ),
-            parameters,
-        )
+        given = session.cipher, session.algorithm, self.encryption_key(session, handle)
+        nonces = session.nonce_tpm, entry.nonce
+        return sessions.first_encrypted(*given, *nonces, parameters, self.block_cipher)
 
     def entry_answer(
         self, command: Command, parameters: bytes, entry: Entry, handle: int | None

@@ -118,6 +118,24 @@ def encrypted(
 decrypted = functools.partial(encrypted, by_aes=aes.cfb_decrypt)
 
 
+def first_encrypted(
+    cipher: int,
+    algorithm: int,
+    key: bytes,
+    newer: bytes,
+    older: bytes,
+    parameters: bytes,
+    block_cipher: aes.BlockCipher = encrypt_block,
+    change: Callable[..., bytes] = encrypted,
+) -> bytes:
+    """Parameters whose first is a sized buffer, with its bytes encrypted, and not its size."""
+    given = cipher, algorithm, key, newer, older
+    return on_first_buffer(lambda data: change(*given, data, block_cipher), parameters)
+
+
+first_decrypted = functools.partial(first_encrypted, change=decrypted)
+
+
 def on_first_buffer(change: Callable[[bytes], bytes], parameters: bytes) -> bytes:
     """Parameters whose first is a sized buffer, with its bytes changed, and not its size."""
     size = int.from_bytes(parameters[:2], "big")
