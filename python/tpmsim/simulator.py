@@ -171,9 +171,7 @@ class Server:
             self.board.power(True)
 
     async def send_command(self, reader: asyncio.StreamReader) -> bytes:
-        """A command that is too long is answered by what its header says, and ends the connection;
-        without power the answer is empty.
-        """
+        """One that is too long ends the connection behind its answer; without power it is empty."""
         locality, size = await number_from(reader, 1), await number_from(reader)
         is_too_long = size > COMMAND_BYTES
         buffer = await reader.readexactly(HEADER_BYTES if is_too_long else size)

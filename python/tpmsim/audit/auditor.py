@@ -1,6 +1,4 @@
-"""A script and what was printed of it, judged event by event: by the device in Python, and by what
-the history alone tells.
-"""
+"""A log, judged event by event: by the device in Python, and by what the history alone tells."""
 
 from typing import Sequence
 
@@ -31,9 +29,7 @@ class Counts:
 
 
 class Auditor:
-    """A log that is judged, by the policies that are given too, with what is told of it; `last` is
-    the line of its latest event.
-    """
+    """A log that is judged, with what is told of it; `last` is the line of its latest event."""
 
     def __init__(self, start: Start, log: Log, policy_files: Sequence[PolicyFile] = ()) -> None:
         device, history = start.device, start.history

@@ -1,6 +1,5 @@
-"""How a policy session came to the digest of a policy that it does not meet: the hash is broken in
-one of the ways that tpm_policy_meaning has (Meaning, BreaksHash), or the device took a
-TPM2_PolicyOR that none takes.
+"""How a policy session came to the digest of a policy that it does not meet: the hash is broken
+(Meaning and BreaksHash of tpm_policy_meaning), or a wrong TPM2_PolicyOR was taken.
 """
 
 from typing import Iterator, Sequence

@@ -39,9 +39,7 @@ def means_words(public: Public) -> str:
 
 @dataclass
 class Entity:
-    """What a handle names while it stays the same, with its public area, if it has one; its uses, a
-    text a line.
-    """
+    """What a handle names while it stays the same, with its uses, a text a line."""
 
     handle: int
     title: str

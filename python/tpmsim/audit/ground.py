@@ -1,6 +1,4 @@
-"""On what ground an entry was let in: what was checked of it, and whether that holds by the
-history. The device's own answer is not asked.
-"""
+"""On what ground an entry was let in, by the history alone: the device's answer is not asked."""
 
 from dataclasses import dataclass
 from typing import Iterator
@@ -152,9 +150,7 @@ class Grounds:
         return Finding(holds, f"its hmac {'holds' if holds else 'does not hold'}, under {told}")
 
     def nonces_of_others(self, use: Use) -> list[bytes]:
-        """The nonces of the sessions that decrypt and encrypt, where these are others: of the first
-        entry alone, where it authorizes.
-        """
+        """In the first entry, where it authorizes: those of others that decrypt and encrypt."""
         if use.place != 1 or use.handle is None:
             return []
         found = [use.seen.command.with_attribute(it) for it in (DECRYPT, ENCRYPT)]

@@ -19,9 +19,7 @@ COUNTED, NOT_COUNTED = "AUTH_FAIL", "BAD_AUTH"
 
 @dataclass
 class Stretch:
-    """Events without a reset: the parameters that they have, the milliseconds that pass in them,
-    and the lines of those that fail a guess.
-    """
+    """Events without a reset, their milliseconds, and the lines of those that fail a guess."""
 
     first: int
     most: int
@@ -70,9 +68,7 @@ class Guesses:
                 raise Disagreement(words)
 
     def touched(self, use: Use) -> str | None:
-        """What is protected that an entry is a try at: the value in its key or its password, or
-        else the one that its session was bound to.
-        """
+        """What a try is at: its key's or password's value, or that of its binding."""
         own = use.view.protection if use.takes_value else None
         return own or self.sessions.protection(use.entry.handle)
 

@@ -1,6 +1,4 @@
-"""Which line of the script wrote the value of each PCR, set each authorization value, and counted
-each NV counter; and which sent a command again.
-"""
+"""Which line wrote each PCR, set each value and counted each counter, and sent a command again."""
 
 from __future__ import annotations
 
@@ -180,10 +178,7 @@ class CounterLines:
 
 
 class Repeats:
-    """Commands with an hmac of an HMAC session that were accepted again, byte for byte, while the
-    session lived. What each had accepted: of a command, by its digest, the line and the nonceTPM of
-    then.
-    """
+    """Commands with an HMAC session's hmac that were accepted again, byte for byte, while it lived."""
 
     def __init__(self, sessions: SessionLines) -> None:
         self.sessions, self.told = sessions, list[str]()

@@ -38,9 +38,7 @@ AGREES = (
 
 @dataclass
 class Asked:
-    """The names of the script and of its output, that of the image, if there is one, and those of
-    policies.
-    """
+    """The names of the script and of its output, of an image and of policies."""
 
     names: list[str] = field(default_factory=list)
     images: list[str] = field(default_factory=list)

@@ -1,7 +1,6 @@
-"""Policies that a reviewer has in words: which entities have them, and whether each use by a policy
-session met the policy of its entity. It has to have told, one after another and along one branch at
-each PolicyOR, what is written, as tpm_policy_meaning has it (Meaning); what is written later has to be
-told later too, which the digest sees to. And what the policy says has to hold at the use.
+"""Policies that a reviewer has in words: which entities have them, and whether each use met that of
+its entity. Its session has to have asserted what is written, one after another and along one branch
+at each PolicyOR, as tpm_policy_meaning has it (Meaning); and that has to hold at the use.
 """
 
 from dataclasses import dataclass
@@ -150,9 +149,7 @@ Judgement = tuple[str | None, list[str]]
 
 
 class Judged:
-    """A policy's file, with what is told of the uses of each entity that has it, and with the uses
-    that do not meet it.
-    """
+    """A policy's file, with the uses of the entities that have it, and those that miss it."""
 
     def __init__(self, file: PolicyFile) -> None:
         self.file, self.unmet = file, list[str]()

@@ -1,6 +1,4 @@
-"""Where each session began, what it was told, in the terms of a written policy as tpm_policy_meaning has
-it (Asserted), and for what it was used.
-"""
+"""What each session was told, as tpm_policy_meaning has it (Asserted), and for what it was used."""
 
 from dataclasses import dataclass, field
 from typing import Iterator
@@ -28,9 +26,7 @@ class Asserted:
     digest: bytes
 
     def says(self, said: Said) -> bool:
-        """Whether it says what is written. TPM2_PolicyAuthValue and TPM2_PolicyPassword have one
-        digest, so that each of them stands for both.
-        """
+        """PolicyAuthValue and PolicyPassword have one digest, and stand for each other."""
         ask_value = self.said.code in ASK_VALUE and said.code in ASK_VALUE
         return ask_value or self.said == said
 

@@ -19,9 +19,7 @@ OF_PARAMETERS = "INSUFFICIENT/p1"
 
 
 class View:
-    """What everybody may read of what a handle names: the public area of an object or of an NV
-    index; of all else there is none.
-    """
+    """What everybody may read of what a handle names: the public area, where it has one."""
 
     def __init__(self, handle: int, public: Public | None = None) -> None:
         self.handle, self.public = handle, public
@@ -62,10 +60,8 @@ def view_of(device: Model, handle: int) -> View:
 
 @dataclass
 class Seen:
-    """An event: a command's buffer, what it was told and what came of it; the command, where it
-    passed the general checks, with a view of each handle before it; what is told of the event,
-    where it was accepted; why it was refused, where that is for none of its entries; and the number
-    of the script's line.
+    """An event. `known` is the command where it passed the general checks, with a view of each
+    handle before it; `event` is what is told of it, where it was accepted.
     """
 
     buffer: bytes = b""

@@ -144,9 +144,7 @@ class Caller(PreparedCommands):
     def create_primary(
         self, public: objects.Public, *uses: Means, hierarchy: int = RH_OWNER, **more: Any
     ) -> int:
-        """The handle of a primary object. `user_auth`, `data`, `outside_info` and `pcrs` may be
-        given.
-        """
+        """The handle; `user_auth`, `data`, `outside_info` and `pcrs` may be given."""
         handle = self.send(self.primary(hierarchy, public, *uses, **more)).handle
         assert handle is not None
         return handle

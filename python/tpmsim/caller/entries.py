@@ -1,6 +1,4 @@
-"""A command that is ready to be sent, and the sessions of its entries; and what it came to: the fields
-of a response, or why it is refused.
-"""
+"""A command that is ready to be sent, the sessions of its entries, and what it came to."""
 
 from __future__ import annotations
 

@@ -1,6 +1,4 @@
-"""Each command in words: what is asked, and who authorizes it. Where nobody is named the value that
-the caller knows of a handle is sent as its password.
-"""
+"""Each command in words. Where nobody is named, the first handle's known value is its password."""
 
 from typing import Any, Sequence
 

@@ -1,6 +1,4 @@
-"""What differs between two answers, what is a matter of chance in them, and what other TPMs are known to
-do otherwise: each cause with the differences that show it.
-"""
+"""What differs between two answers, what is chance in them, and the known causes of differences."""
 
 import json
 import pathlib
@@ -30,9 +28,7 @@ OTHER_CODES = {
 
 @dataclass(frozen=True)
 class Difference:
-    """In a line of the script: the command, what of its answer differs, and both values. One that
-    follows from that of an earlier line names it.
-    """
+    """In a line of the script: what differs, and the earlier line that it follows from, if any."""
 
     line: int
     command: str

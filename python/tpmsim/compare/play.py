@@ -54,9 +54,7 @@ READS = [
 
 @dataclass
 class Report:
-    """What came of a script: how many commands it has, where the answers differ, and what could not
-    be compared, by line.
-    """
+    """How many commands a script has, what differs, and what cannot be compared, by line."""
 
     commands: int = 0
     differences: list[Difference] = field(default_factory=list)

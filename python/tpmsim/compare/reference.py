@@ -44,9 +44,7 @@ class Shown:
 
 @dataclass
 class Received:
-    """What a TPM answered to a request in plain: the handle and the fields in plain, and what is
-    wrong with its hmacs.
-    """
+    """What a TPM answered to a request in plain, and what is wrong with its hmacs."""
 
     request: bytes = b""
     handle: int | None = None

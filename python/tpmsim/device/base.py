@@ -79,9 +79,7 @@ class Transport(ABC):
 
     @property
     def trace(self) -> list[str]:
-        """The lines of a script that does the same, and as a comment behind each command what its
-        trace says.
-        """
+        """The lines of a script that does the same, with each trace behind as a comment."""
         return [it for event in self.events for it in lines_told(event)]
 
     @abstractmethod

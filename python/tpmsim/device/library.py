@@ -142,9 +142,7 @@ class LibraryDevice(Device):
 
     @property
     def trace(self) -> list[str]:
-        """As ever, behind a comment with the image that the device was begun from, for a run of
-        `tpmsim run --image`.
-        """
+        """As ever, behind a comment with the image of the start, for `tpmsim run --image`."""
         return [f"# image {self.begun.hex()}", *super().trace]
 
     def begin(self, base: bytes) -> None:

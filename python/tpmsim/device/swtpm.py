@@ -99,9 +99,7 @@ class SwtpmDevice(LocatedDevice):
 
 
 class StartedSwtpm(SwtpmDevice):
-    """The program swtpm with a new device, in a folder of its own; FileNotFoundError where there is
-    no such program. It ends with `close`.
-    """
+    """The program swtpm with a new device, until `close`; FileNotFoundError where there is none."""
 
     def __init__(self, program: str = "swtpm", seconds: float = 60) -> None:
         if not shutil.which(program):

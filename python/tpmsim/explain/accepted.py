@@ -89,9 +89,7 @@ def unwritten(scene: Scene) -> Iterator[Reason]:
 
 
 def after(scene: Scene) -> Iterator[Reason]:
-    """Behind the effect: random bytes that are zeros, told once, and a nonce of the device that comes
-    again.
-    """
+    """Behind the effect: random bytes that are zeros, told once, and a nonceTPM come again."""
     if scene.code in DRAWS and not any(scene.random) and "random" not in scene.past.told_once:
         scene.past.told_once.add("random")
         words = "The random bytes are zeros, as no entropy line has told others. It is told once."

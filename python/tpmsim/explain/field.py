@@ -17,9 +17,8 @@ class Cut(Exception):
 
 @dataclass
 class Field:
-    """A field: its first byte, how many bytes it has, how many of these are a size in front, its
-    name, what it says, what it belongs to, and within how many structures it stands. A structure
-    is a group, whose fields follow it.
+    """A field, of which `front` bytes are a size, and which stands within `depth` structures. A
+    structure is a group, whose fields follow it.
     """
 
     name: str

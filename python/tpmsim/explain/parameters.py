@@ -16,9 +16,7 @@ T = TypeVar("T")
 
 
 class Trace:
-    """Where reading stopped: the byte, what was wanted there, what was there, and whether a
-    structure's own end was reached.
-    """
+    """Where reading stopped, what was wanted and had there, and whether a structure ended there."""
 
     def __init__(self) -> None:
         self.at, self.wanted, self.had, self.ends_structure = 0, "", "", False
@@ -36,9 +34,7 @@ class Whole(Exception):
 
 
 class Traced(Parameters):
-    """Parameters that tell where their reading stops, and end it before a command has an effect.
-    `base` is the offset of the first one.
-    """
+    """They tell where their reading stops, before any effect; `base` is where they begin."""
 
     def __init__(
         self, data: bytes, base: int, trace: Trace, place: int = 0, short: str = "INSUFFICIENT"

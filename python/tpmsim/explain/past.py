@@ -1,6 +1,4 @@
-"""What came before a command: when the values were set that it stands on, and by which command; and what
-a policy session was told, assertion by assertion, so that another order or another value of one can
-be tried.
+"""What came before a command: since when its values are what they are, and what policies were told.
 """
 
 from __future__ import annotations
@@ -175,9 +173,7 @@ class Past:
     def accepted(
         self, line: int, command: Command, plain: bytes, answered: int | None, names: list[bytes]
     ) -> None:
-        """A command with its parameters in plain, the handle that it answered, if any, and the
-        Names that its handles had before it.
-        """
+        """`answered` is the handle that it answered; the Names are those before it."""
         name = command.code.name
         if command.code in (*WRITES_PCR, CC.Clear) and command.handles[0] != frames.RH_NULL:
             pcr = None if command.code == CC.Clear else command.handles[0]

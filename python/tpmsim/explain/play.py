@@ -36,11 +36,10 @@ class Difference:
 
 @dataclass
 class Event:
-    """An event of a log: the number of its line; its scene, whose buffer is empty at a power cycle;
-    what came of it; why it was refused; what else is told of it; and where the log's answers differ,
-    of which there are so many. Of an event that is looked at as a whole `entries` has what the HMACs
-    are of, by their places, and `answered` the answered parameters in plain. `text` is the line, and
-    `comments` has the paragraphs of comments before it.
+    """An event of a log, whose scene has no buffer at a power cycle: why it was refused, what else
+    is told of it, and where the log's answers differ, of which there are so many. If it is looked
+    at as a whole, `entries` has what the HMACs are of, by their places, and `answered` the answered
+    parameters in plain. `comments` has the paragraphs of comments before it.
     """
 
     line: int
@@ -99,9 +98,7 @@ class Event:
 
 
 class Answers:
-    """The lines of an output of `tpmsim run`, with `--trace` or without, where one is given; and
-    what the log itself says before a command.
-    """
+    """The lines of an output of `tpmsim run`, if any, and what the log says before a command."""
 
     def __init__(self, text: bytes | None) -> None:
         self.is_given = text is not None
@@ -138,9 +135,7 @@ def reason_of(scene: Scene) -> Reason:
 
 
 class Watched:
-    """A device whose commands are looked at as it executes them. Each that is refused is explained
-    where `explains` holds of its scene.
-    """
+    """A device that is looked at; a refusal is explained where `explains` of its scene holds."""
 
     def __init__(
         self, model: Model, explains: Callable[[Scene], bool] = lambda scene: True
@@ -232,9 +227,7 @@ class Play(Watched):
         at: int | None = None,
         is_whole: bool = False,
     ) -> None:
-        """image.Fault where the image is none. The event of the line `at`, or with `is_whole` each,
-        is looked at as a whole.
-        """
+        """image.Fault of no image. The line `at`, or each with `is_whole`, is looked at whole."""
         super().__init__(Model() if image is None else open_image(image))
         self.at, self.is_whole = -1 if at is None else at, is_whole
         self.answers, self.stage = Answers(answers), Stage(self.model, self.executed)

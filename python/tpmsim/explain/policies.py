@@ -1,6 +1,4 @@
-"""By what an entity cannot be authorized, and which condition of a policy session does not hold, with
-both values; and what makes a policy digest another one than that which is wanted.
-"""
+"""Which condition of a policy session does not hold, and what makes its digest another one."""
 
 from typing import Iterator, Sequence
 

@@ -24,9 +24,8 @@ class Fact:
 
 @dataclass
 class Reason:
-    """A check with what it found. `rule` is a key of RULES; `words` say it with its numbers; `slips`
-    are the usual mistakes that come to just what was given; `at` is the byte of the buffer at which
-    something is wrong, where it is one byte's.
+    """A check, by its key of RULES, with what it found: `slips` are the usual mistakes that come to
+    just what was given, and `at` is the byte of the buffer at which something is wrong.
     """
 
     rule: str

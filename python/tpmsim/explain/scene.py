@@ -10,10 +10,9 @@ from tpmsim.standard import CC, frames, HEADER_BYTES, NUMBERED
 
 @dataclass
 class Scene:
-    """A command with the model, which is as it was before the command where that was refused.
-    `refused` names the response code, as VALUE/p1, and `check` the check. `known` is the command
-    where the general checks passed, and `plain`, its parameters in plain, where the entries did.
-    `elapsed` is in milliseconds.
+    """A command with the model before it; `refused` is as VALUE/p1, and `elapsed` in milliseconds.
+    `known` is the command where the general checks passed, and `plain` its parameters where the
+    entries did.
     """
 
     model: Model

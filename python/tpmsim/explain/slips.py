@@ -1,8 +1,7 @@
 """Which usual mistake of a caller comes to just the HMAC that it gave.
 
-Each slip is a name, a sentence, and the ingredients that it has in place of the right ones. A slip is
-told only where its HMAC is the one that was given, so that none is told of an HMAC that nothing
-explains. Two slips of different groups are tried together, too.
+Each slip is a name, a sentence, and the ingredients that it has in place of the right ones. It is
+told only where its HMAC is the one that was given. Two of different groups are tried together, too.
 """
 
 from dataclasses import replace
@@ -17,9 +16,7 @@ from tpmsim.standard import DECRYPT, ENCRYPT, name_of, sessions, SHA1, SHA256, s
 
 
 class Slip:
-    """A mistake, with the ingredients that it changes. Two of one group exclude each other, and one
-    that is not paired comes alone.
-    """
+    """A mistake: two of one group exclude each other, and one that is not paired comes alone."""
 
     def __init__(
         self, name: str, words: str, group: str = "", is_paired: bool = True, **changes: Any

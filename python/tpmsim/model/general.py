@@ -1,6 +1,4 @@
-"""What every command goes through before its own parameters: the checks of its buffer, its handles
-and the entries of its authorization area, in the order of docs/table/order_of_refusals.md.
-"""
+"""What every command goes through first (docs/table/order_of_refusals.md)."""
 
 from __future__ import annotations
 
@@ -24,9 +22,8 @@ HEADER_CHECKS = "G1", "G2", "G3", "G4"
 
 
 class Refusal(Exception):
-    """A command that is refused; `name` is that of the code, as HASH/p1, and `check` that of the
-    check which refuses it, as G11 or A1. `touched` is what dictionary attack protection counts it
-    at, if at anything.
+    """A command that is refused: by a code, as HASH/p1, at a check, as G11 or A1; `touched` is what
+    dictionary attack protection counts it at, if at anything.
     """
 
     def __init__(self, name: str, check: str, touched: str | None = None) -> None:

@@ -22,9 +22,7 @@ if TYPE_CHECKING:
 
 @dataclass(frozen=True)
 class Use:
-    """An entry of a command: its session, whether that goes on, and whether the entry authorizes a
-    handle.
-    """
+    """An entry of a command: its session, whether that goes on, and whether it authorizes."""
 
     handle: int
     continues: bool
@@ -194,9 +192,7 @@ Bound = tuple[bytes, bytes, str | None]
 
 @dataclass(frozen=True)
 class LiveSession:
-    """A session's start: its type, its hash, its cipher, and the Name, the authorization value and
-    the protection to which it is bound; its key; its latest nonce; and its policy.
-    """
+    """A session, with the Name, the value and the protection that it is bound to, and its policy."""
 
     kind: int
     algorithm: int
@@ -209,9 +205,7 @@ class LiveSession:
 
 @dataclass
 class Sessions:
-    """The sessions that live. What they need of PCRs and authorization values is as it was before
-    the command.
-    """
+    """Those that live. The PCRs and the authorization values are those before the command."""
 
     live: dict[int, LiveSession] = field(default_factory=dict)
 

@@ -32,9 +32,7 @@ class Fault(Exception):
 
 @dataclass(frozen=True)
 class Version:
-    """How many NV indices an image has at most, and how many bytes of their data; and whether it
-    says these limits.
-    """
+    """The limits on NV indices and on the bytes of their data, and whether the image says them."""
 
     number: int
     indices: int

@@ -46,10 +46,8 @@ STARVED, MEMORY_CHECK = frames.refusal(0x904), "M"
 
 @dataclass
 class Session:
-    """A session, with what it was bound to: the Name, the authorization value, and what wrong
-    values of it counted at, all of them at the start. `cipher` is AES, XOR or ALG_NULL; the masks
-    of XOR are by the session's own hash algorithm. `policy` is what a policy or a trial session was
-    told.
+    """A session, with the Name, the authorization value and the protection of its bind entity at
+    the start. `cipher` is AES, XOR or ALG_NULL; the masks of XOR are by its own hash algorithm.
     """
 
     kind: int
@@ -69,9 +67,7 @@ class Session:
 
 @dataclass(frozen=True)
 class Row:
-    """What is reported of a command: its code, or 0 where a check of the header refuses it; and the
-    name of the check, or `ok`.
-    """
+    """A command's code, or 0 where its header is refused; and the name of the check, or `ok`."""
 
     code: int
     check: str
@@ -101,11 +97,8 @@ class Model(
     state.Commands,
     capability.Commands,
 ):
-    """The PCRs in both banks and how often a value was written, the hierarchies' authorization
-    values, seeds and proofs, dictionary attack protection, the NV indices, the objects, transient
-    and persistent ones, the sessions, the times, and what was saved for the next start. `tell` is
-    called with each event that is accepted. It is manufactured with 256 bytes, and encrypts by the
-    cipher of aes_tables.py where no other is given.
+    """The device. `tell` is called with each event that is accepted. It is manufactured with 256
+    bytes, and encrypts by the cipher of aes_tables.py where no other is given.
     """
 
     def __init__(

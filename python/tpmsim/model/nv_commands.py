@@ -1,7 +1,6 @@
-"""NV indices: what may be asked of them, what they hold, and the commands that define and use them.
-
-TPM 2.0 Library, Part 1, section 37; Part 2, section 13; Part 3, section 31. What of these sections
-is left to each TPM, or is narrower here, is that of docs/table.
+"""NV indices, and the commands that define and use them (TPM 2.0 Library, Part 1, section 37; Part
+2, section 13; Part 3, section 31). What is left to each TPM, or is narrower here, is that of
+docs/table.
 """
 
 from dataclasses import dataclass

@@ -17,9 +17,7 @@ HMAC_BYTES = 1024
 
 
 class Commands(Held):
-    """The commands, of a device that has `objects`, the PCRs, and the hierarchies' `seeds` and
-    `proofs`.
-    """
+    """Of a device that has `objects`, the PCRs, and the hierarchies' `seeds` and `proofs`."""
 
     def free_object(self, check: str) -> int:
         """The lowest number that is free, as a transient object's handle."""
@@ -43,9 +41,7 @@ class Commands(Held):
         hierarchy: int,
         locality: int,
     ) -> bytes:
-        """What both commands answer of a creation: the public area, the creation data, their hash,
-        and the ticket.
-        """
+        """What both commands answer: the public area, creation data, their hash, and the ticket."""
         values = self.values(template.pcrs)
         data = object_rules.creation_data(template, parent, hierarchy, values, locality)
         data_hash = digest(public.name_algorithm, data)

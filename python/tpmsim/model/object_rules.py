@@ -1,8 +1,5 @@
-"""Objects: what may be asked of them, what they are made of, and how a parent protects them.
-
-TPM 2.0 Library, Part 1, sections 16 (Names), 22 (protected storage), 25 to 27 (attributes, areas
-and creation of objects); Part 2, section 12. A primary object has no parent: where one is asked
-for, `parent` is None.
+"""Objects: what they are made of, and how a parent protects them (TPM 2.0 Library, Part 1, sections
+16, 22 and 25 to 27; Part 2, section 12). A primary object has no parent: its `parent` is None.
 """
 
 from dataclasses import dataclass, replace

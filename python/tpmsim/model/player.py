@@ -1,6 +1,4 @@
-"""Scripts: what `tpmsim run --trace` prints of one, line by line, and how it ends. A line may be
-anything; expected.py reads the scripts of tests/, which have comments that say what must come.
-"""
+"""Scripts: what `tpmsim run --trace` prints of one, line by line, and how it ends."""
 
 import re
 from typing import Iterable

@@ -1,7 +1,4 @@
-"""The commands that tell policy and trial sessions assertions (TPM 2.0 Library, Part 3, section 23).
-
-A trial session is told what need not be so.
-"""
+"""The assertions (TPM 2.0 Library, Part 3, section 23). A trial session's need not be so."""
 
 from tpmsim.model import nv_commands, policy_state
 from tpmsim.model.general import Answer, Refusal

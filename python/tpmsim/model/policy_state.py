@@ -1,8 +1,4 @@
-"""Policies: what a session was told, and what each assertion makes of its digest.
-
-The equations are those of the TPM 2.0 Library, Part 1, section 19.7 and Part 3, section 23. `old`
-is the digest before an assertion; a policy session and a trial session have the same.
-"""
+"""What a policy session was told, and what that is held against (TPM 2.0 Library, Part 1, 19.7)."""
 
 from __future__ import annotations
 
@@ -20,9 +16,7 @@ if TYPE_CHECKING:
 
 @dataclass
 class State:
-    """A policy as far as it was told: its digest, and what a use of it will be held against. What
-    is None was not told.
-    """
+    """What a policy was told, and what is held against at a use; None was not told."""
 
     digest: bytes
     update_counter: int | None = None
@@ -42,9 +36,7 @@ def starting_state(algorithm: int) -> State:
 
 @dataclass(frozen=True)
 class Use:
-    """What a policy is held against as it authorizes a command: the command, the device, and
-    whether the entity is written, which is None where that is no NV index.
-    """
+    """What is held against a policy; `written` is None of what is no NV index."""
 
     code: int
     is_admin: bool
@@ -63,9 +55,7 @@ class Entity:
 
 
 def check_use(session: Session, entity: Entity | None, use: Use, place: int) -> None:
-    """What refuses the entry of a place, before its hmac is looked at. `entity` is None where no
-    policy can authorize it.
-    """
+    """What refuses an entry before its hmac is looked at; no policy can authorize no entity."""
     told = session.policy
     if session.is_trial:
         raise Refusal(f"ATTRIBUTES/s{place}", "G9")

@@ -1,7 +1,5 @@
-"""Dictionary attack protection: wrong tries at protected authorization values, which are counted
-and forgiven, and the commands that say how (TPM 2.0 Library, Part 1, section 19.8).
-
-lockoutAuth, the value of TPM_RH_LOCKOUT, is protected in a way of its own: one wrong try closes it.
+"""Dictionary attack protection: wrong tries, which are counted and forgiven (TPM 2.0 Library, Part
+1, section 19.8). lockoutAuth, TPM_RH_LOCKOUT's value, is closed by one wrong try.
 """
 
 from dataclasses import dataclass

@@ -1,6 +1,5 @@
-"""What the device keeps from one start to the next: a saved state, the clock and the counts of
-starts, and the commands that start, shut down, and clear (TPM 2.0 Library, Part 1, sections 12, 36
-and 14; Part 3, sections 9, 10, 24 and 29).
+"""Starts and ends, clocks and counts, and TPM2_Clear (TPM 2.0 Library, Part 1, sections 12, 14 and
+36; Part 3, sections 9, 10, 24 and 29).
 """
 
 import enum

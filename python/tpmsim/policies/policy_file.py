@@ -1,6 +1,4 @@
-"""The policy in a file, as docs/USING.md has it: a line an assertion, and branches that stand further in
-below `either` and `or`; and what a session is told of it, in order.
-"""
+"""The policy in a file (docs/USING.md), and what a session is told of it, in order."""
 
 from __future__ import annotations
 
@@ -190,9 +188,7 @@ class PolicyFile:
 
 @dataclass(frozen=True)
 class Step:
-    """An assertion with its parameters; of TPM2_PolicyOR with the steps of each branch, and of one
-    about an entity with its Name.
-    """
+    """An assertion; PolicyOR has the steps of each branch, and one about an entity its Name."""
 
     code: CC
     parameters: bytes = b""

@@ -20,9 +20,8 @@ HASHED_NAMES = {number(it, 2): 2 + digest_bytes(it) for it in (SHA1, SHA256)}
 
 @dataclass(frozen=True)
 class Update:
-    """What an assertion puts into the digest: the code of its command, what it is about, and
-    policyRef, where it has one; and the text that is hashed apart, where it is about the hash of
-    one. One that forgets has zeros in place of the digest before it.
+    """What an assertion puts into the digest: its code, what it is about, and policyRef, if it has
+    one; the text that is hashed apart, if any; and whether it forgets the digest before it.
     """
 
     code: CC

@@ -133,9 +133,7 @@ def on_handle(
 
 
 def symmetric(aes: bool = False, xor: int | None = None) -> bytes:
-    """What a session encrypts by: AES-128 in mode CFB, masks that a hash algorithm makes, or
-    nothing.
-    """
+    """What a session encrypts by: AES-128 in mode CFB, masks by a hash algorithm, or nothing."""
     if xor is not None:
         return number(XOR, 2) + number(xor, 2)
     if not aes:
@@ -213,9 +211,7 @@ def nv_read(size: int, offset: int = 0) -> bytes:
 
 
 def sensitive_create(user_auth: bytes = b"", data: bytes = b"") -> bytes:
-    """A TPM2B_SENSITIVE_CREATE: what an object is to have as its authorization value, and what is
-    to be sealed, or used as its key.
-    """
+    """A TPM2B_SENSITIVE_CREATE: an authorization value, and what is to be sealed, or a key."""
     return sized(sized(user_auth) + sized(data))
 
 
@@ -240,9 +236,7 @@ def public_area(
 
 
 def creation(sensitive: bytes, public: bytes, outside_info: bytes = b"", pcrs: Banks = ()) -> bytes:
-    """The parameters of TPM2_CreatePrimary and TPM2_Create, of which the first two have their
-    sizes already.
-    """
+    """Those of TPM2_CreatePrimary and TPM2_Create; the first two have their sizes already."""
     return sensitive + public + sized(outside_info) + selection(*pcrs)
 
 

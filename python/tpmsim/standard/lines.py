@@ -1,8 +1,6 @@
 """Commands in words, and what is traced of an event (docs/LINES.md).
 
-A line is a command's name, its handles, its entries and its parameters, in this order, with one
-space between two tokens. `assemble` makes the buffer of a line, and `line_of` finds the line of a
-buffer. A line is bytes, since one that is wrong may be anything.
+A line is bytes, since one that is wrong may be anything.
 """
 
 from __future__ import annotations
@@ -132,9 +130,7 @@ CIPHERS = {
 
 @dataclass(frozen=True)
 class Words:
-    """How a kind of parameter is said: its name in docs/table, the value of a token, and the token
-    of a value.
-    """
+    """How a kind is said: its name in docs/table, a token's value, and a value's token."""
 
     kind: Kind
     name: str

@@ -58,9 +58,7 @@ def session_key(algorithm: int, auth_value: bytes, nonce_tpm: bytes, nonce_calle
 
 
 def command_hash(algorithm: int, code: CC, names: Iterable[bytes], parameters: bytes) -> bytes:
-    """cpHash (18.7), of the Names of the handles, and of the parameters as they are sent, the first
-    one encrypted where it is.
-    """
+    """cpHash (18.7), of the handles' Names and of the parameters as they are sent."""
     return digest(algorithm, number(code, 4) + b"".join(names) + parameters)
 
 
@@ -78,10 +76,9 @@ def entry_hmac(
     others: list[bytes],
     attributes: int,
 ) -> bytes:
-    """The hmac of an entry (19.6.5), from the hash of its command's or response's parameters.
-
-    `others` are the nonces of the sessions that decrypt and encrypt, in this order: in a command's
-    first entry, where it authorizes a handle, and of sessions that are not its own.
+    """The hmac of an entry (19.6.5), from its cpHash or rpHash. In the first entry of a command,
+    where it authorizes, `others` are the nonces of other sessions that decrypt and encrypt, in this
+    order.
     """
     text = parameters + newer + older + b"".join(others) + number(attributes, 1)
     return mac(algorithm, key, text)

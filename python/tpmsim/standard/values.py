@@ -160,9 +160,7 @@ def write_in_order(code: CC, *values: Any) -> bytes:
 
 
 def write_all(code: CC, values: dict[str, Any]) -> bytes:
-    """The parameters of a command, each by its name in Part 3; TypeError where one is missing, or
-    is none of its parameters.
-    """
+    """Each by its name in Part 3; TypeError where one is missing, or is no parameter."""
     names = [it.name for it in code.parameters]
     if set(values) != set(names):
         raise TypeError(f"{code.name} takes {', '.join(names) or 'no parameters'}")
