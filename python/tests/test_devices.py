@@ -17,7 +17,7 @@ from tpmsim.caller import Caller, Refused
 from tpmsim.device import BadImage, ChildDevice, Device, DeviceEnded, KeptDevice, LibraryDevice
 from tpmsim.device import ModelDevice, ServedDevice, SimulatorDevice, StartedSwtpm, Unsupported
 from tpmsim.device.child import program_found
-from tpmsim.device.image_file import but_clock
+from tpmsim.device.library import but_clock
 from tpmsim.model.image import image
 from tpmsim.model.machine import Model
 from tpmsim.model.player import played

@@ -17,7 +17,7 @@ import tempfile
 from tpmsim.audit import start
 from tpmsim.audit.auditor import Auditor
 from tpmsim.audit.log import Disagreement, Log
-from tpmsim.audit.report import report
+from tpmsim.audit.auditor import report
 from tpmsim.model.image import image
 from tpmsim.model.player import Player
 from tests.common import places

@@ -17,7 +17,7 @@ import wrong_devices as wrong  # it lets the parts of the device and of the audi
 
 from tpmsim.audit import start
 from tpmsim.audit.auditor import Auditor
-from tpmsim.audit.conditions import Finding
+from tpmsim.audit.ground import Finding
 from tpmsim.audit.ground import Grounds
 from tpmsim.audit.log import Disagreement, Log
 from tpmsim.audit.uses import Uses

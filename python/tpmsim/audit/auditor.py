@@ -1,6 +1,6 @@
 """A log, judged event by event: by the device in Python, and by what the history alone tells."""
 
-from typing import Sequence
+from typing import Iterator, Sequence
 
 from tpmsim.audit.entities import Entities
 from tpmsim.audit.ground import Grounds
@@ -120,3 +120,29 @@ def named(seen: Seen) -> str:
         return f"script line {seen.line}, power"
     code = seen.outcome.row.code
     return f"script line {seen.line}" + (f", {NUMBERED[code].name}" if code in NUMBERED else "")
+
+
+def report(auditor: Auditor) -> Iterator[str]:
+    """That of the events so far."""
+    yield f"Start: {auditor.start.words}."
+    yield events_words(auditor.counts)
+    given = [auditor.policies.report()] if auditor.policies.all else []
+    for part in (
+        *(auditor.pcrs.report(), auditor.sessions.report(), auditor.uses.report()),
+        *(auditor.refusals.report(), *given, auditor.repeats.report()),
+        *(auditor.counters.report(), auditor.guesses.report(auditor.last)),
+    ):
+        yield ""
+        yield from part
+    yield ""
+
+
+def events_words(counts: Counts) -> str:
+    commands = counted(counts.accepted + counts.refused, "command")
+    of_these = f"{counts.accepted} of them accepted and {counts.refused} refused"
+    cycles = counted(counts.power_cycles, "power cycle")
+    return f"{counted(counts.events, 'event')}: {commands}, {of_these}, and {cycles}."
+
+
+def counted(count: int, word: str) -> str:
+    return f"{count} {word}" if count == 1 else f"{count} {word}s"

@@ -9,10 +9,10 @@ from typing import Iterator, TYPE_CHECKING
 from tpmsim.audit.watch import Seen
 from tpmsim.explain.words import command_words
 from tpmsim.model import pcrs, state
-from tpmsim.model.history import Accepted, History, Pcrs, defined_index
+from tpmsim.model.history import Accepted, defined_index, History, Pcrs
 from tpmsim.model.machine import Model
-from tpmsim.standard import CC, HASH_WORDS, RH_ENDORSEMENT, RH_LOCKOUT, RH_OWNER, RH_PLATFORM
-from tpmsim.standard import SE_HMAC, SHA1, SHA256, is_pcr, nv
+from tpmsim.standard import CC, HASH_WORDS, is_pcr, nv, RH_ENDORSEMENT, RH_LOCKOUT, RH_OWNER
+from tpmsim.standard import RH_PLATFORM, SE_HMAC, SHA1, SHA256
 from tpmsim.standard.lines import handle_word
 
 if TYPE_CHECKING:

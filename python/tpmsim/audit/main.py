@@ -21,10 +21,9 @@ import sys
 from dataclasses import dataclass, field
 
 from tpmsim.audit import start
-from tpmsim.audit.auditor import Auditor
+from tpmsim.audit.auditor import Auditor, report
 from tpmsim.audit.log import Disagreement, Log
-from tpmsim.audit.report import report
-from tpmsim.explain.main import Usage, read
+from tpmsim.explain.main import read, Usage
 from tpmsim.model.image import Fault
 from tpmsim.policies.policy_file import Fault as PolicyFault, PolicyFile
 

@@ -7,9 +7,8 @@ from dataclasses import dataclass
 from typing import Iterator, Sequence
 
 from tpmsim.audit import broken
-from tpmsim.audit.conditions import Finding
 from tpmsim.audit.entities import Entities, Entity
-from tpmsim.audit.ground import Grounds, Use
+from tpmsim.audit.ground import Finding, Grounds, Use
 from tpmsim.audit.session_lines import Asserted
 from tpmsim.explain.words import command_words
 from tpmsim.model.parameters import Parameters

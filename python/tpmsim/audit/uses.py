@@ -4,9 +4,8 @@ why commands were refused for none of their entries.
 
 from typing import Iterator
 
-from tpmsim.audit.conditions import Finding
 from tpmsim.audit.entities import Entities
-from tpmsim.audit.ground import Grounds, Use
+from tpmsim.audit.ground import Finding, Grounds, Use
 from tpmsim.audit.guesses import Guesses
 from tpmsim.audit.lines import Repeats
 from tpmsim.audit.log import Disagreement

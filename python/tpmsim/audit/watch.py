@@ -4,13 +4,13 @@ from dataclasses import dataclass, field
 from functools import cached_property
 
 from tpmsim.explain.play import Event, OF_ENTRIES, Watched
-from tpmsim.explain.scene import Scene
+from tpmsim.explain.reason import Scene
 from tpmsim.model import nv_commands
 from tpmsim.model.general import Command
 from tpmsim.model.history import Accepted, PowerCycle
 from tpmsim.model.machine import Model, Outcome
 from tpmsim.model.protection import LOCKOUT_AUTH, TRIES
-from tpmsim.standard import CC, RH_LOCKOUT, name_of, nv, objects
+from tpmsim.standard import CC, name_of, nv, objects, RH_LOCKOUT
 
 Public = nv.Public | objects.Public
 

@@ -10,8 +10,8 @@ from tpmsim.device.library import LibraryDevice
 from tpmsim.device.told import Device
 from tpmsim.model.general import Command
 from tpmsim.model.machine import MANUFACTURED, Model, Session
-from tpmsim.standard import ALG_NULL, DECRYPT, ENCRYPT, Entry, Fields, NUMBERED, SESSIONS, Short
-from tpmsim.standard import frames, sessions
+from tpmsim.standard import ALG_NULL, DECRYPT, ENCRYPT, Entry, Fields, frames, NUMBERED, SESSIONS
+from tpmsim.standard import sessions, Short
 from tpmsim.standard.frames import NO_SESSIONS
 from tpmsim.standard.values import read_all
 

@@ -10,10 +10,10 @@ from dataclasses import replace
 from typing import Iterator
 
 from tpmsim.device.base import Answered, BadImage, DeviceEnded, Unsupported
-from tpmsim.device.library import AnsweredInC, CHECKS, IMAGE_FAULTS, NO_MEMORY, RESPONSE_BYTES
-from tpmsim.device.library import library, saved
+from tpmsim.device.library import AnsweredInC, CHECKS, IMAGE_FAULTS, library, NO_MEMORY
+from tpmsim.device.library import RESPONSE_BYTES, saved
 from tpmsim.device.served import LocatedDevice
-from tpmsim.device.told import RANDOM_BYTES, Path
+from tpmsim.device.told import Path, RANDOM_BYTES
 
 JOURNAL, NEW, LOCK = "journal", "journal.new", "lock"
 OWNER_ALONE, RECORD_BYTES = 0o600, 9216

@@ -6,7 +6,7 @@ import hashlib
 import os
 import pathlib
 from dataclasses import dataclass
-from typing import ClassVar, Self, cast
+from typing import cast, ClassVar, Self
 
 from tpmsim.device.base import Answered, BadImage, checked_locality, Executed, Transport
 from tpmsim.model import image as images

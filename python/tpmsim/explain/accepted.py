@@ -3,8 +3,7 @@
 from typing import Iterator
 
 from tpmsim.explain import encryption
-from tpmsim.explain.reason import Reason
-from tpmsim.explain.scene import Scene
+from tpmsim.explain.reason import Reason, Scene
 from tpmsim.explain.words import bytes_words, handle_words, plural, printable
 from tpmsim.standard import CC, Fields, nv, RS_PW, trimmed
 

@@ -4,7 +4,7 @@ from dataclasses import dataclass
 from typing import Iterator
 
 from tpmsim.explain.ingredients import Use, use_of
-from tpmsim.explain.scene import Scene
+from tpmsim.explain.reason import Scene
 from tpmsim.standard import DECRYPT, Fields, frames, sessions, Short
 
 

@@ -5,8 +5,7 @@ from typing import Iterator
 from tpmsim.explain import ingredients, policies, slips
 from tpmsim.explain.ingredients import Use
 from tpmsim.explain.policies import unavailable
-from tpmsim.explain.reason import HAD, Reason, WANTED
-from tpmsim.explain.scene import Scene
+from tpmsim.explain.reason import HAD, Reason, Scene, WANTED
 from tpmsim.explain.words import bytes_words, handle_words, seconds_words
 from tpmsim.model.protection import LOCKOUT_AUTH, MILLISECONDS, TRIES
 from tpmsim.standard import Entry, is_policy, policy, trimmed

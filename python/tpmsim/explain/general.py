@@ -2,13 +2,11 @@
 
 from typing import Callable
 
-from tpmsim.explain.reason import HAD, Reason
-from tpmsim.explain.scene import Scene
-from tpmsim.explain.words import attribute_words, command_words, handle_words, kind_words
-from tpmsim.explain.words import plural
+from tpmsim.explain.reason import HAD, Reason, Scene
+from tpmsim.explain.words import attribute_words, command_words, handle_words, kind_words, plural
 from tpmsim.model.general import LEAST_AREA, MOST_NONCE_OR_HMAC
-from tpmsim.standard import CC, COMMAND_BYTES, DECRYPT, ENCRYPT, Entry, Fields, HEADER_BYTES
-from tpmsim.standard import MOST_ENTRIES, RS_PW, Short, frames, is_session
+from tpmsim.standard import CC, COMMAND_BYTES, DECRYPT, ENCRYPT, Entry, Fields, frames, HEADER_BYTES
+from tpmsim.standard import is_session, MOST_ENTRIES, RS_PW, Short
 from tpmsim.standard.handle_kinds import HANDLES
 
 PLACE_BITS = 0xFF_FFFF

@@ -4,8 +4,7 @@ import hmac
 from dataclasses import dataclass
 
 from tpmsim.explain.past import Begun, Since
-from tpmsim.explain.reason import Fact
-from tpmsim.explain.scene import Scene
+from tpmsim.explain.reason import Fact, Scene
 from tpmsim.explain.words import attribute_words, bytes_words, handle_words
 from tpmsim.model.general import Command
 from tpmsim.model.machine import Session

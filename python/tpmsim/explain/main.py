@@ -26,7 +26,7 @@ import pathlib
 import sys
 from dataclasses import dataclass
 
-from tpmsim.explain import json_form, page, text
+from tpmsim.explain import page, text
 from tpmsim.explain.play import Event, Play
 from tpmsim.model.image import Fault
 
@@ -99,7 +99,7 @@ def explain(asked: Asked, counts: text.Counts) -> tuple[str, Play]:
     if asked.at is not None and not told:
         raise Usage(f"line {asked.at} of {asked.log} executes nothing")
     if asked.form == "json":
-        value = json_form.of_log(told, counts, play.bad_line, asked.at is not None)
+        value = text.value_of_log(told, counts, play.bad_line, asked.at is not None)
         return json.dumps(value, indent=1), play
     return "\n".join(lines_of(told, asked, counts)), play
 

@@ -1,9 +1,7 @@
 """Why the own checks of a command refuse it (A1 to A7), and where there is no memory for it (M)."""
 
 from tpmsim.explain import own_nv, own_objects, own_policy
-from tpmsim.explain.look import Check, Look, said
-from tpmsim.explain.reason import Reason
-from tpmsim.explain.scene import Scene
+from tpmsim.explain.reason import Check, Look, Reason, said, Scene
 from tpmsim.explain.words import algorithm_words, kind_words, listed
 from tpmsim.model import pcrs
 from tpmsim.model.machine import LEAST_NONCE, SESSIONS

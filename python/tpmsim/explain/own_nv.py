@@ -1,10 +1,10 @@
 """The numbers of the own checks of commands on NV indices."""
 
-from tpmsim.explain.look import Check, Look, said
+from tpmsim.explain.reason import Check, Look, said
 from tpmsim.explain.words import bytes_words, flag_words, plural
 from tpmsim.model import nv_commands
 from tpmsim.model.nv_commands import ALL_BYTES, BUFFER_BYTES, INDEX_BYTES, INDICES, LARGEST
-from tpmsim.standard import CC, RH_OWNER, RH_PLATFORM, digest_bytes, nv, trimmed
+from tpmsim.standard import CC, digest_bytes, nv, RH_OWNER, RH_PLATFORM, trimmed
 from tpmsim.standard.nv import Attribute, NUMBER_BYTES, READS, Type, WRITES
 
 TYPES = {int(it): it.name.lower() for it in Type}

@@ -1,15 +1,15 @@
 """The numbers of the own checks of commands on objects."""
 
 from tpmsim.explain import encryption
-from tpmsim.explain.look import Check, Look, said
 from tpmsim.explain.own_nv import too_long, wrong_policy
+from tpmsim.explain.reason import Check, Look, said
 from tpmsim.explain.words import algorithm_words, flag_words, handle_words
 from tpmsim.model import object_rules
 from tpmsim.model.general import Refusal
 from tpmsim.model.object_commands import OBJECTS
 from tpmsim.model.parameters import Parameters
-from tpmsim.model.persistent import PERSISTENT_OBJECTS, is_persistent
-from tpmsim.standard import ALG_NULL, CC, Fields, KEYEDHASH, RH_PLATFORM, Short, aes, digest_bytes
+from tpmsim.model.persistent import is_persistent, PERSISTENT_OBJECTS
+from tpmsim.standard import aes, ALG_NULL, CC, digest_bytes, Fields, KEYEDHASH, RH_PLATFORM, Short
 from tpmsim.standard import trimmed
 from tpmsim.standard.objects import Attribute, Public
 

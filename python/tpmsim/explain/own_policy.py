@@ -1,9 +1,9 @@
 """The numbers of the own checks of assertions."""
 
 from tpmsim.explain import own_nv
-from tpmsim.explain.look import Check, Look, said
 from tpmsim.explain.past import values_digest
 from tpmsim.explain.policies import moved_words
+from tpmsim.explain.reason import Check, Look, said
 from tpmsim.explain.words import algorithm_words, bytes_words, command_words, listed
 from tpmsim.explain.words import localities_words, OPERATIONS
 from tpmsim.model.nv_commands import signed, unsigned

@@ -12,7 +12,7 @@ import re
 from typing import Any, Iterator
 
 from tpmsim.explain import own_nv
-from tpmsim.explain.field import Field
+from tpmsim.explain.dissection import Field
 from tpmsim.explain.past import Past, WRITES_PCR
 from tpmsim.explain.play import Event, Play
 from tpmsim.explain.reason import Reason

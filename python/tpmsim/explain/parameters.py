@@ -3,9 +3,8 @@
 from typing import Callable, Iterable, TypeVar
 
 from tpmsim.explain import dissection, encryption
-from tpmsim.explain.field import Field
-from tpmsim.explain.reason import Reason, RULES
-from tpmsim.explain.scene import Scene
+from tpmsim.explain.dissection import Field
+from tpmsim.explain.reason import Reason, RULES, Scene
 from tpmsim.explain.words import algorithm_words, size_words
 from tpmsim.model.general import Refusal
 from tpmsim.model.machine import ROWS

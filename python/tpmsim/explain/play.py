@@ -6,10 +6,9 @@ from dataclasses import dataclass, field
 from typing import Callable, Iterator
 
 from tpmsim.explain import accepted, dissection, entries, general, ingredients, own, parameters
-from tpmsim.explain.field import Field
+from tpmsim.explain.dissection import Field
 from tpmsim.explain.past import Past
-from tpmsim.explain.reason import Fact, Reason, WANTED
-from tpmsim.explain.scene import Scene
+from tpmsim.explain.reason import Fact, Reason, Scene, WANTED
 from tpmsim.model.general import Command
 from tpmsim.model.image import open_image
 from tpmsim.model.machine import Model, Outcome

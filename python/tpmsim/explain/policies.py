@@ -4,8 +4,7 @@ from typing import Iterator, Sequence
 
 from tpmsim.explain.ingredients import Use
 from tpmsim.explain.past import Banks, Made, Moved, Step, values_digest
-from tpmsim.explain.reason import HAD, Reason, WANTED
-from tpmsim.explain.scene import Scene
+from tpmsim.explain.reason import HAD, Reason, Scene, WANTED
 from tpmsim.explain.words import algorithm_words, command_words, handle_words, listed
 from tpmsim.explain.words import localities_words
 from tpmsim.model import nv_commands

@@ -1,10 +1,10 @@
-"""Explanations as lines of text."""
+"""Explanations as lines of text, and as values that JSON has."""
 
 import textwrap
 from dataclasses import dataclass, field
-from typing import Iterable, Iterator
+from typing import Any, Iterable, Iterator
 
-from tpmsim.explain.field import Field
+from tpmsim.explain.dissection import Field
 from tpmsim.explain.play import Event
 from tpmsim.explain.reason import Fact, Reason
 from tpmsim.explain.words import command_words, plural, size_words
@@ -124,3 +124,71 @@ def fields_words(fields: list[Field], data: bytes) -> Iterator[str]:
         said = data[it.at + it.front : it.at + it.size].hex() if not it.is_group else ""
         name, meaning = "  " * it.depth + it.name, f"({it.meaning})" if it.meaning else ""
         yield f"{INDENT}  {it.at:4}  {name:26} {said} {meaning}".rstrip()
+
+
+# As values.
+
+VERSION = 1
+
+Value = dict[str, Any]
+
+
+def value_of_log(
+    events: list[Event], counts: Counts, bad_line: int | None, is_whole: bool
+) -> Value:
+    """All that is told of a log; with `is_whole` each event with its fields."""
+    return {
+        "version": VERSION,
+        "commands": counts.commands,
+        "refused": counts.refused,
+        "power_cycles": counts.power_cycles,
+        "answers": counts.answers,
+        "differing": counts.differing,
+        "bad_line": bad_line,
+        "events": [value_of_event(it, is_whole) for it in events],
+    }
+
+
+def value_of_event(event: Event, is_whole: bool) -> Value:
+    scene = event.scene
+    if event.is_power:
+        return {"line": event.line, "power": True}
+    told: Value = {
+        "line": event.line,
+        "command": name_of(event) if scene.number in NUMBERED else None,
+        "code": event.response[6:10].hex(),
+        "refused": event.refused or None,
+        "check": scene.check,
+        "locality": scene.locality,
+        "elapsed": scene.elapsed,
+        "reason": value_of_reason(event.reason) if event.reason else None,
+        "notes": [value_of_reason(it) for it in event.notes],
+        "differences": [vars(it) for it in event.differences],
+    }
+    if is_whole:
+        asked, answered = (list(map(value_of_field, fields)) for fields in event.fields())
+        told |= {
+            "buffer": scene.buffer.hex(),
+            "plain": None if scene.plain is None else scene.plain.hex(),
+            "fields": asked,
+            "response": event.response.hex(),
+            "response_fields": answered,
+            "entries": {str(at): [vars(it) for it in facts] for at, facts in event.entries},
+        }
+    return told
+
+
+def value_of_reason(reason: Reason) -> Value:
+    return {
+        "rule": reason.rule,
+        "sentence": reason.sentence,
+        "link": reason.link,
+        "words": reason.words,
+        "at": reason.at,
+        "slips": reason.slips,
+        "facts": [vars(it) for it in reason.facts],
+    }
+
+
+def value_of_field(field: Field) -> Value:
+    return {"group" if name == "is_group" else name: it for name, it in vars(field).items()}

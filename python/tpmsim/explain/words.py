@@ -3,8 +3,8 @@
 import enum
 from typing import Iterable
 
-from tpmsim.standard import CC, frames, handle_kinds, HMAC_SESSION, lines, NUMBERED, NV
-from tpmsim.standard import PERSISTENT, POLICY_SESSION, TRANSIENT
+from tpmsim.standard import CC, frames, handle_kinds, HMAC_SESSION, lines, NUMBERED, NV, PERSISTENT
+from tpmsim.standard import POLICY_SESSION, TRANSIENT
 
 ALGORITHMS = {
     frames.SHA1: "SHA-1",

@@ -12,7 +12,7 @@ from typing import Any, Callable, Iterable, Iterator, TYPE_CHECKING
 
 from tpmsim.model import nv_commands, object_rules, pcrs, policy_state, state
 from tpmsim.model.parameters import Parameters
-from tpmsim.standard import CC, digest, digest_bytes, DIGEST_BYTES, frames, number, nv, PCRS, policy
+from tpmsim.standard import CC, digest, DIGEST_BYTES, digest_bytes, frames, number, nv, PCRS, policy
 from tpmsim.standard import RH_ENDORSEMENT, RH_LOCKOUT, RH_NULL, RH_OWNER, RH_PLATFORM, RS_PW
 from tpmsim.standard import sessions, SHA1, SHA256, trimmed
 

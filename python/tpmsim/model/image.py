@@ -12,7 +12,7 @@ from tpmsim.model.general import Refusal
 from tpmsim.model.machine import Model
 from tpmsim.model.parameters import Parameters
 from tpmsim.model.protection import Lockout
-from tpmsim.standard import aes, digest, digest_bytes, DIGEST_BYTES, Fields, number, nv
+from tpmsim.standard import aes, digest, DIGEST_BYTES, digest_bytes, Fields, number, nv
 from tpmsim.standard import RH_ENDORSEMENT, RH_LOCKOUT, RH_NULL, RH_OWNER, RH_PLATFORM, SHA1, SHA256
 from tpmsim.standard import Short, sized, trimmed
 from tpmsim.standard.aes_tables import encrypt_block

@@ -12,12 +12,12 @@ from tpmsim.model import capability, general, history, nv_commands, object_comma
 from tpmsim.model import persistent, policy_commands, policy_state, protection, state
 from tpmsim.model.general import Answer, Command, Refusal
 from tpmsim.model.history import Accepted, PowerCycle
-from tpmsim.model.parameters import Parameters, Request, buffer, choice, integer, takes
+from tpmsim.model.parameters import buffer, choice, integer, Parameters, Request, takes
 from tpmsim.model.policy_state import Entity
-from tpmsim.standard import aes, CC, DECRYPT, digest_bytes, ENCRYPT, Entry, Fact
-from tpmsim.standard import Fields, frames, handle_kinds, number, nv, objects, policy
-from tpmsim.standard import RH_ENDORSEMENT, RH_LOCKOUT, RH_NULL, RH_OWNER, RH_PLATFORM, RS_PW
-from tpmsim.standard import sessions, Short, sized, TRANSIENT, trimmed
+from tpmsim.standard import aes, CC, DECRYPT, digest_bytes, ENCRYPT, Entry, Fact, Fields, frames
+from tpmsim.standard import handle_kinds, number, nv, objects, policy, RH_ENDORSEMENT, RH_LOCKOUT
+from tpmsim.standard import RH_NULL, RH_OWNER, RH_PLATFORM, RS_PW, sessions, Short, sized, TRANSIENT
+from tpmsim.standard import trimmed
 from tpmsim.standard.aes_tables import encrypt_block
 from tpmsim.standard.objects import Attribute
 

@@ -7,7 +7,7 @@ from dataclasses import dataclass
 
 from tpmsim.model.general import Answer, Refusal
 from tpmsim.model.parameters import buffer, Held, integer, Parameters, Request, structure, takes
-from tpmsim.standard import CC, digest, digest_bytes, DIGEST_BYTES, Fact, first_byte, number, NV
+from tpmsim.standard import CC, digest, DIGEST_BYTES, digest_bytes, Fact, first_byte, number, NV
 from tpmsim.standard import RH_OWNER, RH_PLATFORM, sized, trimmed
 from tpmsim.standard.nv import Attribute, NAMED, NUMBER_BYTES, Public, READS, Type, WRITES
 

@@ -5,8 +5,8 @@
 from dataclasses import dataclass, replace
 
 from tpmsim.model.general import Refusal
-from tpmsim.model.parameters import Parameters, buffer, structure
-from tpmsim.standard import aes, ALG_NULL, digest, digest_bytes, DIGEST_BYTES, Fields, frames, kdfa
+from tpmsim.model.parameters import buffer, Parameters, structure
+from tpmsim.standard import aes, ALG_NULL, digest, DIGEST_BYTES, digest_bytes, Fields, frames, kdfa
 from tpmsim.standard import KEYEDHASH, mac, number, SHA256, Short, sized, SYMCIPHER, trimmed
 from tpmsim.standard.aes_tables import encrypt_block
 from tpmsim.standard.objects import Attribute, NAMED, Public

@@ -5,10 +5,10 @@ their words in docs/USING.md, what they put into the digest, and what a session 
 from dataclasses import dataclass
 from typing import Any, Callable, Sequence
 
-from tpmsim.standard import CC, DIGEST_BYTES, digest, digest_bytes, Fields, frames, HIERARCHIES
+from tpmsim.standard import CC, digest, DIGEST_BYTES, digest_bytes, Fields, frames, HIERARCHIES
 from tpmsim.standard import Kind, name_of, number, NUMBERED, PCRS, SHA1, SHA256, sized, values
-from tpmsim.standard.lines import HANDLE_NAMES, Wrong, bytes_of, handle_word, hex_word
-from tpmsim.standard.lines import WORDS, number_up_to
+from tpmsim.standard.lines import bytes_of, HANDLE_NAMES, handle_word, hex_word, number_up_to, WORDS
+from tpmsim.standard.lines import Wrong
 
 # How TPM2_PolicyNV compares, by the numbers of its operations.
 OPERATIONS = "eq neq sgt ugt slt ult sge uge sle ule bs bc".split()
