@@ -82,7 +82,7 @@ class Entities:
         elif event.code == CC.NV_DefineSpace:
             handle, by = defined_index(event), "NV_DefineSpace"
         elif event.code == CC.EvictControl:
-            handle, copied = event.read().next().number(4), event.handles[1]
+            handle, copied = event.given["persistentHandle"], event.handles[1]
             by = f"EvictControl of {handle_words(copied)}" if handle != copied else ""
         if by and handle is not None:
             self.begin(handle, seen.line, f"of line {seen.line} ({by})")

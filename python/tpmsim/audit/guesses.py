@@ -79,8 +79,8 @@ class Guesses:
         self.close(seen.line)
         most, recovery = self.stretch.most, self.stretch.recovery
         if seen.accepted.code == CC.DictionaryAttackParameters:
-            fields = seen.accepted.read()
-            most, recovery = fields.next().number(4), fields.next().number(4)
+            given = seen.accepted.given
+            most, recovery = given["newMaxTries"], given["newRecoveryTime"]
         self.stretch = Stretch(seen.line, most, recovery)
 
     def close(self, last: int) -> None:

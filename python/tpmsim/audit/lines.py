@@ -9,7 +9,7 @@ from typing import Iterator, TYPE_CHECKING
 from tpmsim.audit.watch import Seen
 from tpmsim.explain.words import command_words
 from tpmsim.model import pcrs, state
-from tpmsim.model.history import Accepted, defined_index, History, Pcrs
+from tpmsim.model.history import Accepted, defined_index, History
 from tpmsim.model.machine import Model
 from tpmsim.standard import CC, HASH_WORDS, is_pcr, nv, RH_ENDORSEMENT, RH_LOCKOUT, RH_OWNER
 from tpmsim.standard import RH_PLATFORM, SE_HMAC, SHA1, SHA256
@@ -48,7 +48,7 @@ class PcrLines:
         self.written |= dict.fromkeys(written_by(event), f"line {seen.line}")
         if event.code == CC.Shutdown:
             self.saved = dict(self.written)
-        if event.code == CC.Startup and event.read().next().number(2) == state.STATE:
+        if event.code == CC.Startup and event.given["startupType"] == state.STATE:
             for at, was in self.saved.items():
                 if at[1] < state.SAVED_PCRS:
                     self.written[at] = f"{was}, and taken up by line {seen.line}"
@@ -71,7 +71,7 @@ def written_by(event: Accepted) -> list[tuple[int, int]]:
     if not is_pcr(pcr):
         return []
     if event.code == CC.PCR_Extend:
-        return [(bank, pcr) for bank, _ in Pcrs.digests(event.read().next())]
+        return [(bank, pcr) for bank, _ in event.given["digests"]]
     is_write = event.code in (CC.PCR_Event, CC.PCR_Reset)
     return [(bank, pcr) for bank in BANKS] if is_write else []
 
@@ -102,8 +102,8 @@ def handles_set(event: Accepted) -> list[int]:
     if event.code in (CC.CreatePrimary, CC.Load):
         return [event.handle]
     if event.code == CC.EvictControl:
-        return [event.read().next().number(4)]
-    if event.code == CC.Startup and event.read().next().number(2) == state.CLEAR:
+        return [event.given["persistentHandle"]]
+    if event.code == CC.Startup and event.given["startupType"] == state.CLEAR:
         return [RH_PLATFORM]
     return [RH_OWNER, RH_ENDORSEMENT, RH_LOCKOUT] if event.code == CC.Clear else []
 

@@ -121,7 +121,7 @@ class SessionLines:
         elif event.code == CC.PolicyGetDigest:
             self.live[event.handles[0]].tell(seen.line, "PolicyGetDigest tells its digest")
         elif event.code == CC.FlushContext:
-            self.end(seen, event.read().next().number(4), "FlushContext ends it")
+            self.end(seen, event.given["flushHandle"], "FlushContext ends it")
         for use in event.uses:
             if not use.continues:
                 self.end(seen, use.handle, f"{command_words(event.code)} ends it")

@@ -117,10 +117,6 @@ TEMPLATE = (
 )
 
 
-def read_template(parameters: Parameters) -> Template:
-    return Template(*(read(parameters.next()) for read in TEMPLATE))
-
-
 # Templates, as they are checked.
 
 
