@@ -1,5 +1,6 @@
 """A log, judged event by event: by the device in Python, and by what the history alone tells."""
 
+from dataclasses import dataclass
 from typing import Iterator, Sequence
 
 from tpmsim.audit.entities import Entities
@@ -17,11 +18,11 @@ from tpmsim.policies.policy_file import PolicyFile
 from tpmsim.standard import NUMBERED
 
 
+@dataclass
 class Counts:
-    """How many events there were, of each kind."""
-
-    def __init__(self) -> None:
-        self.accepted = self.refused = self.power_cycles = 0
+    accepted: int = 0
+    refused: int = 0
+    power_cycles: int = 0
 
     @property
     def events(self) -> int:
@@ -73,9 +74,14 @@ class Auditor:
                 self.refuse(seen)
             else:
                 self.accept(seen)
-            self.follow()
+            # The device follows its history.
+            told = ", ".join(self.history.differences(self.device))
+            if told:
+                raise Disagreement(f"the device is not what its history tells: {told}")
         except Disagreement as fault:
-            raise Disagreement(f"{named(seen)}: {fault}") from None
+            name = "power" if seen.is_power_cycle else command_name(seen.outcome.row.code)
+            where = ", ".join(filter(None, (f"script line {seen.line}", name)))
+            raise Disagreement(f"{where}: {fault}") from None
 
     def compare(self, seen: Seen, printed: list[str]) -> None:
         try:
@@ -107,19 +113,10 @@ class Auditor:
         self.counters.note(seen)
         self.guesses.note(seen)
 
-    def follow(self) -> None:
-        """The device follows its history."""
-        told = ", ".join(self.history.differences(self.device))
-        if told:
-            raise Disagreement(f"the device is not what its history tells: {told}")
 
-
-def named(seen: Seen) -> str:
-    """An event, in words: the line, and the command where it is known."""
-    if seen.is_power_cycle:
-        return f"script line {seen.line}, power"
-    code = seen.outcome.row.code
-    return f"script line {seen.line}" + (f", {NUMBERED[code].name}" if code in NUMBERED else "")
+def command_name(code: int) -> str:
+    """The name of a command where it is known."""
+    return NUMBERED[code].name if code in NUMBERED else ""
 
 
 def report(auditor: Auditor) -> Iterator[str]:

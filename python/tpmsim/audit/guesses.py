@@ -4,7 +4,7 @@ from dataclasses import dataclass, field
 from typing import Iterator
 
 from tpmsim.audit.ground import Grounds, Use
-from tpmsim.audit.log import Disagreement
+from tpmsim.audit.log import Disagreement, section
 from tpmsim.audit.session_lines import SessionLines
 from tpmsim.audit.watch import Seen
 from tpmsim.model.machine import Model
@@ -34,13 +34,12 @@ class Stretch:
         return self.most + self.elapsed // period if period else None
 
     def words(self, last: int) -> str:
-        lines = "line " if len(self.failed) == 1 else "lines "
-        lines += ", ".join(map(str, self.failed))
-        head = f"  lines {self.first} to {last}: {len(self.failed)}"
+        lines = "line" if len(self.failed) == 1 else "lines"
+        bound = f" of at most {self.bound} (maxTries {self.most} + {self.elapsed} ms / {self.recovery} s)"
         if self.bound is None:
-            return f"{head}, and recoveryTime is 0, so that any number may fail; {lines}"
-        sum_words = f"maxTries {self.most} + {self.elapsed} ms / {self.recovery} s"
-        return f"{head} of at most {self.bound} ({sum_words}); {lines}"
+            bound = ", and recoveryTime is 0, so that any number may fail"
+        head = f"  lines {self.first} to {last}: {len(self.failed)}{bound}"
+        return f"{head}; {lines} {', '.join(map(str, self.failed))}"
 
 
 class Guesses:
@@ -89,8 +88,5 @@ class Guesses:
 
     def report(self, last: int) -> Iterator[str]:
         self.close(last)
-        if not self.told:
-            yield "Failed guesses: none."
-            return
-        yield "Failed guesses, by the stretches between resets"
-        yield from self.told
+        title = "Failed guesses, by the stretches between resets"
+        return section(title, self.told, "Failed guesses: none.")

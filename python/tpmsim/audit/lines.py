@@ -6,6 +6,7 @@ import hashlib
 from dataclasses import dataclass
 from typing import Iterator, TYPE_CHECKING
 
+from tpmsim.audit.log import section
 from tpmsim.audit.watch import Seen
 from tpmsim.explain.words import command_words
 from tpmsim.model import pcrs, state
@@ -54,15 +55,14 @@ class PcrLines:
                     self.written[at] = f"{was}, and taken up by line {seen.line}"
 
     def report(self) -> Iterator[str]:
-        values = self.pcrs.values.items()
-        changed = {at: value for at, value in values if value != pcrs.starting_value(*at)}
-        if not changed:
-            yield "PCRs: each has the value that a startup gives it."
-            return
-        yield "PCRs that are not as a startup leaves them, each with the line that wrote it last"
-        for at in sorted(changed, key=lambda it: BANKS.index(it[0])):
-            told = f"{HASH_WORDS[at[0]]} PCR {at[1]}: {changed[at].hex()}"
-            yield f"    {told}, {self.written[at]}"
+        title = "PCRs that are not as a startup leaves them, each with the line that wrote it last"
+        values = sorted(self.pcrs.values.items(), key=lambda it: BANKS.index(it[0][0]))
+        told = (
+            f"    {HASH_WORDS[bank]} PCR {pcr}: {value.hex()}, {self.written[bank, pcr]}"
+            for (bank, pcr), value in values
+            if value != pcrs.starting_value(bank, pcr)
+        )
+        return section(title, told, "PCRs: each has the value that a startup gives it.")
 
 
 def written_by(event: Accepted) -> list[tuple[int, int]]:
@@ -125,11 +125,8 @@ class Counted:
 
     def words(self) -> str:
         told = [f"{value} ({line})" for value, line in zip(self.values, self.lines)]
-        values = "no value"
-        if len(told) == 1:
-            values = f"one value, {told[0]}"
-        elif told:
-            values = f"each value from {told[0]} to {told[1]}"
+        counts = "no value", "one value, {}", "each value from {} to {}"
+        values = counts[len(told)].format(*told)
         ended = f"; {self.ended}" if self.ended else ""
         return f"  {handle_word(self.handle)} {self.since}: {values}{ended}"
 
@@ -170,11 +167,8 @@ class CounterLines:
                 self.now.pop(handle).ended = f"undefined by {line}"
 
     def report(self) -> Iterator[str]:
-        if not self.all:
-            yield "NV counters: none."
-            return
-        yield "NV counters, each with the values that it had"
-        yield from (it.words() for it in self.all)
+        title = "NV counters, each with the values that it had"
+        return section(title, (it.words() for it in self.all), "NV counters: none.")
 
 
 class Repeats:
@@ -200,8 +194,5 @@ class Repeats:
         accepted[digest] = use.seen.line, nonce
 
     def report(self) -> Iterator[str]:
-        if not self.told:
-            yield "Commands accepted again with an hmac: none."
-            return
-        yield "Commands accepted again with an hmac, byte for byte"
-        yield from self.told
+        title = "Commands accepted again with an hmac"
+        return section(f"{title}, byte for byte", self.told, f"{title}: none.")

@@ -9,6 +9,7 @@ from typing import Iterator, Sequence
 from tpmsim.audit import broken
 from tpmsim.audit.entities import Entities, Entity
 from tpmsim.audit.ground import Finding, Grounds, Use
+from tpmsim.audit.log import section
 from tpmsim.audit.session_lines import Asserted
 from tpmsim.explain.words import command_words
 from tpmsim.model.parameters import Parameters
@@ -201,16 +202,12 @@ class Judged:
 
 def held(steps: list[Step | Choice], use: Use, grounds: Grounds) -> Judgement:
     """The first condition that does not hold at a use is what it lacks."""
-    lacks, told = None, []
-    for step in steps:
-        if isinstance(step, Choice):
-            told.append(step.words)
-            continue
-        found = finding(step, use, grounds)
-        told.append(found.words)
-        if not found.holds and lacks is None:
-            lacks = found.words
-    return lacks, told
+    found = [
+        Finding(True, it.words) if isinstance(it, Choice) else finding(it, use, grounds)
+        for it in steps
+    ]
+    lacks = next((it.words for it in found if not it.holds), None)
+    return lacks, [it.words for it in found]
 
 
 class Policies:
@@ -222,7 +219,7 @@ class Policies:
 
     def note(self, use: Use) -> None:
         """A use of an entity that is accepted, before the history has it."""
-        for judged in self.all if use.view.public is not None else []:
+        for judged in self.all:
             if use.view.public and judged.file.is_of(use.view.public):
                 judged.note(use, self.entities.of(use.authorized), self.grounds)
 
@@ -230,17 +227,13 @@ class Policies:
         for judged in self.all:
             yield from judged.report(self.entities.all)
             yield ""
-        others = [it for it in self.entities.all if self.is_other(it)]
-        if not others:
-            yield "Each entity with a policy has one of these."
-            return
-        yield "Entities whose policy is none of these"
-        yield from (f"  {it.title}" for it in others)
-
-    def is_other(self, entity: Entity) -> bool:
-        """Whether an entity has a policy, and none of these."""
-        has_policy = entity.public is not None and bool(entity.public.auth_policy)
-        return has_policy and not any(it.is_of(entity) for it in self.all)
+        having = [it for it in self.entities.all if it.public and it.public.auth_policy]
+        others = [it for it in having if not any(judged.is_of(it) for judged in self.all)]
+        title, none = (
+            "Entities whose policy is none of these",
+            "Each entity with a policy has one of these.",
+        )
+        yield from section(title, (f"  {it.title}" for it in others), none)
 
     def unmet(self) -> list[str]:
         """The uses that do not meet the policy of their entity."""

@@ -3,6 +3,7 @@
 from dataclasses import dataclass, field
 from typing import Iterator
 
+from tpmsim.audit.log import section
 from tpmsim.audit.watch import Seen
 from tpmsim.explain.past import said_words
 from tpmsim.explain.words import command_words, handle_words, SESSIONS
@@ -108,23 +109,22 @@ class SessionLines:
     def note(self, seen: Seen) -> None:
         """An event, once the history has it."""
         if seen.is_power_cycle:
-            for begun in self.live.values():
-                begun.tell(seen.line, "the power cycle ends it")
-            self.live = {}
+            for handle in list(self.live):
+                self.end(seen.line, handle, "the power cycle ends it")
             return
-        event = seen.accepted
+        event, line = seen.accepted, seen.line
         if event.code == CC.StartAuthSession:
             self.start(seen)
         elif event.code == CC.PolicyRestart:
             self.live[event.handles[0]].restart()
-            self.live[event.handles[0]].tell(seen.line, "PolicyRestart takes all assertions back")
+            self.live[event.handles[0]].tell(line, "PolicyRestart takes all assertions back")
         elif event.code == CC.PolicyGetDigest:
-            self.live[event.handles[0]].tell(seen.line, "PolicyGetDigest tells its digest")
+            self.live[event.handles[0]].tell(line, "PolicyGetDigest tells its digest")
         elif event.code == CC.FlushContext:
-            self.end(seen, event.given["flushHandle"], "FlushContext ends it")
+            self.end(line, event.given["flushHandle"], "FlushContext ends it")
         for use in event.uses:
             if not use.continues:
-                self.end(seen, use.handle, f"{command_words(event.code)} ends it")
+                self.end(line, use.handle, f"{command_words(event.code)} ends it")
             elif use.authorizes and use.handle in self.live:
                 self.live[use.handle].restart()
 
@@ -137,15 +137,11 @@ class SessionLines:
             begun.title = f"{kind} {handle_word(handle)} of line {seen.line}, {algorithm}"
             self.all.append(begun)
 
-    def end(self, seen: Seen, handle: int, words: str) -> None:
+    def end(self, line: int, handle: int, words: str) -> None:
         if handle in self.live:
-            self.live.pop(handle).tell(seen.line, words)
+            self.live.pop(handle).tell(line, words)
 
     def report(self) -> Iterator[str]:
-        if not self.all:
-            yield "Policy sessions: none."
-            return
-        yield "Policy sessions, with the digest after each assertion"
-        for begun in self.all:
-            yield f"  {begun.title}"
-            yield from begun.told
+        title = "Policy sessions, with the digest after each assertion"
+        told = (row for begun in self.all for row in (f"  {begun.title}", *begun.told))
+        return section(title, told, "Policy sessions: none.")

@@ -8,7 +8,7 @@ from tpmsim.audit.entities import Entities
 from tpmsim.audit.ground import Finding, Grounds, Use
 from tpmsim.audit.guesses import Guesses
 from tpmsim.audit.lines import Repeats
-from tpmsim.audit.log import Disagreement
+from tpmsim.audit.log import Disagreement, section
 from tpmsim.audit.policy_lines import Policies
 from tpmsim.audit.watch import Seen
 from tpmsim.explain import text
@@ -119,8 +119,5 @@ class Refusals:
             self.told += text.told_words(event.reason)
 
     def report(self) -> Iterator[str]:
-        if not self.told:
-            yield "Refusals that are no entry's: none."
-            return
-        yield "Refusals that are no entry's, each with the reason"
-        yield from self.told
+        title = "Refusals that are no entry's"
+        return section(f"{title}, each with the reason", self.told, f"{title}: none.")
