@@ -248,7 +248,7 @@ class Documented(unittest.TestCase):
     def test_examples(self):
         given = {it: getattr(tpmsim.device, it) for it in tpmsim.device.__all__}
         given["Caller"] = Caller
-        for name in ("told", "library", "child", "kept", "served", "swtpm"):
+        for name in ("base", "told", "library", "child", "kept", "served", "swtpm"):
             module = sys.modules[f"tpmsim.device.{name}"]
             result = doctest.testmod(module, extraglobs=given)
             self.assertGreater(result.attempted, 0)

@@ -119,39 +119,23 @@ class PreparedCommands(Knowledge):
         code: CC,
         handle: int,
         public: objects.Public,
-        user_auth: bytes,
-        data: bytes,
-        uses: Sequence[Means],
-        more: dict[str, Any],
+        *uses: Means,
+        user_auth: bytes = b"",
+        data: bytes = b"",
+        **more: Any,
     ) -> Prepared:
-        parameters = frames.creation(
-            frames.sensitive_create(user_auth, data), sized(public.text), **more
-        )
+        """TPM2_CreatePrimary or TPM2_Create; `outside_info` and `pcrs` may be given too."""
+        sensitive = frames.sensitive_create(user_auth, data)
+        parameters = frames.creation(sensitive, sized(public.text), **more)
         return self.prepare(code, [handle], parameters, *self.by(uses, handle))
 
     def primary(
-        self,
-        hierarchy: int,
-        public: objects.Public,
-        *uses: Means,
-        user_auth: bytes = b"",
-        data: bytes = b"",
-        **more: Any,
+        self, hierarchy: int, public: objects.Public, *uses: Means, **more: Any
     ) -> Prepared:
-        """TPM2_CreatePrimary; `outside_info` and `pcrs` may be given too."""
-        return self.creation(CC.CreatePrimary, hierarchy, public, user_auth, data, uses, more)
+        return self.creation(CC.CreatePrimary, hierarchy, public, *uses, **more)
 
-    def child(
-        self,
-        parent: int,
-        public: objects.Public,
-        *uses: Means,
-        user_auth: bytes = b"",
-        data: bytes = b"",
-        **more: Any,
-    ) -> Prepared:
-        """TPM2_Create; `outside_info` and `pcrs` may be given too."""
-        return self.creation(CC.Create, parent, public, user_auth, data, uses, more)
+    def child(self, parent: int, public: objects.Public, *uses: Means, **more: Any) -> Prepared:
+        return self.creation(CC.Create, parent, public, *uses, **more)
 
     def loading(self, parent: int, made: Made, *uses: Means) -> Prepared:
         return self.asked(CC.Load, [parent], uses, made.private, made.public)

@@ -79,7 +79,13 @@ class Transport(ABC):
 
     @property
     def trace(self) -> list[str]:
-        """The lines of a script that does the same, with each trace behind as a comment."""
+        """The lines of a script that does the same, with each trace behind as a comment.
+
+        >>> with ModelDevice() as device:
+        ...     Caller(device).start_up()
+        ...     device.trace[-2:]
+        ['do Startup 0', '# Startup L0 +0 ok 00000000']
+        """
         return [it for event in self.events for it in lines_told(event)]
 
     @abstractmethod
@@ -104,7 +110,12 @@ class Transport(ABC):
         raise Unsupported("the power is not switched here")
 
     def save(self) -> bytes:
-        """The image of what the device keeps without power."""
+        """The image of what the device keeps without power.
+
+        >>> with Device() as device:
+        ...     device.save()[:4]
+        b'TPMI'
+        """
         raise Unsupported("there is no image")
 
     def snapshot(self) -> object:
@@ -116,7 +127,12 @@ class Transport(ABC):
         raise Unsupported("there are no snapshots")
 
     def close(self) -> None:
-        """Ends the device, or the connection to it."""
+        """Ends the device, or the connection to it; a file of its image has the clock then. `with`
+        does it too.
+
+        >>> device = Device()
+        >>> device.close()
+        """
 
     def __enter__(self) -> Self:
         return self
