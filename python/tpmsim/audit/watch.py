@@ -38,8 +38,7 @@ class View:
         """What wrong authorization values count at, if at anything."""
         if self.public is None:
             return LOCKOUT_AUTH if self.handle == RH_LOCKOUT else None
-        free = nv.Attribute.NO_DA if self.index else objects.Attribute.NO_DA
-        return None if self.public.has(free) else TRIES
+        return None if self.public.is_free else TRIES
 
     def takes_auth_value(self, code: CC) -> bool:
         """Whether its authorization value authorizes it for a command."""
@@ -54,7 +53,7 @@ class View:
 
 
 def view_of(device: Model, handle: int) -> View:
-    held = device.objects.get(handle) or device.indices.get(handle)
+    held = device.held(handle)
     return View(handle, held.public if held else None)
 
 

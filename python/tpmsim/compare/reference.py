@@ -9,7 +9,8 @@ from tpmsim.device.child import ChildDevice
 from tpmsim.device.library import LibraryDevice
 from tpmsim.device.told import Device
 from tpmsim.model.general import Command
-from tpmsim.model.machine import MANUFACTURED, Model, Session
+from tpmsim.model.machine import MANUFACTURED, Model
+from tpmsim.model.policy_state import Session
 from tpmsim.standard import ALG_NULL, DECRYPT, ENCRYPT, Entry, Fields, frames, NUMBERED, SESSIONS
 from tpmsim.standard import sessions, Short
 from tpmsim.standard.frames import NO_SESSIONS

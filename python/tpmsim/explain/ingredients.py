@@ -7,7 +7,7 @@ from tpmsim.explain.past import Begun, Since
 from tpmsim.explain.reason import Fact, Scene
 from tpmsim.explain.words import attribute_words, bytes_words, handle_words
 from tpmsim.model.general import Command
-from tpmsim.model.machine import Session
+from tpmsim.model.policy_state import Session
 from tpmsim.standard import CC, digest, Entry, handle_kinds, HASH_WORDS, number, policy
 
 

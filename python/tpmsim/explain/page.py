@@ -19,9 +19,10 @@ from tpmsim.explain.reason import Reason
 from tpmsim.explain.text import Counts, name_of
 from tpmsim.explain.words import algorithm_words, bytes_words, command_words, flag_words
 from tpmsim.explain.words import handle_words, kind_words, localities_words, seconds_words, SESSIONS
-from tpmsim.model.machine import Model, Session
+from tpmsim.model.machine import Model
 from tpmsim.model.nv_commands import Index
 from tpmsim.model.object_rules import Object
+from tpmsim.model.policy_state import Session
 from tpmsim.standard import CC, frames, handle_kinds, lines, NUMBERED, nv, objects, policy
 from tpmsim.standard import RH_ENDORSEMENT, RH_LOCKOUT, RH_NULL, RH_OWNER, RH_PLATFORM, RS_PW
 

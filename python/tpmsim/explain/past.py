@@ -9,8 +9,9 @@ from typing import Any, Iterable
 from tpmsim.explain.words import command_words, handle_words
 from tpmsim.model import nv_commands, object_rules
 from tpmsim.model.general import Command
-from tpmsim.model.machine import Model, Session
+from tpmsim.model.machine import Model
 from tpmsim.model.parameters import Parameters
+from tpmsim.model.policy_state import Session
 from tpmsim.policies.policy_texts import digest_after, texts_after
 from tpmsim.policies.written import Said, said_of
 from tpmsim.standard import CC, digest, Fields, frames, handle_kinds, HIERARCHIES, is_policy, lines

@@ -11,9 +11,10 @@ from tpmsim.explain.dissection import Field
 from tpmsim.explain.past import Past
 from tpmsim.explain.words import handle_words
 from tpmsim.model.general import Command
-from tpmsim.model.machine import Model, Session
+from tpmsim.model.machine import Model
 from tpmsim.model.nv_commands import Index
 from tpmsim.model.object_rules import Object
+from tpmsim.model.policy_state import Session
 from tpmsim.standard import CC, frames, HEADER_BYTES, is_policy, NUMBERED, nv, values
 
 # The sentence of each check, with its place in docs/table. Written by tests/table_rules.py.

@@ -12,7 +12,7 @@ from tpmsim.standard.frames import AUDIT, AUDIT_EXCLUSIVE, AUDIT_RESET, RESERVED
 from tpmsim.standard.handle_kinds import IS_OF_KIND
 
 if TYPE_CHECKING:
-    from tpmsim.model.machine import Session
+    from tpmsim.model.policy_state import Session
     from tpmsim.model.parameters import Held
 
 LEAST_AREA, MOST_NONCE_OR_HMAC = 9, 32

@@ -12,8 +12,10 @@ from tpmsim.model import capability, general, history, nv_commands, object_comma
 from tpmsim.model import persistent, policy_commands, policy_state, protection, state
 from tpmsim.model.general import Answer, Command, Refusal
 from tpmsim.model.history import Accepted, PowerCycle
+from tpmsim.model.nv_commands import Index
+from tpmsim.model.object_rules import Object
 from tpmsim.model.parameters import buffer, choice, integer, Parameters, Request, takes
-from tpmsim.model.policy_state import Entity
+from tpmsim.model.policy_state import Session
 from tpmsim.standard import aes, CC, DECRYPT, digest_bytes, ENCRYPT, Entry, Fact, Fields, frames
 from tpmsim.standard import handle_kinds, number, nv, objects, policy, RH_ENDORSEMENT, RH_LOCKOUT
 from tpmsim.standard import RH_NULL, RH_OWNER, RH_PLATFORM, RS_PW, sessions, Short, sized, TRANSIENT
@@ -42,27 +44,6 @@ PLACE_BITS = 0xFF_FFFF
 
 # What a command is answered that is refused memory, MEMORY, and how its trace names that.
 STARVED, MEMORY_CHECK = frames.refusal(0x904), "M"
-
-
-@dataclass
-class Session:
-    """A session, with the Name, the authorization value and the protection of its bind entity at
-    the start. `cipher` is AES, XOR or ALG_NULL; the masks of XOR are by its own hash algorithm.
-    """
-
-    kind: int
-    algorithm: int
-    cipher: int
-    nonce_tpm: bytes
-    key: bytes
-    bind: bytes
-    bind_auth: bytes
-    bind_protection: str | None
-    policy: policy_state.State
-
-    @property
-    def is_trial(self) -> bool:
-        return self.kind == frames.SE_TRIAL
 
 
 @dataclass(frozen=True)
@@ -187,12 +168,12 @@ class Model(
 
     # Entities.
 
+    def held(self, handle: int) -> Object | Index | None:
+        return self.objects.get(handle) or self.indices.get(handle)
+
     def name(self, handle: int) -> bytes:
-        if handle in self.objects:
-            return self.objects[handle].name
-        if handle in self.indices:
-            return self.indices[handle].public.name
-        return sessions.name_of(handle)
+        held = self.held(handle)
+        return held.public.name if held else sessions.name_of(handle)
 
     def shown(self, command: Command) -> tuple[list[bytes], list[str | None]]:
         """The Names of its handles, and how what they name is protected."""
@@ -203,23 +184,17 @@ class Model(
 
     def auth_value(self, handle: int | None) -> bytes:
         """That of a PCR and of TPM_RH_NULL is empty, and so is that of no entity."""
-        if handle in self.objects:
-            return self.objects[handle].sensitive.auth_value
-        if handle in self.indices:
-            return self.indices[handle].auth_value
-        return b"" if handle is None else self.auth_values.get(handle, b"")
+        if handle is None:
+            return b""
+        held = self.held(handle)
+        return held.auth_value if held else self.auth_values.get(handle, b"")
 
     def protection(self, handle: int) -> str | None:
         """What wrong authorization values count at, if at anything."""
         if handle == RH_LOCKOUT:
             return protection.LOCKOUT_AUTH
-        if handle in self.objects:
-            is_free = self.objects[handle].public.has(Attribute.NO_DA)
-        elif handle in self.indices:
-            is_free = self.indices[handle].public.has(nv.Attribute.NO_DA)
-        else:
-            return None
-        return None if is_free else protection.TRIES
+        held = self.held(handle)
+        return protection.TRIES if held and not held.public.is_free else None
 
     def takes_auth_value(self, handle: int, code: CC) -> bool:
         """Whether it can be authorized without a policy, for a command."""
@@ -229,22 +204,16 @@ class Model(
             return nv_commands.takes_auth_value(self.indices[handle].public, code)
         return True
 
-    def policy_entity(self, handle: int, code: CC) -> Entity | None:
+    def policy_entity(self, handle: int, code: CC) -> objects.Public | nv.Public | None:
         """An entity that a policy can authorize for a command: an object or an index that has one.
         Of an index the attributes too have to allow it.
         """
-        public: objects.Public | nv.Public
-        if handle in self.objects:
-            public = self.objects[handle].public
-        elif handle not in self.indices:
+        held = self.held(handle)
+        if held is None or not held.public.auth_policy:
             return None
-        else:
-            public = index = self.indices[handle].public
-            if not nv_commands.takes_policy(index, code):
-                return None
-        if not public.auth_policy:
+        if isinstance(held, Index) and not nv_commands.takes_policy(held.public, code):
             return None
-        return policy_state.Entity(public.name_algorithm, public.auth_policy)
+        return held.public
 
     def written(self, handle: int) -> bool | None:
         """Whether an NV index is written; None of all else."""

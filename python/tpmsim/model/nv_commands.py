@@ -121,29 +121,21 @@ def takes_policy(public: Public, code: CC) -> bool:
 # Use.
 
 
+WRITERS = Attribute.OWNERWRITE, Attribute.PPWRITE
+READERS = Attribute.OWNERREAD, Attribute.PPREAD
+
+
 def check_asker(public: Public, asker: int, by_owner: Attribute, by_platform: Attribute) -> None:
     """Whether a hierarchy may ask for an index; an index may ask for itself alone."""
-    if asker == RH_OWNER:
-        may = public.has(by_owner)
-    elif asker == RH_PLATFORM:
-        may = public.has(by_platform)
-    else:
-        may = asker == public.index
+    by_hierarchy = {RH_OWNER: by_owner, RH_PLATFORM: by_platform}
+    may = public.has(by_hierarchy[asker]) if asker in by_hierarchy else asker == public.index
     if not may:
         raise Refusal("NV_AUTHORIZATION", "A1")
 
 
-def check_writer(public: Public, asker: int) -> None:
-    check_asker(public, asker, Attribute.OWNERWRITE, Attribute.PPWRITE)
-
-
-def check_reader(public: Public, asker: int) -> None:
-    check_asker(public, asker, Attribute.OWNERREAD, Attribute.PPREAD)
-
-
 def check_writing(public: Public, asker: int, kind: Type) -> None:
     """Before every change of an index that is to be of some type."""
-    check_writer(public, asker)
+    check_asker(public, asker, *WRITERS)
     if public.has(Attribute.WRITELOCKED):
         raise Refusal("NV_LOCKED", "A2")
     if public.kind != kind:
@@ -151,7 +143,7 @@ def check_writing(public: Public, asker: int, kind: Type) -> None:
 
 
 def check_reading(public: Public, asker: int) -> None:
-    check_reader(public, asker)
+    check_asker(public, asker, *READERS)
     if public.has(Attribute.READLOCKED):
         raise Refusal("NV_LOCKED", "A2")
     if not public.has(Attribute.WRITTEN):
@@ -200,13 +192,6 @@ OPERATIONS = (
     lambda held, operand: unsigned(held) & unsigned(operand) == unsigned(operand),
     lambda held, operand: unsigned(held) & unsigned(operand) == 0,
 )
-
-
-def read_policy_nv(parameters: Parameters) -> tuple[bytes, int, int]:
-    """The operand, the offset and the number of the operation."""
-    operand = parameters.next().sized(DIGEST_BYTES)
-    offset = parameters.next().number(2)
-    return operand, offset, parameters.next().one_of(2, range(len(OPERATIONS)), "VALUE")
 
 
 def check_comparison(index: Index, asker: int, operand: bytes, offset: int, operation: int) -> None:
@@ -298,7 +283,7 @@ class Commands(Held):
     @takes()
     def nv_write_lock(self, request: Request) -> Answer:
         asker, index = self.asked(request)
-        check_writer(index.public, asker)
+        check_asker(index.public, asker, *WRITERS)
         if not index.public.has(Attribute.WRITEDEFINE | Attribute.WRITE_STCLEAR):
             raise Refusal("ATTRIBUTES/h2", "A2")
         index.mark(Attribute.WRITELOCKED)
@@ -307,7 +292,7 @@ class Commands(Held):
     @takes()
     def nv_read_lock(self, request: Request) -> Answer:
         asker, index = self.asked(request)
-        check_reader(index.public, asker)
+        check_asker(index.public, asker, *READERS)
         if not index.public.has(Attribute.READ_STCLEAR):
             raise Refusal("ATTRIBUTES/h2", "A2")
         index.mark(Attribute.READLOCKED)

@@ -50,6 +50,10 @@ class Object:
     def name(self) -> bytes:
         return self.public.name
 
+    @property
+    def auth_value(self) -> bytes:
+        return self.sensitive.auth_value
+
 
 def loaded(
     public: Public, sensitive: Sensitive, hierarchy: int, parent_qualified_name: bytes

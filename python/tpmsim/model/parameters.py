@@ -10,7 +10,7 @@ from tpmsim.model.general import Answer, Refusal
 from tpmsim.standard import DIGEST_BYTES, Fields, frames, HASHES, PCRS, Short
 
 if TYPE_CHECKING:
-    from tpmsim.model.machine import Session
+    from tpmsim.model.policy_state import Session
     from tpmsim.model.nv_commands import Index
     from tpmsim.model.object_rules import Object
     from tpmsim.model.protection import Lockout

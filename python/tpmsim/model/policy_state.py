@@ -3,14 +3,10 @@
 from __future__ import annotations
 
 from dataclasses import dataclass
-from typing import TYPE_CHECKING
 
 from tpmsim.model.general import Refusal
-from tpmsim.standard import digest_bytes
+from tpmsim.standard import digest_bytes, nv, objects, SE_TRIAL
 from tpmsim.standard.policy import ALL_LOCALITIES
-
-if TYPE_CHECKING:
-    from tpmsim.model.machine import Session
 
 
 @dataclass
@@ -30,6 +26,27 @@ def starting_state(algorithm: int) -> State:
     return State(bytes(digest_bytes(algorithm)))
 
 
+@dataclass
+class Session:
+    """A session, with the Name, the authorization value and the protection of its bind entity at
+    the start. `cipher` is AES, XOR or ALG_NULL; the masks of XOR are by its own hash algorithm.
+    """
+
+    kind: int
+    algorithm: int
+    cipher: int
+    nonce_tpm: bytes
+    key: bytes
+    bind: bytes
+    bind_auth: bytes
+    bind_protection: str | None
+    policy: State
+
+    @property
+    def is_trial(self) -> bool:
+        return self.kind == SE_TRIAL
+
+
 # A policy that authorizes.
 
 
@@ -45,15 +62,9 @@ class Use:
     locality: int
 
 
-@dataclass(frozen=True)
-class Entity:
-    """An entity that a policy can authorize."""
-
-    name_algorithm: int
-    auth_policy: bytes
-
-
-def check_use(session: Session, entity: Entity | None, use: Use, place: int) -> None:
+def check_use(
+    session: Session, entity: objects.Public | nv.Public | None, use: Use, place: int
+) -> None:
     """What refuses an entry before its hmac is looked at; no policy can authorize no entity."""
     told = session.policy
     if session.is_trial:

@@ -83,7 +83,7 @@ class Commands(Held):
         self.seeds[RH_NULL], self.proofs[RH_NULL] = secrets(random, 2)
         # That is how long lockoutAuth stays closed where no time is given for it.
         if not self.lockout.lockout_recovery:
-            self.lockout.open()
+            self.lockout.is_closed = False
 
     @takes(choice(2, (CLEAR, STATE)))
     def shutdown(self, request: Request, kind: int) -> Answer:
@@ -102,22 +102,15 @@ class Commands(Held):
         if self.disable_clear:
             raise Refusal("DISABLED", "A1")
 
-        (self.seeds[RH_OWNER], self.proofs[RH_OWNER], self.proofs[RH_ENDORSEMENT]) = secrets(
-            request.random, 3
-        )
+        drawn = secrets(request.random, 3)
+        self.seeds[RH_OWNER], self.proofs[RH_OWNER], self.proofs[RH_ENDORSEMENT] = drawn
         owners = RH_OWNER, RH_ENDORSEMENT
-        self.objects = {
-            handle: it for handle, it in self.objects.items() if it.hierarchy not in owners
-        }
-        self.indices = {
-            handle: it
-            for handle, it in self.indices.items()
-            if it.public.has(nv.Attribute.PLATFORMCREATE)
-        }
+        kept = nv.Attribute.PLATFORMCREATE
+        self.objects = {at: it for at, it in self.objects.items() if it.hierarchy not in owners}
+        self.indices = {at: it for at, it in self.indices.items() if it.public.has(kept)}
         for hierarchy in (*owners, RH_LOCKOUT):
             self.auth_values.pop(hierarchy, None)
-        self.lockout.open()
-        self.lockout.reset()
+        self.lockout.is_closed, self.lockout.failed_tries = False, 0
         self.clock = self.reset_count = self.restart_count = 0
         self.update_counter += 1
         return Answer(drawn=3 * SECRET_BYTES)

@@ -76,6 +76,11 @@ class Public:
         return bool(self.attributes & attributes)
 
     @property
+    def is_free(self) -> bool:
+        """Whether wrong authorization values of it are not counted."""
+        return self.has(Attribute.NO_DA)
+
+    @property
     def kind(self) -> int:
         """The number of its type, which is not that of a `Type` in every one that is asked for."""
         return self.attributes >> TYPE_SHIFT & TYPE_MASK

@@ -46,6 +46,11 @@ class Public:
         return bool(self.attributes & attributes)
 
     @property
+    def is_free(self) -> bool:
+        """Whether wrong authorization values of it are not counted."""
+        return self.has(Attribute.NO_DA)
+
+    @property
     def text(self) -> bytes:
         if self.kind == KEYEDHASH:
             details = frames.scheme(self.scheme)
