@@ -74,10 +74,7 @@ class Auditor:
                 self.refuse(seen)
             else:
                 self.accept(seen)
-            # The device follows its history.
-            told = ", ".join(self.history.differences(self.device))
-            if told:
-                raise Disagreement(f"the device is not what its history tells: {told}")
+            self.follow()
         except Disagreement as fault:
             name = "power" if seen.is_power_cycle else command_name(seen.outcome.row.code)
             where = ", ".join(filter(None, (f"script line {seen.line}", name)))
@@ -88,6 +85,12 @@ class Auditor:
             self.log.check(printed)
         except Disagreement as fault:
             raise Disagreement(f"{fault}{self.uses.reason(seen)}") from None
+
+    def follow(self) -> None:
+        """The device follows its history."""
+        told = ", ".join(self.history.differences(self.device))
+        if told:
+            raise Disagreement(f"the device is not what its history tells: {told}")
 
     def refuse(self, seen: Seen) -> None:
         self.counts.refused += 1

@@ -16,14 +16,13 @@ is given, or a use does not meet it. It is 2 where these words, a file, a policy
 what it should be. It needs python3, and no program.
 """
 
-import os
 import sys
 from dataclasses import dataclass, field
 
 from tpmsim.audit import start
 from tpmsim.audit.auditor import Auditor, report
 from tpmsim.audit.log import Disagreement, Log
-from tpmsim.explain.main import read, Usage
+from tpmsim.explain.main import read, tell, Usage
 from tpmsim.model.image import Fault
 from tpmsim.policies.policy_file import Fault as PolicyFault, PolicyFile
 
@@ -60,26 +59,18 @@ def asked_of(words: list[str]) -> Asked:
     return asked
 
 
-def policy_of(name: str) -> PolicyFile:
+def auditor_of(asked: Asked, log: Log) -> Auditor:
     try:
-        return PolicyFile(name, read(name))
-    except PolicyFault as fault:
-        raise Usage(f"{name} {fault}") from None
-
-
-def start_of(images: list[str]) -> start.Start:
-    try:
-        return start.of_image(read(images[0])) if images else start.new()
+        begun = start.of_image(read(asked.images[0])) if asked.images else start.new()
     except Fault as fault:
         raise Usage(f"image {fault}") from None
-
-
-def tell(auditor: Auditor, last: str) -> None:
-    """Prints the report; who reads it may close it before it ends."""
-    try:
-        print(*report(auditor), last, sep="\n", flush=True)
-    except BrokenPipeError:
-        os.dup2(os.open(os.devnull, os.O_WRONLY), sys.stdout.fileno())
+    policies = list[PolicyFile]()
+    for name in asked.policies:
+        try:
+            policies.append(PolicyFile(name, read(name)))
+        except PolicyFault as fault:
+            raise Usage(f"{name} {fault}") from None
+    return Auditor(begun, log, policies)
 
 
 def main(*words: str) -> int:
@@ -89,7 +80,7 @@ def main(*words: str) -> int:
     try:
         asked = asked_of(list(words))
         script, log = read(asked.names[0]), Log(read(asked.names[1]))
-        auditor = Auditor(start_of(asked.images), log, [policy_of(it) for it in asked.policies])
+        auditor = auditor_of(asked, log)
     except Usage as wrong:
         print(f"audit: {wrong}", file=sys.stderr)
         return 2
@@ -98,7 +89,8 @@ def main(*words: str) -> int:
         auditor.read(script)
     except Disagreement as found:
         fault = str(found)
-    tell(auditor, f"The report ends here: {fault}." if fault else AGREES)
+    last = f"The report ends here: {fault}." if fault else AGREES
+    tell("\n".join([*report(auditor), last]))
     faults = [fault, *auditor.policies.unmet()] if fault else auditor.policies.faults()
     for it in faults:
         print(f"audit: {it}", file=sys.stderr)

@@ -4,7 +4,6 @@ from dataclasses import dataclass, field
 from functools import cached_property
 
 from tpmsim.explain.play import Event, OF_ENTRIES, Watched
-from tpmsim.explain.reason import Scene
 from tpmsim.model import nv_commands
 from tpmsim.model.general import Command
 from tpmsim.model.history import Accepted, PowerCycle
@@ -109,16 +108,12 @@ def is_of_entry(check: str, refused: str | None) -> bool:
     return check in OF_ENTRIES and refused != OF_PARAMETERS
 
 
-def is_explained(scene: Scene) -> bool:
-    """A refusal for an entry is judged by the history."""
-    return not is_of_entry(scene.check, scene.refused)
-
-
 class Watch(Watched):
     """Stands between a device and who calls it; `seen` is the event that was seen last, if any."""
 
     def __init__(self, device: Model) -> None:
-        super().__init__(device, is_explained)
+        # A refusal for an entry is judged by the history.
+        super().__init__(device, lambda scene: not is_of_entry(scene.check, scene.refused))
         self.seen: Seen | None = None
         setattr(device, "execute", self.executed)
         setattr(device, "tell", self.told)

@@ -13,10 +13,6 @@ PLACE_BITS = 0xFF_FFFF
 AUDITS = frames.AUDIT_EXCLUSIVE | frames.AUDIT_RESET | frames.AUDIT
 
 
-def reason(scene: Scene) -> Reason:
-    return CHECKS[scene.check](scene)
-
-
 # The header.
 
 
@@ -97,11 +93,17 @@ def sessions_or_none(scene: Scene) -> Reason:
 def entries(scene: Scene) -> Reason:
     if scene.name == "AUTHSIZE":
         return area(scene)
-    those = entries_of(scene)
+    fields = Fields(scene.buffer[scene.area_at :])
+    those = list(frames.entries_of(fields.take(fields.number(4))))
     place = scene.place or int(scene.name[-1]) + 1
     entry, at = those[place - 1], scene.entry_at(place)
     if scene.name == "SIZE":
-        return entry_size(place, entry, at)
+        is_nonce = len(entry.nonce) > MOST_NONCE_OR_HMAC
+        which, long = ("nonce", entry.nonce) if is_nonce else ("HMAC or password", entry.hmac)
+        has = f"The {which} of entry {place} has {len(long)} bytes"
+        words = f"{has}: {len(long)} > {MOST_NONCE_OR_HMAC}."
+        behind = 0 if is_nonce else 2 + len(entry.nonce) + 1
+        return Reason("G8/SIZE", words, at=at + 4 + behind)
     if scene.name == "HANDLE":
         return entry_handle(scene, those, place, at)
     if scene.name == "VALUE":
@@ -113,12 +115,6 @@ def entries(scene: Scene) -> Reason:
         said = f"Entry {place} has session {entry.handle:08x}, which is not there"
         return Reason("G8/REFERENCE", f"{said}: {missing_words(scene, entry.handle)}.", at=at)
     return entry_attributes(scene, those, place, at)
-
-
-def entries_of(scene: Scene) -> list[Entry]:
-    """Those of an area that can be divided."""
-    fields = Fields(scene.buffer[scene.area_at :])
-    return list(frames.entries_of(fields.take(fields.number(4))))
 
 
 def area(scene: Scene) -> Reason:
@@ -151,13 +147,6 @@ def divided(scene: Scene, at: int, size: int, found: Reason) -> None:
         found.words = f"Entry {count + 1} is cut: {asked} the {at + size - begin} bytes of it."
         return
     found.words = f"There are {count} entries: {count} > {MOST_ENTRIES}."
-
-
-def entry_size(place: int, entry: Entry, at: int) -> Reason:
-    is_nonce = len(entry.nonce) > MOST_NONCE_OR_HMAC
-    which, size = ("nonce", len(entry.nonce)) if is_nonce else ("HMAC or password", len(entry.hmac))
-    words = f"The {which} of entry {place} has {size} bytes: {size} > {MOST_NONCE_OR_HMAC}."
-    return Reason("G8/SIZE", words, at=at + 4 if is_nonce else at + 4 + 2 + len(entry.nonce) + 1)
 
 
 def entry_handle(scene: Scene, those: list[Entry], place: int, at: int) -> Reason:

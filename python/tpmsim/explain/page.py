@@ -191,20 +191,10 @@ class PageData:
         """What has a handle, or had it last."""
         begun, last = self.play.past.begun.get(handle), self.live.get(handle, (0, -1))[1]
         if handle not in self.live or begun not in (None, last):
-            self.entities.append(
-                {"handle": handle_words(handle), "kind": self.kind(handle), "uses": []}
-            )
+            kind = kind_words(handle).removeprefix("an ").removeprefix("a ")
+            self.entities.append({"handle": handle_words(handle), "kind": kind, "uses": []})
             self.live[handle] = len(self.entities) - 1, begun or 0
         return self.live[handle][0]
-
-    def kind(self, handle: int) -> str:
-        return kind_words(handle).removeprefix("an ").removeprefix("a ")
-
-    def used(self, event: Event) -> list[int]:
-        found = [self.entity(it) for it in dict.fromkeys(self.handles_of(event))]
-        for it in found:
-            self.entities[it]["uses"].append(len(self.events))
-        return found
 
     def handles_of(self, event: Event) -> list[int]:
         """The handles of a command, its sessions, and the handle that it answers or flushes."""
@@ -243,7 +233,9 @@ class PageData:
         words = lines.line_of(scene.buffer) if event.text.startswith("cmd") else event.text[3:]
         told["w"] = self.texts.of(words or f"cmd {scene.buffer.hex()}")
         told["s"] = self.texts.of(short_words(words or ""))
-        told["u"] = self.used(event)
+        told["u"] = [self.entity(it) for it in dict.fromkeys(self.handles_of(event))]
+        for at in told["u"]:
+            self.entities[at]["uses"].append(len(self.events))
         told["q"] = [scene.buffer.hex(), *self.fields(asked)]
         told["r"] = [event.response.hex(), *self.fields(answered)]
         if scene.plain is not None and scene.plain != scene.command.parameters:
@@ -324,20 +316,16 @@ def of_log(name: str, play: Play, log: bytes, counts: Counts) -> str:
     return filled(shown, data.value(shown))
 
 
-def escaped(value: Any) -> str:
-    """JSON that is safe within an element."""
-    spelled = json.dumps(value, separators=(",", ":"))
-    return re.sub("[<>&]", lambda it: ESCAPES[it[0]], spelled)
-
-
 def filled(name: str, value: dict[str, Any]) -> str:
     """The page with its data. Each mark is put in once, so that no value is looked at for marks."""
+    spelled = json.dumps(value, separators=(",", ":"))
+    data = re.sub("[<>&]", lambda it: ESCAPES[it[0]], spelled)
     parts = {
         "NAME": html.escape(name),
         "SUMMARY": html.escape(value["summary"]),
         "STYLE": (FILES / "page.css").read_text("utf-8"),
         "SCRIPT": "\n".join((FILES / it).read_text("utf-8") for it in SCRIPTS),
-        "DATA": escaped(value),
+        "DATA": data,
     }
     frame = (FILES / "page.html").read_text("utf-8")
     return MARK.sub(lambda it: str(parts[it[1]]), frame)

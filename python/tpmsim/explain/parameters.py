@@ -110,13 +110,9 @@ class Traced(Parameters):
 def one_of_words(allowed: list[int], size: int) -> str:
     if len(allowed) > 4:
         return f"{allowed[0]:0{2 * size}x} to {allowed[-1]:0{2 * size}x}"
-    said = [f"{it:0{2 * size}x}{name_words(it, size)}" for it in allowed]
-    return " or ".join(said)
-
-
-def name_words(value: int, size: int) -> str:
-    said = algorithm_words(value)
-    return f" ({said})" if size == 2 and said != f"{value:04x}" else ""
+    spelled = [(f"{it:0{2 * size}x}", algorithm_words(it)) for it in allowed]
+    is_named = size == 2
+    return " or ".join(f"{it} ({name})" if is_named and name != it else it for it, name in spelled)
 
 
 def read_again(scene: Scene, plain: bytes) -> tuple[Trace, str]:

@@ -120,6 +120,9 @@ class Begun:
     caller_nonces: dict[bytes, int] = field(default_factory=dict)
     own_nonces: dict[bytes, int] = field(default_factory=dict)
 
+    def restart(self, line: int) -> None:
+        self.told, self.restarted = [], line
+
     def take(self, line: int) -> None:
         self.nonces.append(Since(line, self.session.nonce_tpm))
         self.own_nonces.setdefault(self.session.nonce_tpm, line)
@@ -194,7 +197,9 @@ class Past:
             self.note_policy(line, command, plain, names)
         for _, entry, handle in command.places():
             if handle is not None and handle_kinds.is_policy(entry.handle):
-                self.used_policy(line, entry.handle)
+                # A policy session that authorized begins anew.
+                if entry.handle in self.sessions:
+                    self.sessions[entry.handle].restart(line)
 
     def note_value(self, command: Command, plain: bytes, answered: int | None) -> None:
         """An authorization value as it was given, with the zeros at its end."""
@@ -224,29 +229,20 @@ class Past:
         if begun is None:
             return
         if command.code == CC.PolicyRestart:
-            begun.told, begun.restarted = [], line
+            begun.restart(line)
             return
         begun.told.append(step_of(line, command, plain, self.model, names))
         banks = banks_of(self.model)
         self.made[begun.session.policy.digest] = Made(line, list(begun.told), banks)
         self.told_banks[line] = banks
 
-    def used_policy(self, line: int, handle: int) -> None:
-        """A policy session that authorized begins anew."""
-        if handle in self.sessions:
-            self.sessions[handle].told, self.sessions[handle].restarted = [], line
-
     # What is there, and what was.
 
     def follow(self, line: int, words: str) -> None:
         model = self.model
-        now: dict[int, tuple[object, object]] = {}
-        for handle, session in model.sessions.items():
-            now[handle] = session, session
-        for handle, held in model.objects.items():
-            now[handle] = held, held
-        for handle, index in model.indices.items():
-            now[handle] = index, index.public
+        now: dict[int, tuple[object, object]] = {at: (it, it) for at, it in model.sessions.items()}
+        now |= {at: (it, it) for at, it in model.objects.items()}
+        now |= {at: (it, it.public) for at, it in model.indices.items()}
         for handle in [it for it in self.seen if it not in now]:
             self.ended[handle] = line, words
             self.begun.pop(handle, None)

@@ -127,7 +127,7 @@ class Answers:
 def reason_of(scene: Scene) -> Reason:
     """Why a command was refused, whichever check it was."""
     if scene.check in general.CHECKS:
-        return general.reason(scene)
+        return general.CHECKS[scene.check](scene)
     if scene.check in OF_ENTRIES:
         return entries.reason(scene)
     return parameters.reason(scene) if scene.check == "G11" else own.reason(scene)

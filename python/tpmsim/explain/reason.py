@@ -7,7 +7,6 @@ from functools import cached_property
 from typing import Any, Callable
 
 from tpmsim.explain import dissection
-from tpmsim.explain.dissection import Field
 from tpmsim.explain.past import Past
 from tpmsim.explain.words import handle_words
 from tpmsim.model.general import Command
@@ -192,12 +191,8 @@ class Look:
         """Why it is refused, and the field that is at fault, of the parameters in plain."""
         self.found.words = words
         if at:
-            field = self.field(at)
-            self.found.at = field.at if field else None
-
-    def field(self, name: str) -> Field | None:
-        fields = dissection.fields_of_command(self.scene.buffer, self.scene.plain)
-        return next((it for it in fields if it.name == name), None)
+            fields = dissection.fields_of_command(self.scene.buffer, self.scene.plain)
+            self.found.at = next((it.at for it in fields if it.name == at), None)
 
 
 Check = Callable[[Look], None]
