@@ -111,7 +111,9 @@ class Caller(PreparedCommands):
         if step.branches:
             self.tell_branch(use, step)
         elif step.code in (CC.PolicySecret, CC.PolicyNV):
-            those = [self.handle_of(step.name), session.handle]
+            # A Name that is not known is a handle itself.
+            known = [handle for handle, name in self.names.items() if name == step.name]
+            those = [*(known or [int.from_bytes(step.name, "big")])[:1], session.handle]
             if step.code == CC.PolicyNV:
                 those.insert(0, those[0])
             self.send(self.prepare(step.code, those, step.parameters, *self.by((), those[0])))
@@ -133,11 +135,6 @@ class Caller(PreparedCommands):
                 self.send(self.restart(use.session))
         assert refused is not None
         raise refused
-
-    def handle_of(self, name: bytes) -> int:
-        """The handle of a Name that is known, or that is a handle itself."""
-        known = [handle for handle, it in self.names.items() if it == name]
-        return known[0] if known else int.from_bytes(name, "big")
 
     # Objects and indices.
 

@@ -240,7 +240,11 @@ class Knowledge:
             if handle_kinds.first_byte(flushed) == TRANSIENT:
                 self.forget(flushed)
         elif code == CC.EvictControl:
-            self.note_evicted(prepared.handles[1], fields.number(4))
+            evicted, wanted = prepared.handles[1], fields.number(4)
+            if evicted == wanted:
+                self.forget(evicted)
+            else:
+                self.note(wanted, self.name(evicted), self.auth_value(evicted))
         elif code == CC.NV_DefineSpace:
             auth_value, public = fields.sized(), nv.Public.read(fields.sized())
             self.note_public(public)
@@ -250,12 +254,6 @@ class Knowledge:
             # The value of a loaded object is in its private area, and whoever made that knows it.
             user_auth = Fields(fields.sized()).sized() if code == CC.CreatePrimary else b""
             self.note(handle, name, trimmed(user_auth))
-
-    def note_evicted(self, handle: int, wanted: int) -> None:
-        if handle == wanted:
-            self.forget(handle)
-        else:
-            self.note(wanted, self.name(handle), self.auth_value(handle))
 
     def check_answer(
         self, prepared: Prepared, place: int, parameters: bytes, fields: Fields

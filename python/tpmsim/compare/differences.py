@@ -78,21 +78,18 @@ def shown(value: Any) -> str:
     return str(value)
 
 
-def shown_both(here: Any, there: Any) -> tuple[str, str]:
-    """Both values; of two lists the first elements that differ."""
-    if isinstance(here, list) and isinstance(there, list):
-        if len(here) != len(there):
-            return f"{len(here)} elements", f"{len(there)} elements"
-        here, there = next(it for it in zip(here, there) if it[0] != it[1])
-    return shown(here), shown(there)
-
-
 def between(here: dict[str, Any], there: dict[str, Any]) -> Iterator[tuple[str, str, str]]:
-    """The fields that differ, with both values."""
+    """The fields that differ, with both values; of two lists the first elements that differ."""
     for name, value in here.items():
-        pair = comparable(name, value), comparable(name, there.get(name))
-        if pair[0] != pair[1]:
-            yield name, *shown_both(*pair)
+        own, other = comparable(name, value), comparable(name, there.get(name))
+        if own == other:
+            continue
+        if isinstance(own, list) and isinstance(other, list):
+            if len(own) != len(other):
+                yield name, f"{len(own)} elements", f"{len(other)} elements"
+                continue
+            own, other = next(it for it in zip(own, other) if it[0] != it[1])
+        yield name, shown(own), shown(other)
 
 
 @dataclass(frozen=True)

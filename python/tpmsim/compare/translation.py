@@ -62,7 +62,8 @@ class Translation:
         prepared = Prepared(asked.code, handles, parameters, uses, [])
         for place, use in enumerate(uses, 1):
             if isinstance(use, Use) and use.attributes & DECRYPT and use.session.cipher != ALG_NULL:
-                if asked.code.takes_sized and self.has_buffer(parameters):
+                size = int.from_bytes(parameters[:2], "big")
+                if asked.code.takes_sized and len(parameters) - 2 >= size > 0:
                     handle = prepared.authorized(place)
                     prepared.parameters = self.known.encrypted(use, handle, parameters)
         prepared.entries = [self.entry(asked, prepared, *it) for it in asked.places()]
@@ -85,10 +86,6 @@ class Translation:
             return Fields(self.here.plain(asked)).sized() not in self.values
         except Short:
             return False
-
-    @staticmethod
-    def has_buffer(parameters: bytes) -> bool:
-        return len(parameters) - 2 >= int.from_bytes(parameters[:2], "big") > 0
 
     def use(self, asked: Command, place: int, entry: Entry, handle: int | None) -> bytes | Use:
         if not is_session(entry.handle):
@@ -116,13 +113,13 @@ class Translation:
         if shown.is_password:
             hmac = self.password(entry.hmac, handle, there)
         elif len(hmac) == sessions.digest_bytes(session.algorithm):
-            has_value = self.uses_value(entry, handle) if shown.key is None else shown.key
+            has_value = shown.key
+            if has_value is None:
+                uses = self.here.model.uses_auth_value
+                has_value = handle is not None and uses(entry, handle)
             hmac = self.hmac(prepared, place, use, has_value)
             hmac = hmac if shown.key is not None else flipped(hmac)
         return Entry(session.handle, entry.nonce, entry.attributes, hmac)
-
-    def uses_value(self, entry: Entry, handle: int | None) -> bool:
-        return handle is not None and self.here.model.uses_auth_value(entry, handle)
 
     def hmac(self, prepared: Prepared, place: int, use: Use, has_value: bool) -> bytes:
         session, handle = use.session, prepared.authorized(place)

@@ -84,19 +84,9 @@ class Template:
     def data(self) -> bytes:
         return self.values[1]
 
-    @property
-    def sensitive_text(self) -> bytes:
-        return sized(self.user_auth) + sized(self.data)
-
 
 def read_sensitive_create(fields: Parameters) -> tuple[bytes, bytes]:
     return fields.sized(DIGEST_BYTES), fields.sized(DATA_BYTES)
-
-
-def read_scheme(fields: Parameters) -> int:
-    if fields.one_of(2, (ALG_NULL, frames.ALG_HMAC), "SCHEME") == ALG_NULL:
-        return ALG_NULL
-    return fields.hash()
 
 
 def read_public(fields: Parameters) -> Public:
@@ -107,10 +97,10 @@ def read_public(fields: Parameters) -> Public:
         raise fields.refusal("RESERVED_BITS")
     auth_policy = fields.sized(DIGEST_BYTES)
     scheme = ALG_NULL
-    if kind == KEYEDHASH:
-        scheme = read_scheme(fields)
-    else:
+    if kind == SYMCIPHER:
         fields.cipher()
+    elif fields.one_of(2, (ALG_NULL, frames.ALG_HMAC), "SCHEME") != ALG_NULL:
+        scheme = fields.hash()
     unique = fields.sized(DIGEST_BYTES)
     return Public(kind, name_algorithm, attributes, auth_policy, scheme, unique)
 
@@ -141,14 +131,6 @@ def has_wrong_attributes(public: Public, parent: Object | None) -> bool:
     return not (signs or decrypts) or public.has(Attribute.RESTRICTED) and signs
 
 
-def has_wrong_scheme(public: Public) -> bool:
-    if public.kind != KEYEDHASH:
-        return False
-    if public.scheme == ALG_NULL:
-        return public.has(Attribute.RESTRICTED)
-    return not public.has(Attribute.SIGN)
-
-
 def checks_before(parent: Object | None) -> int:
     """How many checks come before those of a template: whether the parent is one."""
     return 0 if parent is None else 1
@@ -161,7 +143,9 @@ def check_public(public: Public, parent: Object | None) -> None:
         raise Refusal("SIZE/p2", f"A{before + 1}")
     if has_wrong_attributes(public, parent):
         raise Refusal("ATTRIBUTES/p2", f"A{before + 2}")
-    if has_wrong_scheme(public):
+    is_null, signs = public.scheme == ALG_NULL, public.has(Attribute.SIGN)
+    is_wrong = public.has(Attribute.RESTRICTED) if is_null else not signs
+    if public.kind == KEYEDHASH and is_wrong:
         raise Refusal("SCHEME/p2", f"A{before + 3}")
 
 
@@ -208,14 +192,9 @@ def primary(template: Template, hierarchy: int, seed: bytes) -> Object:
     """The primary object that a template and a hierarchy's seed have: always the same."""
     algorithm = template.public.name_algorithm
     size = digest_bytes(algorithm)
-    given = kdfa(
-        algorithm,
-        seed,
-        b"PRIMARY",
-        digest(algorithm, template.public.text),
-        digest(algorithm, template.sensitive_text),
-        size + key_bytes(template),
-    )
+    texts = template.public.text, b"".join(map(sized, template.values))
+    newer, older = (digest(algorithm, it) for it in texts)
+    given = kdfa(algorithm, seed, b"PRIMARY", newer, older, size + key_bytes(template))
     public, sensitive = made(template, key=given[size:], seed_value=given[:size])
     return loaded(public, sensitive, hierarchy, number(hierarchy, 4))
 
@@ -280,12 +259,8 @@ def wrapped(
 
 
 def read_sensitive(fields: Parameters) -> Sensitive:
-    return Sensitive(
-        fields.number(2),
-        fields.sized(DIGEST_BYTES),
-        fields.sized(DIGEST_BYTES),
-        fields.sized(DATA_BYTES),
-    )
+    kind, buffers = fields.number(2), (fields.sized(DIGEST_BYTES), fields.sized(DIGEST_BYTES))
+    return Sensitive(kind, *buffers, fields.sized(DATA_BYTES))
 
 
 def unwrapped(

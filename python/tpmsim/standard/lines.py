@@ -184,20 +184,12 @@ def bank_of(piece: bytes) -> Bank:
     return Bank(algorithm, tuple(number_up_to(PCRS[-1], it) for it in rest.split(b",")))
 
 
-def bank_word(bank: Bank) -> str:
-    return f"{word_in(HASHES, bank.algorithm)}:{','.join(map(str, bank.pcrs))}"
-
-
 def digest_of(piece: bytes) -> Digest:
     algorithm, rest = hash_and_rest(piece)
     digest = bytes_of(rest)
     if len(digest) != digest_bytes(algorithm):
         raise Wrong(BAD_FIELD)
     return Digest(algorithm, digest)
-
-
-def digest_word(value: Digest) -> str:
-    return f"{word_in(HASHES, value.algorithm)}:{value.digest.hex()}"
 
 
 def one_of(kind: Kind, words: dict[bytes, Any]) -> Words:
@@ -220,8 +212,14 @@ WORDS: dict[Kind, Words] = {
         integer(Kind.HANDLE, 4, "{:#010x}"),
         Words(Kind.BUFFER, "Buffer", buffer_of, hex_word),
         listed(Kind.BUFFERS, buffer_of, hex_word, is_empty=False),
-        listed(Kind.SELECTION, bank_of, bank_word),
-        listed(Kind.DIGESTS, digest_of, digest_word),
+        listed(
+            *(Kind.SELECTION, bank_of),
+            lambda it: f"{word_in(HASHES, it.algorithm)}:{','.join(map(str, it.pcrs))}",
+        ),
+        listed(
+            *(Kind.DIGESTS, digest_of),
+            lambda it: f"{word_in(HASHES, it.algorithm)}:{it.digest.hex()}",
+        ),
         one_of(Kind.CIPHER, CIPHERS),
         one_of(Kind.HASH, HASHES_OR_NULL),
     )
@@ -283,9 +281,6 @@ class Tokens:
     def __init__(self, line: bytes) -> None:
         self.left, self.column = line.split(b" "), 1
 
-    def is_next(self, test: Callable[..., Any]) -> bool:
-        return bool(self.left) and test(self.left[0])
-
     def take(self, spelled: Callable[[bytes], T]) -> T:
         """What the next token spells."""
         if not self.left:
@@ -315,7 +310,7 @@ def assemble(line: bytes) -> bytes:
     code = tokens.take(code_of)
     handles = [tokens.take(handle_of) for _ in code.handles]
     entries: list[Entry] = []
-    while len(entries) < frames.MOST_ENTRIES and tokens.is_next(is_entry):
+    while len(entries) < frames.MOST_ENTRIES and any(map(is_entry, tokens.left[:1])):
         entries.append(tokens.take(entry_of))
     parameters = b"".join(tokens.take(it.spelled) for it in words_of_parameters(code))
     tokens.end()

@@ -84,17 +84,6 @@ def entry_hmac(
     return mac(algorithm, key, text)
 
 
-def masked(algorithm: int, key: bytes, newer: bytes, older: bytes, data: bytes) -> bytes:
-    """Data with a mask of their size on them, or taken off again (section 21.2)."""
-    return aes.xor(data, kdfa(algorithm, key, b"XOR", newer, older, len(data)))
-
-
-def key_and_block(algorithm: int, key: bytes, newer: bytes, older: bytes) -> tuple[bytes, bytes]:
-    """The AES key and the first block of parameter encryption (section 21.3)."""
-    both = kdfa(algorithm, key, b"CFB", newer, older, 2 * aes.BLOCK)
-    return both[: aes.BLOCK], both[aes.BLOCK :]
-
-
 def encrypted(
     cipher: int,
     algorithm: int,
@@ -105,10 +94,11 @@ def encrypted(
     block_cipher: aes.BlockCipher = encrypt_block,
     by_aes: Callable[..., bytes] = aes.cfb_encrypt,
 ) -> bytes:
-    """By a session's cipher, which is XOR or AES; `block_cipher` is the AES that is used."""
+    """By a session's cipher: masks of the data's size (21.2), or AES (21.3), by `block_cipher`."""
     if cipher == XOR:
-        return masked(algorithm, key, newer, older, data)
-    return by_aes(*key_and_block(algorithm, key, newer, older), data, block_cipher)
+        return aes.xor(data, kdfa(algorithm, key, b"XOR", newer, older, len(data)))
+    both = kdfa(algorithm, key, b"CFB", newer, older, 2 * aes.BLOCK)
+    return by_aes(both[: aes.BLOCK], both[aes.BLOCK :], data, block_cipher)
 
 
 # The other way round, of the same arguments.

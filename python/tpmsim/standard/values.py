@@ -101,23 +101,11 @@ def read_digest(fields: Fields) -> Digest:
     return Digest(algorithm, fields.take(size))
 
 
-def write_cipher(value: Cipher) -> bytes:
-    return frames.symmetric(value.algorithm == AES, value.mask_algorithm)
-
-
 def read_cipher(fields: Fields) -> Cipher:
     algorithm = fields.number(2)
     if algorithm == AES:
         fields.take(4)
     return Cipher(algorithm, fields.number(2) if algorithm == XOR else None)
-
-
-def read_ticket(fields: Fields) -> Ticket:
-    return Ticket(fields.number(2), fields.number(4), fields.sized())
-
-
-def write_ticket(value: Ticket) -> bytes:
-    return frames.ticket(value.tag, value.hierarchy, value.digest)
 
 
 def read_time(fields: Fields) -> Time:
@@ -144,8 +132,13 @@ VALUES: dict[Kind, Values] = {
     ),
     Kind.SELECTION: Values(lambda value: frames.selection(*value), read_list(read_bank)),
     Kind.DIGESTS: Values(lambda value: frames.digests(*value), read_list(read_digest)),
-    Kind.CIPHER: Values(write_cipher, read_cipher),
-    Kind.TICKET: Values(write_ticket, read_ticket),
+    Kind.CIPHER: Values(
+        lambda value: frames.symmetric(value.algorithm == AES, value.mask_algorithm), read_cipher
+    ),
+    Kind.TICKET: Values(
+        lambda value: frames.ticket(value.tag, value.hierarchy, value.digest),
+        lambda fields: Ticket(fields.number(2), fields.number(4), fields.sized()),
+    ),
     Kind.TIME: Values(answered_alone, read_time),
     Kind.CAPABILITY: Values(
         answered_alone, lambda fields: Capability(fields.number(4), fields.take(len(fields.data)))
