@@ -11,8 +11,8 @@ from tpmsim.audit.watch import Seen, View
 from tpmsim.explain.words import command_words, SESSIONS
 from tpmsim.model.general import Command
 from tpmsim.model.history import History, LiveSession
-from tpmsim.standard import CC, command_hash, DECRYPT, ENCRYPT, Entry, Fact, HASH_WORDS, is_policy
-from tpmsim.standard import nv, policy, RS_PW, SE_POLICY, sessions, trimmed
+from tpmsim.standard import CC, command_hash, DECRYPT, Entry, Fact, HASH_WORDS, is_policy, nv
+from tpmsim.standard import policy, RS_PW, SE_POLICY, sessions, trimmed
 from tpmsim.standard.lines import handle_word
 
 
@@ -138,24 +138,16 @@ class Grounds:
         key = use.session.key + (use.value if use.takes_value else b"")
         if not key and not use.entry.hmac:
             return Finding(True, "key and hmac are both empty")
-        wanted = sessions.entry_hmac(
-            *(use.session.algorithm, key, use.cp_hash, use.entry.nonce, use.session.nonce_tpm),
-            *(self.nonces_of_others(use), use.entry.attributes),
-        )
+        those = use.seen.command.others(use.place, use.handle)
+        others = [self.history.sessions.live[it].nonce_tpm for it in those]
+        given = use.session.algorithm, key, use.cp_hash, use.entry.nonce, use.session.nonce_tpm
+        wanted = sessions.entry_hmac(*given, others, use.entry.attributes)
         holds = use.entry.hmac == wanted
         parts = ["the session's key"] if use.session.key else []
         if use.takes_value and use.value:
             parts.append(self.values.words(use.authorized, use.value))
         told = " and ".join(parts) or "an empty key"
         return Finding(holds, f"its hmac {'holds' if holds else 'does not hold'}, under {told}")
-
-    def nonces_of_others(self, use: Use) -> list[bytes]:
-        """In the first entry, where it authorizes: those of others that decrypt and encrypt."""
-        if use.place != 1 or use.handle is None:
-            return []
-        found = [use.seen.command.with_attribute(it) for it in (DECRYPT, ENCRYPT)]
-        handles = dict.fromkeys(it[1].handle for it in found if it and it[0] != 1)
-        return [self.history.sessions.live[it].nonce_tpm for it in handles]
 
     def plain_parameters(self, command: Command) -> bytes:
         """The parameters, the first one decrypted where a session does so."""

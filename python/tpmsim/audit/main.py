@@ -16,13 +16,14 @@ is given, or a use does not meet it. It is 2 where these words, a file, a policy
 what it should be. It needs python3, and no program.
 """
 
+import os
 import sys
 from dataclasses import dataclass, field
 
 from tpmsim.audit import start
 from tpmsim.audit.auditor import Auditor, report
 from tpmsim.audit.log import Disagreement, Log
-from tpmsim.explain.main import read, tell, Usage
+from tpmsim.explain.main import read, Usage
 from tpmsim.model.image import Fault
 from tpmsim.policies.policy_file import Fault as PolicyFault, PolicyFile
 
@@ -90,7 +91,11 @@ def main(*words: str) -> int:
     except Disagreement as found:
         fault = str(found)
     last = f"The report ends here: {fault}." if fault else AGREES
-    tell("\n".join([*report(auditor), last]))
+    try:
+        print(*report(auditor), last, sep="\n", flush=True)
+    except BrokenPipeError:
+        # Who reads it may close it before it ends.
+        os.dup2(os.open(os.devnull, os.O_WRONLY), sys.stdout.fileno())
     faults = [fault, *auditor.policies.unmet()] if fault else auditor.policies.faults()
     for it in faults:
         print(f"audit: {it}", file=sys.stderr)

@@ -60,10 +60,9 @@ class Reference:
 
     def __init__(self) -> None:
         self.model = Model()
-        is_there = library.is_there()
-        self.device: Device = (
-            LibraryDevice(manufactured=MANUFACTURED) if is_there else ChildDevice()
-        )
+        in_process = library.is_there()
+        own: Device = LibraryDevice(manufactured=MANUFACTURED) if in_process else ChildDevice()
+        self.device = own
 
     def execute(self, buffer: bytes, locality: int, elapsed: int, random: bytes) -> Executed:
         event = self.device.answer(buffer, locality, elapsed, random)
@@ -82,20 +81,16 @@ class Reference:
             return Shown(is_password=sessions.trimmed(entry.hmac) == value)
         names = self.model.names(command)
         text = sessions.command_hash(session.algorithm, command.code, names, command.parameters)
+        entries = [it for it in command.entries or [] if it.attributes & (DECRYPT | ENCRYPT)]
+        are_there = all(it.handle in self.model.sessions for it in entries)
+        others = self.model.nonces_of_others(command, place, handle) if are_there else []
+        nonces = entry.nonce, session.nonce_tpm, others
         for has_value in (True, False):
             key = session.key + (value if has_value else b"")
-            others = self.nonces_of_others(command, place, handle)
-            nonces = entry.nonce, session.nonce_tpm, others
             hmac = sessions.entry_hmac(session.algorithm, key, text, *nonces, entry.attributes)
             if hmac == entry.hmac:
                 return Shown(key=has_value)
         return Shown()
-
-    def nonces_of_others(self, command: Command, place: int, handle: int | None) -> list[bytes]:
-        entries = [it for it in command.entries or [] if it.attributes & (DECRYPT | ENCRYPT)]
-        if any(it.handle not in self.model.sessions for it in entries):
-            return []
-        return self.model.nonces_of_others(command, place, handle)
 
     def plain(self, command: Command) -> bytes:
         """The parameters, decrypted where a session of the command asks for it and can."""

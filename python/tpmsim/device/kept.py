@@ -59,7 +59,12 @@ class KeptDevice(LocatedDevice):
         self.folder, self.name = os.open(folder, flags), os.fspath(folder)
         try:
             with self.locked():
-                self.open_or_begin()
+                if JOURNAL in os.listdir(self.folder):
+                    self.catch_up()
+                else:
+                    random = os.urandom(RANDOM_BYTES)
+                    self.check(self.library.tpmsim_manufacture(self.handle, random))
+                    self.begin()
         except (BadImage, DeviceEnded, MemoryError):
             self.close()
             raise
@@ -96,13 +101,6 @@ class KeptDevice(LocatedDevice):
             raise Unsupported("this library has no completing layer")
         if told:
             raise self.ended(FAULTS.get(told, f"the library tells {told}"))
-
-    def open_or_begin(self) -> None:
-        if JOURNAL in os.listdir(self.folder):
-            self.catch_up()
-            return
-        self.check(self.library.tpmsim_manufacture(self.handle, os.urandom(RANDOM_BYTES)))
-        self.begin()
 
     def catch_up(self) -> None:
         """Executes what other processes did since, or the whole journal where it is another one."""

@@ -188,19 +188,16 @@ class LibraryDevice(Device):
         self.room = ctypes.create_string_buffer(RESPONSE_BYTES)
         self.file = None if image is None else ImageFile(image)
         try:
-            self.power_on(manufactured)
+            kept = self.file.read() if self.file else b""
+            if kept:
+                self.begin(kept)
+            else:
+                self.manufacture(manufactured)
         except (BadImage, DeviceEnded, MemoryError):
             if self.file:
                 self.file.leave()
             raise
         self.begun = self.base
-
-    def power_on(self, manufactured: bytes | None) -> None:
-        kept = self.file.read() if self.file else b""
-        if kept:
-            self.begin(kept)
-        else:
-            self.manufacture(manufactured)
 
     def manufacture(self, given: bytes | None) -> None:
         if given is None and self.seed is not None:

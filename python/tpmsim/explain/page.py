@@ -131,18 +131,11 @@ PCR_HANDLE = re.compile(r"000000[01][0-9a-f]")
 Value = dict[str, Any]
 
 
-class Interned:
-    """Values that are kept once, by their numbers."""
-
-    def __init__(self) -> None:
-        self.all: list[Any] = []
-        self.numbers: dict[Any, int] = {}
+class Interned(dict[Any, int]):
+    """Values that are kept once, each with its number."""
 
     def of(self, value: Any) -> int:
-        if value not in self.numbers:
-            self.numbers[value] = len(self.all)
-            self.all.append(value)
-        return self.numbers[value]
+        return self.setdefault(value, len(self))
 
 
 class PageData:
@@ -162,9 +155,9 @@ class PageData:
             "name": name,
             "summary": self.counts.words(),
             "bad": self.play.bad_line,
-            "texts": self.texts.all,
-            "shapes": self.shapes.all,
-            "keys": self.keys.all,
+            "texts": list(self.texts),
+            "shapes": list(self.shapes),
+            "keys": list(self.keys),
             "first": self.first,
             "entities": [[it["handle"], it["kind"], it["uses"]] for it in self.entities],
             "events": self.events,

@@ -50,6 +50,15 @@ class Command:
         for place, entry in enumerate(self.entries, 1):
             yield place, entry, authorized[place - 1] if place <= len(authorized) else None
 
+    def others(self, place: int, handle: int | None) -> list[int]:
+        """The sessions whose nonces go into an entry's hmac too: in the first one, where it authorizes,
+        the others that decrypt and encrypt.
+        """
+        if place != 1 or handle is None:
+            return []
+        found = [self.with_attribute(it) for it in (DECRYPT, ENCRYPT)]
+        return list(dict.fromkeys(it[1].handle for it in found if it and it[0] != 1))
+
     def with_attribute(self, attribute: int) -> tuple[int, Entry, int | None] | None:
         """The entry that decrypts or encrypts, its number, and the handle that it authorizes."""
         for place, entry, handle in self.places():

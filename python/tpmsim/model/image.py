@@ -92,13 +92,9 @@ def hierarchies_text(device: Model) -> bytes:
 
 def lockout_text(lockout: Lockout) -> bytes:
     """The two times are not kept: a power cycle starts them anew."""
-    numbers = (
-        lockout.failed_tries,
-        lockout.max_tries,
-        lockout.recovery_time,
-        lockout.lockout_recovery,
-    )
-    return b"".join(number(it, 4) for it in numbers) + number(lockout.is_closed, 1)
+    names = "failed_tries", "max_tries", "recovery_time", "lockout_recovery"
+    numbers = b"".join(number(getattr(lockout, it), 4) for it in names)
+    return numbers + number(lockout.is_closed, 1)
 
 
 def counts_text(device: Model) -> bytes:

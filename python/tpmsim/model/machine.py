@@ -257,15 +257,7 @@ class Model(
         return session.bind_protection if session else None
 
     def nonces_of_others(self, command: Command, place: int, handle: int | None) -> list[bytes]:
-        """The nonces of the sessions that decrypt and encrypt, for the first entry alone."""
-        if place != 1 or handle is None:
-            return []
-        places, entries = list[int](), command.entries or []
-        for attribute in (DECRYPT, ENCRYPT):
-            found = command.with_attribute(attribute)
-            if found and found[0] != 1 and found[0] not in places:
-                places.append(found[0])
-        return [self.sessions[entries[it - 1].handle].nonce_tpm for it in places]
+        return [self.sessions[it].nonce_tpm for it in command.others(place, handle)]
 
     def accepts(self, command: Command, place: int, entry: Entry, handle: int | None) -> bool:
         if entry.handle == RS_PW or entry.demand == policy.PASSWORD:

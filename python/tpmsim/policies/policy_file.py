@@ -3,11 +3,11 @@
 from __future__ import annotations
 
 from dataclasses import dataclass
-from typing import Iterator, Protocol
+from typing import Iterator
 
 from tpmsim.policies.policy_texts import Policy, policy_digest, Written
 from tpmsim.policies.written import read_assertion, Unsaid
-from tpmsim.standard import CC, digest_bytes, frames, HASH_WORDS, SHA1, SHA256
+from tpmsim.standard import CC, digest_bytes, frames, HASH_WORDS, nv, objects, SHA1, SHA256
 from tpmsim.standard.policy import LEAST_BRANCHES, MOST_BRANCHES
 
 ALGORITHMS = SHA256, SHA1
@@ -133,27 +133,13 @@ class Reader:
         except Unsaid as fault:
             raise Fault(row.number, fault) from None
         if said.code in (CC.PolicyPCR, CC.PolicyCpHash):
-            self.note_size(row.number, len(said.values[-1]))
+            size = len(said.values[-1])
+            if self.size is None:
+                self.size, self.size_line = size, row.number
+            if self.size != size:
+                other = f"that of line {self.size_line} has {self.size}"
+                raise Fault(row.number, f"its digest has {size} bytes, and {other}")
         return Written(row.number, said)
-
-    def note_size(self, line: int, size: int) -> None:
-        if self.size is None:
-            self.size, self.size_line = size, line
-        if self.size != size:
-            other = f"that of line {self.size_line} has {self.size}"
-            raise Fault(line, f"its digest has {size} bytes, and {other}")
-
-
-class HasPolicy(Protocol):
-    """The public area of an object or an index."""
-
-    @property
-    def name_algorithm(self) -> int:
-        ...
-
-    @property
-    def auth_policy(self) -> bytes:
-        ...
 
 
 class PolicyFile:
@@ -169,7 +155,7 @@ class PolicyFile:
             it: policy_digest(it, self.policy) for it in ALGORITHMS if digest_bytes(it) in sizes
         }
 
-    def is_of(self, public: HasPolicy) -> bool:
+    def is_of(self, public: nv.Public | objects.Public) -> bool:
         """Whether it is the policy of what has this public area."""
         found = self.digests.get(public.name_algorithm)
         return found is not None and found == public.auth_policy
