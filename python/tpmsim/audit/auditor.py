@@ -87,7 +87,6 @@ class Auditor:
             raise Disagreement(f"{fault}{self.uses.reason(seen)}") from None
 
     def follow(self) -> None:
-        """The device follows its history."""
         told = ", ".join(self.history.differences(self.device))
         if told:
             raise Disagreement(f"the device is not what its history tells: {told}")
@@ -118,12 +117,10 @@ class Auditor:
 
 
 def command_name(code: int) -> str:
-    """The name of a command where it is known."""
     return NUMBERED[code].name if code in NUMBERED else ""
 
 
 def report(auditor: Auditor) -> Iterator[str]:
-    """That of the events so far."""
     yield f"Start: {auditor.start.words}."
     yield events_words(auditor.counts)
     given = [auditor.policies.report()] if auditor.policies.all else []

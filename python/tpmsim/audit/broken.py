@@ -21,7 +21,6 @@ def explanation(algorithm: int, policy: Policy, told: Told) -> str:
 
 
 def wrong_or(algorithm: int, policy: Policy, told: Told) -> str | None:
-    """A TPM2_PolicyOR that no device accepts."""
     for it in told:
         if it.said.code == CC.PolicyOR and it.before not in it.said.values:
             return f"line {it.line}: TPM2_PolicyOR is accepted without the digest before it"
@@ -36,7 +35,6 @@ def session_texts(algorithm: int, told: Told) -> Iterator[tuple[bytes, int]]:
 
 
 def collision(algorithm: int, policy: Policy, told: Told) -> str | None:
-    """Two texts with one hash, one of the policy and one of the session."""
     written = [(it, digest(algorithm, it)) for it in policy_texts(algorithm, policy)]
     for text, line in session_texts(algorithm, told):
         found = digest(algorithm, text)

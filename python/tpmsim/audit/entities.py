@@ -28,7 +28,6 @@ def kind_words(public: Public) -> str:
 
 
 def means_words(public: Public) -> str:
-    """By what an object or an index may be authorized."""
     policy = f"the policy {public.auth_policy.hex()}" if public.auth_policy else ""
     if isinstance(public, nv.Public):
         return ", ".join([*public.means, *([policy] if policy else [])])
@@ -88,7 +87,6 @@ class Entities:
             self.begin(handle, seen.line, f"of line {seen.line} ({by})")
 
     def report(self) -> Iterator[str]:
-        """What was used, by its handle."""
         used = [it for it in self.all if it.used]
         for entity in sorted(used, key=lambda it: (it.handle, it.first)):
             yield f"  {entity.title}"

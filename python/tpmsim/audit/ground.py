@@ -55,7 +55,6 @@ class Use:
 
     @property
     def demand(self) -> str | None:
-        """What a policy asks of the entry beside its session."""
         return self.live.policy.demand if self.live and self.is_policy else None
 
     @property
@@ -64,7 +63,6 @@ class Use:
 
     @property
     def is_bound(self) -> bool:
-        """Whether its session is bound to what it authorizes."""
         bound = self.session.bound
         return bound is not None and bound[:2] == (self.view.name, self.value)
 
@@ -84,8 +82,6 @@ class Use:
 
 
 class Grounds:
-    """The grounds of entries, by a history before the event."""
-
     def __init__(
         self,
         history: History,
@@ -114,7 +110,6 @@ class Grounds:
         return f"by {SESSIONS[use.live.kind]} {handle_word(use.entry.handle)} of {begun}"
 
     def findings(self, use: Use) -> list[Finding]:
-        """What is checked of an entry, each with whether it holds."""
         if not use.is_password and use.live is None:
             return [Finding(False, "there is no such session")]
         if use.handle is None:
@@ -207,7 +202,6 @@ def conditions(
 
 
 def told_conditions(use: Use) -> Iterator[Finding]:
-    """What the session was told of the command, of an NV index, and of the locality."""
     told = use.session.policy
     if told.code is not None:
         words = f"its command code is that of {command_words(told.code)}"
@@ -228,7 +222,6 @@ def told_conditions(use: Use) -> Iterator[Finding]:
 
 
 def of_written(told: bool, use: Use) -> Finding:
-    """An NV index is written, or is not, as the session was told."""
     wanted = "written" if told else "not written"
     if use.view.index is None:
         return Finding(False, f"it is to be an NV index that is {wanted}, and is none")

@@ -66,7 +66,6 @@ class PcrLines:
 
 
 def written_by(event: Accepted) -> list[tuple[int, int]]:
-    """The banks and the PCR whose values a command writes."""
     pcr = event.handles[0] if event.handles else -1
     if not is_pcr(pcr):
         return []
@@ -132,8 +131,6 @@ class Counted:
 
 
 class CounterLines:
-    """Where each counter was defined, and the values that it had."""
-
     def __init__(self, device: Model, history: History) -> None:
         self.device, self.history = device, history
         self.now: dict[int, Counted] = {}

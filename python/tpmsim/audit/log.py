@@ -18,7 +18,6 @@ def shown(text: str, first: int) -> str:
 
 
 def both(given: str, wanted: str) -> str:
-    """Two texts that differ, in words."""
     pairs = zip(given, wanted)
     first = next((at for at, (a, b) in enumerate(pairs) if a != b), min(len(given), len(wanted)))
     said, due = shown(given, first), shown(wanted, first)

@@ -26,8 +26,6 @@ class NotMet(Exception):
 
 @dataclass(frozen=True)
 class Step:
-    """What is written, with the assertion that says it."""
-
     written: Written
     asserted: Asserted
 
@@ -82,7 +80,6 @@ def steps_at_or(algorithm: int, of: Policy, told: Sequence[Asserted]) -> list[St
 
 
 def finding(step: Step, use: Use, grounds: Grounds) -> Finding:
-    """That of a step, with the lines of the policy and of the assertion."""
     written, asserted = step.written, step.asserted
     name, other = written.said.code.name, asserted.said.code.name
     found = of_assertion(written.said, asserted, use, grounds)
@@ -115,7 +112,6 @@ def of_assertion(said: Said, asserted: Asserted, use: Use, grounds: Grounds) -> 
 
 
 def of_pcrs(selection: bytes, digest: bytes, line: int, use: Use, grounds: Grounds) -> Finding:
-    """The PCRs have the digest that is written, and have had it since the assertion."""
     selected = Parameters(selection).next().selection()
     now, lines = grounds.history.pcrs.digest(use.session.algorithm, selected), grounds.pcrs
     if now != digest:
@@ -126,7 +122,6 @@ def of_pcrs(selection: bytes, digest: bytes, line: int, use: Use, grounds: Groun
 
 
 def of_value(use: Use, grounds: Grounds) -> Finding:
-    """The authorization value is in the key of the hmac, or it is the password."""
     if use.demand is None:
         return Finding(False, "the session asks for no authorization value")
     asks_password = use.demand == policy.PASSWORD
@@ -187,7 +182,6 @@ class Judged:
         return held(steps, use, grounds) if has_digest else (other, [other])
 
     def report(self, entities: list[Entity]) -> Iterator[str]:
-        """The policy, who has it, and the uses of those."""
         yield from self.file.report()
         having = [it for it in entities if self.is_of(it)]
         if not having:
@@ -211,8 +205,6 @@ def held(steps: list[Step | Choice], use: Use, grounds: Grounds) -> Judgement:
 
 
 class Policies:
-    """Those that are given."""
-
     def __init__(self, files: Sequence[PolicyFile], entities: Entities, grounds: Grounds) -> None:
         self.all = [Judged(it) for it in files]
         self.entities, self.grounds = entities, grounds
@@ -236,7 +228,6 @@ class Policies:
         yield from section(title, (f"  {it.title}" for it in others), none)
 
     def unmet(self) -> list[str]:
-        """The uses that do not meet the policy of their entity."""
         return [words for judged in self.all for words in judged.unmet]
 
     def faults(self) -> list[str]:

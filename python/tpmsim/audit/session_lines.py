@@ -83,7 +83,6 @@ class SessionLines:
         return f"line {self.live[handle].line}"
 
     def protection(self, handle: int) -> str | None:
-        """What wrong entries of a session count at by its binding, if at anything."""
         return self.live[handle].protection if handle in self.live else None
 
     def assert_on(self, seen: Seen) -> None:

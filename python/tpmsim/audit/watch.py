@@ -29,18 +29,15 @@ class View:
 
     @property
     def index(self) -> nv.Public | None:
-        """The public area of an NV index."""
         return self.public if isinstance(self.public, nv.Public) else None
 
     @property
     def protection(self) -> str | None:
-        """What wrong authorization values count at, if at anything."""
         if self.public is None:
             return LOCKOUT_AUTH if self.handle == RH_LOCKOUT else None
         return None if self.public.is_free else TRIES
 
     def takes_auth_value(self, code: CC) -> bool:
-        """Whether its authorization value authorizes it for a command."""
         if self.index:
             return nv_commands.takes_auth_value(self.index, code)
         return self.public is None or self.public.has(objects.Attribute.USER_WITH_AUTH)
@@ -96,7 +93,6 @@ class Seen:
 
     @property
     def is_refused_entry(self) -> bool:
-        """Whether a command is refused for one of its entries."""
         is_refused = self.event is None and self.explained is not None
         return is_refused and is_of_entry(self.outcome.row.check, self.outcome.refused)
 

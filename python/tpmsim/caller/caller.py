@@ -100,7 +100,6 @@ class Caller(PreparedCommands):
         return self.tell(session, words)
 
     def tell(self, session: Session, words: str) -> Use:
-        """Tells a policy or a trial session a policy in words."""
         use = Use(session)
         for step in steps_of(policy_of(words), session.algorithm):
             self.tell_step(use, step)
@@ -160,6 +159,5 @@ class Caller(PreparedCommands):
         return handle
 
     def define(self, public: nv.Public, *uses: Means, auth: bytes = b"", by: int = RH_OWNER) -> int:
-        """The handle of an index that is defined, with this authorization value."""
         self.send(self.defining(public, *uses, auth=auth, by=by))
         return public.index

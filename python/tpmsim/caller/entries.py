@@ -84,7 +84,6 @@ class Prepared:
         return replace(self, **changes)
 
     def but_entry(self, place: int, **changes: Any) -> Prepared:
-        """The same with another entry in a place, from 1."""
         entries = list(self.entries)
         entries[place - 1] = replace(entries[place - 1], **changes)
         return replace(self, entries=entries)

@@ -114,7 +114,6 @@ class Knowledge:
         return session.key + (auth_value if is_in_key else b"")
 
     def encrypted(self, use: Use, handle: int | None, parameters: bytes) -> bytes:
-        """Parameters of a command with the bytes of the first one encrypted."""
         session, key = use.session, use.session.key + self.auth_value(handle)
         given = session.cipher, session.algorithm, key, use.nonce or b"", session.nonce_tpm
         return sessions.first_encrypted(*given, parameters)

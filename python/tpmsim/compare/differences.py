@@ -54,7 +54,6 @@ def code_word(code: int) -> str:
 
 
 def comparable(name: str, value: Any) -> Any:
-    """What is compared of a field."""
     if name in BY_CHANCE:
         return f"{len(value)} bytes"
     if isinstance(value, Ticket):

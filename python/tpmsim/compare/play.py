@@ -248,7 +248,6 @@ class Comparison:
     # The state at the end.
 
     def state(self) -> None:
-        """Reads what both show of their state, and compares it."""
         if not self.here.model.started:
             return
         for buffer in READS:

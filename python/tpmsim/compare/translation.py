@@ -198,7 +198,6 @@ class Translation:
     def note_both(
         self, asked: Command, prepared: Prepared, here: Received, there: Received, line: int
     ) -> None:
-        """What both accepted: what is answered there for what is answered here."""
         for name, value in here.fields.items():
             other = there.fields.get(name)
             if isinstance(value, bytes) and isinstance(other, bytes) and len(value) >= LEAST_VALUE:
@@ -238,7 +237,6 @@ class Translation:
             self.hashed[session] = line
 
     def untie(self, session: int) -> None:
-        """What a policy session was told counts no more."""
         self.tied.pop(session, None)
         self.hashed.pop(session, None)
 

@@ -64,7 +64,6 @@ def line(buffer: bytes) -> str:
 
 
 def lines_told(event: str | Executed) -> list[str]:
-    """The lines of a script that tell an event, and its trace as a comment."""
     if isinstance(event, str):
         return [event]
     entropy = [f"entropy {event.random.hex()}"] if event.random else []

@@ -28,7 +28,6 @@ FAULTS = {
 
 
 def now() -> int:
-    """The host's clock, in milliseconds."""
     return time.time_ns() // 1_000_000
 
 
@@ -126,7 +125,6 @@ class KeptDevice(LocatedDevice):
             self.check(told)
 
     def begin(self) -> None:
-        """Cycles the power, and begins the journal anew."""
         size = self.library.tpmsim_journal_begin(self.handle, now(), None, 0)
         room = ctypes.create_string_buffer(size)
         self.library.tpmsim_journal_begin(self.handle, now(), room, size)
@@ -134,7 +132,6 @@ class KeptDevice(LocatedDevice):
         self.executed = size
 
     def replace(self, text: bytes) -> None:
-        """Puts a file with a text in the journal's place."""
         if NEW in os.listdir(self.folder):
             os.unlink(NEW, dir_fd=self.folder)
         flags = os.O_RDWR | os.O_CREAT | os.O_EXCL | os.O_NOFOLLOW | os.O_CLOEXEC

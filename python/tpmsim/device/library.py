@@ -20,7 +20,6 @@ SECRETS_BYTES, BEFORE_CLOCK, CLOCK_BYTES = 64, 18, 8
 
 
 def but_clock(image: bytes) -> bytes:
-    """An image without its clock and its digest."""
     at = BODY_AT
     for _ in HIERARCHIES:
         at += 2 + int.from_bytes(image[at : at + 2], "big") + SECRETS_BYTES

@@ -78,15 +78,12 @@ class Device(Transport):
         raise NotImplementedError
 
     def answer(self, buffer: bytes, locality: int, elapsed: int, random: bytes) -> Executed:
-        """Executes a command with its 256 random bytes."""
         raise NotImplementedError
 
     def cycle(self) -> None:
-        """Takes the power away and gives it back."""
         raise NotImplementedError
 
     def drawn(self) -> bytes:
-        """The random bytes of the next command."""
         self.drawings += 1
         if self.seed is None:
             return os.urandom(RANDOM_BYTES)

@@ -37,13 +37,11 @@ def garbage(scene: Scene) -> Iterator[Reason]:
 
 
 def zeros_words(value: bytes) -> str:
-    """How many zeros stand at the end of a value, where there are some."""
     count = len(value) - len(trimmed(value))
     return f"{plural(count, 'zero')} at its end" if count else ""
 
 
 def zeros(scene: Scene) -> Iterator[Reason]:
-    """Zeros at the end of a password or of an authorization value."""
     for place, entry, handle in scene.command.places():
         if entry.handle == RS_PW:
             told = zeros_words(entry.hmac)
@@ -61,7 +59,6 @@ def zeros(scene: Scene) -> Iterator[Reason]:
 
 
 def nonces(scene: Scene) -> Iterator[Reason]:
-    """A caller's nonce that was used before."""
     for place, entry, _ in scene.command.places():
         begun = scene.past.sessions.get(entry.handle)
         if begun is None or not entry.nonce:
@@ -108,7 +105,6 @@ def after(scene: Scene) -> Iterator[Reason]:
 
 
 def of_refusal(scene: Scene) -> list[Reason]:
-    """A lockout that one more try closes."""
     lockout = scene.model.lockout
     is_try = scene.refused.startswith("AUTH_FAIL/")
     if not is_try or not lockout.recovery_time or lockout.failed_tries != lockout.max_tries - 1:

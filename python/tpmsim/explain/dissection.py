@@ -108,7 +108,6 @@ def said_handle(handle: int) -> str:
 
 
 def said_bytes(data: bytes) -> str:
-    """The text of bytes that are one, and else how many they are."""
     return f'"{data.decode("ascii")}"' if words.printable(data) else words.size_words(len(data))
 
 
@@ -289,7 +288,6 @@ TAGS = {
 
 
 def fields_of_command(buffer: bytes, plain: bytes | None = None) -> list[Field]:
-    """Those of a command, of its plain parameters where these are given."""
     return fields_of(buffer, lambda walk: command(walk, plain))
 
 
@@ -308,7 +306,6 @@ def fields_of(data: bytes, read: Callable[[Walk], None]) -> list[Field]:
 
 
 def header(walk: Walk, of: str, meaning: Callable[[int], str]) -> tuple[int, int]:
-    """The tag, and the code of a command or of a response."""
     tag = walk.number(2, "tag", lambda it: TAGS.get(it, "no tag of a command"))
     walk.number(4, f"{of}Size", size_words)
     return tag, walk.number(4, f"{of}Code", meaning)
@@ -371,7 +368,6 @@ def answer(walk: Walk, code: CC | None, plain: bytes | None) -> None:
 
 
 def code_words(code: int) -> str:
-    """A response code's name and place, as VALUE/p1."""
     if not code:
         return "SUCCESS"
     name, place = frames.spelled_code(code)

@@ -30,7 +30,6 @@ def decrypting_use(scene: Scene) -> Use | None:
 
 
 def otherwise(scene: Scene) -> Iterator[Otherwise]:
-    """Each mistake once, with what it comes to."""
     use = decrypting_use(scene)
     seen = {scene.plain}
     for it in mistakes(use, scene.command.parameters) if use else ():

@@ -14,7 +14,6 @@ Place = tuple[int, Entry, int | None]
 
 
 def reason(scene: Scene) -> Reason:
-    """That of a refusal by G9 or G10."""
     if scene.name == "INSUFFICIENT":
         words = "The first parameter, which a session is to decrypt, is cut."
         return Reason("G10/INSUFFICIENT", words, at=scene.parameters_at)
@@ -63,7 +62,6 @@ def locked(scene: Scene, place: int, entry: Entry, handle: int | None) -> Reason
 
 
 def recovery_words(scene: Scene) -> str:
-    """When the next try is forgiven, and how the lockout is reset."""
     lockout = scene.model.lockout
     if not lockout.max_tries:
         return "With a maxTries of 0 that is always so."
@@ -118,7 +116,6 @@ def wrong_password(scene: Scene, found: Reason, entry: Entry, handle: int) -> No
 
 
 def passwords(scene: Scene, handle: int) -> Iterator[tuple[str, str, bytes]]:
-    """Usual mistakes, each with the password that it makes of the right one."""
     value, said = scene.model.auth_value(handle), handle_words(handle)
     if value:
         yield "password left out", f"the password is empty, and {said} has a value", b""
@@ -139,7 +136,6 @@ def passwords(scene: Scene, handle: int) -> Iterator[tuple[str, str, bytes]]:
 
 
 def as_hmac(use: Use, found: Reason) -> None:
-    """An HMAC where PolicyPassword asks for the value in plain."""
     found.words += " The policy was told PolicyPassword, so that the value is wanted in plain."
     use.entry.demand = policy.AUTH_VALUE
     is_hmac = use.entry.hmac == use.right().hmac
@@ -151,7 +147,6 @@ def as_hmac(use: Use, found: Reason) -> None:
 
 
 def counted_words(scene: Scene, entry: Entry, handle: int | None) -> str:
-    """What the try counted at."""
     model, lockout = scene.model, scene.model.lockout
     touched = model.touched(entry, handle)
     if touched == LOCKOUT_AUTH:
@@ -168,7 +163,6 @@ def counted_words(scene: Scene, entry: Entry, handle: int | None) -> str:
 
 
 def is_try(scene: Scene) -> bool:
-    """Whether a refusal counted as a failed try."""
     if not scene.refused.startswith("AUTH_FAIL/s") or not scene.model.lockout.recovery_time:
         return False
     _, entry, handle = refused_place(scene)

@@ -70,7 +70,6 @@ def handles(scene: Scene) -> Reason:
 
 
 def missing_words(scene: Scene, handle: int) -> str:
-    """Why nothing has a handle now."""
     for other in scene.model.sessions if is_session(handle) else []:
         if other & PLACE_BITS == handle & PLACE_BITS and other != handle:
             return f"its place has {kind_words(other)}, {other:08x}"
@@ -118,7 +117,6 @@ def entries(scene: Scene) -> Reason:
 
 
 def area(scene: Scene) -> Reason:
-    """An authorization area that cannot be divided into entries."""
     at = scene.area_at
     found, left = Reason("G8/AUTHSIZE", "", at=at), len(scene.buffer) - at
     size, behind = int.from_bytes(scene.buffer[at : at + 4], "big"), left - 4
@@ -135,7 +133,6 @@ def area(scene: Scene) -> Reason:
 
 
 def divided(scene: Scene, at: int, size: int, found: Reason) -> None:
-    """An area of its size that has too many entries, or one that is cut."""
     fields, count, begin = Fields(scene.buffer[at : at + size]), 0, at
     try:
         while fields.data:

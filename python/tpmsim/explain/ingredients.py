@@ -68,7 +68,6 @@ class Use:
 
     @property
     def authorized(self) -> int:
-        """What it authorizes, of an entry that does."""
         assert self.handle is not None
         return self.handle
 
@@ -98,7 +97,6 @@ class Use:
         return self.begun.bind == self.handle or self.session.bind in names
 
     def right(self) -> Ingredients:
-        """The parts that the device takes."""
         model, command, algorithm = self.scene.model, self.command, self.session.algorithm
         value = self.auth_value if self.takes_value else b""
         names = tuple(model.names(command))
@@ -110,7 +108,6 @@ class Use:
         )
 
     def value_words(self) -> str:
-        """Whether the authorization value is in the key, and why."""
         if self.handle is None:
             return "not in the key: the entry authorizes nothing"
         said = handle_words(self.handle)
@@ -125,7 +122,6 @@ class Use:
         return f"in the key: the session is not bound to {said}"
 
     def lapse_words(self) -> str:
-        """Why a binding does not hold any more."""
         past, handle, words = self.scene.past, self.authorized, []
         if self.session.bind != self.scene.model.name(handle):
             words.append(f"as its Name is another one since {past.last_change.get(handle, '?')}")
@@ -145,7 +141,6 @@ def use_of(scene: Scene, place: int) -> Use | None:
 
 
 def facts(use: Use) -> list[Fact]:
-    """Each thing that goes into the HMAC, as it is right."""
     right = use.right()
     since = use.begun.nonces[-1].line if use.begun and use.begun.nonces else 0
     names = zip(use.command.handles, right.names)
@@ -166,7 +161,6 @@ def facts(use: Use) -> list[Fact]:
 
 
 def key_words(use: Use) -> str:
-    """What the session key was made of."""
     if use.begun is None or not use.session.key:
         return ""
     bind, line = handle_words(use.begun.bind), use.begun.line

@@ -39,8 +39,6 @@ class Usage(Exception):
 
 @dataclass
 class Asked:
-    """What the command line asks for."""
-
     log: str
     answers: str | None = None
     image: str | None = None
@@ -78,7 +76,6 @@ def read(name: str) -> bytes:
 
 
 def explain(asked: Asked, counts: text.Counts) -> tuple[str, Play]:
-    """What is printed, and the play that it is of."""
     log, image = read(asked.log), None if asked.image is None else read(asked.image)
     answers = None if asked.answers is None else read(asked.answers)
     try:

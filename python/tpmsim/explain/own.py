@@ -100,7 +100,6 @@ BITSET, BITCLEAR = 10, 11
 
 
 def recorded_at(look: Look, *codes: CC) -> str:
-    """The line of an assertion that recorded what is compared."""
     lines = look.past.lines_told(look.handles[-1], *codes)
     return f" (line {lines[-1]})" if lines else ""
 
@@ -221,7 +220,6 @@ def comparison(look: Look) -> None:
 
 
 def compared_words(operation: int, held: bytes, operand: bytes) -> str:
-    """The comparison with its numbers, the held one first."""
     if operation in (0, 1):
         return f"{held.hex() or 'empty'} {SIGNS[operation]} {operand.hex() or 'empty'}"
     if operation == BITSET:

@@ -24,7 +24,6 @@ def type_words(kind: int) -> str:
 
 
 def flags_of(public: nv.Public, those: int = ~(nv.TYPE_MASK << nv.TYPE_SHIFT)) -> str:
-    """The names of an index's attributes, of those that are asked for."""
     return flag_words(public.attributes & those, Attribute)
 
 
@@ -40,7 +39,6 @@ def defined(look: Look) -> nv.Public:
 
 
 def too_long(look: Look, name: str, value: bytes, algorithm: int) -> None:
-    """An authorization value that is longer than the digests of a hash algorithm."""
     size, most = len(trimmed(value)), digest_bytes(algorithm)
     words = f"{name} has {size} bytes, and nameAlg has digests of {most}: {size} > {most}."
     look.say(words, name)

@@ -19,7 +19,6 @@ def template(look: Look) -> Public:
 
 
 def sensitive(look: Look) -> tuple[bytes, bytes]:
-    """userAuth and data."""
     fields = Fields(look["inSensitive"])
     return fields.sized(), fields.sized()
 

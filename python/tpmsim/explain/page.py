@@ -190,7 +190,6 @@ class PageData:
         return self.live[handle][0]
 
     def handles_of(self, event: Event) -> list[int]:
-        """The handles of a command, its sessions, and the handle that it answers or flushes."""
         scene = event.scene
         if scene.number not in NUMBERED:
             return []
@@ -276,7 +275,6 @@ class PageData:
 
 
 def short_words(words: str) -> str:
-    """A command's words behind its name, with long hex cut."""
     shown = list[str]()
     is_pcr = words.startswith("PCR_")
     for token in words.split(" ")[1:]:
@@ -299,7 +297,6 @@ ESCAPES = {"<": "\\u003c", ">": "\\u003e", "&": "\\u0026"}
 
 
 def of_log(name: str, play: Play, log: bytes, counts: Counts) -> str:
-    """The page of a log. `counts` are those of its events."""
     data = PageData(play)
     play.watch = data.look
     for event in play.events(log):

@@ -54,7 +54,6 @@ class Traced(Parameters):
         return super().take(count)
 
     def refusal(self, code: str) -> Refusal:
-        """A fault of what was read last, where nothing else was told."""
         at, size = self.trace.last_at, self.trace.last_size
         self.trace.set(at, "", f"{size} bytes")
         return super().refusal(code)

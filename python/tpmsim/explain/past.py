@@ -66,7 +66,6 @@ def values_digest(algorithm: int, selected: Iterable[Any], banks: Banks) -> byte
 
 
 def step_of(line: int, command: Command, plain: bytes, model: Model, names: list[bytes]) -> Step:
-    """That of an accepted assertion, by the Names that its handles had before it."""
     code, handles = command.code, command.handles
     algorithm = model.sessions[handles[-1]].algorithm
     said = said_of(
@@ -95,8 +94,6 @@ MOST_STATES = 64
 
 @dataclass(frozen=True)
 class Since:
-    """A value, and the line since which it is that."""
-
     line: int
     value: bytes
 
@@ -130,8 +127,6 @@ class Begun:
 
 @dataclass(frozen=True)
 class Made:
-    """How a session came to a policy digest: the line, the assertions, and the PCRs then."""
-
     line: int
     steps: list[Step]
     banks: Banks
@@ -139,8 +134,6 @@ class Made:
 
 @dataclass(frozen=True)
 class Moved:
-    """A command that wrote a PCR, or that made the update counter another."""
-
     line: int
     pcr: int | None
     words: str
@@ -279,17 +272,14 @@ class Past:
         return [it for it in self.moves if it.line > line]
 
     def told_words(self, handle: int) -> list[str]:
-        """What a policy session was told, with the lines."""
         begun = self.sessions.get(handle)
         return [f"line {it.line}: {it.words}" for it in begun.told] if begun else []
 
     def lines_told(self, handle: int, *codes: CC) -> list[int]:
-        """The lines of a policy session's assertions by these commands."""
         begun = self.sessions.get(handle)
         return [it.line for it in begun.told if it.code in codes] if begun else []
 
     def gone_words(self, handle: int) -> str:
-        """When what a handle named ended, or that there never was such a thing."""
         if handle not in self.ended:
             return "no command before has made it"
         line, words = self.ended[handle]

@@ -26,8 +26,6 @@ OF_ENTRIES = "G9", "G10"
 
 @dataclass(frozen=True)
 class Difference:
-    """Where the log and the model part."""
-
     words: str
     log: str
     model: str
@@ -67,7 +65,6 @@ class Event:
         return self.outcome.response if self.outcome else b""
 
     def fields(self) -> tuple[list[Field], list[Field]]:
-        """Those of the command and those of the response."""
         asked = dissection.fields_of_command(self.scene.buffer, self.scene.plain)
         number = self.scene.number
         return asked, dissection.fields_of_response(number, self.response, self.answered)
@@ -88,7 +85,6 @@ class Event:
             self.differences.append(Difference(words, text, wanted))
 
     def where(self, text: str, wanted: str) -> str:
-        """The first byte that differs, with its field."""
         digits = enumerate(zip(text, wanted))
         at = next((at for at, (a, b) in digits if a != b), min(len(text), len(wanted))) // 2
         fields = dissection.fields_of_response(self.scene.number, self.response)
@@ -125,7 +121,6 @@ class Answers:
 
 
 def reason_of(scene: Scene) -> Reason:
-    """Why a command was refused, whichever check it was."""
     if scene.check in general.CHECKS:
         return general.CHECKS[scene.check](scene)
     if scene.check in OF_ENTRIES:
@@ -202,8 +197,6 @@ class Watched:
 
 
 class Stage(Player):
-    """A player of lines, that hands each command on."""
-
     def __init__(self, model: Model, told: Callable[[bytes, int, bytes, int], None]) -> None:
         super().__init__(model)
         self.hand_on = told
@@ -296,7 +289,6 @@ class Play(Watched):
 
 
 def entry_facts(scene: Scene) -> Iterator[tuple[int, list[Fact]]]:
-    """What the HMACs of an accepted command's entries are of."""
     for place, entry, _ in scene.command.places():
         use = ingredients.use_of(scene, place)
         if use is not None and entry.hmac and entry.demand != policy.PASSWORD:

@@ -13,7 +13,6 @@ from tpmsim.standard import CC, command_hash, digest_bytes, Fact, policy
 
 
 def unavailable(scene: Scene, handle: int) -> Reason:
-    """A password or an HMAC session, where the authorization value does not count."""
     name, said = scene.code.name, handle_words(handle)
     if handle in scene.model.objects:
         its = scene.model.objects[handle].public.auth_policy.hex() or "empty"
@@ -31,7 +30,6 @@ def unavailable(scene: Scene, handle: int) -> Reason:
 
 
 def policy_lacks(use: Use) -> str:
-    """Why no policy can authorize what an entry is to authorize."""
     handle, model, code = use.authorized, use.scene.model, use.code
     said = handle_words(handle)
     if handle not in model.objects and handle not in model.indices:
@@ -67,7 +65,6 @@ def digest_of(steps: Sequence[Step], algorithm: int) -> bytes:
 
 
 def from_earlier(use: Use, steps: Sequence[Step], earlier: Made, found: Reason) -> str:
-    """What is otherwise than when a session came to the wanted digest."""
     found.add("wanted digest", f"that of a session after line {earlier.line}")
     algorithm = use.session.algorithm
     for own, its in zip(steps, earlier.steps):
@@ -85,7 +82,6 @@ def from_earlier(use: Use, steps: Sequence[Step], earlier: Made, found: Reason) 
 
 
 def is_like(own: Step, its: Step, algorithm: int) -> bool:
-    """Whether two assertions make the same digest of any one."""
     return digest_of([own], algorithm) == digest_of([its], algorithm)
 
 
@@ -173,7 +169,6 @@ MOST_MOVED = 4
 
 
 def reason(use: Use) -> Reason:
-    """That of the first condition that does not hold."""
     for number, words in enumerate(CONDITIONS, 1):
         found = Reason(f"condition/{number}", "", at=use.scene.entry_at(use.place))
         if words(use, found):
@@ -209,7 +204,6 @@ def pcrs(use: Use, found: Reason) -> bool:
 
 
 def moved_words(moved: list[Moved]) -> str:
-    """The first commands that wrote PCRs, and how many there were."""
     more = [f"{len(moved) - MOST_MOVED:,} more"] if len(moved) > MOST_MOVED else []
     return listed([*(it.words for it in moved[:MOST_MOVED]), *more])
 

@@ -93,12 +93,10 @@ class Scene:
 
     @property
     def name(self) -> str:
-        """The name of the response code without its place."""
         return self.refused.partition("/")[0]
 
     @property
     def place(self) -> int:
-        """The number of the handle, parameter or entry that the code names, or 0."""
         digits = self.refused.partition("/")[2][1:]
         return int(digits) if digits else 0
 
@@ -113,7 +111,6 @@ class Scene:
 
     @property
     def handles(self) -> list[int]:
-        """Those that the buffer has, as far as it has them."""
         places = range(HEADER_BYTES, min(self.area_at, len(self.buffer) - 3), 4)
         return [int.from_bytes(self.buffer[at : at + 4], "big") for at in places]
 
@@ -123,12 +120,10 @@ class Scene:
 
     @property
     def area_at(self) -> int:
-        """Where the authorization area begins, with its size, where there is one."""
         return HEADER_BYTES + 4 * len(self.code.handles)
 
     @property
     def parameters_at(self) -> int:
-        """Where the parameters begin, of a command whose entries could be read."""
         at = self.area_at
         if not self.has_entries:
             return at
@@ -162,7 +157,6 @@ class Look:
 
     @cached_property
     def session(self) -> Session:
-        """The policy session that an assertion is told to."""
         return self.model.sessions[next(it for it in reversed(self.handles) if is_policy(it))]
 
     @property
@@ -179,7 +173,6 @@ class Look:
         return self.model.objects[self.handles[0]]
 
     def said(self, place: int) -> str:
-        """A handle by its place, from 0."""
         return handle_words(self.handles[place])
 
     def since(self, handle: int, words: str) -> str:
@@ -199,5 +192,4 @@ Check = Callable[[Look], None]
 
 
 def said(words: Callable[[Look], str], at: str = "") -> Check:
-    """A check that is told by its words alone, and its field."""
     return lambda look: look.say(words(look), at)

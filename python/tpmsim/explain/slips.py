@@ -29,7 +29,6 @@ class Slip:
 
 
 def other_hash_words(own: int) -> tuple[int, str]:
-    """The hash algorithm that a session has not, and how a slip by it is said."""
     other = SHA1 if own == SHA256 else SHA256
     return other, f"by {ALGORITHMS[other]}, and the session has {ALGORITHMS[own]}"
 
@@ -69,7 +68,6 @@ def auth_values(use: Use) -> Iterator[Slip]:
 
 
 def new_value(use: Use) -> bytes:
-    """That which a command sets and has in plain, or none."""
     is_change = use.code.name in ("HierarchyChangeAuth", "NV_ChangeAuth")
     if not is_change or encryption.decrypting_use(use.scene) is not None:
         return b""
@@ -135,7 +133,6 @@ def session_keys(use: Use) -> Iterator[Slip]:
 
 
 def bind_values(use: Use) -> Iterator[tuple[bytes, str]]:
-    """Values that a caller may take for the one of the entity at the session's start."""
     begun = use.begun
     assert begun is not None
     said = handle_words(begun.bind)
@@ -152,7 +149,6 @@ PAIRED, MOST_NONCES = 3, 100
 
 
 def slips(use: Use) -> list[Slip]:
-    """Those that a caller can have made in this entry."""
     parts = nonces, auth_values, session_keys, names, parameters, hashes, others
     return [it for part in parts for it in part(use)]
 
@@ -188,7 +184,6 @@ def by_trying(use: Use) -> list[Slip]:
 
 
 def plain_value(use: Use) -> list[Slip]:
-    """The authorization value itself, where an HMAC by it was wanted."""
     if not use.auth_value or trimmed(use.entry.hmac) != use.auth_value:
         return []
     words = "the authValue was sent in plain, where its HMAC is wanted"

@@ -57,7 +57,6 @@ def name_of(event: Event) -> str:
 
 
 def told(event: Event) -> Iterator[str]:
-    """What there is to tell of an event: nothing of most."""
     if event.reason is not None:
         yield f"line {event.line}: {title(event)}"
         yield from of_reason(event.reason)
@@ -101,7 +100,6 @@ def facts_words(facts: Iterable[Fact]) -> Iterator[str]:
 
 
 def whole(event: Event) -> Iterator[str]:
-    """All of an event, accepted or refused: its bytes by their fields, and what its HMACs are of."""
     if event.is_power:
         yield f"line {event.line}: a power cycle"
         return
@@ -119,7 +117,6 @@ def whole(event: Event) -> Iterator[str]:
 
 
 def fields_words(fields: list[Field], data: bytes) -> Iterator[str]:
-    """Each field with its first byte, its bytes, its name and what it says."""
     for it in fields:
         said = data[it.at + it.front : it.at + it.size].hex() if not it.is_group else ""
         name, meaning = "  " * it.depth + it.name, f"({it.meaning})" if it.meaning else ""
@@ -136,7 +133,6 @@ Value = dict[str, Any]
 def value_of_log(
     events: list[Event], counts: Counts, bad_line: int | None, is_whole: bool
 ) -> Value:
-    """All that is told of a log; with `is_whole` each event with its fields."""
     return {
         "version": VERSION,
         "commands": counts.commands,

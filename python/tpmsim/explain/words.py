@@ -59,7 +59,6 @@ def handle_words(handle: int) -> str:
 
 
 def kind_words(handle: int) -> str:
-    """What a handle is by its number."""
     if handle_kinds.is_pcr(handle):
         return "a PCR"
     if handle == frames.RS_PW:

@@ -69,8 +69,6 @@ class Command:
 
 @dataclass
 class Answer:
-    """What a command answers, and how many random bytes it drew."""
-
     parameters: bytes = b""
     handle: bytes = b""
     drawn: int = 0
@@ -126,7 +124,6 @@ def read_area(fields: Fields) -> list[Entry]:
 def check_entry(
     command: Command, place: int, entry: Entry, handle: int | None, sessions: dict[int, Session]
 ) -> None:
-    """What is wrong with an entry, whatever its hmac is."""
     before = (command.entries or [])[: place - 1]
     if max(len(entry.nonce), len(entry.hmac)) > MOST_NONCE_OR_HMAC:
         raise Refusal(f"SIZE/s{place}", "G8")

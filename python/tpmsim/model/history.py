@@ -50,13 +50,11 @@ class Accepted:
 
     @property
     def handle(self) -> int:
-        """The handle that it answered, of a command that does."""
         assert self.answered is not None
         return self.answered
 
     @cached_property
     def given(self) -> dict[str, Any]:
-        """Its parameters by their names."""
         return read_all(CC(self.code).parameters, self.parameters)
 
 
@@ -259,7 +257,6 @@ ASSERTIONS = (
 
 
 def asserted(it: Accepted, session: LiveSession, values: Pcrs) -> LiveSession:
-    """The session with what an assertion makes of its policy."""
     was = session.policy
     digest, told = made_of(it, session, values)
     told["cp_hash"] = told.get("cp_hash") or was.cp_hash
@@ -268,7 +265,6 @@ def asserted(it: Accepted, session: LiveSession, values: Pcrs) -> LiveSession:
 
 
 def made_of(it: Accepted, session: LiveSession, values: Pcrs) -> tuple[bytes, dict[str, Any]]:
-    """The digest that an assertion makes, and what else of the policy is another one."""
     algorithm, old, given = session.algorithm, session.policy.digest, it.given
     match it.code:
         case CC.PolicyPCR:

@@ -158,7 +158,6 @@ def open_image(text: bytes, block_cipher: aes.BlockCipher = encrypt_block) -> Mo
 
 
 def fault_of(text: bytes) -> str | None:
-    """Why a text is no image, or nothing where it is one."""
     try:
         open_image(text)
     except Fault as fault:

@@ -176,7 +176,6 @@ class Model(
         return held.public.name if held else sessions.name_of(handle)
 
     def shown(self, command: Command) -> tuple[list[bytes], list[str | None]]:
-        """The Names of its handles, and how what they name is protected."""
         return self.names(command), [self.protection(it) for it in command.handles]
 
     def names(self, command: Command) -> list[bytes]:
@@ -197,7 +196,6 @@ class Model(
         return protection.TRIES if held and not held.public.is_free else None
 
     def takes_auth_value(self, handle: int, code: CC) -> bool:
-        """Whether it can be authorized without a policy, for a command."""
         if handle in self.objects:
             return self.objects[handle].public.has(Attribute.USER_WITH_AUTH)
         if handle in self.indices:
@@ -224,7 +222,6 @@ class Model(
     # Authorization.
 
     def is_bound(self, session: Session, handle: int) -> bool:
-        """A binding holds while Name and authorization value are those of the start."""
         now = self.name(handle), self.auth_value(handle)
         return (session.bind, session.bind_auth) == now
 
@@ -239,7 +236,6 @@ class Model(
         return not self.is_bound(self.sessions[entry.handle], handle)
 
     def key(self, entry: Entry, handle: int | None) -> bytes:
-        """The key of an entry's hmac, the handle being what it authorizes, if anything."""
         uses = self.uses_auth_value(entry, handle)
         return self.sessions[entry.handle].key + (self.auth_value(handle) if uses else b"")
 
@@ -278,7 +274,6 @@ class Model(
     def check_policy(
         self, command: Command, place: int, entry: Entry, handle: int, locality: int
     ) -> None:
-        """What refuses a policy session that is to authorize a handle."""
         session, code = self.sessions[entry.handle], command.code
         cp_hash, is_written = self.cp_hash(session, command), self.written(handle)
         use = policy_state.Use(
@@ -302,7 +297,6 @@ class Model(
                 raise Refusal(f"{name}/s{place}", check, touched)
 
     def plain_parameters(self, command: Command) -> bytes:
-        """The parameters, with the bytes of the first one decrypted where a session asks for it."""
         found = command.with_attribute(DECRYPT)
         if not found:
             return command.parameters
@@ -342,7 +336,6 @@ class Model(
             session.policy = policy_state.starting_state(session.algorithm)
 
     def draw_nonces(self, command: Command, random: bytes) -> None:
-        """A new nonce of its size for each session, in the order of the entries."""
         for _, entry, _ in command.places():
             if entry.handle != RS_PW:
                 session = self.sessions[entry.handle]

@@ -85,7 +85,6 @@ def has_wrong_size(public: Public) -> bool:
 def check_definition(
     public: Public, auth_value: bytes, hierarchy: int, indices: dict[int, Index]
 ) -> None:
-    """What an index that is to be defined has to be, beside those that there are."""
     if len(auth_value) > digest_bytes(public.name_algorithm):
         raise Refusal("SIZE/p1", "A1")
     if len(public.auth_policy) not in (0, digest_bytes(public.name_algorithm)):
@@ -126,7 +125,6 @@ READERS = Attribute.OWNERREAD, Attribute.PPREAD
 
 
 def check_asker(public: Public, asker: int, by_owner: Attribute, by_platform: Attribute) -> None:
-    """Whether a hierarchy may ask for an index; an index may ask for itself alone."""
     by_hierarchy = {RH_OWNER: by_owner, RH_PLATFORM: by_platform}
     may = public.has(by_hierarchy[asker]) if asker in by_hierarchy else asker == public.index
     if not may:
@@ -156,7 +154,6 @@ def check_range(public: Public, offset: int, size: int, check: str) -> None:
 
 
 def start_up(indices: dict[int, Index]) -> None:
-    """What TPM2_Startup(CLEAR) makes of the indices."""
     for index in indices.values():
         if index.public.has(Attribute.CLEAR_STCLEAR):
             index.data = b""

@@ -20,7 +20,6 @@ class Commands(Held):
     """Of a device that has `objects`, the PCRs, and the hierarchies' `seeds` and `proofs`."""
 
     def free_object(self, check: str) -> int:
-        """The lowest number that is free, as a transient object's handle."""
         places = [TRANSIENT << 24 | it for it in range(OBJECTS)]
         free = [it for it in places if it not in self.objects]
         if not free:

@@ -39,8 +39,6 @@ class Sensitive:
 
 @dataclass(frozen=True)
 class Object:
-    """An object that is loaded, in the hierarchy of its primary object."""
-
     public: Public
     sensitive: Sensitive
     hierarchy: int
@@ -137,7 +135,6 @@ def checks_before(parent: Object | None) -> int:
 
 
 def check_public(public: Public, parent: Object | None) -> None:
-    """What the public area of an object that is created or loaded has to be."""
     before = checks_before(parent)
     if len(public.auth_policy) not in (0, digest_bytes(public.name_algorithm)):
         raise Refusal("SIZE/p2", f"A{before + 1}")
@@ -150,7 +147,6 @@ def check_public(public: Public, parent: Object | None) -> None:
 
 
 def check_sensitive(template: Template, parent: Object | None) -> None:
-    """What is asked of the sensitive area of an object that is created."""
     before = checks_before(parent) + PUBLIC_CHECKS
     public, is_given = template.public, bool(template.data)
     if len(trimmed(template.user_auth)) > digest_bytes(public.name_algorithm):

@@ -12,7 +12,6 @@ class Commands(Held):
     """The commands, of a device that has `sessions`, the PCRs, and `indices`."""
 
     def told_to(self, request: Request) -> tuple[Session, State, int]:
-        """The session that is told, its policy, and its hash algorithm."""
         session = self.sessions[request.handles[-1]]
         return session, session.policy, session.algorithm
 

@@ -57,7 +57,6 @@ class Lockout:
         return self.recovery_time != 0 and self.failed_tries >= self.max_tries
 
     def refuses(self, touched: str | None) -> bool:
-        """Whether an entry that touches protected values, or lockoutAuth, is not looked at."""
         if touched == TRIES:
             return self.is_locked()
         return touched == LOCKOUT_AUTH and self.is_closed
@@ -73,8 +72,6 @@ class Lockout:
 
 
 class Commands(Held):
-    """The commands on the protection, of a device that has a `lockout`."""
-
     @takes()
     def dictionary_attack_lock_reset(self, request: Request) -> Answer:
         self.lockout.failed_tries = 0

@@ -21,15 +21,12 @@ SECRET_BYTES = 32
 
 
 class Saved(enum.IntEnum):
-    """What TPM2_Shutdown saved."""
-
     NONE = 0
     CLEAR = 1
     STATE = 2
 
 
 def secrets(random: bytes, count: int) -> list[bytes]:
-    """Seeds and proofs, as they are drawn one after the other."""
     return [random[at : at + SECRET_BYTES] for at in range(0, SECRET_BYTES * count, SECRET_BYTES)]
 
 

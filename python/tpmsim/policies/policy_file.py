@@ -81,7 +81,6 @@ class Reader:
 
     @property
     def text(self) -> bytes:
-        """What the next row says, or nothing where there is none."""
         return self.next.text if self.next else b""
 
     def take(self) -> Row:
@@ -143,8 +142,6 @@ class Reader:
 
 
 class PolicyFile:
-    """A file, by the name that it was given, with its policy."""
-
     def __init__(self, name: str, text: bytes) -> None:
         self.name, self.rows = name, rows_of(text)
         reader = Reader(self.rows)
@@ -156,7 +153,6 @@ class PolicyFile:
         }
 
     def is_of(self, public: nv.Public | objects.Public) -> bool:
-        """Whether it is the policy of what has this public area."""
         found = self.digests.get(public.name_algorithm)
         return found is not None and found == public.auth_policy
 
@@ -183,12 +179,11 @@ class Step:
 
 
 def policy_of(words: str) -> Policy:
-    """The policy that words say; policy_file.Fault where they say none."""
+    """Fault where they say none."""
     return PolicyFile("policy", words.encode()).policy
 
 
 def digest_of(words: str, algorithm: int = SHA256) -> bytes:
-    """The digest of a policy in words, for an authPolicy."""
     return policy_digest(algorithm, policy_of(words))
 
 

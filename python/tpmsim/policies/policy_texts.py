@@ -12,8 +12,6 @@ from tpmsim.standard import CC, digest, digest_bytes, number
 
 @dataclass(frozen=True)
 class Written:
-    """An assertion, and the line of the policy on which it stands."""
-
     line: int
     said: Said
 
@@ -30,7 +28,6 @@ class Policy:
 
 
 def zeros(algorithm: int) -> bytes:
-    """A policy begins with zeros."""
     return bytes(digest_bytes(algorithm))
 
 
@@ -50,7 +47,6 @@ def digest_after(algorithm: int, texts: list[bytes]) -> bytes:
 
 
 def policy_texts(algorithm: int, policy: Policy) -> list[bytes]:
-    """The texts that are hashed for a policy, those of its branches too, the latest first."""
     texts: list[bytes] = []
     if policy.branches:
         of_branches = [policy_texts(algorithm, it) for it in policy.branches]

@@ -36,7 +36,6 @@ class Unsaid(Exception):
 
 
 def shown(word: bytes) -> str:
-    """A word in quotation marks, whatever its bytes are."""
     plain = "".join(chr(it) if 0x20 < it < 0x7F else "?" for it in word)
     return f'"{plain}"'
 
@@ -63,7 +62,6 @@ def read_name(word: bytes) -> bytes:
 
 
 def name_word(name: bytes) -> str:
-    """A Name, which of a hierarchy is its handle."""
     hierarchies = {name_of(it): handle_word(it) for it in HIERARCHIES}
     return hierarchies.get(name) or hex_word(name)
 

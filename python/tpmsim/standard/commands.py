@@ -245,7 +245,6 @@ class CC(enum.IntEnum):
 
     @property
     def authorized(self) -> int:
-        """How many of its handles need authorization."""
         return sum(it.is_authorized for it in self.handles)
 
     @property

@@ -51,12 +51,10 @@ PLACES = {"h": 0, "p": 0x040, "s": 0x800}
 
 
 def number(value: int, size: int) -> bytes:
-    """A number of so many bytes, the highest first."""
     return value.to_bytes(size, "big")
 
 
 def sized(data: bytes) -> bytes:
-    """A buffer behind its size in two bytes."""
     return number(len(data), 2) + data
 
 
@@ -166,7 +164,6 @@ def selection(*banks: tuple[int, Iterable[int]]) -> bytes:
 
 
 def digests(*values: tuple[int, bytes]) -> bytes:
-    """A list of digests, each behind its hash algorithm."""
     return number(len(values), 4) + b"".join(number(alg, 2) + digest for alg, digest in values)
 
 

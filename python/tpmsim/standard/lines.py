@@ -62,7 +62,6 @@ HANDLE_NAMES = {
 
 
 def of_form(form: re.Pattern[bytes], token: bytes) -> re.Match[bytes]:
-    """What a token is in a form, where it is of that."""
     found = form.fullmatch(token)
     if not found:
         raise Wrong(BAD_FIELD)

@@ -57,7 +57,6 @@ READS = Attribute.PPREAD | Attribute.OWNERREAD | Attribute.AUTHREAD | Attribute.
 
 
 def of_type(kind: int) -> int:
-    """The bits of the attributes that say what an index is."""
     return kind << TYPE_SHIFT
 
 
@@ -72,12 +71,10 @@ class Public:
     data_size: int = NUMBER_BYTES
 
     def has(self, attributes: int) -> bool:
-        """Whether it has one of these."""
         return bool(self.attributes & attributes)
 
     @property
     def is_free(self) -> bool:
-        """Whether wrong authorization values of it are not counted."""
         return self.has(Attribute.NO_DA)
 
     @property

@@ -42,12 +42,10 @@ class Public:
     unique: bytes = b""
 
     def has(self, attributes: int) -> bool:
-        """Whether it has one of these."""
         return bool(self.attributes & attributes)
 
     @property
     def is_free(self) -> bool:
-        """Whether wrong authorization values of it are not counted."""
         return self.has(Attribute.NO_DA)
 
     @property

@@ -11,15 +11,11 @@ from tpmsim.standard.sessions import digest_bytes
 
 
 class Bank(NamedTuple):
-    """PCRs of a bank: the hash algorithm, and their numbers."""
-
     algorithm: int
     pcrs: tuple[int, ...]
 
 
 class Digest(NamedTuple):
-    """A digest with its hash algorithm."""
-
     algorithm: int
     digest: bytes
 
@@ -61,16 +57,12 @@ class Capability:
 
 
 class HasText(Protocol):
-    """A structure that fills a sized buffer, such as a public area."""
-
     @property
     def text(self) -> bytes:
         ...
 
 
 class Values(NamedTuple):
-    """How a value of a kind is written, and how it is read."""
-
     write: Callable[[Any], bytes]
     read: Callable[[Fields], Any]
 
