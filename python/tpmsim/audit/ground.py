@@ -18,9 +18,7 @@ from tpmsim.standard.lines import handle_word
 
 @dataclass(frozen=True)
 class Use:
-    """An entry of a command: its place from 1, what it authorizes, if anything, with the view and
-    the value of that; and its session as the history has it, if it is one's.
-    """
+    """An entry of a command, what it authorizes, if anything, and its session by the history."""
 
     seen: Seen
     place: int

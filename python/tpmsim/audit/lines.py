@@ -25,9 +25,7 @@ OF_IMAGE = "written before the image"
 
 
 class PcrLines:
-    """The line that wrote each value last, in words; and the last line that wrote one, or was a
-    TPM2_Clear that was accepted, with words for that.
-    """
+    """The line that wrote each value last, and the last that wrote one or was a TPM2_Clear."""
 
     def __init__(self, history: History, has_image: bool) -> None:
         self.pcrs, self.updates = history.pcrs, 0

@@ -16,9 +16,7 @@ from tpmsim.standard.lines import handle_word
 
 @dataclass(frozen=True)
 class Asserted:
-    """An accepted assertion: its line of the script, what it says, the entity of TPM2_PolicySecret
-    or the index of TPM2_PolicyNV in words, and the digest before and after it.
-    """
+    """An accepted assertion; `of` is the entity or the index that it is about, in words."""
 
     line: int
     said: Said
@@ -36,9 +34,7 @@ ASK_VALUE = CC.PolicyAuthValue, CC.PolicyPassword
 
 
 def asserted_by(seen: Seen, before: LiveSession, after: LiveSession, pcrs: Pcrs) -> Asserted:
-    """The assertion of an event, with its session before and after it, and the PCRs. Of a policy
-    session TPM2_PolicyPCR asserts the values of now.
-    """
+    """Of a policy session TPM2_PolicyPCR asserts the values of now."""
     event, of = seen.accepted, ""
     if event.code in (CC.PolicySecret, CC.PolicyNV):
         of = handle_words(event.handles[0 if event.code == CC.PolicySecret else 1])

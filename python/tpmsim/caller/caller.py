@@ -70,9 +70,7 @@ class Caller(PreparedCommands):
         cipher: int = ALG_NULL,
         size: int = NONCE_BYTES,
     ) -> Session:
-        """Starts a session, bound to an entity or to nothing. `cipher` is AES or XOR where it is to
-        encrypt; `size` is that of its nonces in bytes.
-        """
+        """`cipher` is AES or XOR where it is to encrypt; `size` is that of its nonces in bytes."""
         nonce, mask = self.nonce(size), algorithm if cipher == XOR else None
         response = self.call(
             CC.StartAuthSession,

@@ -152,9 +152,7 @@ class Knowledge:
 
     @staticmethod
     def nonces_of_others(prepared: Prepared, place: int, handle: int | None) -> list[bytes]:
-        """In the first entry, where it authorizes: the nonce of the session that decrypts, then of
-        the one that encrypts, and not of its own.
-        """
+        """In the first entry, where it authorizes: of others that decrypt, then encrypt."""
         if place != 1 or handle is None:
             return []
         others = [it for it in prepared.uses[1:] if isinstance(it, Use)]

@@ -93,9 +93,7 @@ def between(here: dict[str, Any], there: dict[str, Any]) -> Iterator[tuple[str, 
 
 @dataclass(frozen=True)
 class Cause:
-    """A cause, the form of a difference by it (the command, what differs, and both values), the
-    section of the TPM 2.0 Library, rev. 01.38, and our decision.
-    """
+    """The form of differences by a cause, the section of rev. 01.38, and our decision."""
 
     words: str
     form: str

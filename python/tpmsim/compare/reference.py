@@ -35,9 +35,7 @@ def parsed(buffer: bytes) -> Command | None:
 
 @dataclass(frozen=True)
 class Shown:
-    """How an entry was right: `key` says whether the authorization value is in the key of its hmac,
-    and is None where the hmac is wrong, or there is none.
-    """
+    """How an entry was right; `key` says whether the value is in the key of a right hmac."""
 
     is_password: bool = False
     key: bool | None = None
@@ -54,9 +52,7 @@ class Received:
 
 
 class Reference:
-    """The device here, twice: the one that answers, and the one in Python that can be looked into.
-    A seed for both is that of scripts, the bytes 00 to ff.
-    """
+    """The device here, twice: one that answers, and one in Python that can be looked into."""
 
     def __init__(self) -> None:
         self.model = Model()

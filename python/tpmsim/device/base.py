@@ -30,9 +30,7 @@ class Answered:
 
 @dataclass(frozen=True, slots=True)
 class Executed:
-    """A command and its response. What is None was not told: the locality, the milliseconds since
-    the command before, the random bytes, the check and the number of the command.
-    """
+    """A command and its response; the random bytes, the locality and all else if it was told."""
 
     buffer: bytes
     response: bytes

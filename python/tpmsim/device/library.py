@@ -103,9 +103,7 @@ class AnsweredInC(ctypes.Structure):
 
 
 def places() -> list[str]:
-    """Where the library is looked for: where $TPMSIM_LIBRARY says, and nowhere else; or beside the
-    package, in dist/ of this repository, and where the loader looks.
-    """
+    """$TPMSIM_LIBRARY alone, or beside the package, in dist/ here, and where the loader looks."""
     named = os.environ.get("TPMSIM_LIBRARY")
     if named:
         return [named]

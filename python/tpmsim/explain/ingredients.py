@@ -13,9 +13,7 @@ from tpmsim.standard import CC, digest, Entry, handle_kinds, HASH_WORDS, number,
 
 @dataclass(frozen=True)
 class Ingredients:
-    """An HMAC's parts. `code` is what stands before the Names in cpHash; `auth_value` is empty where
-    it is not in the key.
-    """
+    """`code` stands before the Names in cpHash; `auth_value` is empty if not in the key."""
 
     algorithm: int
     session_key: bytes

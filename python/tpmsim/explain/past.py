@@ -24,9 +24,7 @@ Banks = dict[int, list[bytes]]
 
 @dataclass(frozen=True)
 class Step:
-    """An assertion: its line in the log, what it says, and its words; with the PCRs that it selects,
-    or what has the Name that it says.
-    """
+    """An assertion, with the PCRs that it selects, or what has the Name that it says."""
 
     line: int
     said: Said
@@ -100,9 +98,7 @@ class Since:
 
 @dataclass
 class Begun:
-    """A session that lives: the line of its start, the caller's first nonce, its own nonces one
-    after another, what it was told, and the attributes and the nonce of its entry before.
-    """
+    """A session that lives, since a line; what it was told, and what its entries had before."""
 
     session: Session
     line: int

@@ -33,9 +33,7 @@ class Refusal(Exception):
 
 @dataclass
 class Command:
-    """A command that its buffer spells; without sessions `entries` is None. A handle of the
-    `authorized` first ones is that of the entry in its place.
-    """
+    """A command that its buffer spells; without sessions `entries` is None."""
 
     code: CC
     handles: list[int]
@@ -51,9 +49,7 @@ class Command:
             yield place, entry, authorized[place - 1] if place <= len(authorized) else None
 
     def others(self, place: int, handle: int | None) -> list[int]:
-        """The sessions whose nonces go into an entry's hmac too: in the first one, where it authorizes,
-        the others that decrypt and encrypt.
-        """
+        """In the first entry, where it authorizes: the other sessions that decrypt and encrypt."""
         if place != 1 or handle is None:
             return []
         found = [self.with_attribute(it) for it in (DECRYPT, ENCRYPT)]

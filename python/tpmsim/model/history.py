@@ -72,9 +72,7 @@ def started_values() -> dict[tuple[int, int], bytes]:
 
 @dataclass
 class Pcrs:
-    """The values, how many were written and TPM2_Clear accepted since the last startup, and what
-    the last shutdown found.
-    """
+    """`updates` counts writes and TPM2_Clear; `saved` is what the last shutdown found."""
 
     values: dict[tuple[int, int], bytes] = field(default_factory=started_values)
     updates: int = 0

@@ -117,9 +117,7 @@ class Model(
         elapsed: int = 0,
         is_starved: bool = False,
     ) -> Outcome:
-        """What comes of a command, so many milliseconds after the one before. One that is starved is
-        refused the memory that it needs, and nothing but the time changes.
-        """
+        """The milliseconds count first; a command that is starved changes nothing but the time."""
         self.tick(elapsed)
         if is_starved:
             return Outcome(STARVED, Row.of(buffer, MEMORY_CHECK), "MEMORY")
@@ -203,9 +201,7 @@ class Model(
         return True
 
     def policy_entity(self, handle: int, code: CC) -> objects.Public | nv.Public | None:
-        """An entity that a policy can authorize for a command: an object or an index that has one.
-        Of an index the attributes too have to allow it.
-        """
+        """What a policy can authorize: an object or an index, whose attributes allow it."""
         held = self.held(handle)
         if held is None or not held.public.auth_policy:
             return None
@@ -244,9 +240,7 @@ class Model(
         return session.key + self.auth_value(handle)
 
     def touched(self, entry: Entry, handle: int | None) -> str | None:
-        """What an entry is a try at, if it is wrong: at a protected value that is the password or
-        in the key, and else at the one that the session's key was made of.
-        """
+        """What an entry is a try at: at its value, or at that which the key was made of."""
         if handle is not None and self.uses_auth_value(entry, handle) and self.protection(handle):
             return self.protection(handle)
         session = self.sessions.get(entry.handle)

@@ -174,9 +174,7 @@ def key_bytes(template: Template) -> int:
 
 
 def made(template: Template, key: bytes, seed_value: bytes) -> tuple[Public, Sensitive]:
-    """The two areas of an object that is created. What is unique in the public one binds it to the
-    sensitive one; what the template had in its place does not stay.
-    """
+    """What is unique in the public area binds it to the sensitive one."""
     public = template.public
     data = template.data or key
     unique = digest(public.name_algorithm, seed_value + data)

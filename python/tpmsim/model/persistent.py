@@ -16,9 +16,7 @@ def is_persistent(handle: int) -> bool:
 
 
 def check_hierarchy(asker: int, held: Object, removes: bool) -> None:
-    """The owner has what is the owner's or the endorsement hierarchy's. The platform keeps what is
-    its own, and removes what it likes.
-    """
+    """The platform keeps what is its own, and removes what it likes."""
     if asker == RH_PLATFORM:
         allowed = removes or held.hierarchy == RH_PLATFORM
     else:

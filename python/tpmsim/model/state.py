@@ -31,9 +31,7 @@ def secrets(random: bytes, count: int) -> list[bytes]:
 
 
 class Commands(Held):
-    """The commands of a start and of an end, of a device that has `saved` and `saved_banks`, the
-    `clock` and the `time` since the power cycle, and the counts of resets and restarts.
-    """
+    """Of a device that has `saved` and `saved_banks`, the times, and the counts of starts."""
 
     # Time.
 

@@ -18,9 +18,7 @@ class Written:
 
 @dataclass(frozen=True)
 class Policy:
-    """Assertions one after another, behind one of several branches, if it begins with a PolicyOR:
-    then the line is that of `either`.
-    """
+    """Assertions, behind one of several branches; then the line is that of `either`."""
 
     line: int = 0
     branches: tuple[Policy, ...] = ()

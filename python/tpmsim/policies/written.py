@@ -205,9 +205,7 @@ def said_of(
     names: Sequence[bytes],
     pcr_digest: Callable[[list[values.Bank], bytes], bytes],
 ) -> Said:
-    """What a command asserts, by the Names of its handles, and by the digest of a selection of PCRs
-    and of what TPM2_PolicyPCR was given of it.
-    """
+    """What a command asserts, by its Names, and of TPM2_PolicyPCR by the `pcr_digest`."""
     given = values.read_all(code.parameters, parameters)
     match code:
         case CC.PolicyPCR:

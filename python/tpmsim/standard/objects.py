@@ -30,9 +30,7 @@ NAMED = sum(Attribute)
 
 @dataclass(frozen=True)
 class Public:
-    """TPMT_PUBLIC. A KEYEDHASH has a scheme, which is a hash algorithm to make HMACs by, or NULL;
-    the cipher of a SYMCIPHER is always AES-128 in mode CFB.
-    """
+    """TPMT_PUBLIC; the scheme of a KEYEDHASH is a hash or NULL, and a cipher is AES-128 CFB."""
 
     kind: int
     name_algorithm: int

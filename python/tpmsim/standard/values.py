@@ -37,9 +37,7 @@ class Ticket:
 
 @dataclass(frozen=True)
 class Time:
-    """The milliseconds since the power came on and those that the device ever ran, and how often it
-    was reset and restarted.
-    """
+    """In milliseconds since the power came on, and ever; and how often it was reset."""
 
     time: int
     clock: int
