@@ -2,7 +2,7 @@
 
 from typing import Iterator
 
-from tpmsim.explain import encryption
+from tpmsim.explain import ingredients
 from tpmsim.explain.reason import Reason, Scene
 from tpmsim.explain.words import bytes_words, handle_words, plural, printable
 from tpmsim.standard import CC, Fields, nv, RS_PW, trimmed
@@ -24,10 +24,10 @@ def before(scene: Scene) -> list[Reason]:
 
 def garbage(scene: Scene) -> Iterator[Reason]:
     """A parameter that decrypts to no text, and to one had it been encrypted in another way."""
-    if encryption.decrypting_use(scene) is None or scene.plain is None:
+    if ingredients.decrypting_use(scene) is None or scene.plain is None:
         return
     plain = Fields(scene.plain).sized()
-    for other in encryption.otherwise(scene) if not printable(plain) else []:
+    for other in ingredients.otherwise(scene) if not printable(plain) else []:
         meant = Fields(other.plain).sized()
         if len(meant) >= LEAST_TEXT and printable(meant):
             taken = f"The first parameter decrypts to {plain.hex()}, which is taken as it is"

@@ -1,6 +1,6 @@
 """The numbers of the own checks of commands on objects."""
 
-from tpmsim.explain import encryption
+from tpmsim.explain import ingredients
 from tpmsim.explain.own_nv import too_long, wrong_policy
 from tpmsim.explain.reason import Check, Look, said
 from tpmsim.explain.words import algorithm_words, flag_words, handle_words
@@ -102,7 +102,7 @@ def key_size(look: Look) -> None:
 
 def misread(look: Look) -> None:
     """Names a slip of the encryption, where it makes inSensitive a fine one."""
-    for other in encryption.otherwise(look.scene):
+    for other in ingredients.otherwise(look.scene):
         size = int.from_bytes(other.plain[:2], "big")
         try:
             parameters = Parameters(other.plain[: 2 + size])

@@ -2,7 +2,7 @@
 
 from typing import Callable, Iterable, TypeVar
 
-from tpmsim.explain import dissection, encryption
+from tpmsim.explain import dissection, ingredients
 from tpmsim.explain.dissection import Field
 from tpmsim.explain.reason import Reason, RULES, Scene
 from tpmsim.explain.words import algorithm_words, size_words
@@ -196,12 +196,12 @@ IN_PARAMETERS = {
 
 def misread(scene: Scene, found: Reason) -> None:
     """Names how the caller encrypted, where its parameters are well formed in that way alone."""
-    use = encryption.decrypting_use(scene)
+    use = ingredients.decrypting_use(scene)
     if use is None:
         return
     plain = scene.plain.hex() if scene.plain else ""
     found.add("decrypted", f"by session {use.entry.handle:08x}, to {plain}")
-    for other in encryption.otherwise(scene):
+    for other in ingredients.otherwise(scene):
         if not read_again(scene, other.plain)[1]:
             found.slip(other.name, other.words)
             return

@@ -8,7 +8,7 @@ from dataclasses import replace
 from itertools import chain
 from typing import Any, Iterator
 
-from tpmsim.explain import encryption
+from tpmsim.explain import ingredients
 from tpmsim.explain.ingredients import Ingredients, Use
 from tpmsim.explain.words import ALGORITHMS, attribute_words, handle_words
 from tpmsim.model.machine import Model
@@ -69,7 +69,7 @@ def auth_values(use: Use) -> Iterator[Slip]:
 
 def new_value(use: Use) -> bytes:
     is_change = use.code.name in ("HierarchyChangeAuth", "NV_ChangeAuth")
-    if not is_change or encryption.decrypting_use(use.scene) is not None:
+    if not is_change or ingredients.decrypting_use(use.scene) is not None:
         return b""
     size = int.from_bytes(use.command.parameters[:2], "big")
     return trimmed(use.command.parameters[2 : 2 + size])
@@ -250,13 +250,13 @@ def parameters(use: Use) -> Iterator[Slip]:
     sent = use.command.parameters
     if sent:
         yield slip("parameters left out", "the parameters were left out of cpHash", parameters=b"")
-    decrypting = encryption.decrypting_use(use.scene)
+    decrypting = ingredients.decrypting_use(use.scene)
     if decrypting is None:
         return
     plain = Model.plain_parameters(use.scene.model, use.command)
     words = "cpHash has the parameters in plain; a right one has them encrypted, as they are sent"
     yield slip("parameters hashed plain", words, parameters=plain)
-    for it in encryption.mistakes(decrypting, sent):
+    for it in ingredients.mistakes(decrypting, sent):
         words = f"cpHash has the parameters in plain, and {it.words}"
         yield slip("parameters hashed plain", words, parameters=it.plain)
 
