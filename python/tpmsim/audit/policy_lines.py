@@ -76,9 +76,6 @@ def steps_at_or(algorithm: int, of: Policy, told: Sequence[Asserted]) -> list[St
     raise fault
 
 
-# At a use.
-
-
 def finding(step: Step, use: Use, grounds: Grounds) -> Finding:
     written, asserted = step.written, step.asserted
     name, other = written.said.code.name, asserted.said.code.name

@@ -56,8 +56,6 @@ class Caller(PreparedCommands):
         """Sends any command, as `call("NV_Read", index, index, size=8, offset=0)`."""
         return self.send(self.command(name, *those, uses=uses, **arguments))
 
-    # Starts and sessions.
-
     def start_up(self, kind: int = CLEAR) -> None:
         self.send(self.starting(kind))
 
@@ -132,8 +130,6 @@ class Caller(PreparedCommands):
                 self.send(self.restart(use.session))
         assert refused is not None
         raise refused
-
-    # Objects and indices.
 
     def create_primary(
         self, public: objects.Public, *uses: Means, hierarchy: int = RH_OWNER, **more: Any

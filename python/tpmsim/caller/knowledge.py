@@ -80,8 +80,6 @@ class Knowledge:
             for name in rules:
                 del vars(self)[name]
 
-    # Commands.
-
     def prepare(
         self, code: CC, handles: Sequence[int], parameters: bytes = b"", *means: Means
     ) -> Prepared:

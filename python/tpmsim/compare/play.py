@@ -71,8 +71,6 @@ class Comparison:
         self.causes: dict[object, int] = {}
         self.line, self.locality, self.waited = 0, 0, 0
 
-    # Lines.
-
     def play(self, script: bytes) -> Report:
         """BadLine where a line is none."""
         for self.line, text in enumerate(script.split(b"\n"), 1):
@@ -149,8 +147,6 @@ class Comparison:
         event = self.here.execute(buffer, player.locality, player.elapsed, player.random)
         player.elapsed = 0
         return event
-
-    # Answers.
 
     def compare(
         self,
@@ -244,8 +240,6 @@ class Comparison:
     def flush(self, handle: int | None) -> None:
         if handle is not None:
             self.other.execute(frames.command(CC.FlushContext, frames.number(handle, 4)))
-
-    # The state at the end.
 
     def state(self) -> None:
         if not self.here.model.started:

@@ -41,8 +41,6 @@ class Translation:
         self.sessions, self.tied, self.hashed = {}, {}, {}
         self.lost = {it: line for it, line in self.lost.items() if first_byte(it) in (1, 0x81)}
 
-    # Commands.
-
     def handle(self, number: int) -> int:
         if number in self.lost:
             raise NotComparable(f"{number:08x} is not there", self.lost[number])
@@ -134,8 +132,6 @@ class Translation:
         value, other = self.here.model.auth_value(handle), self.known.auth_value(there)
         return other if sessions.trimmed(given) == value != other else given
 
-    # Parameters.
-
     def parameters(self, asked: Command, plain: bytes) -> bytes:
         """With handles, nonces and what was answered before in the other TPM's own."""
         fields, text = Fields(plain), b""
@@ -160,8 +156,6 @@ class Translation:
                 other = self.sessions.get(self.handle(session))
                 return other.nonce_tpm if other else value
         return self.values.get(value, value)
-
-    # Responses.
 
     def received(self, prepared: Prepared, response: bytes) -> Received:
         """What a success of the other TPM tells; the sessions have their new nonces then."""

@@ -68,8 +68,6 @@ class KeptDevice(LocatedDevice):
             self.close()
             raise
 
-    # The folder.
-
     @contextlib.contextmanager
     def locked(self) -> Iterator[None]:
         """Holds the lock of the folder, whichever file has its name by then."""
@@ -147,8 +145,6 @@ class KeptDevice(LocatedDevice):
         self.file = file
         if self.forces:
             os.fsync(self.folder)
-
-    # What a caller asks for.
 
     def execute(self, buffer: bytes) -> Answered:
         return replace(super().execute(buffer), check=CHECKS[self.answered.check])

@@ -134,9 +134,6 @@ def nv_attribute_words(value: int) -> str:
     return f"type {types.get(kind, str(kind))}; {flags}"
 
 
-# Lists.
-
-
 def buffers(walk: Walk, name: str) -> None:
     for at in walk.elements(name, "buffer"):
         walk.buffer(f"{name} {at}")
@@ -160,9 +157,6 @@ def digests(walk: Walk, name: str) -> None:
         algorithm = walk.algorithm("hashAlg")
         if algorithm in HASHES:
             walk.take(digest_bytes(algorithm), "digest", lambda it: "")
-
-
-# Structures.
 
 
 def cipher(walk: Walk, name: str) -> None:

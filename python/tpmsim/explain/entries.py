@@ -39,9 +39,6 @@ def refused_place(scene: Scene) -> Place:
     return places[0]
 
 
-# Lockout.
-
-
 def locked(scene: Scene, place: int, entry: Entry, handle: int | None) -> Reason:
     model, lockout = scene.model, scene.model.lockout
     found = Reason("tries", "", at=scene.entry_at(place))
@@ -68,9 +65,6 @@ def recovery_words(scene: Scene) -> str:
     left = MILLISECONDS * lockout.recovery_time - lockout.forgiving_time
     reset = "DictionaryAttackLockReset resets them at once"
     return f"One is forgiven in {seconds_words(left)}; {reset}."
-
-
-# A wrong entry.
 
 
 def wrong(scene: Scene, place: int, entry: Entry, handle: int | None) -> Reason:

@@ -13,9 +13,6 @@ PLACE_BITS = 0xFF_FFFF
 AUDITS = frames.AUDIT_EXCLUSIVE | frames.AUDIT_RESET | frames.AUDIT
 
 
-# The header.
-
-
 def length(scene: Scene) -> Reason:
     size = len(scene.buffer)
     words = f"The buffer has {size:,} bytes: {size} > {COMMAND_BYTES}."
@@ -49,9 +46,6 @@ def startup(scene: Scene) -> Reason:
     return Reason("G5", words, at=6)
 
 
-# Handles.
-
-
 def handles(scene: Scene) -> Reason:
     place = scene.place or int(scene.name[-1]) + 1
     wanted, at = scene.code.handles[place - 1], HEADER_BYTES + 4 * (place - 1)
@@ -74,9 +68,6 @@ def missing_words(scene: Scene, handle: int) -> str:
         if other & PLACE_BITS == handle & PLACE_BITS and other != handle:
             return f"its place has {kind_words(other)}, {other:08x}"
     return scene.past.gone_words(handle)
-
-
-# Entries.
 
 
 def sessions_or_none(scene: Scene) -> Reason:

@@ -181,9 +181,6 @@ def localities(look: Look) -> None:
     look.say(words, "locality")
 
 
-# TPM2_PolicySecret.
-
-
 def expiration(look: Look) -> None:
     given = look["expiration"]
     look.say(f"expiration is {given}, and nothing expires here: {given} != 0.", "expiration")
@@ -203,9 +200,6 @@ def secret_nonce(look: Look) -> None:
         if since.value == given:
             words = f"it is that of line {since.line}, which is past"
             look.found.slip("old nonceTPM", words)
-
-
-# TPM2_PolicyNV.
 
 
 nv_range = said(lambda it: own_nv.range_words(it, len(it["operandB"])), "operandB")

@@ -31,9 +31,6 @@ def add_attributes(look: Look, public: nv.Public) -> None:
     look.found.add("attributes", flags_of(public))
 
 
-# Definition.
-
-
 def defined(look: Look) -> nv.Public:
     return nv.Public.read(look["publicInfo"])
 
@@ -107,9 +104,6 @@ def define_space(look: Look) -> None:
     look.say(words)
 
 
-# Who may.
-
-
 def asker(look: Look) -> None:
     public, by, reads = look.public, look.handles[0], look.code in READERS
     verb, index = "read" if reads else "write", f"{public.index:08x}"
@@ -154,9 +148,6 @@ undefine = said(
 )
 increment_range = said(lambda it: f"The counter is at its largest value, {LARGEST}.")
 read_size = said(lambda it: f"size is {it['size']:,}: {it['size']} > {BUFFER_BYTES}.", "size")
-
-
-# Ranges.
 
 
 def range_words(look: Look, size: int) -> str:

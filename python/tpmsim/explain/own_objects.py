@@ -27,9 +27,6 @@ def add_attributes(look: Look, public: Public) -> None:
     look.found.add("attributes", flag_words(public.attributes, Attribute))
 
 
-# Parents and templates.
-
-
 def parent(look: Look) -> None:
     public = look.object.public
     storage = "a SYMCIPHER with restricted and decrypt, and without sign"
@@ -75,9 +72,6 @@ def scheme(look: Look) -> None:
     look.say(words, "scheme")
 
 
-# Creations.
-
-
 def user_auth(look: Look) -> None:
     too_long(look, "userAuth", sensitive(look)[0], template(look).name_algorithm)
     misread(look)
@@ -121,9 +115,6 @@ def no_place(look: Look) -> None:
         look.found.add(handle_words(it), f"since line {look.past.begun.get(it, 0)}")
 
 
-# TPM2_Load.
-
-
 def integrity(look: Look) -> None:
     private, name, held = look["inPrivate"], template(look).name, look.object
     fields = Fields(private)
@@ -159,9 +150,6 @@ def inner(look: Look, fields: Fields) -> None:
     look.found.add("iv", f"{iv.hex()}, {len(iv)} bytes of {aes.BLOCK}")
 
 
-# Uses.
-
-
 def no_keyed_hash(look: Look) -> None:
     kind = algorithm_words(look.object.public.kind)
     look.say(f"{look.said(0)} is a {kind}, and {look.code.name} takes a KEYEDHASH.")
@@ -183,8 +171,6 @@ def hmac_scheme(look: Look) -> None:
         words = f"The key's scheme is HMAC by {algorithm_words(own)}, and hashAlg is {given}."
     look.say(words, "hashAlg")
 
-
-# TPM2_EvictControl.
 
 PLACE = "persistentHandle"
 

@@ -163,8 +163,6 @@ class PageData:
             "events": self.events,
         }
 
-    # What an event changed.
-
     def changes(self) -> list[int]:
         """Pairs of a key and its text, which is -1 where the value is gone."""
         now = state_of(self.play.model, self.play.past)
@@ -201,8 +199,6 @@ class PageData:
         if scene.code == CC.FlushContext and len(scene.buffer) >= 14:
             found.append(int.from_bytes(scene.buffer[10:14], "big"))
         return [it for it in found if it not in (RS_PW, RH_NULL)]
-
-    # Events.
 
     def add(self, event: Event) -> None:
         self.counts.add(event)

@@ -157,8 +157,6 @@ class Past:
         self.last_change: dict[int, str] = {}
         self.follow(0, "the start")
 
-    # What is told of each event that was accepted.
-
     def power(self, line: int) -> None:
         self.moves.clear()
         self.follow(line, "the power cycle")
@@ -224,8 +222,6 @@ class Past:
         banks = banks_of(self.model)
         self.made[begun.session.policy.digest] = Made(line, list(begun.told), banks)
         self.told_banks[line] = banks
-
-    # What is there, and what was.
 
     def follow(self, line: int, words: str) -> None:
         model = self.model

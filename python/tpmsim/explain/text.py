@@ -123,8 +123,6 @@ def fields_words(fields: list[Field], data: bytes) -> Iterator[str]:
         yield f"{INDENT}  {it.at:4}  {name:26} {said} {meaning}".rstrip()
 
 
-# As values.
-
 VERSION = 1
 
 Value = dict[str, Any]

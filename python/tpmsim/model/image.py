@@ -52,9 +52,6 @@ VERSIONS = {it.number: it for it in (VERSION_1, VERSION_2)}
 BODY_AT = HEAD_BYTES + len(VERSION_2.limits)
 
 
-# Writing.
-
-
 def image(device: Model, version: Version = VERSION_2) -> bytes:
     body = b"".join(
         (

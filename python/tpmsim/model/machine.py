@@ -164,8 +164,6 @@ class Model(
             *(random, answer.drawn, answered, loaded),
         )
 
-    # Entities.
-
     def held(self, handle: int) -> Object | Index | None:
         return self.objects.get(handle) or self.indices.get(handle)
 
@@ -214,8 +212,6 @@ class Model(
         if handle not in self.indices:
             return None
         return self.indices[handle].public.has(nv.Attribute.WRITTEN)
-
-    # Authorization.
 
     def is_bound(self, session: Session, handle: int) -> bool:
         now = self.name(handle), self.auth_value(handle)

@@ -48,9 +48,6 @@ class Index:
         self.mark(Attribute.WRITTEN)
 
 
-# Definition.
-
-
 def read_public(fields: Parameters) -> Public:
     index = fields.number(4)
     if first_byte(index) != NV:
@@ -115,9 +112,6 @@ def takes_policy(public: Public, code: CC) -> bool:
     if code == CC.NV_ChangeAuth:
         return True
     return public.has(Attribute.POLICYREAD if code.has(Fact.READS_NV) else Attribute.POLICYWRITE)
-
-
-# Use.
 
 
 WRITERS = Attribute.OWNERWRITE, Attribute.PPWRITE

@@ -62,9 +62,6 @@ def loaded(
     return Object(public, sensitive, hierarchy, number(algorithm, 2) + qualified)
 
 
-# Templates, as they are read.
-
-
 @dataclass(frozen=True)
 class Template:
     """What TPM2_CreatePrimary and TPM2_Create are asked for; `pcrs` are the PCRs to be noted."""
@@ -107,9 +104,6 @@ TEMPLATE = (
     *(structure(read_sensitive_create), structure(read_public)),
     *(buffer(NAME_BYTES), Parameters.selection),
 )
-
-
-# Templates, as they are checked.
 
 
 def has_wrong_attributes(public: Public, parent: Object | None) -> bool:
@@ -157,9 +151,6 @@ def check_sensitive(template: Template, parent: Object | None) -> None:
         raise Refusal("ATTRIBUTES/p2", f"A{before + 2}")
     if public.kind == SYMCIPHER and is_given and len(template.data) != AES_KEY_BYTES:
         raise Refusal("SIZE/p1", f"A{before + 3}")
-
-
-# Creation.
 
 
 def key_bytes(template: Template) -> int:

@@ -47,9 +47,6 @@ class Session:
         return self.kind == SE_TRIAL
 
 
-# A policy that authorizes.
-
-
 @dataclass(frozen=True)
 class Use:
     """What is held against a policy; `written` is None of what is no NV index."""

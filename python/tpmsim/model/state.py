@@ -33,8 +33,6 @@ def secrets(random: bytes, count: int) -> list[bytes]:
 class Commands(Held):
     """Of a device that has `saved` and `saved_banks`, the times, and the counts of starts."""
 
-    # Time.
-
     def tick(self, elapsed: int) -> None:
         self.time = min(self.time + elapsed, LAST_TIME)
         self.clock = min(self.clock + elapsed, LAST_TIME)

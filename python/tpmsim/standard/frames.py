@@ -58,8 +58,6 @@ def sized(data: bytes) -> bytes:
     return number(len(data), 2) + data
 
 
-# Commands.
-
 # The header of a command, the longest command, and the most entries of one.
 HEADER_BYTES, COMMAND_BYTES, MOST_ENTRIES = 10, 4096, 3
 
@@ -248,9 +246,6 @@ def ticket(tag: int, hierarchy: int, digest: bytes) -> bytes:
 
 # The ticket of an assertion that does not expire: of TPM_RH_NULL, and with an empty digest.
 NULL_TICKET = ticket(ST_AUTH_SECRET, RH_NULL, b"")
-
-
-# Responses.
 
 
 def refusal(code: int) -> bytes:

@@ -42,8 +42,6 @@ class NoWords(Exception):
     """Bytes that no token spells."""
 
 
-# Hex, numbers and handles.
-
 NOTHING, JOIN = b"-", b"+"
 HEX = re.compile(rb"(?:[0-9A-Fa-f]{2})+")
 HANDLE = re.compile(rb"[0-9A-Fa-f]{8}")
@@ -114,8 +112,6 @@ def word_in(words: dict[bytes, Any], value: bytes | int, other: str | None = Non
         raise NoWords
     return other
 
-
-# Parameters.
 
 HASHES = {b"sha1": SHA1, b"sha256": SHA256}
 HASHES_OR_NULL = {**HASHES, b"null": ALG_NULL}
@@ -239,8 +235,6 @@ def parameter_words(code: CC, fields: Fields) -> list[str]:
     return [it.word(fields) for it in words_of_parameters(code)]
 
 
-# Entries.
-
 PASSWORD_PREFIX, SESSION_PREFIX = b"pw:", b"s:"
 
 
@@ -269,9 +263,6 @@ def entry_word(entry: Entry) -> str:
         return f"pw:{hmac}"
     handle = handle_word(entry.handle)
     return f"s:{handle}:{hex_word(entry.nonce)}:{entry.attributes:02x}:{hmac}"
-
-
-# Lines.
 
 
 class Tokens:
@@ -340,9 +331,6 @@ def words_of(fields: Fields) -> list[str]:
         area = fields.take(fields.number(4))
         entries = [entry_word(it) for it in frames.entries_of(area)]
     return [code.name, *handles, *entries, *parameter_words(code, fields)]
-
-
-# The trace.
 
 
 def traced(outcome: Outcome, locality: int, elapsed: int) -> str:
