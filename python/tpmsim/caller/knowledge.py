@@ -122,10 +122,8 @@ class Knowledge:
         """The other way round, of a command's parameters or of those that answer it."""
         session, key = use.session, use.session.key + self.auth_value(handle)
         nonces = use.nonce or b"", session.nonce_tpm
-        newer, older = reversed(nonces) if is_answer else nonces
-        return sessions.first_decrypted(
-            session.cipher, session.algorithm, key, newer, older, parameters
-        )
+        given = session.cipher, session.algorithm, key, *(nonces[::-1] if is_answer else nonces)
+        return sessions.first_decrypted(*given, parameters)
 
     def entry(self, prepared: Prepared, place: int) -> Entry:
         use = prepared.uses[place - 1]

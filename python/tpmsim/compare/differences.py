@@ -38,9 +38,8 @@ class Difference:
     follows: int | None = None
 
     def __str__(self) -> str:
-        words = (
-            f"line {self.line}: {self.command}: {self.what}: here {self.here}, there {self.there}"
-        )
+        both = f"here {self.here}, there {self.there}"
+        words = f"line {self.line}: {self.command}: {self.what}: {both}"
         return words if self.follows is None else f"{words}, behind line {self.follows}"
 
 

@@ -48,9 +48,8 @@ class Walk:
         left = self.end - self.at
         found = self.data[self.at : self.at + min(size, left)]
         said = meaning(found[front:]) if size <= left else f"cut: {left} of {size} bytes"
-        self.fields.append(
-            Field(name, self.at, len(found), min(front, left), said, self.sort, self.depth)
-        )
+        place = self.at, len(found), min(front, left)
+        self.fields.append(Field(name, *place, said, self.sort, self.depth))
         self.at += len(found)
         if size > left:
             raise Cut

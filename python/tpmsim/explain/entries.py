@@ -135,9 +135,8 @@ def as_hmac(use: Use, found: Reason) -> None:
     is_hmac = use.entry.hmac == use.right().hmac
     use.entry.demand = policy.PASSWORD
     if is_hmac:
-        found.slip(
-            "HMAC in place of a password", "it is the HMAC that PolicyAuthValue would ask for"
-        )
+        words = "it is the HMAC that PolicyAuthValue would ask for"
+        found.slip("HMAC in place of a password", words)
 
 
 def counted_words(scene: Scene, entry: Entry, handle: int | None) -> str:

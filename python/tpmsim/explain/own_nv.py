@@ -171,11 +171,10 @@ def change_auth(look: Look) -> None:
     look.found.add("newAuth", bytes_words(look["newAuth"]))
 
 
+DEFINITION = define_auth, define_policy, define_attributes, define_size, define_twice, define_space
 WRITING = asker, locked, type_written
 CHECKS: dict[str, tuple[Check, ...]] = {
-    "NV_DefineSpace": (
-        *(define_auth, define_policy, define_attributes, define_size, define_twice, define_space),
-    ),
+    "NV_DefineSpace": DEFINITION,
     "NV_UndefineSpace": (undefine,),
     "NV_Write": (*WRITING, write_range),
     "NV_Increment": (*WRITING, increment_range),

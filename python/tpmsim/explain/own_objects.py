@@ -129,11 +129,9 @@ def integrity(look: Look) -> None:
         look.say(right, "inPrivate")
         inner(look, fields)
         return
-    other = (
-        "the two areas belong to different objects, to another parent, or one of them was changed"
-    )
+    why = "the two areas belong to different objects, to another parent, or one of them was changed"
     makes = f"The integrity of inPrivate is not the one that {look.said(0)} makes for this inPublic"
-    look.say(f"{makes}: {other}.", "inPrivate")
+    look.say(f"{makes}: {why}.", "inPrivate")
     look.found.compare(wanted.hex(), given.hex(), "integrity")
     look.found.add("Name of inPublic", name.hex())
     for handle, it in look.model.objects.items():
@@ -206,6 +204,7 @@ evict_clear = said(lambda it: f"{it.said(1)} has stClear, so that it does not ou
 
 TEMPLATE = auth_policy, attributes, scheme
 CREATION = user_auth, origin, key_size
+EVICTION = evict_hierarchy, evict_clear, evict_range, evict_other, evict_taken, evict_space
 
 CHECKS: dict[str, tuple[Check, ...]] = {
     "CreatePrimary": (*TEMPLATE, *CREATION, no_place),
@@ -213,7 +212,5 @@ CHECKS: dict[str, tuple[Check, ...]] = {
     "Load": (parent, *TEMPLATE, integrity, no_place),
     "Unseal": (no_keyed_hash, unseal_sign),
     "HMAC": (no_keyed_hash, hmac_restricted, hmac_sign, hmac_scheme),
-    "EvictControl": (
-        *(evict_hierarchy, evict_clear, evict_range, evict_other, evict_taken, evict_space),
-    ),
+    "EvictControl": EVICTION,
 }

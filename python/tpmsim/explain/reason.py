@@ -17,9 +17,8 @@ from tpmsim.model.policy_state import Session
 from tpmsim.standard import CC, frames, HEADER_BYTES, is_policy, NUMBERED, nv, values
 
 # The sentence of each check, with its place in docs/table. Written by tests/table_rules.py.
-RULES: dict[str, list[str]] = json.loads(
-    pathlib.Path(__file__).with_name("rules.json").read_text("utf-8")
-)
+RULES_FILE = pathlib.Path(__file__).with_name("rules.json")
+RULES: dict[str, list[str]] = json.loads(RULES_FILE.read_text("utf-8"))
 
 # What a fact shows: what was wanted, what was had in its place, or neither.
 WANTED, HAD, PLAIN = "wanted", "had", ""

@@ -274,13 +274,12 @@ def hashes(use: Use) -> Iterator[Slip]:
 
 def other_attributes(use: Use) -> Iterator[Slip]:
     """Any others than those that were sent; of those before the words say so."""
-    last, sent = use.begun.last_attributes if use.begun else None, use.entry.attributes
+    last = use.begun.last_attributes if use.begun else None
+    sent = f"sent were {attribute_words(use.entry.attributes)}"
     for value in range(0x100):
         of_before = ", which are those of the entry before" if value == last else ""
-        words = f"the attributes were {attribute_words(value)}{of_before}; sent were "
-        yield Slip(
-            "other attributes", words + attribute_words(sent), "attributes", attributes=value
-        )
+        words = f"the attributes were {attribute_words(value)}{of_before}; {sent}"
+        yield Slip("other attributes", words, "attributes", attributes=value)
 
 
 def others(use: Use) -> Iterator[Slip]:

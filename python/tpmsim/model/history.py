@@ -12,9 +12,9 @@ from functools import cached_property
 from typing import Any, Callable, Iterable, Iterator, TYPE_CHECKING
 
 from tpmsim.model import pcrs, policy_state, state
-from tpmsim.standard import CC, digest, digest_bytes, Fields, frames, number, nv, PCRS, policy
-from tpmsim.standard import RH_ENDORSEMENT, RH_LOCKOUT, RH_NULL, RH_OWNER, RH_PLATFORM, RS_PW
-from tpmsim.standard import sessions, SHA1, SHA256, trimmed
+from tpmsim.standard import CC, digest, digest_bytes, Fields, frames, HIERARCHIES, number, nv, PCRS
+from tpmsim.standard import policy, RH_ENDORSEMENT, RH_LOCKOUT, RH_NULL, RH_OWNER, RH_PLATFORM
+from tpmsim.standard import RS_PW, sessions, SHA1, SHA256, trimmed
 from tpmsim.standard.values import read_all
 
 if TYPE_CHECKING:
@@ -118,9 +118,7 @@ class Pcrs:
 # Authorization values: the one that was set last for each handle. These are always there, and have
 # none at first.
 
-WITHOUT_VALUES = dict.fromkeys(
-    (RH_OWNER, RH_ENDORSEMENT, RH_PLATFORM, RH_LOCKOUT, RH_NULL, *PCRS), b""
-)
+WITHOUT_VALUES = dict.fromkeys((*HIERARCHIES, RH_NULL, *PCRS), b"")
 
 
 @dataclass

@@ -102,9 +102,7 @@ class Model(
         self.started = False
         self.banks = pcrs.starting_banks()
         self.update_counter = 0
-        self.objects = {
-            handle: it for handle, it in self.objects.items() if persistent.is_persistent(handle)
-        }
+        self.objects = {at: it for at, it in self.objects.items() if persistent.is_persistent(at)}
         self.sessions = {}
         self.time = 0
         self.lockout.power_cycle()
@@ -266,9 +264,8 @@ class Model(
     ) -> None:
         session, code = self.sessions[entry.handle], command.code
         cp_hash, is_written = self.cp_hash(session, command), self.written(handle)
-        use = policy_state.Use(
-            *(code, code.has(Fact.ADMIN), cp_hash, is_written, self.update_counter, locality)
-        )
+        now = cp_hash, is_written, self.update_counter, locality
+        use = policy_state.Use(code, code.has(Fact.ADMIN), *now)
         policy_state.check_use(session, self.policy_entity(handle, command.code), use, place)
         entry.demand = session.policy.demand
 

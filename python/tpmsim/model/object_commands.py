@@ -82,9 +82,8 @@ class Commands(Held):
         handle = self.free_object("A6")
 
         sensitive = replace(sensitive, auth_value=trimmed(sensitive.auth_value))
-        self.objects[handle] = object_rules.loaded(
-            public, sensitive, parent.hierarchy, parent.qualified_name
-        )
+        above = parent.hierarchy, parent.qualified_name
+        self.objects[handle] = object_rules.loaded(public, sensitive, *above)
         return Answer(sized(public.name), number(handle, 4))
 
     @takes()

@@ -29,9 +29,8 @@ class Commands(Held):
             raise Refusal("PCR_CHANGED", "A1")
         if not session.is_trial and given not in (b"", values_digest):
             raise Refusal("VALUE/p1", "A2")
-        told.digest = policy.after_pcr(
-            algorithm, told.digest, frames.selection(*selection), given or values_digest
-        )
+        about = frames.selection(*selection), given or values_digest
+        told.digest = policy.after_pcr(algorithm, told.digest, *about)
         told.update_counter = self.update_counter
         return Answer()
 
@@ -114,9 +113,8 @@ class Commands(Held):
         other = cp_hash and told.cp_hash not in (None, cp_hash)
         if not session.is_trial and other:
             raise Refusal("CPHASH", "A4")
-        told.digest = policy.after_secret(
-            algorithm, told.digest, self.name(request.handles[0]), policy_ref
-        )
+        name = self.name(request.handles[0])
+        told.digest = policy.after_secret(algorithm, told.digest, name, policy_ref)
         told.cp_hash = cp_hash or told.cp_hash
         # Nothing expires, so there is no timeout.
         return Answer(sized(b"") + frames.NULL_TICKET)

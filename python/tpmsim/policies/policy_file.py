@@ -148,9 +148,8 @@ class PolicyFile:
         self.policy = reader.policy(0, 1)
         self.size, self.size_line = reader.size, reader.size_line
         sizes = [reader.size] if reader.size else [digest_bytes(it) for it in ALGORITHMS]
-        self.digests = {
-            it: policy_digest(it, self.policy) for it in ALGORITHMS if digest_bytes(it) in sizes
-        }
+        those = [it for it in ALGORITHMS if digest_bytes(it) in sizes]
+        self.digests = {it: policy_digest(it, self.policy) for it in those}
 
     def is_of(self, public: nv.Public | objects.Public) -> bool:
         found = self.digests.get(public.name_algorithm)

@@ -89,9 +89,8 @@ class Public:
 
     @property
     def text(self) -> bytes:
-        return frames.nv_public_area(
-            self.index, self.name_algorithm, self.attributes, self.auth_policy, self.data_size
-        )
+        head = self.index, self.name_algorithm, self.attributes
+        return frames.nv_public_area(*head, self.auth_policy, self.data_size)
 
     @property
     def name(self) -> bytes:

@@ -48,18 +48,14 @@ class Public:
 
     @property
     def text(self) -> bytes:
-        if self.kind == KEYEDHASH:
-            details = frames.scheme(self.scheme)
-        else:
-            details = frames.symmetric(aes=True)
-        return frames.public_area(
-            self.kind, self.name_algorithm, self.attributes, self.auth_policy, details, self.unique
-        )
+        is_keyed_hash = self.kind == KEYEDHASH
+        details = frames.scheme(self.scheme) if is_keyed_hash else frames.symmetric(aes=True)
+        head = self.kind, self.name_algorithm, self.attributes
+        return frames.public_area(*head, self.auth_policy, details, self.unique)
 
     @property
     def name(self) -> bytes:
-        text_digest = digest(self.name_algorithm, self.text)
-        return number(self.name_algorithm, 2) + text_digest
+        return number(self.name_algorithm, 2) + digest(self.name_algorithm, self.text)
 
     @classmethod
     def read(cls, text: bytes) -> "Public":

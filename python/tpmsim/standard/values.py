@@ -116,10 +116,8 @@ VALUES: dict[Kind, Values] = {
     Kind.CODE: numbers(4),
     Kind.HANDLE: numbers(4),
     Kind.HASH: numbers(2),
-    Kind.BUFFER: Values(write_buffer, lambda fields: fields.sized()),
-    Kind.BUFFERS: Values(
-        lambda value: frames.sized_list(*value), read_list(lambda fields: fields.sized())
-    ),
+    Kind.BUFFER: Values(write_buffer, Fields.sized),
+    Kind.BUFFERS: Values(lambda value: frames.sized_list(*value), read_list(Fields.sized)),
     Kind.SELECTION: Values(lambda value: frames.selection(*value), read_list(read_bank)),
     Kind.DIGESTS: Values(lambda value: frames.digests(*value), read_list(read_digest)),
     Kind.CIPHER: Values(
