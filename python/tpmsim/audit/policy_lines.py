@@ -218,10 +218,8 @@ class Policies:
             yield ""
         having = [it for it in self.entities.all if it.public and it.public.auth_policy]
         others = [it for it in having if not any(judged.is_of(it) for judged in self.all)]
-        title, none = (
-            "Entities whose policy is none of these",
-            "Each entity with a policy has one of these.",
-        )
+        title = "Entities whose policy is none of these"
+        none = "Each entity with a policy has one of these."
         yield from section(title, (f"  {it.title}" for it in others), none)
 
     def unmet(self) -> list[str]:

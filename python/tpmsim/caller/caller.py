@@ -70,17 +70,8 @@ class Caller(PreparedCommands):
     ) -> Session:
         """`cipher` is AES or XOR where it is to encrypt; `size` is that of its nonces in bytes."""
         nonce, mask = self.nonce(size), algorithm if cipher == XOR else None
-        response = self.call(
-            CC.StartAuthSession,
-            RH_NULL,
-            bind,
-            uses=uses,
-            nonceCaller=nonce,
-            encryptedSalt=b"",
-            sessionType=kind,
-            symmetric=Cipher(cipher, mask),
-            authHash=algorithm,
-        )
+        given = nonce, b"", kind, Cipher(cipher, mask), algorithm
+        response = self.send(self.asked(CC.StartAuthSession, [RH_NULL, bind], uses, *given))
         answer = response.handle, response.parameters
         return self.started(answer, nonce, bind, algorithm, kind, cipher)
 

@@ -105,12 +105,8 @@ class PreparedCommands(Knowledge):
         self, session: Session, *uses: Means, of: int = RH_ENDORSEMENT, **parameters: Any
     ) -> Prepared:
         """With nothing given, by the empty password."""
-        return self.prepare(
-            CC.PolicySecret,
-            [of, session.handle],
-            frames.policy_secret(**parameters),
-            *(uses or [b""]),
-        )
+        asked = [of, session.handle], frames.policy_secret(**parameters)
+        return self.prepare(CC.PolicySecret, *asked, *(uses or [b""]))
 
     # Objects.
 

@@ -131,16 +131,10 @@ Value = dict[str, Any]
 def value_of_log(
     events: list[Event], counts: Counts, bad_line: int | None, is_whole: bool
 ) -> Value:
-    return {
-        "version": VERSION,
-        "commands": counts.commands,
-        "refused": counts.refused,
-        "power_cycles": counts.power_cycles,
-        "answers": counts.answers,
-        "differing": counts.differing,
-        "bad_line": bad_line,
-        "events": [value_of_event(it, is_whole) for it in events],
-    }
+    names = "commands", "refused", "power_cycles", "answers", "differing"
+    told = {it: getattr(counts, it) for it in names}
+    values = [value_of_event(it, is_whole) for it in events]
+    return {"version": VERSION, **told, "bad_line": bad_line, "events": values}
 
 
 def value_of_event(event: Event, is_whole: bool) -> Value:
@@ -173,15 +167,9 @@ def value_of_event(event: Event, is_whole: bool) -> Value:
 
 
 def value_of_reason(reason: Reason) -> Value:
-    return {
-        "rule": reason.rule,
-        "sentence": reason.sentence,
-        "link": reason.link,
-        "words": reason.words,
-        "at": reason.at,
-        "slips": reason.slips,
-        "facts": [vars(it) for it in reason.facts],
-    }
+    names = "rule", "sentence", "link", "words", "at", "slips"
+    told = {it: getattr(reason, it) for it in names}
+    return {**told, "facts": [vars(it) for it in reason.facts]}
 
 
 def value_of_field(field: Field) -> Value:

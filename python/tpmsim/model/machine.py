@@ -304,11 +304,9 @@ class Model(
             return frames.success(answer.parameters, handle=answer.handle)
         self.draw_nonces(command, random[answer.drawn :])
         parameters = self.answered_parameters(command, answer.parameters)
-        entries = [
-            self.entry_answer(command, parameters, entry, handle)
-            for _, entry, handle in command.places()
-        ]
-        for _, entry, handle in command.places():
+        places = list(command.places())
+        entries = [self.entry_answer(command, parameters, entry, of) for _, entry, of in places]
+        for _, entry, handle in places:
             self.end_use(entry, handle)
         return frames.success(parameters, entries, answer.handle)
 
