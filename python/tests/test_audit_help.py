@@ -8,7 +8,7 @@ from tpmsim.audit import main as command_line
 from tpmsim.audit import start
 from tpmsim.audit.auditor import Auditor
 from tpmsim.audit.log import Disagreement, Log
-from tpmsim.audit.report import report
+from tpmsim.audit.auditor import report
 from tpmsim.model.player import played
 
 

@@ -18,7 +18,7 @@ from tpmsim.caller import Caller, Refused
 from tpmsim.device import BadImage, ChildDevice, Device, DeviceEnded, KeptDevice, LibraryDevice
 from tpmsim.device import ModelDevice, ServedDevice, SimulatorDevice, StartedSwtpm, Unsupported
 from tpmsim.device.child import program_found
-from tpmsim.device.image_file import but_clock
+from tpmsim.device.library import but_clock
 from tpmsim.model.image import image
 from tpmsim.model.machine import Model
 from tpmsim.model.player import played
@@ -247,7 +247,7 @@ class Documented(unittest.TestCase):
     def test_examples(self):
         given = {it: getattr(tpmsim.device, it) for it in tpmsim.device.__all__}
         given["Caller"] = Caller
-        for name in ("told", "library", "child", "kept", "served", "swtpm"):
+        for name in ("base", "told", "library", "child", "kept", "served", "swtpm"):
             result = doctest.testmod(sys.modules[f"tpmsim.device.{name}"], extraglobs=given)
             self.assertGreater(result.attempted, 0)
             self.assertEqual(result.failed, 0)

@@ -134,7 +134,6 @@ class Server:
     async def serve(
         self, acts: dict[int, Act], reader: asyncio.StreamReader, writer: asyncio.StreamWriter
     ) -> None:
-        """One client, whose faults are its own."""
         try:
             while True:
                 writer.write(await self.answered(acts, reader))
@@ -171,9 +170,7 @@ class Server:
             self.board.power(True)
 
     async def send_command(self, reader: asyncio.StreamReader) -> bytes:
-        """A command that is too long is answered by what its header says, and ends the connection;
-        without power the answer is empty.
-        """
+        """One that is too long ends the connection behind its answer; without power it is empty."""
         locality, size = await number_from(reader, 1), await number_from(reader)
         is_too_long = size > COMMAND_BYTES
         buffer = await reader.readexactly(HEADER_BYTES if is_too_long else size)
@@ -212,7 +209,6 @@ async def number_from(reader: asyncio.StreamReader, size: int = 4) -> int:
 
 
 async def both_ports(server: Server, bind: str, port: int) -> tuple[asyncio.Server, asyncio.Server]:
-    """The listeners of commands and of the platform; with port 0 on two that are free."""
     for _ in range(TRIES_FOR_TWO_PORTS):
         commands = await server.listen(server.commands, bind, port)
         taken = int(commands.sockets[0].getsockname()[1])
@@ -226,7 +222,6 @@ async def both_ports(server: Server, bind: str, port: int) -> tuple[asyncio.Serv
 
 
 async def serve(device: Device, bind: str, port: int) -> str | None:
-    """Serves until the end, and gives the words of the fault that it was, if any."""
     server, loop = Server(device), asyncio.get_running_loop()
     listeners = await both_ports(server, bind, port)
     for it in (signal.SIGTERM, signal.SIGINT):

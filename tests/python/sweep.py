@@ -14,7 +14,7 @@ import sys
 import tempfile
 
 from tpmsim.audit import start
-from tpmsim.audit.report import report
+from tpmsim.audit.auditor import report
 from tpmsim.model.image import image
 from tpmsim.model.player import Player
 from tests.common import places

@@ -16,7 +16,7 @@ from unittest import mock
 import wrong_devices as wrong  # it lets the parts of the device and of the audit be found
 
 from tpmsim.audit.auditor import Auditor
-from tpmsim.audit.conditions import Finding
+from tpmsim.audit.ground import Finding
 from tpmsim.audit.ground import Grounds
 from tpmsim.audit.uses import Uses
 from tpmsim.model.general import Answer

@@ -1,29 +1,27 @@
-"""A script and what was printed of it, judged event by event: by the device in Python, and by what
-the history alone tells.
-"""
+"""A log, judged event by event: by the device in Python, and by what the history alone tells."""
 
-from typing import Sequence
+from dataclasses import dataclass
+from typing import Iterator, Sequence
 
 from tpmsim.audit.entities import Entities
 from tpmsim.audit.ground import Grounds
-from tpmsim.audit.guesses import Guesses
 from tpmsim.audit.lines import CounterLines, PcrLines, Repeats, ValueLines
 from tpmsim.audit.log import Disagreement, Log
 from tpmsim.audit.policy_lines import Policies
 from tpmsim.audit.session_lines import SessionLines
 from tpmsim.audit.start import Start
-from tpmsim.audit.uses import Refusals, Uses
+from tpmsim.audit.uses import Guesses, Refusals, Uses
 from tpmsim.audit.watch import Seen, Watch
 from tpmsim.model.player import BadLine, LINES, Player
 from tpmsim.policies.policy_file import PolicyFile
 from tpmsim.standard import NUMBERED
 
 
+@dataclass
 class Counts:
-    """How many events there were, of each kind."""
-
-    def __init__(self) -> None:
-        self.accepted = self.refused = self.power_cycles = 0
+    accepted: int = 0
+    refused: int = 0
+    power_cycles: int = 0
 
     @property
     def events(self) -> int:
@@ -31,9 +29,7 @@ class Counts:
 
 
 class Auditor:
-    """A log that is judged, by the policies that are given too, with what is told of it; `last` is
-    the line of its latest event.
-    """
+    """A log that is judged, with what is told of it; `last` is the line of its latest event."""
 
     def __init__(self, start: Start, log: Log, policy_files: Sequence[PolicyFile] = ()) -> None:
         device, history = start.device, start.history
@@ -79,13 +75,20 @@ class Auditor:
                 self.accept(seen)
             self.follow()
         except Disagreement as fault:
-            raise Disagreement(f"{named(seen)}: {fault}") from None
+            name = "power" if seen.is_power_cycle else command_name(seen.outcome.row.code)
+            where = ", ".join(filter(None, (f"script line {seen.line}", name)))
+            raise Disagreement(f"{where}: {fault}") from None
 
     def compare(self, seen: Seen, printed: list[str]) -> None:
         try:
             self.log.check(printed)
         except Disagreement as fault:
             raise Disagreement(f"{fault}{self.uses.reason(seen)}") from None
+
+    def follow(self) -> None:
+        told = ", ".join(self.history.differences(self.device))
+        if told:
+            raise Disagreement(f"the device is not what its history tells: {told}")
 
     def refuse(self, seen: Seen) -> None:
         self.counts.refused += 1
@@ -111,16 +114,31 @@ class Auditor:
         self.counters.note(seen)
         self.guesses.note(seen)
 
-    def follow(self) -> None:
-        """The device follows its history."""
-        told = ", ".join(self.history.differences(self.device))
-        if told:
-            raise Disagreement(f"the device is not what its history tells: {told}")
+
+def command_name(code: int) -> str:
+    return NUMBERED[code].name if code in NUMBERED else ""
 
 
-def named(seen: Seen) -> str:
-    """An event, in words: the line, and the command where it is known."""
-    if seen.is_power_cycle:
-        return f"script line {seen.line}, power"
-    code = seen.outcome.row.code
-    return f"script line {seen.line}" + (f", {NUMBERED[code].name}" if code in NUMBERED else "")
+def report(auditor: Auditor) -> Iterator[str]:
+    yield f"Start: {auditor.start.words}."
+    yield events_words(auditor.counts)
+    given = [auditor.policies.report()] if auditor.policies.all else []
+    for part in (
+        *(auditor.pcrs.report(), auditor.sessions.report(), auditor.uses.report()),
+        *(auditor.refusals.report(), *given, auditor.repeats.report()),
+        *(auditor.counters.report(), auditor.guesses.report(auditor.last)),
+    ):
+        yield ""
+        yield from part
+    yield ""
+
+
+def events_words(counts: Counts) -> str:
+    commands = counted(counts.accepted + counts.refused, "command")
+    of_these = f"{counts.accepted} of them accepted and {counts.refused} refused"
+    cycles = counted(counts.power_cycles, "power cycle")
+    return f"{counted(counts.events, 'event')}: {commands}, {of_these}, and {cycles}."
+
+
+def counted(count: int, word: str) -> str:
+    return f"{count} {word}" if count == 1 else f"{count} {word}s"

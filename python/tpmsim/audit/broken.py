@@ -1,12 +1,12 @@
-"""How a policy session came to the digest of a policy that it does not meet: the hash is broken in
-one of the ways that tpm_policy_meaning has (Meaning, BreaksHash), or the device took a
-TPM2_PolicyOR that none takes.
+"""How a policy session came to the digest of a policy that it does not meet: the hash is broken
+(Meaning and BreaksHash of tpm_policy_meaning), or a wrong TPM2_PolicyOR was taken.
 """
 
 from typing import Iterator, Sequence
 
-from tpmsim.audit.session_lines import Asserted, PolicyOr
+from tpmsim.audit.session_lines import Asserted
 from tpmsim.policies.policy_texts import Policy, policy_digest, policy_texts, texts_after, zeros
+from tpmsim.standard import CC
 from tpmsim.standard.sessions import digest
 
 Told = Sequence[Asserted]
@@ -21,9 +21,8 @@ def explanation(algorithm: int, policy: Policy, told: Told) -> str:
 
 
 def wrong_or(algorithm: int, policy: Policy, told: Told) -> str | None:
-    """A TPM2_PolicyOR that no device accepts."""
     for it in told:
-        if isinstance(it.said, PolicyOr) and it.before not in it.said.digests:
+        if it.said.code == CC.PolicyOR and it.before not in it.said.values:
             return f"line {it.line}: TPM2_PolicyOR is accepted without the digest before it"
     return None
 
@@ -31,13 +30,11 @@ def wrong_or(algorithm: int, policy: Policy, told: Told) -> str | None:
 def session_texts(algorithm: int, told: Told) -> Iterator[tuple[bytes, int]]:
     """The texts that a session hashed, each with the line of its assertion."""
     for it in told:
-        old = zeros(algorithm) if isinstance(it.said, PolicyOr) else it.before
-        for text in texts_after(algorithm, old, it.said.update(algorithm)):
+        for text in texts_after(algorithm, it.before, it.said.update(algorithm)):
             yield text, it.line
 
 
 def collision(algorithm: int, policy: Policy, told: Told) -> str | None:
-    """Two texts with one hash, one of the policy and one of the session."""
     written = [(it, digest(algorithm, it)) for it in policy_texts(algorithm, policy)]
     for text, line in session_texts(algorithm, told):
         found = digest(algorithm, text)

@@ -28,7 +28,6 @@ def kind_words(public: Public) -> str:
 
 
 def means_words(public: Public) -> str:
-    """By what an object or an index may be authorized."""
     policy = f"the policy {public.auth_policy.hex()}" if public.auth_policy else ""
     if isinstance(public, nv.Public):
         return ", ".join([*public.means, *([policy] if policy else [])])
@@ -39,9 +38,7 @@ def means_words(public: Public) -> str:
 
 @dataclass
 class Entity:
-    """What a handle names while it stays the same, with its public area, if it has one; its uses, a
-    text a line.
-    """
+    """What a handle names while it stays the same, with its uses, a text a line."""
 
     handle: int
     title: str
@@ -84,13 +81,12 @@ class Entities:
         elif event.code == CC.NV_DefineSpace:
             handle, by = defined_index(event), "NV_DefineSpace"
         elif event.code == CC.EvictControl:
-            handle, copied = event.read().next().number(4), event.handles[1]
+            handle, copied = event.given["persistentHandle"], event.handles[1]
             by = f"EvictControl of {handle_words(copied)}" if handle != copied else ""
         if by and handle is not None:
             self.begin(handle, seen.line, f"of line {seen.line} ({by})")
 
     def report(self) -> Iterator[str]:
-        """What was used, by its handle."""
         used = [it for it in self.all if it.used]
         for entity in sorted(used, key=lambda it: (it.handle, it.first)):
             yield f"  {entity.title}"

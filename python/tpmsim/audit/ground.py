@@ -1,28 +1,24 @@
-"""On what ground an entry was let in: what was checked of it, and whether that holds by the
-history. The device's own answer is not asked.
-"""
+"""On what ground an entry was let in, by the history alone: the device's answer is not asked."""
+
+from __future__ import annotations
 
 from dataclasses import dataclass
 from typing import Iterator
 
-from tpmsim.audit import conditions
-from tpmsim.audit.conditions import Finding
 from tpmsim.audit.lines import PcrLines, ValueLines
 from tpmsim.audit.session_lines import SessionLines
 from tpmsim.audit.watch import Seen, View
-from tpmsim.explain.words import SESSIONS, command_words
+from tpmsim.explain.words import command_words, SESSIONS
 from tpmsim.model.general import Command
 from tpmsim.model.history import History, LiveSession
-from tpmsim.standard import CC, DECRYPT, ENCRYPT, Entry, RS_PW, aes_tables, command_hash
-from tpmsim.standard import is_policy, policy, sessions, trimmed
+from tpmsim.standard import CC, command_hash, DECRYPT, Entry, Fact, HASH_WORDS, is_policy, nv
+from tpmsim.standard import policy, RS_PW, SE_POLICY, sessions, trimmed
 from tpmsim.standard.lines import handle_word
 
 
 @dataclass(frozen=True)
 class Use:
-    """An entry of a command: its place from 1, what it authorizes, if anything, with the view and
-    the value of that; and its session as the history has it, if it is one's.
-    """
+    """An entry of a command, what it authorizes, if anything, and its session by the history."""
 
     seen: Seen
     place: int
@@ -57,7 +53,6 @@ class Use:
 
     @property
     def demand(self) -> str | None:
-        """What a policy asks of the entry beside its session."""
         return self.live.policy.demand if self.live and self.is_policy else None
 
     @property
@@ -66,7 +61,6 @@ class Use:
 
     @property
     def is_bound(self) -> bool:
-        """Whether its session is bound to what it authorizes."""
         bound = self.session.bound
         return bound is not None and bound[:2] == (self.view.name, self.value)
 
@@ -86,8 +80,6 @@ class Use:
 
 
 class Grounds:
-    """The grounds of entries, by a history before the event."""
-
     def __init__(
         self,
         history: History,
@@ -116,13 +108,12 @@ class Grounds:
         return f"by {SESSIONS[use.live.kind]} {handle_word(use.entry.handle)} of {begun}"
 
     def findings(self, use: Use) -> list[Finding]:
-        """What is checked of an entry, each with whether it holds."""
         if not use.is_password and use.live is None:
             return [Finding(False, "there is no such session")]
         if use.handle is None:
             return [self.hmac(use)]
         if use.is_policy:
-            of_policy = conditions.findings(use, self.history, self.sessions, self.pcrs)
+            of_policy = conditions(use, self.history, self.sessions, self.pcrs)
             is_told = use.demand == policy.PASSWORD
             return [*of_policy, self.password(use) if is_told else self.hmac(use)]
         shown = self.password(use) if use.is_password else self.hmac(use)
@@ -140,26 +131,16 @@ class Grounds:
         key = use.session.key + (use.value if use.takes_value else b"")
         if not key and not use.entry.hmac:
             return Finding(True, "key and hmac are both empty")
-        wanted = sessions.entry_hmac(
-            *(use.session.algorithm, key, use.cp_hash, use.entry.nonce, use.session.nonce_tpm),
-            *(self.nonces_of_others(use), use.entry.attributes),
-        )
+        those = use.seen.command.others(use.place, use.handle)
+        others = [self.history.sessions.live[it].nonce_tpm for it in those]
+        given = use.session.algorithm, key, use.cp_hash, use.entry.nonce, use.session.nonce_tpm
+        wanted = sessions.entry_hmac(*given, others, use.entry.attributes)
         holds = use.entry.hmac == wanted
         parts = ["the session's key"] if use.session.key else []
         if use.takes_value and use.value:
             parts.append(self.values.words(use.authorized, use.value))
         told = " and ".join(parts) or "an empty key"
         return Finding(holds, f"its hmac {'holds' if holds else 'does not hold'}, under {told}")
-
-    def nonces_of_others(self, use: Use) -> list[bytes]:
-        """The nonces of the sessions that decrypt and encrypt, where these are others: of the first
-        entry alone, where it authorizes.
-        """
-        if use.place != 1 or use.handle is None:
-            return []
-        found = [use.seen.command.with_attribute(it) for it in (DECRYPT, ENCRYPT)]
-        handles = dict.fromkeys(it[1].handle for it in found if it and it[0] != 1)
-        return [self.history.sessions.live[it].nonce_tpm for it in handles]
 
     def plain_parameters(self, command: Command) -> bytes:
         """The parameters, the first one decrypted where a session does so."""
@@ -170,7 +151,78 @@ class Grounds:
         session = self.history.sessions.live[entry.handle]
         key = session.key + (b"" if handle is None else self.history.auth_values.of(handle))
         given = session.cipher, session.algorithm, key, entry.nonce, session.nonce_tpm
-        return sessions.on_first_buffer(
-            lambda data: sessions.decrypted(*given, data, aes_tables.encrypt_block),
-            command.parameters,
+        return sessions.first_decrypted(*given, command.parameters)
+
+
+# The conditions on which a policy session authorizes, each held against the history.
+
+
+@dataclass(frozen=True)
+class Finding:
+    """A condition, in words as it was found: whether it holds."""
+
+    holds: bool
+    words: str
+
+
+def either(holds: bool, words: str, other: str) -> Finding:
+    return Finding(holds, words if holds else other)
+
+
+def conditions(
+    use: Use, history: History, session_lines: SessionLines, pcr_lines: PcrLines
+) -> Iterator[Finding]:
+    """Those that are always asked for, and those that the session was told to ask for."""
+    told, view = use.session.policy, use.view
+    is_policy = use.session.kind == SE_POLICY
+    of_trial = "it is a trial session, which authorizes nothing"
+    yield either(is_policy, "it is a policy session, and not a trial one", of_trial)
+    takes_policy = view.takes_policy(use.code)
+    who = "a policy may authorize" if takes_policy else "no policy authorizes"
+    yield Finding(takes_policy, f"{who} this entity for {command_words(use.code)}")
+    if told.update_counter is not None:
+        first = session_lines.live[use.entry.handle].first_pcr or 0
+        since, last = f"its first TPM2_PolicyPCR, line {first}", pcr_lines.last_change
+        yield either(
+            last <= first and history.pcrs.updates == told.update_counter,
+            f"no PCR was written and no TPM2_Clear accepted since {since}",
+            f"line {last} {pcr_lines.last_words} after {since}",
         )
+    yield from told_conditions(use)
+    if view.public is not None:
+        own, wanted = HASH_WORDS[use.session.algorithm], HASH_WORDS[view.public.name_algorithm]
+        other = f"its hash is {own}, and the entity's nameAlg is {wanted}"
+        yield either(own == wanted, f"its hash is the entity's nameAlg, {own}", other)
+        auth_policy, has = view.public.auth_policy, "its digest by the history is"
+        other = f"{has} {told.digest.hex()}, and the authPolicy is {auth_policy.hex() or '-'}"
+        same = f"{has} the authPolicy, {told.digest.hex()}"
+        yield either(told.digest == auth_policy, same, other)
+
+
+def told_conditions(use: Use) -> Iterator[Finding]:
+    told = use.session.policy
+    if told.code is not None:
+        words = f"its command code is that of {command_words(told.code)}"
+        yield Finding(told.code == use.code, words)
+    elif use.code.has(Fact.ADMIN):
+        yield Finding(False, "it has no command code, which the role ADMIN asks for")
+    if told.cp_hash is not None:
+        cp_hash, of = told.cp_hash.hex(), "that of the command"
+        other = f"its cpHash is not {of}: {cp_hash}"
+        yield either(told.cp_hash == use.cp_hash, f"its cpHash is {of}, {cp_hash}", other)
+    if told.nv_written is not None:
+        yield of_written(told.nv_written, use)
+    if told.localities != policy.ALL_LOCALITIES:
+        allowed = [str(it) for it in range(5) if told.localities >> it & 1]
+        holds = str(use.seen.locality) in allowed
+        one = "one" if holds else "none"
+        yield Finding(holds, f"locality {use.seen.locality} is {one} of {', '.join(allowed)}")
+
+
+def of_written(told: bool, use: Use) -> Finding:
+    wanted = "written" if told else "not written"
+    if use.view.index is None:
+        return Finding(False, f"it is to be an NV index that is {wanted}, and is none")
+    is_written = use.view.index.has(nv.Attribute.WRITTEN)
+    other = f"it is to be {wanted}, and is {'' if is_written else 'not '}written"
+    return either(is_written == told, f"it is {wanted}, as its session was told", other)

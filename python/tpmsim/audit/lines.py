@@ -1,6 +1,4 @@
-"""Which line of the script wrote the value of each PCR, set each authorization value, and counted
-each NV counter; and which sent a command again.
-"""
+"""Which line wrote each PCR, set each value and counted each counter, and sent a command again."""
 
 from __future__ import annotations
 
@@ -8,13 +6,14 @@ import hashlib
 from dataclasses import dataclass
 from typing import Iterator, TYPE_CHECKING
 
+from tpmsim.audit.log import section
 from tpmsim.audit.watch import Seen
 from tpmsim.explain.words import command_words
 from tpmsim.model import pcrs, state
-from tpmsim.model.history import Accepted, History, Pcrs, defined_index
+from tpmsim.model.history import Accepted, defined_index, History
 from tpmsim.model.machine import Model
-from tpmsim.standard import CC, HASH_WORDS, RH_ENDORSEMENT, RH_LOCKOUT, RH_OWNER, RH_PLATFORM
-from tpmsim.standard import SE_HMAC, SHA1, SHA256, is_pcr, nv
+from tpmsim.standard import CC, HASH_WORDS, is_pcr, nv, RH_ENDORSEMENT, RH_LOCKOUT, RH_OWNER
+from tpmsim.standard import RH_PLATFORM, SE_HMAC, SHA1, SHA256
 from tpmsim.standard.lines import handle_word
 
 if TYPE_CHECKING:
@@ -26,9 +25,7 @@ OF_IMAGE = "written before the image"
 
 
 class PcrLines:
-    """The line that wrote each value last, in words; and the last line that wrote one, or was a
-    TPM2_Clear that was accepted, with words for that.
-    """
+    """The line that wrote each value last, and the last that wrote one or was a TPM2_Clear."""
 
     def __init__(self, history: History, has_image: bool) -> None:
         self.pcrs, self.updates = history.pcrs, 0
@@ -50,30 +47,28 @@ class PcrLines:
         self.written |= dict.fromkeys(written_by(event), f"line {seen.line}")
         if event.code == CC.Shutdown:
             self.saved = dict(self.written)
-        if event.code == CC.Startup and event.read().next().number(2) == state.STATE:
+        if event.code == CC.Startup and event.given["startupType"] == state.STATE:
             for at, was in self.saved.items():
                 if at[1] < state.SAVED_PCRS:
                     self.written[at] = f"{was}, and taken up by line {seen.line}"
 
     def report(self) -> Iterator[str]:
-        values = self.pcrs.values.items()
-        changed = {at: value for at, value in values if value != pcrs.starting_value(*at)}
-        if not changed:
-            yield "PCRs: each has the value that a startup gives it."
-            return
-        yield "PCRs that are not as a startup leaves them, each with the line that wrote it last"
-        for at in sorted(changed, key=lambda it: BANKS.index(it[0])):
-            told = f"{HASH_WORDS[at[0]]} PCR {at[1]}: {changed[at].hex()}"
-            yield f"    {told}, {self.written[at]}"
+        title = "PCRs that are not as a startup leaves them, each with the line that wrote it last"
+        values = sorted(self.pcrs.values.items(), key=lambda it: BANKS.index(it[0][0]))
+        told = (
+            f"    {HASH_WORDS[bank]} PCR {pcr}: {value.hex()}, {self.written[bank, pcr]}"
+            for (bank, pcr), value in values
+            if value != pcrs.starting_value(bank, pcr)
+        )
+        return section(title, told, "PCRs: each has the value that a startup gives it.")
 
 
 def written_by(event: Accepted) -> list[tuple[int, int]]:
-    """The banks and the PCR whose values a command writes."""
     pcr = event.handles[0] if event.handles else -1
     if not is_pcr(pcr):
         return []
     if event.code == CC.PCR_Extend:
-        return [(bank, pcr) for bank, _ in Pcrs.digests(event.read().next())]
+        return [(bank, pcr) for bank, _ in event.given["digests"]]
     is_write = event.code in (CC.PCR_Event, CC.PCR_Reset)
     return [(bank, pcr) for bank in BANKS] if is_write else []
 
@@ -104,8 +99,8 @@ def handles_set(event: Accepted) -> list[int]:
     if event.code in (CC.CreatePrimary, CC.Load):
         return [event.handle]
     if event.code == CC.EvictControl:
-        return [event.read().next().number(4)]
-    if event.code == CC.Startup and event.read().next().number(2) == state.CLEAR:
+        return [event.given["persistentHandle"]]
+    if event.code == CC.Startup and event.given["startupType"] == state.CLEAR:
         return [RH_PLATFORM]
     return [RH_OWNER, RH_ENDORSEMENT, RH_LOCKOUT] if event.code == CC.Clear else []
 
@@ -127,18 +122,13 @@ class Counted:
 
     def words(self) -> str:
         told = [f"{value} ({line})" for value, line in zip(self.values, self.lines)]
-        values = "no value"
-        if len(told) == 1:
-            values = f"one value, {told[0]}"
-        elif told:
-            values = f"each value from {told[0]} to {told[1]}"
+        counts = "no value", "one value, {}", "each value from {} to {}"
+        values = counts[len(told)].format(*told)
         ended = f"; {self.ended}" if self.ended else ""
         return f"  {handle_word(self.handle)} {self.since}: {values}{ended}"
 
 
 class CounterLines:
-    """Where each counter was defined, and the values that it had."""
-
     def __init__(self, device: Model, history: History) -> None:
         self.device, self.history = device, history
         self.now: dict[int, Counted] = {}
@@ -172,18 +162,12 @@ class CounterLines:
                 self.now.pop(handle).ended = f"undefined by {line}"
 
     def report(self) -> Iterator[str]:
-        if not self.all:
-            yield "NV counters: none."
-            return
-        yield "NV counters, each with the values that it had"
-        yield from (it.words() for it in self.all)
+        title = "NV counters, each with the values that it had"
+        return section(title, (it.words() for it in self.all), "NV counters: none.")
 
 
 class Repeats:
-    """Commands with an hmac of an HMAC session that were accepted again, byte for byte, while the
-    session lived. What each had accepted: of a command, by its digest, the line and the nonceTPM of
-    then.
-    """
+    """Commands with an HMAC session's hmac that were accepted again, byte for byte, while it lived."""
 
     def __init__(self, sessions: SessionLines) -> None:
         self.sessions, self.told = sessions, list[str]()
@@ -205,8 +189,5 @@ class Repeats:
         accepted[digest] = use.seen.line, nonce
 
     def report(self) -> Iterator[str]:
-        if not self.told:
-            yield "Commands accepted again with an hmac: none."
-            return
-        yield "Commands accepted again with an hmac, byte for byte"
-        yield from self.told
+        title = "Commands accepted again with an hmac"
+        return section(f"{title}, byte for byte", self.told, f"{title}: none.")

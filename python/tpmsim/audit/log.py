@@ -1,5 +1,7 @@
 """What was printed of a script, line by line, held against what is to come."""
 
+from typing import Iterable, Iterator
+
 SHOWN, BEFORE = 96, 24
 
 
@@ -16,11 +18,17 @@ def shown(text: str, first: int) -> str:
 
 
 def both(given: str, wanted: str) -> str:
-    """Two texts that differ, in words."""
     pairs = zip(given, wanted)
     first = next((at for at, (a, b) in enumerate(pairs) if a != b), min(len(given), len(wanted)))
     said, due = shown(given, first), shown(wanted, first)
     return f"the log says {said}, and a device of this start answers {due}"
+
+
+def section(title: str, told: Iterable[str], none: str) -> Iterator[str]:
+    """A part of a report, or that there is nothing to tell."""
+    rows = list(told)
+    yield title if rows else none
+    yield from rows
 
 
 class Log:

@@ -21,10 +21,9 @@ import sys
 from dataclasses import dataclass, field
 
 from tpmsim.audit import start
-from tpmsim.audit.auditor import Auditor
+from tpmsim.audit.auditor import Auditor, report
 from tpmsim.audit.log import Disagreement, Log
-from tpmsim.audit.report import report
-from tpmsim.explain.main import Usage, read
+from tpmsim.explain.main import read, Usage
 from tpmsim.model.image import Fault
 from tpmsim.policies.policy_file import Fault as PolicyFault, PolicyFile
 
@@ -38,9 +37,7 @@ AGREES = (
 
 @dataclass
 class Asked:
-    """The names of the script and of its output, that of the image, if there is one, and those of
-    policies.
-    """
+    """The names of the script and of its output, of an image and of policies."""
 
     names: list[str] = field(default_factory=list)
     images: list[str] = field(default_factory=list)
@@ -63,26 +60,18 @@ def asked_of(words: list[str]) -> Asked:
     return asked
 
 
-def policy_of(name: str) -> PolicyFile:
+def auditor_of(asked: Asked, log: Log) -> Auditor:
     try:
-        return PolicyFile(name, read(name))
-    except PolicyFault as fault:
-        raise Usage(f"{name} {fault}") from None
-
-
-def start_of(images: list[str]) -> start.Start:
-    try:
-        return start.of_image(read(images[0])) if images else start.new()
+        begun = start.of_image(read(asked.images[0])) if asked.images else start.new()
     except Fault as fault:
         raise Usage(f"image {fault}") from None
-
-
-def tell(auditor: Auditor, last: str) -> None:
-    """Prints the report; who reads it may close it before it ends."""
-    try:
-        print(*report(auditor), last, sep="\n", flush=True)
-    except BrokenPipeError:
-        os.dup2(os.open(os.devnull, os.O_WRONLY), sys.stdout.fileno())
+    policies = list[PolicyFile]()
+    for name in asked.policies:
+        try:
+            policies.append(PolicyFile(name, read(name)))
+        except PolicyFault as fault:
+            raise Usage(f"{name} {fault}") from None
+    return Auditor(begun, log, policies)
 
 
 def main(*words: str) -> int:
@@ -92,7 +81,7 @@ def main(*words: str) -> int:
     try:
         asked = asked_of(list(words))
         script, log = read(asked.names[0]), Log(read(asked.names[1]))
-        auditor = Auditor(start_of(asked.images), log, [policy_of(it) for it in asked.policies])
+        auditor = auditor_of(asked, log)
     except Usage as wrong:
         print(f"audit: {wrong}", file=sys.stderr)
         return 2
@@ -101,7 +90,12 @@ def main(*words: str) -> int:
         auditor.read(script)
     except Disagreement as found:
         fault = str(found)
-    tell(auditor, f"The report ends here: {fault}." if fault else AGREES)
+    last = f"The report ends here: {fault}." if fault else AGREES
+    try:
+        print(*report(auditor), last, sep="\n", flush=True)
+    except BrokenPipeError:
+        # Who reads it may close it before it ends.
+        os.dup2(os.open(os.devnull, os.O_WRONLY), sys.stdout.fileno())
     faults = [fault, *auditor.policies.unmet()] if fault else auditor.policies.faults()
     for it in faults:
         print(f"audit: {it}", file=sys.stderr)

@@ -1,17 +1,16 @@
-"""Policies that a reviewer has in words: which entities have them, and whether each use by a policy
-session met the policy of its entity. It has to have told, one after another and along one branch at
-each PolicyOR, what is written, as tpm_policy_meaning has it (Meaning); what is written later has to be
-told later too, which the digest sees to. And what the policy says has to hold at the use.
+"""Policies that a reviewer has in words: which entities have them, and whether each use met that of
+its entity. Its session has to have asserted what is written, one after another and along one branch
+at each PolicyOR, as tpm_policy_meaning has it (Meaning); and that has to hold at the use.
 """
 
 from dataclasses import dataclass
 from typing import Iterator, Sequence
 
 from tpmsim.audit import broken
-from tpmsim.audit.conditions import Finding
 from tpmsim.audit.entities import Entities, Entity
-from tpmsim.audit.ground import Grounds, Use
-from tpmsim.audit.session_lines import Asserted, PolicyOr
+from tpmsim.audit.ground import Finding, Grounds, Use
+from tpmsim.audit.log import section
+from tpmsim.audit.session_lines import Asserted
 from tpmsim.explain.words import command_words
 from tpmsim.model.parameters import Parameters
 from tpmsim.policies.policy_file import PolicyFile
@@ -27,8 +26,6 @@ class NotMet(Exception):
 
 @dataclass(frozen=True)
 class Step:
-    """What is written, with the assertion that says it."""
-
     written: Written
     asserted: Asserted
 
@@ -65,7 +62,7 @@ def steps_of(algorithm: int, of: Policy, told: Sequence[Asserted]) -> list[Step 
 def steps_at_or(algorithm: int, of: Policy, told: Sequence[Asserted]) -> list[Step | Choice]:
     """Those of the branch whose digest TPM2_PolicyOR found."""
     head = f"policy line {of.line}, either"
-    if not told or not isinstance(told[-1].said, PolicyOr):
+    if not told or told[-1].said.code != CC.PolicyOR:
         raise NotMet(f"{head}: TPM2_PolicyOR was not asserted")
     *earlier, latest = told
     fault = NotMet(f"{head}: before line {latest.line} (PolicyOR) the digest is that of no branch")
@@ -79,11 +76,7 @@ def steps_at_or(algorithm: int, of: Policy, told: Sequence[Asserted]) -> list[St
     raise fault
 
 
-# At a use.
-
-
 def finding(step: Step, use: Use, grounds: Grounds) -> Finding:
-    """That of a step, with the lines of the policy and of the assertion."""
     written, asserted = step.written, step.asserted
     name, other = written.said.code.name, asserted.said.code.name
     found = of_assertion(written.said, asserted, use, grounds)
@@ -116,7 +109,6 @@ def of_assertion(said: Said, asserted: Asserted, use: Use, grounds: Grounds) -> 
 
 
 def of_pcrs(selection: bytes, digest: bytes, line: int, use: Use, grounds: Grounds) -> Finding:
-    """The PCRs have the digest that is written, and have had it since the assertion."""
     selected = Parameters(selection).next().selection()
     now, lines = grounds.history.pcrs.digest(use.session.algorithm, selected), grounds.pcrs
     if now != digest:
@@ -127,7 +119,6 @@ def of_pcrs(selection: bytes, digest: bytes, line: int, use: Use, grounds: Groun
 
 
 def of_value(use: Use, grounds: Grounds) -> Finding:
-    """The authorization value is in the key of the hmac, or it is the password."""
     if use.demand is None:
         return Finding(False, "the session asks for no authorization value")
     asks_password = use.demand == policy.PASSWORD
@@ -150,9 +141,7 @@ Judgement = tuple[str | None, list[str]]
 
 
 class Judged:
-    """A policy's file, with what is told of the uses of each entity that has it, and with the uses
-    that do not meet it.
-    """
+    """A policy's file, with the uses of the entities that have it, and those that miss it."""
 
     def __init__(self, file: PolicyFile) -> None:
         self.file, self.unmet = file, list[str]()
@@ -190,7 +179,6 @@ class Judged:
         return held(steps, use, grounds) if has_digest else (other, [other])
 
     def report(self, entities: list[Entity]) -> Iterator[str]:
-        """The policy, who has it, and the uses of those."""
         yield from self.file.report()
         having = [it for it in entities if self.is_of(it)]
         if not having:
@@ -205,28 +193,22 @@ class Judged:
 
 def held(steps: list[Step | Choice], use: Use, grounds: Grounds) -> Judgement:
     """The first condition that does not hold at a use is what it lacks."""
-    lacks, told = None, []
-    for step in steps:
-        if isinstance(step, Choice):
-            told.append(step.words)
-            continue
-        found = finding(step, use, grounds)
-        told.append(found.words)
-        if not found.holds and lacks is None:
-            lacks = found.words
-    return lacks, told
+    found = [
+        Finding(True, it.words) if isinstance(it, Choice) else finding(it, use, grounds)
+        for it in steps
+    ]
+    lacks = next((it.words for it in found if not it.holds), None)
+    return lacks, [it.words for it in found]
 
 
 class Policies:
-    """Those that are given."""
-
     def __init__(self, files: Sequence[PolicyFile], entities: Entities, grounds: Grounds) -> None:
         self.all = [Judged(it) for it in files]
         self.entities, self.grounds = entities, grounds
 
     def note(self, use: Use) -> None:
         """A use of an entity that is accepted, before the history has it."""
-        for judged in self.all if use.view.public is not None else []:
+        for judged in self.all:
             if use.view.public and judged.file.is_of(use.view.public):
                 judged.note(use, self.entities.of(use.authorized), self.grounds)
 
@@ -234,20 +216,13 @@ class Policies:
         for judged in self.all:
             yield from judged.report(self.entities.all)
             yield ""
-        others = [it for it in self.entities.all if self.is_other(it)]
-        if not others:
-            yield "Each entity with a policy has one of these."
-            return
-        yield "Entities whose policy is none of these"
-        yield from (f"  {it.title}" for it in others)
-
-    def is_other(self, entity: Entity) -> bool:
-        """Whether an entity has a policy, and none of these."""
-        has_policy = entity.public is not None and bool(entity.public.auth_policy)
-        return has_policy and not any(it.is_of(entity) for it in self.all)
+        having = [it for it in self.entities.all if it.public and it.public.auth_policy]
+        others = [it for it in having if not any(judged.is_of(it) for judged in self.all)]
+        title = "Entities whose policy is none of these"
+        none = "Each entity with a policy has one of these."
+        yield from section(title, (f"  {it.title}" for it in others), none)
 
     def unmet(self) -> list[str]:
-        """The uses that do not meet the policy of their entity."""
         return [words for judged in self.all for words in judged.unmet]
 
     def faults(self) -> list[str]:

@@ -1,49 +1,31 @@
-"""Where each session began, what it was told, in the terms of a written policy as tpm_policy_meaning has
-it (Asserted), and for what it was used.
-"""
+"""What each session was told, as tpm_policy_meaning has it (Asserted), and for what it was used."""
 
 from dataclasses import dataclass, field
 from typing import Iterator
 
+from tpmsim.audit.log import section
 from tpmsim.audit.watch import Seen
 from tpmsim.explain.past import said_words
 from tpmsim.explain.words import command_words, handle_words, SESSIONS
 from tpmsim.model import history
-from tpmsim.model.history import Accepted, History, LiveSession, Pcrs
-from tpmsim.policies.policy_texts import or_update
-from tpmsim.policies.written import Said, Update
-from tpmsim.standard import CC, frames, HASH_WORDS, SE_HMAC, values
+from tpmsim.model.history import History, LiveSession, Pcrs
+from tpmsim.policies.written import Said, said_of
+from tpmsim.standard import CC, HASH_WORDS, SE_HMAC
 from tpmsim.standard.lines import handle_word
 
 
 @dataclass(frozen=True)
-class PolicyOr:
-    """The digest before it is one of these."""
-
-    digests: tuple[bytes, ...]
-    code = CC.PolicyOR
-    words = "PolicyOR"
-
-    def update(self, algorithm: int) -> Update:
-        return or_update(self.digests)
-
-
-@dataclass(frozen=True)
 class Asserted:
-    """An accepted assertion: its line of the script, what it says, the entity of TPM2_PolicySecret
-    or the index of TPM2_PolicyNV in words, and the digest before and after it.
-    """
+    """An accepted assertion; `of` is the entity or the index that it is about, in words."""
 
     line: int
-    said: Said | PolicyOr
+    said: Said
     of: str
     before: bytes
     digest: bytes
 
     def says(self, said: Said) -> bool:
-        """Whether it says what is written. TPM2_PolicyAuthValue and TPM2_PolicyPassword have one
-        digest, so that each of them stands for both.
-        """
+        """PolicyAuthValue and PolicyPassword have one digest, and stand for each other."""
         ask_value = self.said.code in ASK_VALUE and said.code in ASK_VALUE
         return ask_value or self.said == said
 
@@ -52,29 +34,15 @@ ASK_VALUE = CC.PolicyAuthValue, CC.PolicyPassword
 
 
 def asserted_by(seen: Seen, before: LiveSession, after: LiveSession, pcrs: Pcrs) -> Asserted:
-    """The assertion of an event, with its session before and after it, and the PCRs."""
+    """Of a policy session TPM2_PolicyPCR asserts the values of now."""
     event, of = seen.accepted, ""
     if event.code in (CC.PolicySecret, CC.PolicyNV):
         of = handle_words(event.handles[0 if event.code == CC.PolicySecret else 1])
-    said = said_by(event, before.algorithm, pcrs)
+    said = said_of(
+        *(CC(event.code), event.parameters, event.names),
+        lambda selected, _: pcrs.digest(before.algorithm, selected),
+    )
     return Asserted(seen.line, said, of, before.policy.digest, after.policy.digest)
-
-
-def said_by(event: Accepted, algorithm: int, pcrs: Pcrs) -> Said | PolicyOr:
-    """Of a policy session TPM2_PolicyPCR asserts the values of now."""
-    code = CC(event.code)
-    given = values.read_all(code.parameters, event.parameters)
-    match code:
-        case CC.PolicyPCR:
-            of_now = pcrs.digest(algorithm, given["pcrs"])
-            return Said(code, (frames.selection(*given["pcrs"]), of_now))
-        case CC.PolicyOR:
-            return PolicyOr(tuple(given["pHashList"]))
-        case CC.PolicySecret:
-            return Said(code, (event.names[0], given["policyRef"]))
-        case CC.PolicyNV:
-            return Said(code, (event.names[1], *given.values()))
-    return Said(code, tuple(given.values()))
 
 
 @dataclass
@@ -111,7 +79,6 @@ class SessionLines:
         return f"line {self.live[handle].line}"
 
     def protection(self, handle: int) -> str | None:
-        """What wrong entries of a session count at by its binding, if at anything."""
         return self.live[handle].protection if handle in self.live else None
 
     def assert_on(self, seen: Seen) -> None:
@@ -137,23 +104,22 @@ class SessionLines:
     def note(self, seen: Seen) -> None:
         """An event, once the history has it."""
         if seen.is_power_cycle:
-            for begun in self.live.values():
-                begun.tell(seen.line, "the power cycle ends it")
-            self.live = {}
+            for handle in list(self.live):
+                self.end(seen.line, handle, "the power cycle ends it")
             return
-        event = seen.accepted
+        event, line = seen.accepted, seen.line
         if event.code == CC.StartAuthSession:
             self.start(seen)
         elif event.code == CC.PolicyRestart:
             self.live[event.handles[0]].restart()
-            self.live[event.handles[0]].tell(seen.line, "PolicyRestart takes all assertions back")
+            self.live[event.handles[0]].tell(line, "PolicyRestart takes all assertions back")
         elif event.code == CC.PolicyGetDigest:
-            self.live[event.handles[0]].tell(seen.line, "PolicyGetDigest tells its digest")
+            self.live[event.handles[0]].tell(line, "PolicyGetDigest tells its digest")
         elif event.code == CC.FlushContext:
-            self.end(seen, event.read().next().number(4), "FlushContext ends it")
+            self.end(line, event.given["flushHandle"], "FlushContext ends it")
         for use in event.uses:
             if not use.continues:
-                self.end(seen, use.handle, f"{command_words(event.code)} ends it")
+                self.end(line, use.handle, f"{command_words(event.code)} ends it")
             elif use.authorizes and use.handle in self.live:
                 self.live[use.handle].restart()
 
@@ -166,15 +132,11 @@ class SessionLines:
             begun.title = f"{kind} {handle_word(handle)} of line {seen.line}, {algorithm}"
             self.all.append(begun)
 
-    def end(self, seen: Seen, handle: int, words: str) -> None:
+    def end(self, line: int, handle: int, words: str) -> None:
         if handle in self.live:
-            self.live.pop(handle).tell(seen.line, words)
+            self.live.pop(handle).tell(line, words)
 
     def report(self) -> Iterator[str]:
-        if not self.all:
-            yield "Policy sessions: none."
-            return
-        yield "Policy sessions, with the digest after each assertion"
-        for begun in self.all:
-            yield f"  {begun.title}"
-            yield from begun.told
+        title = "Policy sessions, with the digest after each assertion"
+        told = (row for begun in self.all for row in (f"  {begun.title}", *begun.told))
+        return section(title, told, "Policy sessions: none.")

@@ -9,10 +9,7 @@ from tpmsim.model import state
 from tpmsim.model.history import History
 from tpmsim.model.image import open_image
 from tpmsim.model.machine import Model
-from tpmsim.standard import nv, RH_ENDORSEMENT, RH_LOCKOUT, RH_OWNER, RH_PLATFORM
-from tpmsim.standard.aes_tables import encrypt_block
-
-HIERARCHIES = RH_OWNER, RH_ENDORSEMENT, RH_PLATFORM, RH_LOCKOUT
+from tpmsim.standard import HIERARCHIES, nv
 
 
 @dataclass
@@ -24,12 +21,12 @@ class Start:
 
 
 def new() -> Start:
-    return Start(Model(block_cipher=encrypt_block), History(), "a new device")
+    return Start(Model(), History(), "a new device")
 
 
 def of_image(text: bytes) -> Start:
     """The device of an image; one that is none is image.Fault."""
-    device, history = open_image(text, encrypt_block), History()
+    device, history = open_image(text), History()
     for handle in (*HIERARCHIES, *device.objects, *device.indices):
         history.auth_values.values[handle] = device.auth_value(handle)
     for handle, index in device.indices.items():

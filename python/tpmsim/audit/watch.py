@@ -4,13 +4,12 @@ from dataclasses import dataclass, field
 from functools import cached_property
 
 from tpmsim.explain.play import Event, OF_ENTRIES, Watched
-from tpmsim.explain.scene import Scene
 from tpmsim.model import nv_commands
 from tpmsim.model.general import Command
 from tpmsim.model.history import Accepted, PowerCycle
 from tpmsim.model.machine import Model, Outcome
 from tpmsim.model.protection import LOCKOUT_AUTH, TRIES
-from tpmsim.standard import CC, RH_LOCKOUT, name_of, nv, objects
+from tpmsim.standard import CC, name_of, nv, objects, RH_LOCKOUT
 
 Public = nv.Public | objects.Public
 
@@ -19,9 +18,7 @@ OF_PARAMETERS = "INSUFFICIENT/p1"
 
 
 class View:
-    """What everybody may read of what a handle names: the public area of an object or of an NV
-    index; of all else there is none.
-    """
+    """What everybody may read of what a handle names: the public area, where it has one."""
 
     def __init__(self, handle: int, public: Public | None = None) -> None:
         self.handle, self.public = handle, public
@@ -32,19 +29,15 @@ class View:
 
     @property
     def index(self) -> nv.Public | None:
-        """The public area of an NV index."""
         return self.public if isinstance(self.public, nv.Public) else None
 
     @property
     def protection(self) -> str | None:
-        """What wrong authorization values count at, if at anything."""
         if self.public is None:
             return LOCKOUT_AUTH if self.handle == RH_LOCKOUT else None
-        free = nv.Attribute.NO_DA if self.index else objects.Attribute.NO_DA
-        return None if self.public.has(free) else TRIES
+        return None if self.public.is_free else TRIES
 
     def takes_auth_value(self, code: CC) -> bool:
-        """Whether its authorization value authorizes it for a command."""
         if self.index:
             return nv_commands.takes_auth_value(self.index, code)
         return self.public is None or self.public.has(objects.Attribute.USER_WITH_AUTH)
@@ -56,16 +49,14 @@ class View:
 
 
 def view_of(device: Model, handle: int) -> View:
-    held = device.objects.get(handle) or device.indices.get(handle)
+    held = device.held(handle)
     return View(handle, held.public if held else None)
 
 
 @dataclass
 class Seen:
-    """An event: a command's buffer, what it was told and what came of it; the command, where it
-    passed the general checks, with a view of each handle before it; what is told of the event,
-    where it was accepted; why it was refused, where that is for none of its entries; and the number
-    of the script's line.
+    """An event. `known` is the command where it passed the general checks, with a view of each
+    handle before it; `event` is what is told of it, where it was accepted.
     """
 
     buffer: bytes = b""
@@ -102,7 +93,6 @@ class Seen:
 
     @property
     def is_refused_entry(self) -> bool:
-        """Whether a command is refused for one of its entries."""
         is_refused = self.event is None and self.explained is not None
         return is_refused and is_of_entry(self.outcome.row.check, self.outcome.refused)
 
@@ -114,16 +104,12 @@ def is_of_entry(check: str, refused: str | None) -> bool:
     return check in OF_ENTRIES and refused != OF_PARAMETERS
 
 
-def is_explained(scene: Scene) -> bool:
-    """A refusal for an entry is judged by the history."""
-    return not is_of_entry(scene.check, scene.refused)
-
-
 class Watch(Watched):
     """Stands between a device and who calls it; `seen` is the event that was seen last, if any."""
 
     def __init__(self, device: Model) -> None:
-        super().__init__(device, is_explained)
+        # A refusal for an entry is judged by the history.
+        super().__init__(device, lambda scene: not is_of_entry(scene.check, scene.refused))
         self.seen: Seen | None = None
         setattr(device, "execute", self.executed)
         setattr(device, "tell", self.told)

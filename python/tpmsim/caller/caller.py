@@ -56,8 +56,6 @@ class Caller(PreparedCommands):
         """Sends any command, as `call("NV_Read", index, index, size=8, offset=0)`."""
         return self.send(self.command(name, *those, uses=uses, **arguments))
 
-    # Starts and sessions.
-
     def start_up(self, kind: int = CLEAR) -> None:
         self.send(self.starting(kind))
 
@@ -70,21 +68,10 @@ class Caller(PreparedCommands):
         cipher: int = ALG_NULL,
         size: int = NONCE_BYTES,
     ) -> Session:
-        """Starts a session, bound to an entity or to nothing. `cipher` is AES or XOR where it is to
-        encrypt; `size` is that of its nonces in bytes.
-        """
+        """`cipher` is AES or XOR where it is to encrypt; `size` is that of its nonces in bytes."""
         nonce, mask = self.nonce(size), algorithm if cipher == XOR else None
-        response = self.call(
-            CC.StartAuthSession,
-            RH_NULL,
-            bind,
-            uses=uses,
-            nonceCaller=nonce,
-            encryptedSalt=b"",
-            sessionType=kind,
-            symmetric=Cipher(cipher, mask),
-            authHash=algorithm,
-        )
+        given = nonce, b"", kind, Cipher(cipher, mask), algorithm
+        response = self.send(self.asked(CC.StartAuthSession, [RH_NULL, bind], uses, *given))
         answer = response.handle, response.parameters
         return self.started(answer, nonce, bind, algorithm, kind, cipher)
 
@@ -100,7 +87,6 @@ class Caller(PreparedCommands):
         return self.tell(session, words)
 
     def tell(self, session: Session, words: str) -> Use:
-        """Tells a policy or a trial session a policy in words."""
         use = Use(session)
         for step in steps_of(policy_of(words), session.algorithm):
             self.tell_step(use, step)
@@ -111,7 +97,9 @@ class Caller(PreparedCommands):
         if step.branches:
             self.tell_branch(use, step)
         elif step.code in (CC.PolicySecret, CC.PolicyNV):
-            those = [self.handle_of(step.name), session.handle]
+            # A Name that is not known is a handle itself.
+            known = [handle for handle, name in self.names.items() if name == step.name]
+            those = [*(known or [int.from_bytes(step.name, "big")])[:1], session.handle]
             if step.code == CC.PolicyNV:
                 those.insert(0, those[0])
             self.send(self.prepare(step.code, those, step.parameters, *self.by((), those[0])))
@@ -134,19 +122,10 @@ class Caller(PreparedCommands):
         assert refused is not None
         raise refused
 
-    def handle_of(self, name: bytes) -> int:
-        """The handle of a Name that is known, or that is a handle itself."""
-        known = [handle for handle, it in self.names.items() if it == name]
-        return known[0] if known else int.from_bytes(name, "big")
-
-    # Objects and indices.
-
     def create_primary(
         self, public: objects.Public, *uses: Means, hierarchy: int = RH_OWNER, **more: Any
     ) -> int:
-        """The handle of a primary object. `user_auth`, `data`, `outside_info` and `pcrs` may be
-        given.
-        """
+        """The handle; `user_auth`, `data`, `outside_info` and `pcrs` may be given."""
         handle = self.send(self.primary(hierarchy, public, *uses, **more)).handle
         assert handle is not None
         return handle
@@ -165,6 +144,5 @@ class Caller(PreparedCommands):
         return handle
 
     def define(self, public: nv.Public, *uses: Means, auth: bytes = b"", by: int = RH_OWNER) -> int:
-        """The handle of an index that is defined, with this authorization value."""
         self.send(self.defining(public, *uses, auth=auth, by=by))
         return public.index

@@ -1,6 +1,4 @@
-"""A command that is ready to be sent, and the sessions of its entries; and what it came to: the fields
-of a response, or why it is refused.
-"""
+"""A command that is ready to be sent, the sessions of its entries, and what it came to."""
 
 from __future__ import annotations
 
@@ -86,7 +84,6 @@ class Prepared:
         return replace(self, **changes)
 
     def but_entry(self, place: int, **changes: Any) -> Prepared:
-        """The same with another entry in a place, from 1."""
         entries = list(self.entries)
         entries[place - 1] = replace(entries[place - 1], **changes)
         return replace(self, entries=entries)

@@ -14,7 +14,6 @@ from tpmsim.caller.entries import Means, Prepared, Session, Use
 from tpmsim.standard import CC, CONTINUE_SESSION, DECRYPT, ENCRYPT, Entry, Fields, frames
 from tpmsim.standard import handle_kinds, nv, policy, RH_ENDORSEMENT, RH_LOCKOUT, RH_NULL, RH_OWNER
 from tpmsim.standard import RH_PLATFORM, RS_PW, sessions, TRANSIENT, trimmed, values
-from tpmsim.standard.aes_tables import encrypt_block
 
 NONCE_BYTES = 16
 
@@ -81,8 +80,6 @@ class Knowledge:
             for name in rules:
                 del vars(self)[name]
 
-    # Commands.
-
     def prepare(
         self, code: CC, handles: Sequence[int], parameters: bytes = b"", *means: Means
     ) -> Prepared:
@@ -115,32 +112,18 @@ class Knowledge:
         return session.key + (auth_value if is_in_key else b"")
 
     def encrypted(self, use: Use, handle: int | None, parameters: bytes) -> bytes:
-        """Parameters of a command with the bytes of the first one encrypted."""
-        session = use.session
-        nonces = use.nonce or b"", session.nonce_tpm
-        return self.changed(sessions.encrypted, session, handle, nonces, parameters)
+        session, key = use.session, use.session.key + self.auth_value(handle)
+        given = session.cipher, session.algorithm, key, use.nonce or b"", session.nonce_tpm
+        return sessions.first_encrypted(*given, parameters)
 
-    def decrypted(self, use: Use, handle: int | None, parameters: bytes) -> bytes:
-        """The other way round."""
-        session = use.session
-        nonces = use.nonce or b"", session.nonce_tpm
-        return self.changed(sessions.decrypted, session, handle, nonces, parameters)
-
-    def changed(
-        self,
-        change: Callable[..., bytes],
-        session: Session,
-        handle: int | None,
-        nonces: tuple[bytes, bytes],
-        parameters: bytes,
+    def decrypted(
+        self, use: Use, handle: int | None, parameters: bytes, is_answer: bool = False
     ) -> bytes:
-        key = session.key + self.auth_value(handle)
-        return sessions.on_first_buffer(
-            lambda data: change(
-                *(session.cipher, session.algorithm, key, *nonces, data, encrypt_block)
-            ),
-            parameters,
-        )
+        """The other way round, of a command's parameters or of those that answer it."""
+        session, key = use.session, use.session.key + self.auth_value(handle)
+        nonces = use.nonce or b"", session.nonce_tpm
+        given = session.cipher, session.algorithm, key, *(nonces[::-1] if is_answer else nonces)
+        return sessions.first_decrypted(*given, parameters)
 
     def entry(self, prepared: Prepared, place: int) -> Entry:
         use = prepared.uses[place - 1]
@@ -165,9 +148,7 @@ class Knowledge:
 
     @staticmethod
     def nonces_of_others(prepared: Prepared, place: int, handle: int | None) -> list[bytes]:
-        """In the first entry, where it authorizes: the nonce of the session that decrypts, then of
-        the one that encrypts, and not of its own.
-        """
+        """In the first entry, where it authorizes: of others that decrypt, then encrypt."""
         if place != 1 or handle is None:
             return []
         others = [it for it in prepared.uses[1:] if isinstance(it, Use)]
@@ -252,7 +233,11 @@ class Knowledge:
             if handle_kinds.first_byte(flushed) == TRANSIENT:
                 self.forget(flushed)
         elif code == CC.EvictControl:
-            self.note_evicted(prepared.handles[1], fields.number(4))
+            evicted, wanted = prepared.handles[1], fields.number(4)
+            if evicted == wanted:
+                self.forget(evicted)
+            else:
+                self.note(wanted, self.name(evicted), self.auth_value(evicted))
         elif code == CC.NV_DefineSpace:
             auth_value, public = fields.sized(), nv.Public.read(fields.sized())
             self.note_public(public)
@@ -262,12 +247,6 @@ class Knowledge:
             # The value of a loaded object is in its private area, and whoever made that knows it.
             user_auth = Fields(fields.sized()).sized() if code == CC.CreatePrimary else b""
             self.note(handle, name, trimmed(user_auth))
-
-    def note_evicted(self, handle: int, wanted: int) -> None:
-        if handle == wanted:
-            self.forget(handle)
-        else:
-            self.note(wanted, self.name(handle), self.auth_value(handle))
 
     def check_answer(
         self, prepared: Prepared, place: int, parameters: bytes, fields: Fields
@@ -295,8 +274,5 @@ class Knowledge:
     def plain_answer(self, prepared: Prepared, parameters: bytes) -> bytes:
         for place, use in enumerate(prepared.uses, 1):
             if isinstance(use, Use) and use.attributes & ENCRYPT:
-                session = use.session
-                nonces = session.nonce_tpm, use.nonce or b""
-                handle = prepared.authorized(place)
-                return self.changed(sessions.decrypted, session, handle, nonces, parameters)
+                return self.decrypted(use, prepared.authorized(place), parameters, True)
         return parameters

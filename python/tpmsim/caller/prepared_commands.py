@@ -1,6 +1,4 @@
-"""Each command in words: what is asked, and who authorizes it. Where nobody is named the value that
-the caller knows of a handle is sent as its password.
-"""
+"""Each command in words. Where nobody is named, the first handle's known value is its password."""
 
 from typing import Any, Sequence
 
@@ -107,12 +105,8 @@ class PreparedCommands(Knowledge):
         self, session: Session, *uses: Means, of: int = RH_ENDORSEMENT, **parameters: Any
     ) -> Prepared:
         """With nothing given, by the empty password."""
-        return self.prepare(
-            CC.PolicySecret,
-            [of, session.handle],
-            frames.policy_secret(**parameters),
-            *(uses or [b""]),
-        )
+        asked = [of, session.handle], frames.policy_secret(**parameters)
+        return self.prepare(CC.PolicySecret, *asked, *(uses or [b""]))
 
     # Objects.
 
@@ -121,39 +115,23 @@ class PreparedCommands(Knowledge):
         code: CC,
         handle: int,
         public: objects.Public,
-        user_auth: bytes,
-        data: bytes,
-        uses: Sequence[Means],
-        more: dict[str, Any],
+        *uses: Means,
+        user_auth: bytes = b"",
+        data: bytes = b"",
+        **more: Any,
     ) -> Prepared:
-        parameters = frames.creation(
-            frames.sensitive_create(user_auth, data), sized(public.text), **more
-        )
+        """TPM2_CreatePrimary or TPM2_Create; `outside_info` and `pcrs` may be given too."""
+        sensitive = frames.sensitive_create(user_auth, data)
+        parameters = frames.creation(sensitive, sized(public.text), **more)
         return self.prepare(code, [handle], parameters, *self.by(uses, handle))
 
     def primary(
-        self,
-        hierarchy: int,
-        public: objects.Public,
-        *uses: Means,
-        user_auth: bytes = b"",
-        data: bytes = b"",
-        **more: Any,
+        self, hierarchy: int, public: objects.Public, *uses: Means, **more: Any
     ) -> Prepared:
-        """TPM2_CreatePrimary; `outside_info` and `pcrs` may be given too."""
-        return self.creation(CC.CreatePrimary, hierarchy, public, user_auth, data, uses, more)
+        return self.creation(CC.CreatePrimary, hierarchy, public, *uses, **more)
 
-    def child(
-        self,
-        parent: int,
-        public: objects.Public,
-        *uses: Means,
-        user_auth: bytes = b"",
-        data: bytes = b"",
-        **more: Any,
-    ) -> Prepared:
-        """TPM2_Create; `outside_info` and `pcrs` may be given too."""
-        return self.creation(CC.Create, parent, public, user_auth, data, uses, more)
+    def child(self, parent: int, public: objects.Public, *uses: Means, **more: Any) -> Prepared:
+        return self.creation(CC.Create, parent, public, *uses, **more)
 
     def loading(self, parent: int, made: Made, *uses: Means) -> Prepared:
         return self.asked(CC.Load, [parent], uses, made.private, made.public)

@@ -1,6 +1,4 @@
-"""What differs between two answers, what is a matter of chance in them, and what other TPMs are known to
-do otherwise: each cause with the differences that show it.
-"""
+"""What differs between two answers, what is chance in them, and the known causes of differences."""
 
 import json
 import pathlib
@@ -30,9 +28,7 @@ OTHER_CODES = {
 
 @dataclass(frozen=True)
 class Difference:
-    """In a line of the script: the command, what of its answer differs, and both values. One that
-    follows from that of an earlier line names it.
-    """
+    """In a line of the script: what differs, and the earlier line that it follows from, if any."""
 
     line: int
     command: str
@@ -42,9 +38,8 @@ class Difference:
     follows: int | None = None
 
     def __str__(self) -> str:
-        words = (
-            f"line {self.line}: {self.command}: {self.what}: here {self.here}, there {self.there}"
-        )
+        both = f"here {self.here}, there {self.there}"
+        words = f"line {self.line}: {self.command}: {self.what}: {both}"
         return words if self.follows is None else f"{words}, behind line {self.follows}"
 
 
@@ -58,7 +53,6 @@ def code_word(code: int) -> str:
 
 
 def comparable(name: str, value: Any) -> Any:
-    """What is compared of a field."""
     if name in BY_CHANCE:
         return f"{len(value)} bytes"
     if isinstance(value, Ticket):
@@ -82,28 +76,23 @@ def shown(value: Any) -> str:
     return str(value)
 
 
-def shown_both(here: Any, there: Any) -> tuple[str, str]:
-    """Both values; of two lists the first elements that differ."""
-    if isinstance(here, list) and isinstance(there, list):
-        if len(here) != len(there):
-            return f"{len(here)} elements", f"{len(there)} elements"
-        here, there = next(it for it in zip(here, there) if it[0] != it[1])
-    return shown(here), shown(there)
-
-
 def between(here: dict[str, Any], there: dict[str, Any]) -> Iterator[tuple[str, str, str]]:
-    """The fields that differ, with both values."""
+    """The fields that differ, with both values; of two lists the first elements that differ."""
     for name, value in here.items():
-        pair = comparable(name, value), comparable(name, there.get(name))
-        if pair[0] != pair[1]:
-            yield name, *shown_both(*pair)
+        own, other = comparable(name, value), comparable(name, there.get(name))
+        if own == other:
+            continue
+        if isinstance(own, list) and isinstance(other, list):
+            if len(own) != len(other):
+                yield name, f"{len(own)} elements", f"{len(other)} elements"
+                continue
+            own, other = next(it for it in zip(own, other) if it[0] != it[1])
+        yield name, shown(own), shown(other)
 
 
 @dataclass(frozen=True)
 class Cause:
-    """A cause, the form of a difference by it (the command, what differs, and both values), the
-    section of the TPM 2.0 Library, rev. 01.38, and our decision.
-    """
+    """The form of differences by a cause, the section of rev. 01.38, and our decision."""
 
     words: str
     form: str

@@ -34,11 +34,6 @@ want of a session or an object.
 |---|---|---|---|---|---|"""
 
 
-def swtpm_version() -> str:
-    words = subprocess.run(["swtpm", "--version"], capture_output=True, text=True, check=True)
-    return "swtpm " + words.stdout.split("version ")[1].split(",")[0] + " of Debian 12"
-
-
 def short(value: str) -> str:
     return value if len(value) <= 40 else f"{value[:37]}.."
 
@@ -70,7 +65,9 @@ def page(scripts: list[pathlib.Path]) -> str:
     rows = [row(it, found[it]) for it in CAUSES if found[it]]
     unknown = [f"- {path.stem}: {it}" for path, it in found[None]]
     numbers = {name: f"{count:,}" for name, count in counts.items()}
-    text = [HEAD.format(version=swtpm_version(), **numbers), *rows]
+    run = subprocess.run(["swtpm", "--version"], capture_output=True, text=True, check=True)
+    version = f"swtpm {run.stdout.split('version ')[1].split(',')[0]} of Debian 12"
+    text = [HEAD.format(version=version, **numbers), *rows]
     return "\n".join([*text, *(["", "Of no known cause:", "", *unknown] if unknown else [])])
 
 

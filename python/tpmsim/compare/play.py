@@ -54,9 +54,7 @@ READS = [
 
 @dataclass
 class Report:
-    """What came of a script: how many commands it has, where the answers differ, and what could not
-    be compared, by line.
-    """
+    """How many commands a script has, what differs, and what cannot be compared, by line."""
 
     commands: int = 0
     differences: list[Difference] = field(default_factory=list)
@@ -72,8 +70,6 @@ class Comparison:
         self.player = Player()
         self.causes: dict[object, int] = {}
         self.line, self.locality, self.waited = 0, 0, 0
-
-    # Lines.
 
     def play(self, script: bytes) -> Report:
         """BadLine where a line is none."""
@@ -113,7 +109,8 @@ class Comparison:
         asked = parsed(buffer)
         try:
             prepared = self.translation.command(buffer)
-            self.be_at(self.player.locality)
+            if self.player.locality != self.locality:
+                self.other.locality = self.locality = self.player.locality
             sent = prepared.buffer() if isinstance(prepared, Prepared) else prepared
             if not self.can_be_sent(sent):
                 raise Unsupported("the channel there ends a command by the size that it says")
@@ -145,18 +142,11 @@ class Comparison:
             return True
         return HEADER_BYTES <= len(buffer) == int.from_bytes(buffer[2:6], "big") <= COMMAND_BYTES
 
-    def be_at(self, locality: int) -> None:
-        if locality != self.locality:
-            self.other.locality = locality
-            self.locality = locality
-
     def execute(self, buffer: bytes) -> Executed:
         player = self.player
         event = self.here.execute(buffer, player.locality, player.elapsed, player.random)
         player.elapsed = 0
         return event
-
-    # Answers.
 
     def compare(
         self,
@@ -167,7 +157,8 @@ class Comparison:
         response: bytes,
     ) -> None:
         codes = [int.from_bytes(it[6:10], "big") for it in (event.response, response)]
-        name = asked.code.name if asked else self.name_of(event)
+        code = NUMBERED.get(int.from_bytes(event.buffer[6:10], "big"))
+        name = code.name if code else "?"
         if codes[0] != codes[1]:
             self.differ(name, asked, "code", *map(code_word, codes))
         if asked is None or isinstance(prepared, bytes):
@@ -182,12 +173,10 @@ class Comparison:
         elif not codes[0]:
             self.lose(asked, event, self.line)
         elif there:
-            self.undo(asked, there)
-
-    @staticmethod
-    def name_of(event: Executed) -> str:
-        code = NUMBERED.get(int.from_bytes(event.buffer[6:10], "big"))
-        return code.name if code else "?"
+            # What is there and not here is taken away again, where one command does that.
+            self.flush(there.handle)
+            if asked.code == CC.NV_DefineSpace:
+                self.other.execute(self.translation.undefining(there))
 
     def differ(self, name: str, asked: Command | None, what: str, here: str, there: str) -> None:
         touched = self.touched(asked, what)
@@ -248,20 +237,11 @@ class Comparison:
     def known(self) -> set[int]:
         return {*self.translation.known.names, *self.translation.lost}
 
-    def undo(self, asked: Command, there: Received) -> None:
-        """What is there and not here is taken away again, where one command does that."""
-        self.flush(there.handle)
-        if asked.code == CC.NV_DefineSpace:
-            self.other.execute(self.translation.undefining(there))
-
     def flush(self, handle: int | None) -> None:
         if handle is not None:
             self.other.execute(frames.command(CC.FlushContext, frames.number(handle, 4)))
 
-    # The state at the end.
-
     def state(self) -> None:
-        """Reads what both show of their state, and compares it."""
         if not self.here.model.started:
             return
         for buffer in READS:

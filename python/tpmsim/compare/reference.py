@@ -9,10 +9,10 @@ from tpmsim.device.child import ChildDevice
 from tpmsim.device.library import LibraryDevice
 from tpmsim.device.told import Device
 from tpmsim.model.general import Command
-from tpmsim.model.machine import MANUFACTURED, Model, Session
-from tpmsim.standard import ALG_NULL, DECRYPT, ENCRYPT, Entry, Fields, NUMBERED, SESSIONS, Short
-from tpmsim.standard import frames, sessions
-from tpmsim.standard.aes_tables import encrypt_block
+from tpmsim.model.machine import MANUFACTURED, Model
+from tpmsim.model.policy_state import Session
+from tpmsim.standard import ALG_NULL, DECRYPT, ENCRYPT, Entry, Fields, frames, NUMBERED, SESSIONS
+from tpmsim.standard import sessions, Short
 from tpmsim.standard.frames import NO_SESSIONS
 from tpmsim.standard.values import read_all
 
@@ -35,9 +35,7 @@ def parsed(buffer: bytes) -> Command | None:
 
 @dataclass(frozen=True)
 class Shown:
-    """How an entry was right: `key` says whether the authorization value is in the key of its hmac,
-    and is None where the hmac is wrong, or there is none.
-    """
+    """How an entry was right; `key` says whether the value is in the key of a right hmac."""
 
     is_password: bool = False
     key: bool | None = None
@@ -45,9 +43,7 @@ class Shown:
 
 @dataclass
 class Received:
-    """What a TPM answered to a request in plain: the handle and the fields in plain, and what is
-    wrong with its hmacs.
-    """
+    """What a TPM answered to a request in plain, and what is wrong with its hmacs."""
 
     request: bytes = b""
     handle: int | None = None
@@ -56,16 +52,13 @@ class Received:
 
 
 class Reference:
-    """The device here, twice: the one that answers, and the one in Python that can be looked into.
-    A seed for both is that of scripts, the bytes 00 to ff.
-    """
+    """The device here, twice: one that answers, and one in Python that can be looked into."""
 
     def __init__(self) -> None:
-        self.model = Model(MANUFACTURED, encrypt_block)
-        is_there = library.is_there()
-        self.device: Device = (
-            LibraryDevice(manufactured=MANUFACTURED) if is_there else ChildDevice()
-        )
+        self.model = Model()
+        in_process = library.is_there()
+        own: Device = LibraryDevice(manufactured=MANUFACTURED) if in_process else ChildDevice()
+        self.device = own
 
     def execute(self, buffer: bytes, locality: int, elapsed: int, random: bytes) -> Executed:
         event = self.device.answer(buffer, locality, elapsed, random)
@@ -84,38 +77,27 @@ class Reference:
             return Shown(is_password=sessions.trimmed(entry.hmac) == value)
         names = self.model.names(command)
         text = sessions.command_hash(session.algorithm, command.code, names, command.parameters)
+        entries = [it for it in command.entries or [] if it.attributes & (DECRYPT | ENCRYPT)]
+        are_there = all(it.handle in self.model.sessions for it in entries)
+        others = self.model.nonces_of_others(command, place, handle) if are_there else []
+        nonces = entry.nonce, session.nonce_tpm, others
         for has_value in (True, False):
             key = session.key + (value if has_value else b"")
-            others = self.nonces_of_others(command, place, handle)
-            nonces = entry.nonce, session.nonce_tpm, others
             hmac = sessions.entry_hmac(session.algorithm, key, text, *nonces, entry.attributes)
             if hmac == entry.hmac:
                 return Shown(key=has_value)
         return Shown()
 
-    def nonces_of_others(self, command: Command, place: int, handle: int | None) -> list[bytes]:
-        entries = [it for it in command.entries or [] if it.attributes & (DECRYPT | ENCRYPT)]
-        if any(it.handle not in self.model.sessions for it in entries):
-            return []
-        return self.model.nonces_of_others(command, place, handle)
-
     def plain(self, command: Command) -> bytes:
         """The parameters, decrypted where a session of the command asks for it and can."""
         found = command.with_attribute(DECRYPT)
         session = self.model.sessions.get(found[1].handle) if found else None
-        if (
-            not found
-            or session is None
-            or session.cipher == ALG_NULL
-            or not command.code.takes_sized
-        ):
+        is_encrypted = session and session.cipher != ALG_NULL and command.code.takes_sized
+        if not found or not session or not is_encrypted:
             return command.parameters
         key = self.model.encryption_key(session, found[2])
-        nonces = found[1].nonce, session.nonce_tpm
-        given = session.cipher, session.algorithm, key, *nonces
-        return sessions.on_first_buffer(
-            lambda data: sessions.decrypted(*given, data, encrypt_block), command.parameters
-        )
+        given = session.cipher, session.algorithm, key, found[1].nonce, session.nonce_tpm
+        return sessions.first_decrypted(*given, command.parameters)
 
     def encrypting(self, command: Command) -> Session | None:
         """The session that will encrypt the answer, which may end with it."""
@@ -131,7 +113,5 @@ class Reference:
         if found and session:
             key = self.model.encryption_key(session, found[2])
             given = session.cipher, session.algorithm, key, session.nonce_tpm, found[1].nonce
-            parameters = sessions.on_first_buffer(
-                lambda data: sessions.decrypted(*given, data, encrypt_block), parameters
-            )
+            parameters = sessions.first_decrypted(*given, parameters)
         return Received(b"", handle, read_all(command.code.answered_parameters, parameters))

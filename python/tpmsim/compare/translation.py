@@ -41,8 +41,6 @@ class Translation:
         self.sessions, self.tied, self.hashed = {}, {}, {}
         self.lost = {it: line for it, line in self.lost.items() if first_byte(it) in (1, 0x81)}
 
-    # Commands.
-
     def handle(self, number: int) -> int:
         if number in self.lost:
             raise NotComparable(f"{number:08x} is not there", self.lost[number])
@@ -62,7 +60,8 @@ class Translation:
         prepared = Prepared(asked.code, handles, parameters, uses, [])
         for place, use in enumerate(uses, 1):
             if isinstance(use, Use) and use.attributes & DECRYPT and use.session.cipher != ALG_NULL:
-                if asked.code.takes_sized and self.has_buffer(parameters):
+                size = int.from_bytes(parameters[:2], "big")
+                if asked.code.takes_sized and len(parameters) - 2 >= size > 0:
                     handle = prepared.authorized(place)
                     prepared.parameters = self.known.encrypted(use, handle, parameters)
         prepared.entries = [self.entry(asked, prepared, *it) for it in asked.places()]
@@ -85,10 +84,6 @@ class Translation:
             return Fields(self.here.plain(asked)).sized() not in self.values
         except Short:
             return False
-
-    @staticmethod
-    def has_buffer(parameters: bytes) -> bool:
-        return len(parameters) - 2 >= int.from_bytes(parameters[:2], "big") > 0
 
     def use(self, asked: Command, place: int, entry: Entry, handle: int | None) -> bytes | Use:
         if not is_session(entry.handle):
@@ -116,13 +111,13 @@ class Translation:
         if shown.is_password:
             hmac = self.password(entry.hmac, handle, there)
         elif len(hmac) == sessions.digest_bytes(session.algorithm):
-            has_value = self.uses_value(entry, handle) if shown.key is None else shown.key
+            has_value = shown.key
+            if has_value is None:
+                uses = self.here.model.uses_auth_value
+                has_value = handle is not None and uses(entry, handle)
             hmac = self.hmac(prepared, place, use, has_value)
             hmac = hmac if shown.key is not None else flipped(hmac)
         return Entry(session.handle, entry.nonce, entry.attributes, hmac)
-
-    def uses_value(self, entry: Entry, handle: int | None) -> bool:
-        return handle is not None and self.here.model.uses_auth_value(entry, handle)
 
     def hmac(self, prepared: Prepared, place: int, use: Use, has_value: bool) -> bytes:
         session, handle = use.session, prepared.authorized(place)
@@ -136,8 +131,6 @@ class Translation:
         """A right password stays right where the values of both differ."""
         value, other = self.here.model.auth_value(handle), self.known.auth_value(there)
         return other if sessions.trimmed(given) == value != other else given
-
-    # Parameters.
 
     def parameters(self, asked: Command, plain: bytes) -> bytes:
         """With handles, nonces and what was answered before in the other TPM's own."""
@@ -163,8 +156,6 @@ class Translation:
                 other = self.sessions.get(self.handle(session))
                 return other.nonce_tpm if other else value
         return self.values.get(value, value)
-
-    # Responses.
 
     def received(self, prepared: Prepared, response: bytes) -> Received:
         """What a success of the other TPM tells; the sessions have their new nonces then."""
@@ -201,7 +192,6 @@ class Translation:
     def note_both(
         self, asked: Command, prepared: Prepared, here: Received, there: Received, line: int
     ) -> None:
-        """What both accepted: what is answered there for what is answered here."""
         for name, value in here.fields.items():
             other = there.fields.get(name)
             if isinstance(value, bytes) and isinstance(other, bytes) and len(value) >= LEAST_VALUE:
@@ -241,7 +231,6 @@ class Translation:
             self.hashed[session] = line
 
     def untie(self, session: int) -> None:
-        """What a policy session was told counts no more."""
         self.tied.pop(session, None)
         self.hashed.pop(session, None)
 

@@ -30,9 +30,7 @@ class Answered:
 
 @dataclass(frozen=True, slots=True)
 class Executed:
-    """A command and its response. What is None was not told: the locality, the milliseconds since
-    the command before, the random bytes, the check and the number of the command.
-    """
+    """A command and its response; the random bytes, the locality and all else if it was told."""
 
     buffer: bytes
     response: bytes
@@ -64,7 +62,6 @@ def line(buffer: bytes) -> str:
 
 
 def lines_told(event: str | Executed) -> list[str]:
-    """The lines of a script that tell an event, and its trace as a comment."""
     if isinstance(event, str):
         return [event]
     entropy = [f"entropy {event.random.hex()}"] if event.random else []
@@ -79,8 +76,12 @@ class Transport(ABC):
 
     @property
     def trace(self) -> list[str]:
-        """The lines of a script that does the same, and as a comment behind each command what its
-        trace says.
+        """The lines of a script that does the same, with each trace behind as a comment.
+
+        >>> with ModelDevice() as device:
+        ...     Caller(device).start_up()
+        ...     device.trace[-2:]
+        ['do Startup 0', '# Startup L0 +0 ok 00000000']
         """
         return [it for event in self.events for it in lines_told(event)]
 
@@ -106,7 +107,12 @@ class Transport(ABC):
         raise Unsupported("the power is not switched here")
 
     def save(self) -> bytes:
-        """The image of what the device keeps without power."""
+        """The image of what the device keeps without power.
+
+        >>> with Device() as device:
+        ...     device.save()[:4]
+        b'TPMI'
+        """
         raise Unsupported("there is no image")
 
     def snapshot(self) -> object:
@@ -118,7 +124,12 @@ class Transport(ABC):
         raise Unsupported("there are no snapshots")
 
     def close(self) -> None:
-        """Ends the device, or the connection to it."""
+        """Ends the device, or the connection to it; a file of its image has the clock then. `with`
+        does it too.
+
+        >>> device = Device()
+        >>> device.close()
+        """
 
     def __enter__(self) -> Self:
         return self

@@ -10,10 +10,10 @@ from dataclasses import replace
 from typing import Iterator
 
 from tpmsim.device.base import Answered, BadImage, DeviceEnded, Unsupported
-from tpmsim.device.library import AnsweredInC, CHECKS, IMAGE_FAULTS, NO_MEMORY, RESPONSE_BYTES
-from tpmsim.device.library import library, saved
+from tpmsim.device.library import AnsweredInC, CHECKS, IMAGE_FAULTS, library, NO_MEMORY
+from tpmsim.device.library import RESPONSE_BYTES, saved
 from tpmsim.device.served import LocatedDevice
-from tpmsim.device.told import RANDOM_BYTES, Path
+from tpmsim.device.told import Path, RANDOM_BYTES
 
 JOURNAL, NEW, LOCK = "journal", "journal.new", "lock"
 OWNER_ALONE, RECORD_BYTES = 0o600, 9216
@@ -28,7 +28,6 @@ FAULTS = {
 
 
 def now() -> int:
-    """The host's clock, in milliseconds."""
     return time.time_ns() // 1_000_000
 
 
@@ -59,12 +58,15 @@ class KeptDevice(LocatedDevice):
         self.folder, self.name = os.open(folder, flags), os.fspath(folder)
         try:
             with self.locked():
-                self.open_or_begin()
+                if JOURNAL in os.listdir(self.folder):
+                    self.catch_up()
+                else:
+                    random = os.urandom(RANDOM_BYTES)
+                    self.check(self.library.tpmsim_manufacture(self.handle, random))
+                    self.begin()
         except (BadImage, DeviceEnded, MemoryError):
             self.close()
             raise
-
-    # The folder.
 
     @contextlib.contextmanager
     def locked(self) -> Iterator[None]:
@@ -97,13 +99,6 @@ class KeptDevice(LocatedDevice):
         if told:
             raise self.ended(FAULTS.get(told, f"the library tells {told}"))
 
-    def open_or_begin(self) -> None:
-        if JOURNAL in os.listdir(self.folder):
-            self.catch_up()
-            return
-        self.check(self.library.tpmsim_manufacture(self.handle, os.urandom(RANDOM_BYTES)))
-        self.begin()
-
     def catch_up(self) -> None:
         """Executes what other processes did since, or the whole journal where it is another one."""
         try:
@@ -128,7 +123,6 @@ class KeptDevice(LocatedDevice):
             self.check(told)
 
     def begin(self) -> None:
-        """Cycles the power, and begins the journal anew."""
         size = self.library.tpmsim_journal_begin(self.handle, now(), None, 0)
         room = ctypes.create_string_buffer(size)
         self.library.tpmsim_journal_begin(self.handle, now(), room, size)
@@ -136,7 +130,6 @@ class KeptDevice(LocatedDevice):
         self.executed = size
 
     def replace(self, text: bytes) -> None:
-        """Puts a file with a text in the journal's place."""
         if NEW in os.listdir(self.folder):
             os.unlink(NEW, dir_fd=self.folder)
         flags = os.O_RDWR | os.O_CREAT | os.O_EXCL | os.O_NOFOLLOW | os.O_CLOEXEC
@@ -152,8 +145,6 @@ class KeptDevice(LocatedDevice):
         self.file = file
         if self.forces:
             os.fsync(self.folder)
-
-    # What a caller asks for.
 
     def execute(self, buffer: bytes) -> Answered:
         return replace(super().execute(buffer), check=CHECKS[self.answered.check])

@@ -1,6 +1,7 @@
 """A device in this process, by the library libtpmsim (docs/LIBRARY.md)."""
 
 import ctypes
+import fcntl
 import functools
 import hashlib
 import os
@@ -8,8 +9,79 @@ import pathlib
 
 import tpmsim
 from tpmsim.device.base import BadImage, DeviceEnded, Executed
-from tpmsim.device.image_file import ImageFile
 from tpmsim.device.told import Device, Path, RANDOM_BYTES
+from tpmsim.model.image import BODY_AT, DIGEST_AT_END, HIERARCHIES
+
+OWNER_ALONE = 0o600
+
+# The seed and the proof of a hierarchy; what is between its authorization values and the clock: one
+# byte, and those of the protection from guessing; and the clock itself.
+SECRETS_BYTES, BEFORE_CLOCK, CLOCK_BYTES = 64, 18, 8
+
+
+def but_clock(image: bytes) -> bytes:
+    at = BODY_AT
+    for _ in HIERARCHIES:
+        at += 2 + int.from_bytes(image[at : at + 2], "big") + SECRETS_BYTES
+    at += 2 + int.from_bytes(image[at : at + 2], "big") + BEFORE_CLOCK
+    return image[:at] + image[at + CLOCK_BYTES : -DIGEST_AT_END]
+
+
+class ImageFile:
+    """Takes the lock that `tpmsim` takes, and holds it until `close`. FileExistsError where another
+    has it; OSError where the folder may not be written to.
+    """
+
+    def __init__(self, path: str | os.PathLike[str]) -> None:
+        self.path, self.kept = pathlib.Path(path), b""
+        flags = os.O_RDWR | os.O_CREAT | os.O_CLOEXEC | os.O_NOFOLLOW
+        self.lock = os.open(f"{self.path}.lock", flags, OWNER_ALONE)
+        try:
+            fcntl.flock(self.lock, fcntl.LOCK_EX | fcntl.LOCK_NB)
+        except BlockingIOError:
+            os.close(self.lock)
+            raise FileExistsError(f"another device has {self.path}") from None
+
+    def read(self) -> bytes:
+        """The image, or no bytes where there is no file."""
+        try:
+            return self.path.read_bytes()
+        except FileNotFoundError:
+            return b""
+
+    def keep(self, image: bytes) -> None:
+        """Writes an image, where more than the clock is another one than was written last."""
+        if not self.kept or but_clock(image) != but_clock(self.kept):
+            self.write(image)
+
+    def write(self, image: bytes) -> None:
+        """Beside the file first, and forced to the disk before it takes the file's place."""
+        beside = pathlib.Path(f"{self.path}.new")
+        beside.unlink(missing_ok=True)
+        flags = os.O_WRONLY | os.O_CREAT | os.O_EXCL | os.O_CLOEXEC
+        with open(os.open(beside, flags, OWNER_ALONE), "wb") as file:
+            file.write(image)
+            file.flush()
+            os.fsync(file.fileno())
+        os.replace(beside, self.path)
+        folder = os.open(self.path.parent, os.O_RDONLY | os.O_DIRECTORY | os.O_CLOEXEC)
+        try:
+            os.fsync(folder)
+        finally:
+            os.close(folder)
+        self.kept = image
+
+    def close(self, image: bytes) -> None:
+        """Writes the image with its clock, and gives the lock back."""
+        try:
+            self.write(image)
+        finally:
+            self.leave()
+
+    def leave(self) -> None:
+        """Gives the lock back, and leaves the file as it is."""
+        os.close(self.lock)
+
 
 NAME = "libtpmsim.so.0"
 RESPONSE_BYTES = 4096
@@ -31,9 +103,7 @@ class AnsweredInC(ctypes.Structure):
 
 
 def places() -> list[str]:
-    """Where the library is looked for: where $TPMSIM_LIBRARY says, and nowhere else; or beside the
-    package, in dist/ of this repository, and where the loader looks.
-    """
+    """$TPMSIM_LIBRARY alone, or beside the package, in dist/ here, and where the loader looks."""
     named = os.environ.get("TPMSIM_LIBRARY")
     if named:
         return [named]
@@ -115,19 +185,16 @@ class LibraryDevice(Device):
         self.room = ctypes.create_string_buffer(RESPONSE_BYTES)
         self.file = None if image is None else ImageFile(image)
         try:
-            self.power_on(manufactured)
+            kept = self.file.read() if self.file else b""
+            if kept:
+                self.begin(kept)
+            else:
+                self.manufacture(manufactured)
         except (BadImage, DeviceEnded, MemoryError):
             if self.file:
                 self.file.leave()
             raise
         self.begun = self.base
-
-    def power_on(self, manufactured: bytes | None) -> None:
-        kept = self.file.read() if self.file else b""
-        if kept:
-            self.begin(kept)
-        else:
-            self.manufacture(manufactured)
 
     def manufacture(self, given: bytes | None) -> None:
         if given is None and self.seed is not None:
@@ -142,9 +209,7 @@ class LibraryDevice(Device):
 
     @property
     def trace(self) -> list[str]:
-        """As ever, behind a comment with the image that the device was begun from, for a run of
-        `tpmsim run --image`.
-        """
+        """As ever, behind a comment with the image of the start, for `tpmsim run --image`."""
         return [f"# image {self.begun.hex()}", *super().trace]
 
     def begin(self, base: bytes) -> None:

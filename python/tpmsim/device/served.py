@@ -54,7 +54,6 @@ class Connection:
         return int.from_bytes(self.receive(4), "big")
 
     def response(self) -> bytes:
-        """A response, whose header says how long it is."""
         header = self.receive(10)
         return header + self.receive(max(int.from_bytes(header[2:6], "big") - 10, 0))
 

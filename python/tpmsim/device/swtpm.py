@@ -19,9 +19,7 @@ NO_BLOB = 0x800
 
 # What the device here has not: the command that chooses the banks of PCRs, and two of them.
 PCR_ALLOCATE, SHA384, SHA512 = 0x12B, 0x000C, 0x000D
-STARTUP_CLEAR, SHUTDOWN_CLEAR = (
-    frames.command(it, number(0, 2)) for it in (CC.Startup, CC.Shutdown)
-)
+STARTUP, SHUTDOWN = (frames.command(it, number(0, 2)) for it in (CC.Startup, CC.Shutdown))
 
 
 class SwtpmDevice(LocatedDevice):
@@ -99,9 +97,7 @@ class SwtpmDevice(LocatedDevice):
 
 
 class StartedSwtpm(SwtpmDevice):
-    """The program swtpm with a new device, in a folder of its own; FileNotFoundError where there is
-    no such program. It ends with `close`.
-    """
+    """The program swtpm with a new device, until `close`; FileNotFoundError where there is none."""
 
     def __init__(self, program: str = "swtpm", seconds: float = 60) -> None:
         if not shutil.which(program):
@@ -133,7 +129,7 @@ class StartedSwtpm(SwtpmDevice):
         banks = *((it, handle_kinds.PCRS) for it in (SHA1, SHA256)), (SHA384, ()), (SHA512, ())
         allocating = frames.on_handle(PCR_ALLOCATE, RH_PLATFORM, frames.selection(*banks))
         clearing = frames.on_handle(CC.Clear, RH_PLATFORM)
-        for buffer in (STARTUP_CLEAR, clearing, allocating, SHUTDOWN_CLEAR):
+        for buffer in (STARTUP, clearing, allocating, SHUTDOWN):
             if any(self.exchange(buffer)[6:10]):
                 raise DeviceEnded("the banks of PCRs cannot be chosen")
         self.power_cycle()

@@ -6,7 +6,7 @@ import hashlib
 import os
 import pathlib
 from dataclasses import dataclass
-from typing import ClassVar, Self, cast
+from typing import cast, ClassVar, Self
 
 from tpmsim.device.base import Answered, BadImage, checked_locality, Executed, Transport
 from tpmsim.model import image as images
@@ -78,43 +78,12 @@ class Device(Transport):
         raise NotImplementedError
 
     def answer(self, buffer: bytes, locality: int, elapsed: int, random: bytes) -> Executed:
-        """Executes a command with its 256 random bytes."""
         raise NotImplementedError
 
     def cycle(self) -> None:
-        """Takes the power away and gives it back."""
         raise NotImplementedError
-
-    @property
-    def trace(self) -> list[str]:
-        """The lines of a script that does the same, and as a comment behind each command what its
-        trace says.
-
-        >>> with ModelDevice() as device:
-        ...     Caller(device).start_up()
-        ...     device.trace[-2:]
-        ['do Startup 0', '# Startup L0 +0 ok 00000000']
-        """
-        return super().trace
-
-    def save(self) -> bytes:
-        """The image of what the device keeps without power.
-
-        >>> with Device() as device:
-        ...     device.save()[:4]
-        b'TPMI'
-        """
-        raise NotImplementedError
-
-    def close(self) -> None:
-        """Ends the device; its file, if it has one, has the clock then. `with` does it too.
-
-        >>> device = Device()
-        >>> device.close()
-        """
 
     def drawn(self) -> bytes:
-        """The random bytes of the next command."""
         self.drawings += 1
         if self.seed is None:
             return os.urandom(RANDOM_BYTES)

@@ -2,9 +2,8 @@
 
 from typing import Iterator
 
-from tpmsim.explain import encryption
-from tpmsim.explain.reason import Reason
-from tpmsim.explain.scene import Scene
+from tpmsim.explain import ingredients
+from tpmsim.explain.reason import Reason, Scene
 from tpmsim.explain.words import bytes_words, handle_words, plural, printable
 from tpmsim.standard import CC, Fields, nv, RS_PW, trimmed
 
@@ -25,10 +24,10 @@ def before(scene: Scene) -> list[Reason]:
 
 def garbage(scene: Scene) -> Iterator[Reason]:
     """A parameter that decrypts to no text, and to one had it been encrypted in another way."""
-    if encryption.decrypting_use(scene) is None or scene.plain is None:
+    if ingredients.decrypting_use(scene) is None or scene.plain is None:
         return
     plain = Fields(scene.plain).sized()
-    for other in encryption.otherwise(scene) if not printable(plain) else []:
+    for other in ingredients.otherwise(scene) if not printable(plain) else []:
         meant = Fields(other.plain).sized()
         if len(meant) >= LEAST_TEXT and printable(meant):
             taken = f"The first parameter decrypts to {plain.hex()}, which is taken as it is"
@@ -38,13 +37,11 @@ def garbage(scene: Scene) -> Iterator[Reason]:
 
 
 def zeros_words(value: bytes) -> str:
-    """How many zeros stand at the end of a value, where there are some."""
     count = len(value) - len(trimmed(value))
     return f"{plural(count, 'zero')} at its end" if count else ""
 
 
 def zeros(scene: Scene) -> Iterator[Reason]:
-    """Zeros at the end of a password or of an authorization value."""
     for place, entry, handle in scene.command.places():
         if entry.handle == RS_PW:
             told = zeros_words(entry.hmac)
@@ -62,7 +59,6 @@ def zeros(scene: Scene) -> Iterator[Reason]:
 
 
 def nonces(scene: Scene) -> Iterator[Reason]:
-    """A caller's nonce that was used before."""
     for place, entry, _ in scene.command.places():
         begun = scene.past.sessions.get(entry.handle)
         if begun is None or not entry.nonce:
@@ -89,9 +85,7 @@ def unwritten(scene: Scene) -> Iterator[Reason]:
 
 
 def after(scene: Scene) -> Iterator[Reason]:
-    """Behind the effect: random bytes that are zeros, told once, and a nonce of the device that comes
-    again.
-    """
+    """Behind the effect: random bytes that are zeros, told once, and a nonceTPM come again."""
     if scene.code in DRAWS and not any(scene.random) and "random" not in scene.past.told_once:
         scene.past.told_once.add("random")
         words = "The random bytes are zeros, as no entropy line has told others. It is told once."
@@ -111,7 +105,6 @@ def after(scene: Scene) -> Iterator[Reason]:
 
 
 def of_refusal(scene: Scene) -> list[Reason]:
-    """A lockout that one more try closes."""
     lockout = scene.model.lockout
     is_try = scene.refused.startswith("AUTH_FAIL/")
     if not is_try or not lockout.recovery_time or lockout.failed_tries != lockout.max_tries - 1:

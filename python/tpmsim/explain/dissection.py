@@ -1,39 +1,129 @@
 """Commands and responses, field by field. Whatever the bytes are, all of them have a field."""
 
-from typing import Callable
+import contextlib
+from contextlib import contextmanager
+from dataclasses import dataclass
+from typing import Callable, Iterator
 
 from tpmsim.explain import words
-from tpmsim.explain.field import Cut, ENTRY, Field, HANDLE, HEADER, PARAMETER, REST, Walk
-from tpmsim.explain.words import ATTRIBUTES, bit_words, command_words, OPERATIONS, plural
+from tpmsim.explain.words import algorithm_words, ATTRIBUTES, bit_words, command_words, handle_words
+from tpmsim.explain.words import kind_words, OPERATIONS, size_words
 from tpmsim.standard import CC, digest_bytes, frames, HASHES, Kind, NUMBERED, nv, objects, Parameter
 from tpmsim.standard import RS_PW
+
+# What a field belongs to.
+HEADER, HANDLE, ENTRY, PARAMETER, REST = "header", "handle", "entry", "parameter", "rest"
+
+
+class Cut(Exception):
+    """The bytes end within a field."""
+
+
+@dataclass
+class Field:
+    """A field, of which `front` bytes are a size, and which stands within `depth` structures. A
+    structure is a group, whose fields follow it.
+    """
+
+    name: str
+    at: int
+    size: int
+    front: int
+    meaning: str
+    sort: str
+    depth: int
+    is_group: bool = False
+
+
+class Walk:
+    """Takes fields from the front of bytes. What cannot be read is a field of its own."""
+
+    def __init__(self, data: bytes) -> None:
+        self.data, self.at, self.depth, self.sort = data, 0, 0, HEADER
+        self.fields: list[Field] = []
+        self.end = len(data)
+
+    def take(self, size: int, name: str, meaning: Callable[[bytes], str], front: int = 0) -> bytes:
+        """The next bytes, of which the first `front` are a size. Cut where there are fewer."""
+        left = self.end - self.at
+        found = self.data[self.at : self.at + min(size, left)]
+        said = meaning(found[front:]) if size <= left else f"cut: {left} of {size} bytes"
+        place = self.at, len(found), min(front, left)
+        self.fields.append(Field(name, *place, said, self.sort, self.depth))
+        self.at += len(found)
+        if size > left:
+            raise Cut
+        return found[front:]
+
+    def number(self, size: int, name: str, meaning: Callable[[int], str] = str) -> int:
+        data = self.take(size, name, lambda it: meaning(int.from_bytes(it, "big")))
+        return int.from_bytes(data, "big")
+
+    def peek(self) -> int:
+        """The size in front of a buffer, at most 65,535."""
+        return int.from_bytes(self.data[self.at : min(self.at + 2, self.end)], "big")
+
+    def buffer(self, name: str, meaning: Callable[[bytes], str] | None = None) -> bytes:
+        return self.take(2 + self.peek(), name, meaning or said_bytes, 2)
+
+    def elements(self, name: str, word: str) -> Iterator[int]:
+        """The numbers, from 1, of a list's elements, which stand within it."""
+        for at in range(self.number(4, name, lambda it: words.plural(it, word))):
+            self.depth += 1
+            yield at + 1
+            self.depth -= 1
+
+    @contextmanager
+    def group(self, name: str, size: int | None = None, front: int = 0) -> Iterator[None]:
+        """A structure, of a size that is known or of what is read within."""
+        field = Field(name, self.at, 0, front, "", self.sort, self.depth, True)
+        self.fields.append(field)
+        end, self.at = self.end, self.at + front
+        if size is not None:
+            self.end = min(self.end, self.at + size)
+        self.depth += 1
+        try:
+            yield
+            if size is not None:
+                self.rest("left over")
+        finally:
+            field.size = self.at - field.at
+            self.end, self.depth = end, self.depth - 1
+
+    def rest(self, name: str) -> None:
+        if self.at < self.end:
+            self.take(self.end - self.at, name, lambda it: words.size_words(len(it)))
+
+    def algorithm(self, name: str) -> int:
+        return self.number(2, name, algorithm_words)
+
+    def handle(self, name: str) -> int:
+        return self.number(4, name, said_handle)
+
+
+def said_handle(handle: int) -> str:
+    said, kind = handle_words(handle), kind_words(handle)
+    return kind if said in (kind, f"{handle:08x}", "the password") else said
+
+
+def said_bytes(data: bytes) -> str:
+    return f'"{data.decode("ascii")}"' if words.printable(data) else words.size_words(len(data))
+
 
 STARTS = {0: "CLEAR", 1: "STATE"}
 TICKETS = {frames.ST_CREATION: "of a creation", frames.ST_AUTH_SECRET: "of an assertion"}
 
-
-def read(walk: Walk, parameter: Parameter) -> None:
-    """The parameter, as its name or else its kind asks for."""
-    by_name = NAMED.get(parameter.name)
-    (by_name or OF_KIND[parameter.kind])(walk, parameter.name)
+# Takes a parameter of a name.
+Reader = Callable[[Walk, str], object]
 
 
-# Numbers.
+def number(size: int, meaning: Callable[[int], str] = str) -> Reader:
+    return lambda walk, name: walk.number(size, name, meaning)
 
 
-def number(size: int, meaning: Callable[[int], str] = str) -> Callable[[Walk, str], None]:
-    def taken(walk: Walk, name: str) -> None:
-        walk.number(size, name, meaning)
-
-    return taken
-
-
-def operation_words(value: int) -> str:
-    return OPERATIONS[value] if value < len(OPERATIONS) else "no operation"
-
-
-def session_words(value: int) -> str:
-    return words.SESSIONS.get(value, "no type of a session")
+def named(size: int, names: dict[int, str], other: str) -> Reader:
+    """A number that has a name, or none."""
+    return number(size, lambda it: names.get(it, other))
 
 
 def nv_attribute_words(value: int) -> str:
@@ -43,27 +133,16 @@ def nv_attribute_words(value: int) -> str:
     return f"type {types.get(kind, str(kind))}; {flags}"
 
 
-# Lists.
-
-
-def buffer(walk: Walk, name: str) -> None:
-    walk.buffer(name)
-
-
 def buffers(walk: Walk, name: str) -> None:
-    for at in range(walk.number(4, name, lambda it: words.plural(it, "buffer"))):
-        walk.depth += 1
-        walk.buffer(f"{name} {at + 1}")
-        walk.depth -= 1
+    for at in walk.elements(name, "buffer"):
+        walk.buffer(f"{name} {at}")
 
 
 def selection(walk: Walk, name: str) -> None:
-    for _ in range(walk.number(4, name, lambda it: words.plural(it, "bank"))):
-        walk.depth += 1
+    for _ in walk.elements(name, "bank"):
         walk.algorithm("hash")
         size = walk.number(1, "sizeofSelect")
         walk.take(size, "pcrSelect", pcr_words)
-        walk.depth -= 1
 
 
 def pcr_words(bits: bytes) -> str:
@@ -73,19 +152,10 @@ def pcr_words(bits: bytes) -> str:
 
 
 def digests(walk: Walk, name: str) -> None:
-    for _ in range(walk.number(4, name, lambda it: words.plural(it, "digest"))):
-        walk.depth += 1
+    for _ in walk.elements(name, "digest"):
         algorithm = walk.algorithm("hashAlg")
         if algorithm in HASHES:
             walk.take(digest_bytes(algorithm), "digest", lambda it: "")
-        walk.depth -= 1
-
-
-def hash_algorithm(walk: Walk, name: str) -> None:
-    walk.algorithm(name)
-
-
-# Structures.
 
 
 def cipher(walk: Walk, name: str) -> None:
@@ -124,7 +194,7 @@ def nv_public(walk: Walk, name: str) -> None:
         walk.algorithm("nameAlg")
         walk.number(4, "attributes", nv_attribute_words)
         walk.buffer("authPolicy")
-        walk.number(2, "dataSize", lambda it: words.plural(it, "byte"))
+        walk.number(2, "dataSize", size_words)
 
 
 def private(walk: Walk, name: str) -> None:
@@ -167,43 +237,39 @@ def capability(walk: Walk, name: str) -> None:
         walk.rest("elements")
 
 
-OF_KIND: dict[Kind, Callable[[Walk, str], None]] = {
+OF_KIND: dict[Kind, Reader] = {
     Kind.U8: number(1),
     Kind.U16: number(2),
     Kind.U32: number(4),
     Kind.BITS8: number(1, hex),
     Kind.BITS64: number(8, hex),
     Kind.CODE: number(4, hex),
-    Kind.HANDLE: lambda walk, name: None if walk.handle(name) else None,
-    Kind.BUFFER: buffer,
+    Kind.HANDLE: Walk.handle,
+    Kind.BUFFER: Walk.buffer,
     Kind.BUFFERS: buffers,
     Kind.SELECTION: selection,
     Kind.DIGESTS: digests,
     Kind.CIPHER: cipher,
-    Kind.HASH: hash_algorithm,
+    Kind.HASH: Walk.algorithm,
     Kind.TICKET: ticket,
     Kind.TIME: time,
     Kind.CAPABILITY: capability,
 }
 
 # Parameters of which more is known than their kind says.
-NAMED: dict[str, Callable[[Walk, str], None]] = {
-    "startupType": number(2, lambda it: STARTS.get(it, "no type of a start")),
-    "shutdownType": number(2, lambda it: STARTS.get(it, "no type of a shutdown")),
-    "sessionType": number(1, session_words),
-    "operation": number(2, operation_words),
+NAMED: dict[str, Reader] = {
+    "startupType": named(2, STARTS, "no type of a start"),
+    "shutdownType": named(2, STARTS, "no type of a shutdown"),
+    "sessionType": named(1, words.SESSIONS, "no type of a session"),
+    "operation": named(2, dict(enumerate(OPERATIONS)), "no operation"),
     "code": number(4, command_words),
     "locality": number(1, lambda it: "localities " + words.localities_words(it)),
     "inSensitive": sensitive_create,
-    "inPublic": public,
-    "outPublic": public,
-    "publicInfo": nv_public,
-    "nvPublic": nv_public,
-    "inPrivate": private,
-    "outPrivate": private,
+    **dict.fromkeys(("inPublic", "outPublic"), public),
+    **dict.fromkeys(("publicInfo", "nvPublic"), nv_public),
+    **dict.fromkeys(("inPrivate", "outPrivate"), private),
     "creationData": creation_data,
-    "newRecoveryTime": number(4, lambda it: f"{it:,} s"),
-    "lockoutRecovery": number(4, lambda it: f"{it:,} s"),
+    **dict.fromkeys(("newRecoveryTime", "lockoutRecovery"), number(4, lambda it: f"{it:,} s")),
 }
 
 
@@ -214,39 +280,32 @@ TAGS = {
 }
 
 
-def tag_words(tag: int) -> str:
-    return TAGS.get(tag, "no tag of a command")
-
-
 def fields_of_command(buffer: bytes, plain: bytes | None = None) -> list[Field]:
-    """Those of a command, of its plain parameters where these are given."""
-    walk = Walk(buffer)
-    try:
-        command(walk, plain)
-    except Cut:
-        pass
-    return finished(walk)
+    return fields_of(buffer, lambda walk: command(walk, plain))
 
 
-def fields_of_response(code: CC | None, response: bytes, plain: bytes | None = None) -> list[Field]:
-    walk = Walk(response)
-    try:
-        answer(walk, code, plain)
-    except Cut:
-        pass
-    return finished(walk)
+def fields_of_response(number: int, response: bytes, plain: bytes | None = None) -> list[Field]:
+    """Those of the response to a command, by that one's number."""
+    return fields_of(response, lambda walk: answer(walk, NUMBERED.get(number), plain))
 
 
-def finished(walk: Walk) -> list[Field]:
+def fields_of(data: bytes, read: Callable[[Walk], None]) -> list[Field]:
+    walk = Walk(data)
+    with contextlib.suppress(Cut):
+        read(walk)
     walk.depth, walk.end, walk.sort = 0, len(walk.data), REST
     walk.rest("left over")
     return walk.fields
 
 
+def header(walk: Walk, of: str, meaning: Callable[[int], str]) -> tuple[int, int]:
+    tag = walk.number(2, "tag", lambda it: TAGS.get(it, "no tag of a command"))
+    walk.number(4, f"{of}Size", size_words)
+    return tag, walk.number(4, f"{of}Code", meaning)
+
+
 def command(walk: Walk, plain: bytes | None) -> None:
-    tag = walk.number(2, "tag", tag_words)
-    walk.number(4, "commandSize", lambda it: plural(it, "byte"))
-    number = walk.number(4, "commandCode", command_words)
+    tag, number = header(walk, "command", command_words)
     code = NUMBERED.get(number)
     if code is None:
         return
@@ -255,28 +314,24 @@ def command(walk: Walk, plain: bytes | None) -> None:
         walk.handle(it.name)
     if tag == frames.SESSIONS:
         walk.sort = ENTRY
-        size = walk.number(4, "authorizationSize", lambda it: plural(it, "byte"))
-        entries(walk, size)
+        size = walk.number(4, "authorizationSize", size_words)
+        entries(walk, min(walk.end, walk.at + size), is_command=True)
     parameters(walk, code.parameters, plain)
 
 
-def entries(walk: Walk, size: int) -> None:
-    end, place = min(walk.end, walk.at + size), 0
+def entries(walk: Walk, end: int, is_command: bool) -> None:
+    place = 0
     while walk.at < end:
         place += 1
         with walk.group(f"entry {place}"):
             walk.end, whole = end, walk.end
             try:
-                entry(walk)
+                is_password = is_command and walk.handle("sessionHandle") == RS_PW
+                walk.buffer("nonceCaller" if is_command else "nonceTPM")
+                walk.number(1, "sessionAttributes", lambda it: bit_words(it, ATTRIBUTES))
+                walk.buffer("password" if is_password else "hmac")
             finally:
                 walk.end = whole
-
-
-def entry(walk: Walk) -> None:
-    session = walk.handle("sessionHandle")
-    walk.buffer("nonceCaller")
-    walk.number(1, "sessionAttributes", lambda it: bit_words(it, ATTRIBUTES))
-    walk.buffer("password" if session == RS_PW else "hmac")
 
 
 def parameters(walk: Walk, those: tuple[Parameter, ...], plain: bytes | None) -> None:
@@ -285,37 +340,27 @@ def parameters(walk: Walk, those: tuple[Parameter, ...], plain: bytes | None) ->
     if plain is not None:
         walk.data = walk.data[:at] + plain + walk.data[at + len(plain) :]
     for it in those:
-        read(walk, it)
+        (NAMED.get(it.name) or OF_KIND[it.kind])(walk, it.name)
     walk.rest("left over")
 
 
 def answer(walk: Walk, code: CC | None, plain: bytes | None) -> None:
-    tag = walk.number(2, "tag", tag_words)
-    walk.number(4, "responseSize", lambda it: plural(it, "byte"))
-    number = walk.number(4, "responseCode", code_words)
+    tag, number = header(walk, "response", code_words)
     if number or code is None:
         return
     walk.sort = HANDLE
     for it in code.answered_handles:
         walk.handle(it.name)
-    walk.sort = HEADER
-    behind = walk.end
+    walk.sort, behind = HEADER, walk.end
     if tag == frames.SESSIONS:
-        size = walk.number(4, "parameterSize", lambda it: plural(it, "byte"))
+        size = walk.number(4, "parameterSize", size_words)
         walk.end = min(walk.end, walk.at + size)
     parameters(walk, code.answered_parameters, plain)
     walk.end, walk.sort = behind, ENTRY
-    place = 0
-    while walk.at < walk.end:
-        place += 1
-        with walk.group(f"entry {place}"):
-            walk.buffer("nonceTPM")
-            walk.number(1, "sessionAttributes", lambda it: bit_words(it, ATTRIBUTES))
-            walk.buffer("hmac")
+    entries(walk, behind, is_command=False)
 
 
 def code_words(code: int) -> str:
-    """A response code's name and place, as VALUE/p1."""
     if not code:
         return "SUCCESS"
     name, place = frames.spelled_code(code)

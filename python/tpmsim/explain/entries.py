@@ -5,8 +5,7 @@ from typing import Iterator
 from tpmsim.explain import ingredients, policies, slips
 from tpmsim.explain.ingredients import Use
 from tpmsim.explain.policies import unavailable
-from tpmsim.explain.reason import HAD, Reason, WANTED
-from tpmsim.explain.scene import Scene
+from tpmsim.explain.reason import HAD, Reason, Scene, WANTED
 from tpmsim.explain.words import bytes_words, handle_words, seconds_words
 from tpmsim.model.protection import LOCKOUT_AUTH, MILLISECONDS, TRIES
 from tpmsim.standard import Entry, is_policy, policy, trimmed
@@ -15,7 +14,6 @@ Place = tuple[int, Entry, int | None]
 
 
 def reason(scene: Scene) -> Reason:
-    """That of a refusal by G9 or G10."""
     if scene.name == "INSUFFICIENT":
         words = "The first parameter, which a session is to decrypt, is cut."
         return Reason("G10/INSUFFICIENT", words, at=scene.parameters_at)
@@ -41,9 +39,6 @@ def refused_place(scene: Scene) -> Place:
     return places[0]
 
 
-# Lockout.
-
-
 def locked(scene: Scene, place: int, entry: Entry, handle: int | None) -> Reason:
     model, lockout = scene.model, scene.model.lockout
     found = Reason("tries", "", at=scene.entry_at(place))
@@ -64,16 +59,12 @@ def locked(scene: Scene, place: int, entry: Entry, handle: int | None) -> Reason
 
 
 def recovery_words(scene: Scene) -> str:
-    """When the next try is forgiven, and how the lockout is reset."""
     lockout = scene.model.lockout
     if not lockout.max_tries:
         return "With a maxTries of 0 that is always so."
     left = MILLISECONDS * lockout.recovery_time - lockout.forgiving_time
     reset = "DictionaryAttackLockReset resets them at once"
     return f"One is forgiven in {seconds_words(left)}; {reset}."
-
-
-# A wrong entry.
 
 
 def wrong(scene: Scene, place: int, entry: Entry, handle: int | None) -> Reason:
@@ -119,7 +110,6 @@ def wrong_password(scene: Scene, found: Reason, entry: Entry, handle: int) -> No
 
 
 def passwords(scene: Scene, handle: int) -> Iterator[tuple[str, str, bytes]]:
-    """Usual mistakes, each with the password that it makes of the right one."""
     value, said = scene.model.auth_value(handle), handle_words(handle)
     if value:
         yield "password left out", f"the password is empty, and {said} has a value", b""
@@ -140,19 +130,16 @@ def passwords(scene: Scene, handle: int) -> Iterator[tuple[str, str, bytes]]:
 
 
 def as_hmac(use: Use, found: Reason) -> None:
-    """An HMAC where PolicyPassword asks for the value in plain."""
     found.words += " The policy was told PolicyPassword, so that the value is wanted in plain."
     use.entry.demand = policy.AUTH_VALUE
     is_hmac = use.entry.hmac == use.right().hmac
     use.entry.demand = policy.PASSWORD
     if is_hmac:
-        found.slip(
-            "HMAC in place of a password", "it is the HMAC that PolicyAuthValue would ask for"
-        )
+        words = "it is the HMAC that PolicyAuthValue would ask for"
+        found.slip("HMAC in place of a password", words)
 
 
 def counted_words(scene: Scene, entry: Entry, handle: int | None) -> str:
-    """What the try counted at."""
     model, lockout = scene.model, scene.model.lockout
     touched = model.touched(entry, handle)
     if touched == LOCKOUT_AUTH:
@@ -169,7 +156,6 @@ def counted_words(scene: Scene, entry: Entry, handle: int | None) -> str:
 
 
 def is_try(scene: Scene) -> bool:
-    """Whether a refusal counted as a failed try."""
     if not scene.refused.startswith("AUTH_FAIL/s") or not scene.model.lockout.recovery_time:
         return False
     _, entry, handle = refused_place(scene)

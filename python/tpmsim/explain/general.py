@@ -2,24 +2,15 @@
 
 from typing import Callable
 
-from tpmsim.explain.reason import HAD, Reason
-from tpmsim.explain.scene import Scene
-from tpmsim.explain.words import attribute_words, command_words, handle_words, kind_words
-from tpmsim.explain.words import plural
+from tpmsim.explain.reason import HAD, Reason, Scene
+from tpmsim.explain.words import attribute_words, command_words, handle_words, kind_words, plural
 from tpmsim.model.general import LEAST_AREA, MOST_NONCE_OR_HMAC
-from tpmsim.standard import CC, COMMAND_BYTES, DECRYPT, ENCRYPT, Entry, Fields, HEADER_BYTES
-from tpmsim.standard import MOST_ENTRIES, RS_PW, Short, frames, is_session
+from tpmsim.standard import CC, COMMAND_BYTES, DECRYPT, ENCRYPT, Entry, Fields, frames, HEADER_BYTES
+from tpmsim.standard import is_session, MOST_ENTRIES, RS_PW, Short
 from tpmsim.standard.handle_kinds import HANDLES
 
 PLACE_BITS = 0xFF_FFFF
 AUDITS = frames.AUDIT_EXCLUSIVE | frames.AUDIT_RESET | frames.AUDIT
-
-
-def reason(scene: Scene) -> Reason:
-    return CHECKS[scene.check](scene)
-
-
-# The header.
 
 
 def length(scene: Scene) -> Reason:
@@ -55,9 +46,6 @@ def startup(scene: Scene) -> Reason:
     return Reason("G5", words, at=6)
 
 
-# Handles.
-
-
 def handles(scene: Scene) -> Reason:
     place = scene.place or int(scene.name[-1]) + 1
     wanted, at = scene.code.handles[place - 1], HEADER_BYTES + 4 * (place - 1)
@@ -76,14 +64,10 @@ def handles(scene: Scene) -> Reason:
 
 
 def missing_words(scene: Scene, handle: int) -> str:
-    """Why nothing has a handle now."""
     for other in scene.model.sessions if is_session(handle) else []:
         if other & PLACE_BITS == handle & PLACE_BITS and other != handle:
             return f"its place has {kind_words(other)}, {other:08x}"
     return scene.past.gone_words(handle)
-
-
-# Entries.
 
 
 def sessions_or_none(scene: Scene) -> Reason:
@@ -99,11 +83,17 @@ def sessions_or_none(scene: Scene) -> Reason:
 def entries(scene: Scene) -> Reason:
     if scene.name == "AUTHSIZE":
         return area(scene)
-    those = entries_of(scene)
+    fields = Fields(scene.buffer[scene.area_at :])
+    those = list(frames.entries_of(fields.take(fields.number(4))))
     place = scene.place or int(scene.name[-1]) + 1
     entry, at = those[place - 1], scene.entry_at(place)
     if scene.name == "SIZE":
-        return entry_size(place, entry, at)
+        is_nonce = len(entry.nonce) > MOST_NONCE_OR_HMAC
+        which, long = ("nonce", entry.nonce) if is_nonce else ("HMAC or password", entry.hmac)
+        has = f"The {which} of entry {place} has {len(long)} bytes"
+        words = f"{has}: {len(long)} > {MOST_NONCE_OR_HMAC}."
+        behind = 0 if is_nonce else 2 + len(entry.nonce) + 1
+        return Reason("G8/SIZE", words, at=at + 4 + behind)
     if scene.name == "HANDLE":
         return entry_handle(scene, those, place, at)
     if scene.name == "VALUE":
@@ -117,14 +107,7 @@ def entries(scene: Scene) -> Reason:
     return entry_attributes(scene, those, place, at)
 
 
-def entries_of(scene: Scene) -> list[Entry]:
-    """Those of an area that can be divided."""
-    fields = Fields(scene.buffer[scene.area_at :])
-    return list(frames.entries_of(fields.take(fields.number(4))))
-
-
 def area(scene: Scene) -> Reason:
-    """An authorization area that cannot be divided into entries."""
     at = scene.area_at
     found, left = Reason("G8/AUTHSIZE", "", at=at), len(scene.buffer) - at
     size, behind = int.from_bytes(scene.buffer[at : at + 4], "big"), left - 4
@@ -141,7 +124,6 @@ def area(scene: Scene) -> Reason:
 
 
 def divided(scene: Scene, at: int, size: int, found: Reason) -> None:
-    """An area of its size that has too many entries, or one that is cut."""
     fields, count, begin = Fields(scene.buffer[at : at + size]), 0, at
     try:
         while fields.data:
@@ -153,13 +135,6 @@ def divided(scene: Scene, at: int, size: int, found: Reason) -> None:
         found.words = f"Entry {count + 1} is cut: {asked} the {at + size - begin} bytes of it."
         return
     found.words = f"There are {count} entries: {count} > {MOST_ENTRIES}."
-
-
-def entry_size(place: int, entry: Entry, at: int) -> Reason:
-    is_nonce = len(entry.nonce) > MOST_NONCE_OR_HMAC
-    which, size = ("nonce", len(entry.nonce)) if is_nonce else ("HMAC or password", len(entry.hmac))
-    words = f"The {which} of entry {place} has {size} bytes: {size} > {MOST_NONCE_OR_HMAC}."
-    return Reason("G8/SIZE", words, at=at + 4 if is_nonce else at + 4 + 2 + len(entry.nonce) + 1)
 
 
 def entry_handle(scene: Scene, those: list[Entry], place: int, at: int) -> Reason:

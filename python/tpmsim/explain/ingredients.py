@@ -1,22 +1,21 @@
-"""What goes into the HMAC of an entry."""
+"""What goes into the HMAC of an entry, and into the encryption of a first parameter."""
 
 import hmac
 from dataclasses import dataclass
+from typing import Iterator
 
-from tpmsim.explain.past import Begun
-from tpmsim.explain.reason import Fact
-from tpmsim.explain.scene import Scene
+from tpmsim.explain.past import Begun, Since
+from tpmsim.explain.reason import Fact, Scene
 from tpmsim.explain.words import attribute_words, bytes_words, handle_words
 from tpmsim.model.general import Command
-from tpmsim.model.machine import Session
-from tpmsim.standard import CC, digest, Entry, handle_kinds, HASH_WORDS, number, policy
+from tpmsim.model.policy_state import Session
+from tpmsim.standard import CC, DECRYPT, digest, Entry, Fields, frames, handle_kinds, HASH_WORDS
+from tpmsim.standard import number, policy, sessions, Short
 
 
 @dataclass(frozen=True)
 class Ingredients:
-    """An HMAC's parts. `code` is what stands before the Names in cpHash; `auth_value` is empty where
-    it is not in the key.
-    """
+    """`code` stands before the Names in cpHash; `auth_value` is empty if not in the key."""
 
     algorithm: int
     session_key: bytes
@@ -69,7 +68,6 @@ class Use:
 
     @property
     def authorized(self) -> int:
-        """What it authorizes, of an entry that does."""
         assert self.handle is not None
         return self.handle
 
@@ -80,6 +78,11 @@ class Use:
     @property
     def auth_value(self) -> bytes:
         return self.scene.model.auth_value(self.handle)
+
+    @property
+    def past_values(self) -> list[Since]:
+        """Those that what it authorizes had before."""
+        return [] if self.handle is None else self.scene.past.values.get(self.handle, [])[:-1]
 
     @property
     def takes_value(self) -> bool:
@@ -94,7 +97,6 @@ class Use:
         return self.begun.bind == self.handle or self.session.bind in names
 
     def right(self) -> Ingredients:
-        """The parts that the device takes."""
         model, command, algorithm = self.scene.model, self.command, self.session.algorithm
         value = self.auth_value if self.takes_value else b""
         names = tuple(model.names(command))
@@ -106,7 +108,6 @@ class Use:
         )
 
     def value_words(self) -> str:
-        """Whether the authorization value is in the key, and why."""
         if self.handle is None:
             return "not in the key: the entry authorizes nothing"
         said = handle_words(self.handle)
@@ -121,7 +122,6 @@ class Use:
         return f"in the key: the session is not bound to {said}"
 
     def lapse_words(self) -> str:
-        """Why a binding does not hold any more."""
         past, handle, words = self.scene.past, self.authorized, []
         if self.session.bind != self.scene.model.name(handle):
             words.append(f"as its Name is another one since {past.last_change.get(handle, '?')}")
@@ -141,7 +141,6 @@ def use_of(scene: Scene, place: int) -> Use | None:
 
 
 def facts(use: Use) -> list[Fact]:
-    """Each thing that goes into the HMAC, as it is right."""
     right = use.right()
     since = use.begun.nonces[-1].line if use.begun and use.begun.nonces else 0
     names = zip(use.command.handles, right.names)
@@ -162,8 +161,73 @@ def facts(use: Use) -> list[Fact]:
 
 
 def key_words(use: Use) -> str:
-    """What the session key was made of."""
     if use.begun is None or not use.session.key:
         return ""
     bind, line = handle_words(use.begun.bind), use.begun.line
     return f" (of {bind}'s authValue and the nonces of line {line})"
+
+
+@dataclass(frozen=True)
+class Otherwise:
+    """A mistake of a caller that encrypts, and the parameters that it would have meant."""
+
+    name: str
+    words: str
+    plain: bytes
+
+
+def decrypting_use(scene: Scene) -> Use | None:
+    """The entry whose session decrypts, of a command whose first parameter is whole."""
+    found = scene.known.with_attribute(DECRYPT) if scene.known else None
+    if found is None:
+        return None
+    try:
+        Fields(scene.command.parameters).sized()
+    except Short:
+        return None
+    return use_of(scene, found[0])
+
+
+def otherwise(scene: Scene) -> Iterator[Otherwise]:
+    use = decrypting_use(scene)
+    seen = {scene.plain}
+    for it in mistakes(use, scene.command.parameters) if use else ():
+        if it.plain not in seen:
+            seen.add(it.plain)
+            yield it
+
+
+def mistakes(use: Use, sent: bytes) -> Iterator[Otherwise]:
+    session, value, nonce = use.session, use.auth_value, use.entry.nonce
+
+    def by(
+        name: str,
+        words: str,
+        key: bytes = session.key + value,
+        newer: bytes = nonce,
+        older: bytes = session.nonce_tpm,
+        cipher: int = session.cipher,
+    ) -> Otherwise:
+        algorithm = session.algorithm
+        plain = sessions.first_decrypted(cipher, algorithm, key, newer, older, sent)
+        return Otherwise(name, words, plain)
+
+    words = "it was sent in plain, and the entry has the attribute decrypt"
+    yield Otherwise("not encrypted", words, sent)
+    if value:
+        words = "the authValue was left out of the key of the encryption, where it always is"
+        yield by("mask without authValue", words, session.key)
+    if session.key:
+        words = "the session key was left out of the key of the encryption"
+        yield by("mask without session key", words, value)
+    words = "the nonces were swapped in the key of the encryption"
+    yield by("mask with nonces swapped", words, newer=session.nonce_tpm, older=nonce)
+    for past in use.begun.nonces[-4:-1] if use.begun else []:
+        words = f"it was encrypted with the nonceTPM of line {past.line}, which is past"
+        yield by("mask with an old nonceTPM", words, older=past.value)
+    for since in use.past_values:
+        words = f"it was encrypted with the authValue of line {since.line}, which is past"
+        yield by("mask with an old authValue", words, session.key + since.value)
+    other = frames.XOR if session.cipher == frames.AES else frames.AES
+    words = "it was encrypted by the other cipher, XOR for AES or AES for XOR"
+    yield by("other cipher", words, cipher=other)

@@ -26,7 +26,7 @@ import pathlib
 import sys
 from dataclasses import dataclass
 
-from tpmsim.explain import json_form, page, text
+from tpmsim.explain import page, text
 from tpmsim.explain.play import Event, Play
 from tpmsim.model.image import Fault
 
@@ -39,8 +39,6 @@ class Usage(Exception):
 
 @dataclass
 class Asked:
-    """What the command line asks for."""
-
     log: str
     answers: str | None = None
     image: str | None = None
@@ -77,48 +75,29 @@ def read(name: str) -> bytes:
         raise Usage(f"{name} cannot be read") from None
 
 
-def play_of(asked: Asked) -> Play:
-    image = None if asked.image is None else read(asked.image)
+def explain(asked: Asked, counts: text.Counts) -> tuple[str, Play]:
+    log, image = read(asked.log), None if asked.image is None else read(asked.image)
     answers = None if asked.answers is None else read(asked.answers)
     try:
-        return Play(image, answers, asked.at, asked.form == "html")
+        play = Play(image, answers, asked.at, asked.form == "html")
     except Fault as fault:
         raise Usage(f"image {fault}") from None
-
-
-def explain(asked: Asked, counts: text.Counts) -> tuple[str, Play]:
-    """What is printed, and the play that it is of."""
-    log, play = read(asked.log), play_of(asked)
     if asked.form == "html":
         return page.of_log(asked.log, play, log, counts), play
-    told = []
+    told = list[Event]()
     for event in play.events(log):
         counts.add(event)
-        if is_told(event, asked):
+        is_worth_it = bool(event.reason or event.notes or event.differences)
+        if is_worth_it if asked.at is None else event.line == asked.at:
             told.append(event)
     if asked.at is not None and not told:
         raise Usage(f"line {asked.at} of {asked.log} executes nothing")
     if asked.form == "json":
-        value = json_form.of_log(told, counts, play.bad_line, asked.at is not None)
+        value = text.value_of_log(told, counts, play.bad_line, asked.at is not None)
         return json.dumps(value, indent=1), play
-    return "\n".join(lines_of(told, asked, counts)), play
-
-
-def is_told(event: Event, asked: Asked) -> bool:
-    if asked.at is not None:
-        return event.line == asked.at
-    return bool(event.reason or event.notes or event.differences)
-
-
-def lines_of(told: list[Event], asked: Asked, counts: text.Counts) -> list[str]:
-    lines = list[str]()
-    for event in told:
-        if asked.at is not None:
-            lines += text.whole(event)
-        lines += text.told(event)
-    if asked.at is None:
-        lines.append(counts.words())
-    return lines
+    lines = [] if asked.at is None else [it for event in told for it in text.whole(event)]
+    lines += [it for event in told for it in text.told(event)]
+    return "\n".join([*lines, counts.words()] if asked.at is None else lines), play
 
 
 def tell(words: str) -> None:

@@ -1,13 +1,15 @@
 """Why the own checks of a command refuse it (A1 to A7), and where there is no memory for it (M)."""
 
-from tpmsim.explain import own_nv, own_objects, own_policy
-from tpmsim.explain.look import Check, Look, said
-from tpmsim.explain.reason import Reason
-from tpmsim.explain.scene import Scene
-from tpmsim.explain.words import algorithm_words, kind_words, listed
+from tpmsim.explain import own_nv, own_objects
+from tpmsim.explain.past import values_digest
+from tpmsim.explain.policies import moved_words
+from tpmsim.explain.reason import Check, Look, Reason, said, Scene
+from tpmsim.explain.words import algorithm_words, bytes_words, command_words, kind_words, listed
+from tpmsim.explain.words import localities_words, OPERATIONS
 from tpmsim.model import pcrs
 from tpmsim.model.machine import LEAST_NONCE, SESSIONS
-from tpmsim.standard import CC, digest_bytes
+from tpmsim.model.nv_commands import signed, unsigned
+from tpmsim.standard import CC, digest_bytes, policy
 
 
 def reason(scene: Scene) -> Reason:
@@ -91,6 +93,151 @@ clear_control = said(
     lambda it: "LOCKOUT asks to enable Clear, which PLATFORM alone may.", "disable"
 )
 
+
+SIGNS = ("=", "!=", ">", ">", "<", "<", ">=", ">=", "<=", "<=")
+SIGNED = (2, 4, 6, 8)
+BITSET, BITCLEAR = 10, 11
+
+
+def recorded_at(look: Look, *codes: CC) -> str:
+    lines = look.past.lines_told(look.handles[-1], *codes)
+    return f" (line {lines[-1]})" if lines else ""
+
+
+def pcr_changed(look: Look) -> None:
+    lines = look.past.lines_told(look.handles[0], CC.PolicyPCR)
+    moved = look.past.moved_since(lines[-1] if lines else 0)
+    by = moved_words(moved) if moved else "no command of this log"
+    where = recorded_at(look, CC.PolicyPCR)
+    look.say(f"Since the session's first PolicyPCR{where} PCRs have moved: by {by}.")
+    told, now = look.session.policy.update_counter, look.model.update_counter
+    look.found.compare(str(told), str(now), "update counter")
+
+
+def pcr_digest(look: Look) -> None:
+    selected, algorithm = look["pcrs"], look.session.algorithm
+    own, given = values_digest(algorithm, selected, look.model.banks), look["pcrDigest"]
+    look.say("pcrDigest is not the digest of the values that the PCRs have.", "pcrDigest")
+    look.found.compare(own.hex(), given.hex(), "pcrDigest")
+    for bank, pcr in [(bank, pcr) for bank, pcrs in selected for pcr in pcrs]:
+        moved = [it.words for it in look.past.moves if it.pcr == pcr]
+        behind = f" (by {moved[-1]})" if moved else ""
+        value = look.model.banks[bank][pcr].hex()
+        look.found.add(f"{algorithm_words(bank)} PCR {pcr}", value + behind)
+    for line, banks in reversed(look.past.pcr_states):
+        if values_digest(algorithm, selected, banks) == given:
+            words = f"it is the digest of the PCRs as they were after line {line}"
+            look.found.slip("PCRs moved", words)
+            break
+
+
+def branches(look: Look) -> None:
+    given = listed(it.hex() or "empty" for it in look["pHashList"])
+    look.say("The policy digest of the session is none of the branches.")
+    look.found.compare(given, look.session.policy.digest.hex(), "digest")
+    for it in look.past.told_words(look.handles[0]):
+        look.found.add("told by", it)
+
+
+def other_code(look: Look) -> None:
+    told = look.session.policy.code
+    assert told is not None
+    has = f"{command_words(told)} already{recorded_at(look, CC.PolicyCommandCode)}"
+    look.say(f"The session has {has}, and a policy names one command.", "code")
+    look.found.compare(f"{told:08x}", f"{look['code']:08x}", "code")
+
+
+code_not_served = said(lambda it: f"No command {it['code']:08x} is served.", "code")
+
+
+def cp_hash_size(look: Look) -> None:
+    size, wanted = len(look["cpHashA"]), digest_bytes(look.session.algorithm)
+    has = f"cpHashA has {size} bytes, and the session's digests have {wanted}"
+    look.say(f"{has}: {size} != {wanted}.", "cpHashA")
+
+
+def other_cp_hash(look: Look) -> None:
+    told = look.session.policy.cp_hash
+    assert told is not None
+    where = recorded_at(look, CC.PolicyCpHash, CC.PolicySecret)
+    look.say(f"The session has another cpHash already{where}.", "cpHashA")
+    look.found.compare(told.hex(), look["cpHashA"].hex(), "cpHash")
+
+
+def other_written(look: Look) -> None:
+    where = recorded_at(look, CC.PolicyNvWritten)
+    look.say(f"The session has the other value already{where}.", "writtenSet")
+    told = int(bool(look.session.policy.nv_written))
+    look.found.compare(str(told), str(look["writtenSet"]), "writtenSet")
+
+
+def localities(look: Look) -> None:
+    given, left = look["locality"], localities_words(look.session.policy.localities)
+    words = f"None would be left: it names {localities_words(given)}, and the session has {left}."
+    if not given:
+        words = "locality is 0, which names none; bit n is for locality n."
+    elif given > policy.ALL_LOCALITIES:
+        words = f"locality is {given:#x}: {given} > 31; bits 0 to 4 are for localities 0 to 4."
+    look.say(words, "locality")
+
+
+def expiration(look: Look) -> None:
+    given = look["expiration"]
+    look.say(f"expiration is {given}, and nothing expires here: {given} != 0.", "expiration")
+
+
+def secret_cp_hash_size(look: Look) -> None:
+    size, wanted = len(look["cpHashA"]), digest_bytes(look.session.algorithm)
+    look.say(f"cpHashA has {size} bytes, which is neither 0 nor {wanted}.", "cpHashA")
+
+
+def secret_nonce(look: Look) -> None:
+    given = look["nonceTPM"]
+    look.say("nonceTPM is not the latest one of the policy session.", "nonceTPM")
+    look.found.compare(look.session.nonce_tpm.hex(), given.hex(), "nonceTPM")
+    begun = look.past.sessions.get(look.handles[-1])
+    for since in begun.nonces[:-1] if begun else []:
+        if since.value == given:
+            words = f"it is that of line {since.line}, which is past"
+            look.found.slip("old nonceTPM", words)
+
+
+nv_range = said(lambda it: own_nv.range_words(it, len(it["operandB"])), "operandB")
+
+
+def comparison(look: Look) -> None:
+    operand, offset, operation = look["operandB"], look["offset"], look["operation"]
+    held, name = look.index.data[offset : offset + len(operand)], OPERATIONS[operation]
+    compared = compared_words(operation, held, operand)
+    look.say(f"{name} does not hold: {compared} is false.", "operandB")
+    look.found.compare(f"{name} {bytes_words(operand)}", bytes_words(held), "operand")
+
+
+def compared_words(operation: int, held: bytes, operand: bytes) -> str:
+    if operation in (0, 1):
+        return f"{held.hex() or 'empty'} {SIGNS[operation]} {operand.hex() or 'empty'}"
+    if operation == BITSET:
+        missing = unsigned(operand) & ~unsigned(held)
+        return f"{held.hex()} has all bits of {operand.hex()} set (missing: {missing:#x})"
+    if operation == BITCLEAR:
+        found = unsigned(operand) & unsigned(held)
+        return f"{held.hex()} has all bits of {operand.hex()} clear (set: {found:#x})"
+    number = signed if operation in SIGNED else unsigned
+    return f"{number(held)} {SIGNS[operation]} {number(operand)}"
+
+
+OF_ASSERTIONS: dict[str, tuple[Check, ...]] = {
+    "PolicyPCR": (pcr_changed, pcr_digest),
+    "PolicyOR": (branches,),
+    "PolicyCommandCode": (other_code, code_not_served),
+    "PolicyCpHash": (cp_hash_size, other_cp_hash),
+    "PolicyNvWritten": (other_written,),
+    "PolicyLocality": (localities,),
+    "PolicySecret": (expiration, secret_cp_hash_size, secret_nonce, other_cp_hash),
+    "PolicyNV": (own_nv.asker, own_nv.locked, own_nv.unwritten, nv_range, comparison),
+}
+
+
 OF_COMMANDS: dict[str, tuple[Check, ...]] = {
     "Startup": (startup,),
     "GetCapability": (capability, capability_handles),
@@ -101,7 +248,7 @@ OF_COMMANDS: dict[str, tuple[Check, ...]] = {
     "ClearControl": (clear_control,),
     **own_nv.CHECKS,
     **own_objects.CHECKS,
-    **own_policy.CHECKS,
+    **OF_ASSERTIONS,
 }
 CHECKS: dict[str, Check] = {
     f"{name}/A{at}": check

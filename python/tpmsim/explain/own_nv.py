@@ -1,10 +1,10 @@
 """The numbers of the own checks of commands on NV indices."""
 
-from tpmsim.explain.look import Check, Look, said
+from tpmsim.explain.reason import Check, Look, said
 from tpmsim.explain.words import bytes_words, flag_words, plural
 from tpmsim.model import nv_commands
 from tpmsim.model.nv_commands import ALL_BYTES, BUFFER_BYTES, INDEX_BYTES, INDICES, LARGEST
-from tpmsim.standard import CC, RH_OWNER, RH_PLATFORM, digest_bytes, nv, trimmed
+from tpmsim.standard import CC, digest_bytes, nv, RH_OWNER, RH_PLATFORM, trimmed
 from tpmsim.standard.nv import Attribute, NUMBER_BYTES, READS, Type, WRITES
 
 TYPES = {int(it): it.name.lower() for it in Type}
@@ -24,7 +24,6 @@ def type_words(kind: int) -> str:
 
 
 def flags_of(public: nv.Public, those: int = ~(nv.TYPE_MASK << nv.TYPE_SHIFT)) -> str:
-    """The names of an index's attributes, of those that are asked for."""
     return flag_words(public.attributes & those, Attribute)
 
 
@@ -32,15 +31,11 @@ def add_attributes(look: Look, public: nv.Public) -> None:
     look.found.add("attributes", flags_of(public))
 
 
-# Definition.
-
-
 def defined(look: Look) -> nv.Public:
     return nv.Public.read(look["publicInfo"])
 
 
 def too_long(look: Look, name: str, value: bytes, algorithm: int) -> None:
-    """An authorization value that is longer than the digests of a hash algorithm."""
     size, most = len(trimmed(value)), digest_bytes(algorithm)
     words = f"{name} has {size} bytes, and nameAlg has digests of {most}: {size} > {most}."
     look.say(words, name)
@@ -109,9 +104,6 @@ def define_space(look: Look) -> None:
     look.say(words)
 
 
-# Who may.
-
-
 def asker(look: Look) -> None:
     public, by, reads = look.public, look.handles[0], look.code in READERS
     verb, index = "read" if reads else "write", f"{public.index:08x}"
@@ -158,9 +150,6 @@ increment_range = said(lambda it: f"The counter is at its largest value, {LARGES
 read_size = said(lambda it: f"size is {it['size']:,}: {it['size']} > {BUFFER_BYTES}.", "size")
 
 
-# Ranges.
-
-
 def range_words(look: Look, size: int) -> str:
     offset, most = look["offset"], look.public.data_size
     over = f"offset {offset} and {plural(size, 'byte')} are over dataSize"
@@ -182,11 +171,10 @@ def change_auth(look: Look) -> None:
     look.found.add("newAuth", bytes_words(look["newAuth"]))
 
 
+DEFINITION = define_auth, define_policy, define_attributes, define_size, define_twice, define_space
 WRITING = asker, locked, type_written
 CHECKS: dict[str, tuple[Check, ...]] = {
-    "NV_DefineSpace": (
-        *(define_auth, define_policy, define_attributes, define_size, define_twice, define_space),
-    ),
+    "NV_DefineSpace": DEFINITION,
     "NV_UndefineSpace": (undefine,),
     "NV_Write": (*WRITING, write_range),
     "NV_Increment": (*WRITING, increment_range),

@@ -1,15 +1,15 @@
 """The numbers of the own checks of commands on objects."""
 
-from tpmsim.explain import encryption
-from tpmsim.explain.look import Check, Look, said
+from tpmsim.explain import ingredients
 from tpmsim.explain.own_nv import too_long, wrong_policy
+from tpmsim.explain.reason import Check, Look, said
 from tpmsim.explain.words import algorithm_words, flag_words, handle_words
 from tpmsim.model import object_rules
 from tpmsim.model.general import Refusal
 from tpmsim.model.object_commands import OBJECTS
 from tpmsim.model.parameters import Parameters
-from tpmsim.model.persistent import PERSISTENT_OBJECTS, is_persistent
-from tpmsim.standard import ALG_NULL, CC, Fields, KEYEDHASH, RH_PLATFORM, Short, aes, digest_bytes
+from tpmsim.model.persistent import is_persistent, PERSISTENT_OBJECTS
+from tpmsim.standard import aes, ALG_NULL, CC, digest_bytes, Fields, KEYEDHASH, RH_PLATFORM, Short
 from tpmsim.standard import trimmed
 from tpmsim.standard.objects import Attribute, Public
 
@@ -19,16 +19,12 @@ def template(look: Look) -> Public:
 
 
 def sensitive(look: Look) -> tuple[bytes, bytes]:
-    """userAuth and data."""
     fields = Fields(look["inSensitive"])
     return fields.sized(), fields.sized()
 
 
 def add_attributes(look: Look, public: Public) -> None:
     look.found.add("attributes", flag_words(public.attributes, Attribute))
-
-
-# Parents and templates.
 
 
 def parent(look: Look) -> None:
@@ -76,9 +72,6 @@ def scheme(look: Look) -> None:
     look.say(words, "scheme")
 
 
-# Creations.
-
-
 def user_auth(look: Look) -> None:
     too_long(look, "userAuth", sensitive(look)[0], template(look).name_algorithm)
     misread(look)
@@ -103,7 +96,7 @@ def key_size(look: Look) -> None:
 
 def misread(look: Look) -> None:
     """Names a slip of the encryption, where it makes inSensitive a fine one."""
-    for other in encryption.otherwise(look.scene):
+    for other in ingredients.otherwise(look.scene):
         size = int.from_bytes(other.plain[:2], "big")
         try:
             parameters = Parameters(other.plain[: 2 + size])
@@ -122,9 +115,6 @@ def no_place(look: Look) -> None:
         look.found.add(handle_words(it), f"since line {look.past.begun.get(it, 0)}")
 
 
-# TPM2_Load.
-
-
 def integrity(look: Look) -> None:
     private, name, held = look["inPrivate"], template(look).name, look.object
     fields = Fields(private)
@@ -139,11 +129,9 @@ def integrity(look: Look) -> None:
         look.say(right, "inPrivate")
         inner(look, fields)
         return
-    other = (
-        "the two areas belong to different objects, to another parent, or one of them was changed"
-    )
+    why = "the two areas belong to different objects, to another parent, or one of them was changed"
     makes = f"The integrity of inPrivate is not the one that {look.said(0)} makes for this inPublic"
-    look.say(f"{makes}: {other}.", "inPrivate")
+    look.say(f"{makes}: {why}.", "inPrivate")
     look.found.compare(wanted.hex(), given.hex(), "integrity")
     look.found.add("Name of inPublic", name.hex())
     for handle, it in look.model.objects.items():
@@ -158,9 +146,6 @@ def inner(look: Look, fields: Fields) -> None:
         look.found.add("iv", "cut")
         return
     look.found.add("iv", f"{iv.hex()}, {len(iv)} bytes of {aes.BLOCK}")
-
-
-# Uses.
 
 
 def no_keyed_hash(look: Look) -> None:
@@ -184,8 +169,6 @@ def hmac_scheme(look: Look) -> None:
         words = f"The key's scheme is HMAC by {algorithm_words(own)}, and hashAlg is {given}."
     look.say(words, "hashAlg")
 
-
-# TPM2_EvictControl.
 
 PLACE = "persistentHandle"
 
@@ -221,6 +204,7 @@ evict_clear = said(lambda it: f"{it.said(1)} has stClear, so that it does not ou
 
 TEMPLATE = auth_policy, attributes, scheme
 CREATION = user_auth, origin, key_size
+EVICTION = evict_hierarchy, evict_clear, evict_range, evict_other, evict_taken, evict_space
 
 CHECKS: dict[str, tuple[Check, ...]] = {
     "CreatePrimary": (*TEMPLATE, *CREATION, no_place),
@@ -228,7 +212,5 @@ CHECKS: dict[str, tuple[Check, ...]] = {
     "Load": (parent, *TEMPLATE, integrity, no_place),
     "Unseal": (no_keyed_hash, unseal_sign),
     "HMAC": (no_keyed_hash, hmac_restricted, hmac_sign, hmac_scheme),
-    "EvictControl": (
-        *(evict_hierarchy, evict_clear, evict_range, evict_other, evict_taken, evict_space),
-    ),
+    "EvictControl": EVICTION,
 }

@@ -11,17 +11,18 @@ import pathlib
 import re
 from typing import Any, Iterator
 
-from tpmsim.explain import dissection, own_nv
-from tpmsim.explain.field import Field
-from tpmsim.explain.past import Past
+from tpmsim.explain import own_nv
+from tpmsim.explain.dissection import Field
+from tpmsim.explain.past import Past, WRITES_PCR
 from tpmsim.explain.play import Event, Play
 from tpmsim.explain.reason import Reason
 from tpmsim.explain.text import Counts, name_of
 from tpmsim.explain.words import algorithm_words, bytes_words, command_words, flag_words
 from tpmsim.explain.words import handle_words, kind_words, localities_words, seconds_words, SESSIONS
-from tpmsim.model.machine import Model, Session
+from tpmsim.model.machine import Model
 from tpmsim.model.nv_commands import Index
 from tpmsim.model.object_rules import Object
+from tpmsim.model.policy_state import Session
 from tpmsim.standard import CC, frames, handle_kinds, lines, NUMBERED, nv, objects, policy
 from tpmsim.standard import RH_ENDORSEMENT, RH_LOCKOUT, RH_NULL, RH_OWNER, RH_PLATFORM, RS_PW
 
@@ -126,23 +127,15 @@ def of_device(model: Model) -> Iterator[tuple[str, str]]:
 
 LONG_HEX = re.compile(r"[0-9A-Fa-f]{13,}")
 PCR_HANDLE = re.compile(r"000000[01][0-9a-f]")
-WRITES_PCR = CC.PCR_Extend, CC.PCR_Event, CC.PCR_Reset
 
 Value = dict[str, Any]
 
 
-class Interned:
-    """Values that are kept once, by their numbers."""
-
-    def __init__(self) -> None:
-        self.all: list[Any] = []
-        self.numbers: dict[Any, int] = {}
+class Interned(dict[Any, int]):
+    """Values that are kept once, each with its number."""
 
     def of(self, value: Any) -> int:
-        if value not in self.numbers:
-            self.numbers[value] = len(self.all)
-            self.all.append(value)
-        return self.numbers[value]
+        return self.setdefault(value, len(self))
 
 
 class PageData:
@@ -162,15 +155,13 @@ class PageData:
             "name": name,
             "summary": self.counts.words(),
             "bad": self.play.bad_line,
-            "texts": self.texts.all,
-            "shapes": self.shapes.all,
-            "keys": self.keys.all,
+            "texts": list(self.texts),
+            "shapes": list(self.shapes),
+            "keys": list(self.keys),
             "first": self.first,
             "entities": [[it["handle"], it["kind"], it["uses"]] for it in self.entities],
             "events": self.events,
         }
-
-    # What an event changed.
 
     def changes(self) -> list[int]:
         """Pairs of a key and its text, which is -1 where the value is gone."""
@@ -191,37 +182,23 @@ class PageData:
         """What has a handle, or had it last."""
         begun, last = self.play.past.begun.get(handle), self.live.get(handle, (0, -1))[1]
         if handle not in self.live or begun not in (None, last):
-            self.entities.append(
-                {"handle": handle_words(handle), "kind": self.kind(handle), "uses": []}
-            )
+            kind = kind_words(handle).removeprefix("an ").removeprefix("a ")
+            self.entities.append({"handle": handle_words(handle), "kind": kind, "uses": []})
             self.live[handle] = len(self.entities) - 1, begun or 0
         return self.live[handle][0]
 
-    def kind(self, handle: int) -> str:
-        return kind_words(handle).removeprefix("an ").removeprefix("a ")
-
-    def used(self, event: Event) -> list[int]:
-        found = [self.entity(it) for it in dict.fromkeys(self.handles_of(event))]
-        for it in found:
-            self.entities[it]["uses"].append(len(self.events))
-        return found
-
     def handles_of(self, event: Event) -> list[int]:
-        """The handles of a command, its sessions, and the handle that it answers or flushes."""
         scene = event.scene
         if scene.number not in NUMBERED:
             return []
         found = list(scene.handles)
         if scene.known is not None:
             found += [it.handle for it in scene.command.entries or []]
-        assert event.outcome is not None
         if not event.refused and scene.code.answers_handle:
-            found.append(int.from_bytes(event.outcome.response[10:14], "big"))
+            found.append(int.from_bytes(event.response[10:14], "big"))
         if scene.code == CC.FlushContext and len(scene.buffer) >= 14:
             found.append(int.from_bytes(scene.buffer[10:14], "big"))
         return [it for it in found if it not in (RS_PW, RH_NULL)]
-
-    # Events.
 
     def add(self, event: Event) -> None:
         self.counts.add(event)
@@ -239,18 +216,16 @@ class PageData:
         self.events.append(told)
 
     def add_command(self, event: Event, told: Value) -> None:
-        scene, outcome = event.scene, event.outcome
-        assert outcome is not None
-        code = NUMBERED.get(scene.number)
+        scene, (asked, answered) = event.scene, event.fields()
         told["n"] = self.texts.of(name_of(event))
         words = lines.line_of(scene.buffer) if event.text.startswith("cmd") else event.text[3:]
         told["w"] = self.texts.of(words or f"cmd {scene.buffer.hex()}")
         told["s"] = self.texts.of(short_words(words or ""))
-        told["u"] = self.used(event)
-        asked = dissection.fields_of_command(scene.buffer, scene.plain)
+        told["u"] = [self.entity(it) for it in dict.fromkeys(self.handles_of(event))]
+        for at in told["u"]:
+            self.entities[at]["uses"].append(len(self.events))
         told["q"] = [scene.buffer.hex(), *self.fields(asked)]
-        answered = dissection.fields_of_response(code, outcome.response, event.answered)
-        told["r"] = [outcome.response.hex(), *self.fields(answered)]
+        told["r"] = [event.response.hex(), *self.fields(answered)]
         if scene.plain is not None and scene.plain != scene.command.parameters:
             told["p"] = [scene.parameters_at, scene.plain.hex()]
         if event.refused:
@@ -260,7 +235,8 @@ class PageData:
             if given:
                 told[key] = given
         self.add_reasons(event, told)
-        if code in WRITES_PCR and not event.refused and handle_kinds.is_pcr(scene.handles[0]):
+        writes = scene.number in WRITES_PCR and not event.refused
+        if writes and handle_kinds.is_pcr(scene.handles[0]):
             told["m"] = scene.handles[0]
         if self.play.model.lockout.failed_tries:
             told["f"] = self.play.model.lockout.failed_tries
@@ -295,7 +271,6 @@ class PageData:
 
 
 def short_words(words: str) -> str:
-    """A command's words behind its name, with long hex cut."""
     shown = list[str]()
     is_pcr = words.startswith("PCR_")
     for token in words.split(" ")[1:]:
@@ -318,7 +293,6 @@ ESCAPES = {"<": "\\u003c", ">": "\\u003e", "&": "\\u0026"}
 
 
 def of_log(name: str, play: Play, log: bytes, counts: Counts) -> str:
-    """The page of a log. `counts` are those of its events."""
     data = PageData(play)
     play.watch = data.look
     for event in play.events(log):
@@ -328,20 +302,16 @@ def of_log(name: str, play: Play, log: bytes, counts: Counts) -> str:
     return filled(shown, data.value(shown))
 
 
-def escaped(value: Any) -> str:
-    """JSON that is safe within an element."""
-    spelled = json.dumps(value, separators=(",", ":"))
-    return re.sub("[<>&]", lambda it: ESCAPES[it[0]], spelled)
-
-
 def filled(name: str, value: dict[str, Any]) -> str:
     """The page with its data. Each mark is put in once, so that no value is looked at for marks."""
+    spelled = json.dumps(value, separators=(",", ":"))
+    data = re.sub("[<>&]", lambda it: ESCAPES[it[0]], spelled)
     parts = {
         "NAME": html.escape(name),
         "SUMMARY": html.escape(value["summary"]),
         "STYLE": (FILES / "page.css").read_text("utf-8"),
         "SCRIPT": "\n".join((FILES / it).read_text("utf-8") for it in SCRIPTS),
-        "DATA": escaped(value),
+        "DATA": data,
     }
     frame = (FILES / "page.html").read_text("utf-8")
     return MARK.sub(lambda it: str(parts[it[1]]), frame)

@@ -2,11 +2,10 @@
 
 from typing import Callable, Iterable, TypeVar
 
-from tpmsim.explain import dissection, encryption
-from tpmsim.explain.field import Field
-from tpmsim.explain.reason import Reason, RULES
-from tpmsim.explain.scene import Scene
-from tpmsim.explain.words import algorithm_words, plural
+from tpmsim.explain import dissection, ingredients
+from tpmsim.explain.dissection import Field
+from tpmsim.explain.reason import Reason, RULES, Scene
+from tpmsim.explain.words import algorithm_words, size_words
 from tpmsim.model.general import Refusal
 from tpmsim.model.machine import ROWS
 from tpmsim.model.parameters import Parameters, Request
@@ -16,9 +15,7 @@ T = TypeVar("T")
 
 
 class Trace:
-    """Where reading stopped: the byte, what was wanted there, what was there, and whether a
-    structure's own end was reached.
-    """
+    """Where reading stopped, what was wanted and had there, and whether a structure ended there."""
 
     def __init__(self) -> None:
         self.at, self.wanted, self.had, self.ends_structure = 0, "", "", False
@@ -36,9 +33,7 @@ class Whole(Exception):
 
 
 class Traced(Parameters):
-    """Parameters that tell where their reading stops, and end it before a command has an effect.
-    `base` is the offset of the first one.
-    """
+    """They tell where their reading stops, before any effect; `base` is where they begin."""
 
     def __init__(
         self, data: bytes, base: int, trace: Trace, place: int = 0, short: str = "INSUFFICIENT"
@@ -53,14 +48,12 @@ class Traced(Parameters):
     def take(self, count: int) -> bytes:
         left = len(self.fields.data)
         if count > left:
-            self.trace.set(
-                self.at, plural(count, "byte"), plural(left, "byte"), self.short == "SIZE"
-            )
+            ends_structure = self.short == "SIZE"
+            self.trace.set(self.at, size_words(count), size_words(left), ends_structure)
         self.trace.last_at, self.trace.last_size = self.at, count
         return super().take(count)
 
     def refusal(self, code: str) -> Refusal:
-        """A fault of what was read last, where nothing else was told."""
         at, size = self.trace.last_at, self.trace.last_size
         self.trace.set(at, "", f"{size} bytes")
         return super().refusal(code)
@@ -87,9 +80,7 @@ class Traced(Parameters):
         value = read(fields)
         if fields.fields.data:
             left = len(fields.fields.data)
-            self.trace.set(
-                fields.at, "the end of the structure", f"{plural(left, 'byte')} more", True
-            )
+            self.trace.set(fields.at, "the end of the structure", f"{size_words(left)} more", True)
             raise self.refusal("SIZE")
         return value
 
@@ -110,7 +101,7 @@ class Traced(Parameters):
     def end(self) -> None:
         left = len(self.fields.data)
         if left:
-            self.trace.set(self.at, "the end of the command", f"{plural(left, 'byte')} more")
+            self.trace.set(self.at, "the end of the command", f"{size_words(left)} more")
         super().end()
         raise Whole
 
@@ -118,13 +109,9 @@ class Traced(Parameters):
 def one_of_words(allowed: list[int], size: int) -> str:
     if len(allowed) > 4:
         return f"{allowed[0]:0{2 * size}x} to {allowed[-1]:0{2 * size}x}"
-    said = [f"{it:0{2 * size}x}{name_words(it, size)}" for it in allowed]
-    return " or ".join(said)
-
-
-def name_words(value: int, size: int) -> str:
-    said = algorithm_words(value)
-    return f" ({said})" if size == 2 and said != f"{value:04x}" else ""
+    spelled = [(f"{it:0{2 * size}x}", algorithm_words(it)) for it in allowed]
+    is_named = size == 2
+    return " or ".join(f"{it} ({name})" if is_named and name != it else it for it, name in spelled)
 
 
 def read_again(scene: Scene, plain: bytes) -> tuple[Trace, str]:
@@ -209,12 +196,12 @@ IN_PARAMETERS = {
 
 def misread(scene: Scene, found: Reason) -> None:
     """Names how the caller encrypted, where its parameters are well formed in that way alone."""
-    use = encryption.decrypting_use(scene)
+    use = ingredients.decrypting_use(scene)
     if use is None:
         return
     plain = scene.plain.hex() if scene.plain else ""
     found.add("decrypted", f"by session {use.entry.handle:08x}, to {plain}")
-    for other in encryption.otherwise(scene):
+    for other in ingredients.otherwise(scene):
         if not read_again(scene, other.plain)[1]:
             found.slip(other.name, other.words)
             return

@@ -1,50 +1,57 @@
-"""What came before a command: when the values were set that it stands on, and by which command; and what
-a policy session was told, assertion by assertion, so that another order or another value of one can
-be tried.
+"""What came before a command: since when its values are what they are, and what policies were told.
 """
 
 from __future__ import annotations
 
 from dataclasses import dataclass, field, replace
-from typing import Any, Callable, Iterable
+from typing import Any, Iterable
 
 from tpmsim.explain.words import command_words, handle_words
 from tpmsim.model import nv_commands, object_rules
 from tpmsim.model.general import Command
-from tpmsim.model.machine import Model, Session
+from tpmsim.model.machine import Model
 from tpmsim.model.parameters import Parameters
-from tpmsim.standard import CC, digest, DIGEST_BYTES, Fields, frames, handle_kinds, is_policy, lines
-from tpmsim.standard import policy, RH_ENDORSEMENT, RH_LOCKOUT, RH_OWNER, RH_PLATFORM
+from tpmsim.model.policy_state import Session
+from tpmsim.policies.policy_texts import digest_after, texts_after
+from tpmsim.policies.written import Said, said_of
+from tpmsim.standard import CC, digest, Fields, frames, handle_kinds, HIERARCHIES, is_policy, lines
+from tpmsim.standard import values
+from tpmsim.standard.values import Bank
 
-# Selected PCRs, and the values of all.
-Selection = list[tuple[int, list[int]]]
+# The values of all PCRs.
 Banks = dict[int, list[bytes]]
 
 
 @dataclass(frozen=True)
 class Step:
-    """An assertion: its line in the log, its words, and the digest that it makes of an old one and
-    of its arguments. The last argument of those with a selection of PCRs or a handle is `given`: the
-    digest of these PCRs, or the Name at that time.
-    """
+    """An assertion, with the PCRs that it selects, or what has the Name that it says."""
 
     line: int
-    code: CC
+    said: Said
     words: str
-    made: Callable[..., bytes]
-    arguments: tuple[Any, ...] = ()
-    selected: Selection | None = None
+    selected: list[Bank] | None = None
     handle: int | None = None
-    given: bytes = b""
 
-    def after(self, algorithm: int, old: bytes) -> bytes:
-        has_given = self.selected is not None or self.handle is not None
-        given = (self.given,) if has_given else ()
-        return self.made(algorithm, old, *self.arguments, *given)
+    @property
+    def code(self) -> CC:
+        return self.said.code
+
+    @property
+    def place(self) -> int:
+        """Where among its values the digest of the PCRs stands, or the Name."""
+        return 0 if self.selected is None else 1
+
+    @property
+    def given(self) -> bytes:
+        return bytes(self.said.values[self.place])
 
     def but(self, given: bytes) -> Step:
         """The same of another Name, or of PCRs with another digest."""
-        return replace(self, given=given)
+        values = *self.said.values[: self.place], given, *self.said.values[self.place + 1 :]
+        return replace(self, said=Said(self.code, values))
+
+    def after(self, algorithm: int, old: bytes) -> bytes:
+        return digest_after(algorithm, texts_after(algorithm, old, self.said.update(algorithm)))
 
 
 def banks_of(model: Model) -> Banks:
@@ -57,50 +64,15 @@ def values_digest(algorithm: int, selected: Iterable[Any], banks: Banks) -> byte
 
 
 def step_of(line: int, command: Command, plain: bytes, model: Model, names: list[bytes]) -> Step:
-    """That of an accepted assertion, by the Names that its handles had before it."""
-    words, fields, code = (
-        said_words(command.code, command.handles, plain),
-        Parameters(plain),
-        command.code,
+    code, handles = command.code, command.handles
+    algorithm = model.sessions[handles[-1]].algorithm
+    said = said_of(
+        *(code, plain, names),
+        lambda those, given: given or values_digest(algorithm, those, model.banks),
     )
-    if code == CC.PolicyPCR:
-        algorithm = model.sessions[command.handles[0]].algorithm
-        given, selected = fields.sized(DIGEST_BYTES), fields.selection()
-        values = given or values_digest(algorithm, selected, model.banks)
-        arguments = (frames.selection(*selected),)
-        return Step(line, code, words, policy.after_pcr, arguments, selected, None, values)
-    if code == CC.PolicySecret:
-        _, _, reference = (fields.sized(DIGEST_BYTES) for _ in range(3))
-        handle, name = command.handles[0], names[0]
-        return Step(line, code, words, after_secret, (reference,), None, handle, name)
-    if code == CC.PolicyNV:
-        compared, handle = (fields.sized(DIGEST_BYTES) + fields.take(4),), command.handles[1]
-        return Step(line, code, words, policy.after_nv, compared, None, handle, names[1])
-    return Step(line, code, words, *simple(code, fields))
-
-
-def after_secret(algorithm: int, old: bytes, reference: bytes, name: bytes) -> bytes:
-    return policy.after_secret(algorithm, old, name, reference)
-
-
-def after_or(algorithm: int, old: bytes, branches: list[bytes]) -> bytes:
-    return policy.after_or(algorithm, branches)
-
-
-def simple(code: CC, fields: Parameters) -> tuple[Callable[..., bytes], tuple[Any, ...]]:
-    """The assertions that hang on their parameter alone."""
-    match code:
-        case CC.PolicyOR:
-            return after_or, (fields.sized_list(policy.LEAST_BRANCHES, policy.MOST_BRANCHES),)
-        case CC.PolicyCommandCode:
-            return policy.after_command_code, (fields.number(4),)
-        case CC.PolicyCpHash:
-            return policy.after_cp_hash, (fields.sized(DIGEST_BYTES),)
-        case CC.PolicyNvWritten:
-            return policy.after_nv_written, (bool(fields.number(1)),)
-        case CC.PolicyLocality:
-            return policy.after_locality, (fields.number(1),)
-    return policy.after_auth_value, ()
+    selected = values.read_all(code.parameters, plain).get("pcrs")
+    handle = handles[-2] if code in (CC.PolicySecret, CC.PolicyNV) else None
+    return Step(line, said, said_words(code, handles, plain), selected, handle)
 
 
 def said_words(code: CC, handles: list[int], plain: bytes) -> str:
@@ -117,22 +89,16 @@ WRITES_PCR = CC.PCR_Extend, CC.PCR_Event, CC.PCR_Reset
 # How many states of the PCRs are kept.
 MOST_STATES = 64
 
-HIERARCHIES = RH_OWNER, RH_ENDORSEMENT, RH_PLATFORM, RH_LOCKOUT
-
 
 @dataclass(frozen=True)
 class Since:
-    """A value, and the line since which it is that."""
-
     line: int
     value: bytes
 
 
 @dataclass
 class Begun:
-    """A session that lives: the line of its start, the caller's first nonce, its own nonces one
-    after another, what it was told, and the attributes and the nonce of its entry before.
-    """
+    """A session that lives, since a line; what it was told, and what its entries had before."""
 
     session: Session
     line: int
@@ -147,6 +113,9 @@ class Begun:
     caller_nonces: dict[bytes, int] = field(default_factory=dict)
     own_nonces: dict[bytes, int] = field(default_factory=dict)
 
+    def restart(self, line: int) -> None:
+        self.told, self.restarted = [], line
+
     def take(self, line: int) -> None:
         self.nonces.append(Since(line, self.session.nonce_tpm))
         self.own_nonces.setdefault(self.session.nonce_tpm, line)
@@ -154,8 +123,6 @@ class Begun:
 
 @dataclass(frozen=True)
 class Made:
-    """How a session came to a policy digest: the line, the assertions, and the PCRs then."""
-
     line: int
     steps: list[Step]
     banks: Banks
@@ -163,8 +130,6 @@ class Made:
 
 @dataclass(frozen=True)
 class Moved:
-    """A command that wrote a PCR, or that made the update counter another."""
-
     line: int
     pcr: int | None
     words: str
@@ -192,8 +157,6 @@ class Past:
         self.last_change: dict[int, str] = {}
         self.follow(0, "the start")
 
-    # What is told of each event that was accepted.
-
     def power(self, line: int) -> None:
         self.moves.clear()
         self.follow(line, "the power cycle")
@@ -201,9 +164,7 @@ class Past:
     def accepted(
         self, line: int, command: Command, plain: bytes, answered: int | None, names: list[bytes]
     ) -> None:
-        """A command with its parameters in plain, the handle that it answered, if any, and the
-        Names that its handles had before it.
-        """
+        """`answered` is the handle that it answered; the Names are those before it."""
         name = command.code.name
         if command.code in (*WRITES_PCR, CC.Clear) and command.handles[0] != frames.RH_NULL:
             pcr = None if command.code == CC.Clear else command.handles[0]
@@ -223,7 +184,9 @@ class Past:
             self.note_policy(line, command, plain, names)
         for _, entry, handle in command.places():
             if handle is not None and handle_kinds.is_policy(entry.handle):
-                self.used_policy(line, entry.handle)
+                # A policy session that authorized begins anew.
+                if entry.handle in self.sessions:
+                    self.sessions[entry.handle].restart(line)
 
     def note_value(self, command: Command, plain: bytes, answered: int | None) -> None:
         """An authorization value as it was given, with the zeros at its end."""
@@ -253,29 +216,18 @@ class Past:
         if begun is None:
             return
         if command.code == CC.PolicyRestart:
-            begun.told, begun.restarted = [], line
+            begun.restart(line)
             return
         begun.told.append(step_of(line, command, plain, self.model, names))
         banks = banks_of(self.model)
         self.made[begun.session.policy.digest] = Made(line, list(begun.told), banks)
         self.told_banks[line] = banks
 
-    def used_policy(self, line: int, handle: int) -> None:
-        """A policy session that authorized begins anew."""
-        if handle in self.sessions:
-            self.sessions[handle].told, self.sessions[handle].restarted = [], line
-
-    # What is there, and what was.
-
     def follow(self, line: int, words: str) -> None:
         model = self.model
-        now: dict[int, tuple[object, object]] = {}
-        for handle, session in model.sessions.items():
-            now[handle] = session, session
-        for handle, held in model.objects.items():
-            now[handle] = held, held
-        for handle, index in model.indices.items():
-            now[handle] = index, index.public
+        now: dict[int, tuple[object, object]] = {at: (it, it) for at, it in model.sessions.items()}
+        now |= {at: (it, it) for at, it in model.objects.items()}
+        now |= {at: (it, it.public) for at, it in model.indices.items()}
         for handle in [it for it in self.seen if it not in now]:
             self.ended[handle] = line, words
             self.begun.pop(handle, None)
@@ -312,17 +264,14 @@ class Past:
         return [it for it in self.moves if it.line > line]
 
     def told_words(self, handle: int) -> list[str]:
-        """What a policy session was told, with the lines."""
         begun = self.sessions.get(handle)
         return [f"line {it.line}: {it.words}" for it in begun.told] if begun else []
 
     def lines_told(self, handle: int, *codes: CC) -> list[int]:
-        """The lines of a policy session's assertions by these commands."""
         begun = self.sessions.get(handle)
         return [it.line for it in begun.told if it.code in codes] if begun else []
 
     def gone_words(self, handle: int) -> str:
-        """When what a handle named ended, or that there never was such a thing."""
         if handle not in self.ended:
             return "no command before has made it"
         line, words = self.ended[handle]

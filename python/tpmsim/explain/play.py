@@ -1,36 +1,42 @@
 """A log that is played: each event with what came of it, and why."""
 
 import re
+from collections import deque
 from dataclasses import dataclass, field
 from typing import Callable, Iterator
 
-from tpmsim.explain import accepted, entries, general, ingredients, own, parameters
-from tpmsim.explain.answers import Answers, Difference
+from tpmsim.explain import accepted, dissection, entries, general, ingredients, own, parameters
+from tpmsim.explain.dissection import Field
 from tpmsim.explain.past import Past
-from tpmsim.explain.reason import Fact, Reason, WANTED
-from tpmsim.explain.scene import Scene
+from tpmsim.explain.reason import Fact, Reason, Scene, WANTED
 from tpmsim.model.general import Command
 from tpmsim.model.image import open_image
 from tpmsim.model.machine import Model, Outcome
 from tpmsim.model.player import BadLine, LINES, Player
-from tpmsim.standard import policy
-from tpmsim.standard.aes_tables import encrypt_block
+from tpmsim.standard import lines, policy
 
 # An answer in a comment: a trace, which may have the time of day before it, a code or a response.
+TRACE = r"\S+ L\d \+\d+ \S+ [0-9a-f]{8}"
 GIVEN = re.compile(
-    rb"# (\d\d:\d\d:\d\d\.\d{3} )?"
-    rb"(\S+ L\d \+\d+ \S+ [0-9a-f]{8}|[0-9a-f]{8}|(?:8001|8002|00c4)[0-9a-f]{16,})"
+    r"# (\d\d:\d\d:\d\d\.\d{3} )?" rf"({TRACE}|[0-9a-f]{{8}}|(?:8001|8002|00c4)[0-9a-f]{{16,}})"
 )
+CODE_DIGITS = 8
 OF_ENTRIES = "G9", "G10"
+
+
+@dataclass(frozen=True)
+class Difference:
+    words: str
+    log: str
+    model: str
 
 
 @dataclass
 class Event:
-    """An event of a log: the number of its line; its scene, whose buffer is empty at a power cycle;
-    what came of it; why it was refused; what else is told of it; and where the log's answers differ,
-    of which there are so many. Of an event that is looked at as a whole `entries` has what the HMACs
-    are of, by their places, and `answered` the answered parameters in plain. `text` is the line, and
-    `comments` has the paragraphs of comments before it.
+    """An event of a log, whose scene has no buffer at a power cycle: why it was refused, what else
+    is told of it, and where the log's answers differ, of which there are so many. If it is looked
+    at as a whole, `entries` has what the HMACs are of, by their places, and `answered` the answered
+    parameters in plain. `comments` has the paragraphs of comments before it.
     """
 
     line: int
@@ -54,20 +60,76 @@ class Event:
     def refused(self) -> str:
         return self.outcome.refused or "" if self.outcome else ""
 
+    @property
+    def response(self) -> bytes:
+        return self.outcome.response if self.outcome else b""
+
+    def fields(self) -> tuple[list[Field], list[Field]]:
+        asked = dissection.fields_of_command(self.scene.buffer, self.scene.plain)
+        number = self.scene.number
+        return asked, dissection.fields_of_response(number, self.response, self.answered)
+
+    def compare(self, text: str) -> None:
+        """Holds a trace, a response code or a response that the log has against the model's."""
+        assert self.outcome is not None
+        self.answers += 1
+        if re.fullmatch(TRACE, text):
+            wanted = lines.traced(self.outcome, self.scene.locality, self.scene.elapsed)
+            words = "the trace is another one"
+        elif len(text) == CODE_DIGITS:
+            wanted, words = self.response[6:10].hex(), "the response code is another one"
+        else:
+            wanted = self.response.hex()
+            words = "the response is another one" + self.where(text, wanted)
+        if text != wanted:
+            self.differences.append(Difference(words, text, wanted))
+
+    def where(self, text: str, wanted: str) -> str:
+        digits = enumerate(zip(text, wanted))
+        at = next((at for at, (a, b) in digits if a != b), min(len(text), len(wanted))) // 2
+        fields = dissection.fields_of_response(self.scene.number, self.response)
+        found = [it for it in fields if not it.is_group and it.at <= at < it.at + it.size]
+        return f" from byte {at} on{f', in {found[-1].name}' if found else ''}"
+
+
+class Answers:
+    """The lines of an output of `tpmsim run`, if any, and what the log says before a command."""
+
+    def __init__(self, text: bytes | None) -> None:
+        self.is_given = text is not None
+        self.left = deque((text or b"").decode("latin-1").splitlines())
+        self.expected: str | None = None
+
+    def power(self) -> None:
+        """A trace says `power`; without one nothing is printed."""
+        if self.left and self.left[0] == "power":
+            self.left.popleft()
+
+    def compare(self, event: Event) -> None:
+        """Compares what is said of a command beside it."""
+        said = [] if self.expected is None else [self.expected]
+        self.expected = None
+        if self.left and re.fullmatch(TRACE, self.left[0]):
+            said.append(self.left.popleft())
+        if self.left:
+            said.append(self.left.popleft())
+        elif self.is_given:
+            missing = Difference("the answers end before it", "", event.response.hex())
+            event.differences.append(missing)
+        for it in said:
+            event.compare(it)
+
 
 def reason_of(scene: Scene) -> Reason:
-    """Why a command was refused, whichever check it was."""
     if scene.check in general.CHECKS:
-        return general.reason(scene)
+        return general.CHECKS[scene.check](scene)
     if scene.check in OF_ENTRIES:
         return entries.reason(scene)
     return parameters.reason(scene) if scene.check == "G11" else own.reason(scene)
 
 
 class Watched:
-    """A device whose commands are looked at as it executes them. Each that is refused is explained
-    where `explains` holds of its scene.
-    """
+    """A device that is looked at; a refusal is explained where `explains` of its scene holds."""
 
     def __init__(
         self, model: Model, explains: Callable[[Scene], bool] = lambda scene: True
@@ -75,9 +137,8 @@ class Watched:
         self.model, self.explains, self.past = model, explains, Past(model)
         self.line, self.at, self.is_whole = 0, -1, False
         self.event: Event | None = None
-        setattr(model, "authorize", self.authorize)
-        setattr(model, "answered_parameters", self.answered_parameters)
-        setattr(model, "plain_parameters", self.plain_parameters)
+        for it in (self.authorize, self.answered_parameters, self.plain_parameters):
+            setattr(model, it.__name__, it)
 
     @property
     def now(self) -> Event:
@@ -136,8 +197,6 @@ class Watched:
 
 
 class Stage(Player):
-    """A player of lines, that hands each command on."""
-
     def __init__(self, model: Model, told: Callable[[bytes, int, bytes, int], None]) -> None:
         super().__init__(model)
         self.hand_on = told
@@ -160,10 +219,8 @@ class Play(Watched):
         at: int | None = None,
         is_whole: bool = False,
     ) -> None:
-        """image.Fault where the image is none. The event of the line `at`, or with `is_whole` each,
-        is looked at as a whole.
-        """
-        super().__init__(Model(block_cipher=encrypt_block) if image is None else open_image(image))
+        """image.Fault of no image. The line `at`, or each with `is_whole`, is looked at whole."""
+        super().__init__(Model() if image is None else open_image(image))
         self.at, self.is_whole = -1 if at is None else at, is_whole
         self.answers, self.stage = Answers(answers), Stage(self.model, self.executed)
         self.bad_line: int | None = None
@@ -173,16 +230,17 @@ class Play(Watched):
     def events(self, log: bytes) -> Iterator[Event]:
         """Each event, once all that the log says of its answer was read."""
         lines = log.removesuffix(b"\n").split(b"\n") if log else []
-        for self.line, text in enumerate(lines[:LINES], 1):
+        for self.line, line in enumerate(lines[:LINES], 1):
+            text = line.decode("latin-1")
             given = GIVEN.fullmatch(text)
             if given:
-                self.given(given[2].decode("ascii"), is_before=given[1] is not None)
+                self.given(given[2], is_before=given[1] is not None)
                 continue
-            if text.startswith(b"#") or not text:
-                self.comment(text[1:].decode("latin-1").strip())
+            if text.startswith("#") or not text:
+                self.comment(text[1:].strip())
                 continue
             before, self.event = self.event, None
-            self.stage_line(text)
+            self.stage_line(line)
             if self.event is None:
                 self.event = before
             elif before is not None:
@@ -220,21 +278,17 @@ class Play(Watched):
             self.watch(self.event)
 
     def executed(self, buffer: bytes, locality: int, random: bytes, elapsed: int) -> None:
-        event = self.command(buffer, locality, random, elapsed)
-        assert event.outcome is not None
-        event.answers += self.answers.command(event.scene, event.outcome, event.differences)
+        self.answers.compare(self.command(buffer, locality, random, elapsed))
 
     def given(self, text: str, is_before: bool) -> None:
         """An answer in a comment, behind its command, or with the time of day before it."""
         if is_before:
-            self.answers.expect(text)
-        elif self.event is not None and self.event.outcome is not None:
-            self.event.answers += 1
-            self.answers.compare(text, self.event.scene, self.event.outcome, self.event.differences)
+            self.answers.expected = text
+        elif self.event is not None and not self.event.is_power:
+            self.event.compare(text)
 
 
 def entry_facts(scene: Scene) -> Iterator[tuple[int, list[Fact]]]:
-    """What the HMACs of an accepted command's entries are of."""
     for place, entry, _ in scene.command.places():
         use = ingredients.use_of(scene, place)
         if use is not None and entry.hmac and entry.demand != policy.PASSWORD:

@@ -1,21 +1,18 @@
-"""By what an entity cannot be authorized, and which condition of a policy session does not hold, with
-both values; and what makes a policy digest another one than that which is wanted.
-"""
+"""Which condition of a policy session does not hold, and what makes its digest another one."""
 
 from typing import Iterator, Sequence
 
 from tpmsim.explain.ingredients import Use
 from tpmsim.explain.past import Banks, Made, Moved, Step, values_digest
-from tpmsim.explain.reason import HAD, Reason, WANTED
-from tpmsim.explain.scene import Scene
+from tpmsim.explain.reason import HAD, Reason, Scene, WANTED
 from tpmsim.explain.words import algorithm_words, command_words, handle_words, listed
 from tpmsim.explain.words import localities_words
 from tpmsim.model import nv_commands
+from tpmsim.policies.written import Said
 from tpmsim.standard import CC, command_hash, digest_bytes, Fact, policy
 
 
 def unavailable(scene: Scene, handle: int) -> Reason:
-    """A password or an HMAC session, where the authorization value does not count."""
     name, said = scene.code.name, handle_words(handle)
     if handle in scene.model.objects:
         its = scene.model.objects[handle].public.auth_policy.hex() or "empty"
@@ -33,7 +30,6 @@ def unavailable(scene: Scene, handle: int) -> Reason:
 
 
 def policy_lacks(use: Use) -> str:
-    """Why no policy can authorize what an entry is to authorize."""
     handle, model, code = use.authorized, use.scene.model, use.code
     said = handle_words(handle)
     if handle not in model.objects and handle not in model.indices:
@@ -69,7 +65,6 @@ def digest_of(steps: Sequence[Step], algorithm: int) -> bytes:
 
 
 def from_earlier(use: Use, steps: Sequence[Step], earlier: Made, found: Reason) -> str:
-    """What is otherwise than when a session came to the wanted digest."""
     found.add("wanted digest", f"that of a session after line {earlier.line}")
     algorithm = use.session.algorithm
     for own, its in zip(steps, earlier.steps):
@@ -87,7 +82,6 @@ def from_earlier(use: Use, steps: Sequence[Step], earlier: Made, found: Reason) 
 
 
 def is_like(own: Step, its: Step, algorithm: int) -> bool:
-    """Whether two assertions make the same digest of any one."""
     return digest_of([own], algorithm) == digest_of([its], algorithm)
 
 
@@ -161,16 +155,13 @@ def variants(use: Use, steps: Sequence[Step]) -> Iterator[tuple[list[Step], str,
 
 def further(use: Use) -> Iterator[Step]:
     """Assertions that may be missing at the end."""
-    either = "PolicyAuthValue or PolicyPassword"
-    yield Step(0, CC.PolicyAuthValue, either, policy.after_auth_value)
-    named = policy.after_command_code
-    yield Step(0, CC.PolicyCommandCode, f"PolicyCommandCode {use.code.name}", named, (use.code,))
-    for it in (False, True):
-        words = f"PolicyNvWritten {int(it)}"
-        yield Step(0, CC.PolicyNvWritten, words, policy.after_nv_written, (it,))
+    yield Step(0, Said(CC.PolicyAuthValue), "PolicyAuthValue or PolicyPassword")
+    named = Said(CC.PolicyCommandCode, (use.code,))
+    yield Step(0, named, f"PolicyCommandCode {use.code.name}")
+    for it in (0, 1):
+        yield Step(0, Said(CC.PolicyNvWritten, (it,)), f"PolicyNvWritten {it}")
     for bits in range(1, policy.ALL_LOCALITIES + 1):
-        words = f"PolicyLocality {bits:#x}"
-        yield Step(0, CC.PolicyLocality, words, policy.after_locality, (bits,))
+        yield Step(0, Said(CC.PolicyLocality, (bits,)), f"PolicyLocality {bits:#x}")
 
 
 # How many commands that wrote PCRs are named.
@@ -178,7 +169,6 @@ MOST_MOVED = 4
 
 
 def reason(use: Use) -> Reason:
-    """That of the first condition that does not hold."""
     for number, words in enumerate(CONDITIONS, 1):
         found = Reason(f"condition/{number}", "", at=use.scene.entry_at(use.place))
         if words(use, found):
@@ -214,7 +204,6 @@ def pcrs(use: Use, found: Reason) -> bool:
 
 
 def moved_words(moved: list[Moved]) -> str:
-    """The first commands that wrote PCRs, and how many there were."""
     more = [f"{len(moved) - MOST_MOVED:,} more"] if len(moved) > MOST_MOVED else []
     return listed([*(it.words for it in moved[:MOST_MOVED]), *more])
 

@@ -1,13 +1,24 @@
-"""Why a command was refused, or what is told of one that was accepted."""
+"""A command that is looked at, and why it was refused, or what is told of one that was accepted."""
 
 import json
 import pathlib
 from dataclasses import dataclass, field
+from functools import cached_property
+from typing import Any, Callable
+
+from tpmsim.explain import dissection
+from tpmsim.explain.past import Past
+from tpmsim.explain.words import handle_words
+from tpmsim.model.general import Command
+from tpmsim.model.machine import Model
+from tpmsim.model.nv_commands import Index
+from tpmsim.model.object_rules import Object
+from tpmsim.model.policy_state import Session
+from tpmsim.standard import CC, frames, HEADER_BYTES, is_policy, NUMBERED, nv, values
 
 # The sentence of each check, with its place in docs/table. Written by tests/table_rules.py.
-RULES: dict[str, list[str]] = json.loads(
-    pathlib.Path(__file__).with_name("rules.json").read_text("utf-8")
-)
+RULES_FILE = pathlib.Path(__file__).with_name("rules.json")
+RULES: dict[str, list[str]] = json.loads(RULES_FILE.read_text("utf-8"))
 
 # What a fact shows: what was wanted, what was had in its place, or neither.
 WANTED, HAD, PLAIN = "wanted", "had", ""
@@ -24,9 +35,8 @@ class Fact:
 
 @dataclass
 class Reason:
-    """A check with what it found. `rule` is a key of RULES; `words` say it with its numbers; `slips`
-    are the usual mistakes that come to just what was given; `at` is the byte of the buffer at which
-    something is wrong, where it is one byte's.
+    """A check, by its key of RULES, with what it found: `slips` are the usual mistakes that come to
+    just what was given, and `at` is the byte of the buffer at which something is wrong.
     """
 
     rule: str
@@ -54,3 +64,131 @@ class Reason:
     def slip(self, name: str, words: str) -> None:
         self.slips.append(name)
         self.add("slip", words)
+
+
+@dataclass
+class Scene:
+    """A command with the model before it; `refused` is as VALUE/p1, and `elapsed` in milliseconds.
+    `known` is the command where the general checks passed, and `plain` its parameters where the
+    entries did.
+    """
+
+    model: Model
+    past: Past
+    line: int
+    buffer: bytes
+    locality: int
+    random: bytes
+    elapsed: int
+    refused: str = ""
+    check: str = "ok"
+    known: Command | None = None
+    plain: bytes | None = None
+
+    @property
+    def command(self) -> Command:
+        assert self.known is not None
+        return self.known
+
+    @property
+    def name(self) -> str:
+        return self.refused.partition("/")[0]
+
+    @property
+    def place(self) -> int:
+        digits = self.refused.partition("/")[2][1:]
+        return int(digits) if digits else 0
+
+    @property
+    def number(self) -> int:
+        """The command code that the buffer has, or 0."""
+        return int.from_bytes(self.buffer[6:HEADER_BYTES], "big")
+
+    @property
+    def code(self) -> CC:
+        return NUMBERED[self.number]
+
+    @property
+    def handles(self) -> list[int]:
+        places = range(HEADER_BYTES, min(self.area_at, len(self.buffer) - 3), 4)
+        return [int.from_bytes(self.buffer[at : at + 4], "big") for at in places]
+
+    @property
+    def has_entries(self) -> bool:
+        return self.buffer[:2] == frames.number(frames.SESSIONS, 2)
+
+    @property
+    def area_at(self) -> int:
+        return HEADER_BYTES + 4 * len(self.code.handles)
+
+    @property
+    def parameters_at(self) -> int:
+        at = self.area_at
+        if not self.has_entries:
+            return at
+        return at + 4 + int.from_bytes(self.buffer[at : at + 4], "big")
+
+    def entry_at(self, place: int) -> int:
+        """Where an entry begins, counted from 1, of a command whose entries could be read."""
+        at = self.area_at + 4
+        for _ in range(place - 1):
+            at += 4
+            at += 2 + int.from_bytes(self.buffer[at : at + 2], "big") + 1
+            at += 2 + int.from_bytes(self.buffer[at : at + 2], "big")
+        return at
+
+
+class Look:
+    """A command that passed the checks of its parameters, and the reason that is being found."""
+
+    def __init__(self, scene: Scene, found: Reason) -> None:
+        self.scene, self.found, self.past = scene, found, scene.past
+        self.model: Model = scene.model
+        self.handles, self.code = scene.command.handles, scene.code
+
+    @cached_property
+    def values(self) -> dict[str, Any]:
+        assert self.scene.plain is not None
+        return values.read_all(self.code.parameters, self.scene.plain)
+
+    def __getitem__(self, name: str) -> Any:
+        return self.values[name]
+
+    @cached_property
+    def session(self) -> Session:
+        return self.model.sessions[next(it for it in reversed(self.handles) if is_policy(it))]
+
+    @property
+    def index(self) -> Index:
+        """The index that is asked for, the last handle that names one."""
+        return self.model.indices[[it for it in self.handles if it in self.model.indices][-1]]
+
+    @property
+    def public(self) -> nv.Public:
+        return self.index.public
+
+    @property
+    def object(self) -> Object:
+        return self.model.objects[self.handles[0]]
+
+    def said(self, place: int) -> str:
+        return handle_words(self.handles[place])
+
+    def since(self, handle: int, words: str) -> str:
+        """The words with the line at which what has a handle began, or none where that is unknown."""
+        line = self.past.begun.get(handle, 0)
+        return f"{words} {line}" if line else ""
+
+    def say(self, words: str, at: str = "") -> None:
+        """Why it is refused, and the field that is at fault, of the parameters in plain."""
+        self.found.words = words
+        if at:
+            fields = dissection.fields_of_command(self.scene.buffer, self.scene.plain)
+            self.found.at = next((it.at for it in fields if it.name == at), None)
+
+
+Check = Callable[[Look], None]
+
+
+def said(words: Callable[[Look], str], at: str = "") -> Check:
+    return lambda look: look.say(words(look), at)

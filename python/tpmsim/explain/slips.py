@@ -1,24 +1,22 @@
 """Which usual mistake of a caller comes to just the HMAC that it gave.
 
-Each slip is a name, a sentence, and the ingredients that it has in place of the right ones. A slip is
-told only where its HMAC is the one that was given, so that none is told of an HMAC that nothing
-explains. Two slips of different groups are tried together, too.
+Each slip is a name, a sentence, and the ingredients that it has in place of the right ones. It is
+told only where its HMAC is the one that was given. Two of different groups are tried together, too.
 """
 
 from dataclasses import replace
 from itertools import chain
 from typing import Any, Iterator
 
-from tpmsim.explain import encryption
+from tpmsim.explain import ingredients
 from tpmsim.explain.ingredients import Ingredients, Use
 from tpmsim.explain.words import ALGORITHMS, attribute_words, handle_words
+from tpmsim.model.machine import Model
 from tpmsim.standard import DECRYPT, ENCRYPT, name_of, sessions, SHA1, SHA256, sized, trimmed
 
 
 class Slip:
-    """A mistake, with the ingredients that it changes. Two of one group exclude each other, and one
-    that is not paired comes alone.
-    """
+    """A mistake: two of one group exclude each other, and one that is not paired comes alone."""
 
     def __init__(
         self, name: str, words: str, group: str = "", is_paired: bool = True, **changes: Any
@@ -31,7 +29,6 @@ class Slip:
 
 
 def other_hash_words(own: int) -> tuple[int, str]:
-    """The hash algorithm that a session has not, and how a slip by it is said."""
     other = SHA1 if own == SHA256 else SHA256
     return other, f"by {ALGORITHMS[other]}, and the session has {ALGORITHMS[own]}"
 
@@ -60,12 +57,10 @@ def auth_values(use: Use) -> Iterator[Slip]:
     if not use.takes_value and value:
         words = f"the authValue of {said} was put into the key: {use.value_words()}"
         yield value_slip("authValue put in", words, value)
-    for past in use.scene.past.values.get(use.handle, [])[:-1]:
+    for past in use.past_values:
         if past.value:
-            words = (
-                f"the key has the authValue that {said} had since line {past.line}, which is past"
-            )
-            yield value_slip("old authValue", words, past.value)
+            since = f"{said} had since line {past.line}, which is past"
+            yield value_slip("old authValue", f"the key has the authValue that {since}", past.value)
     new = new_value(use)
     if new:
         words = "the key has the new authValue; a command has the old one, its response the new one"
@@ -73,9 +68,8 @@ def auth_values(use: Use) -> Iterator[Slip]:
 
 
 def new_value(use: Use) -> bytes:
-    """That which a command sets and has in plain, or none."""
     is_change = use.code.name in ("HierarchyChangeAuth", "NV_ChangeAuth")
-    if not is_change or encryption.decrypting_use(use.scene) is not None:
+    if not is_change or ingredients.decrypting_use(use.scene) is not None:
         return b""
     size = int.from_bytes(use.command.parameters[:2], "big")
     return trimmed(use.command.parameters[2 : 2 + size])
@@ -139,7 +133,6 @@ def session_keys(use: Use) -> Iterator[Slip]:
 
 
 def bind_values(use: Use) -> Iterator[tuple[bytes, str]]:
-    """Values that a caller may take for the one of the entity at the session's start."""
     begun = use.begun
     assert begun is not None
     said = handle_words(begun.bind)
@@ -156,7 +149,6 @@ PAIRED, MOST_NONCES = 3, 100
 
 
 def slips(use: Use) -> list[Slip]:
-    """Those that a caller can have made in this entry."""
     parts = nonces, auth_values, session_keys, names, parameters, hashes, others
     return [it for part in parts for it in part(use)]
 
@@ -192,7 +184,6 @@ def by_trying(use: Use) -> list[Slip]:
 
 
 def plain_value(use: Use) -> list[Slip]:
-    """The authorization value itself, where an HMAC by it was wanted."""
     if not use.auth_value or trimmed(use.entry.hmac) != use.auth_value:
         return []
     words = "the authValue was sent in plain, where its HMAC is wanted"
@@ -259,16 +250,15 @@ def parameters(use: Use) -> Iterator[Slip]:
     sent = use.command.parameters
     if sent:
         yield slip("parameters left out", "the parameters were left out of cpHash", parameters=b"")
-    decrypting = encryption.decrypting_use(use.scene)
+    decrypting = ingredients.decrypting_use(use.scene)
     if decrypting is None:
         return
-    session, key = decrypting.session, decrypting.session.key + decrypting.auth_value
-    plain = encryption.plain_by(decrypting, sent, key, decrypting.entry.nonce, session.nonce_tpm)
+    plain = Model.plain_parameters(use.scene.model, use.command)
     words = "cpHash has the parameters in plain; a right one has them encrypted, as they are sent"
     yield slip("parameters hashed plain", words, parameters=plain)
-    for _, mistake, otherwise in encryption.mistakes(decrypting, sent):
-        words = f"cpHash has the parameters in plain, and {mistake}"
-        yield slip("parameters hashed plain", words, parameters=otherwise)
+    for it in ingredients.mistakes(decrypting, sent):
+        words = f"cpHash has the parameters in plain, and {it.words}"
+        yield slip("parameters hashed plain", words, parameters=it.plain)
 
 
 def hashes(use: Use) -> Iterator[Slip]:
@@ -284,13 +274,12 @@ def hashes(use: Use) -> Iterator[Slip]:
 
 def other_attributes(use: Use) -> Iterator[Slip]:
     """Any others than those that were sent; of those before the words say so."""
-    last, sent = use.begun.last_attributes if use.begun else None, use.entry.attributes
+    last = use.begun.last_attributes if use.begun else None
+    sent = f"sent were {attribute_words(use.entry.attributes)}"
     for value in range(0x100):
         of_before = ", which are those of the entry before" if value == last else ""
-        words = f"the attributes were {attribute_words(value)}{of_before}; sent were "
-        yield Slip(
-            "other attributes", words + attribute_words(sent), "attributes", attributes=value
-        )
+        words = f"the attributes were {attribute_words(value)}{of_before}; {sent}"
+        yield Slip("other attributes", words, "attributes", attributes=value)
 
 
 def others(use: Use) -> Iterator[Slip]:

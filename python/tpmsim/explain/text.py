@@ -1,14 +1,13 @@
-"""Explanations as lines of text."""
+"""Explanations as lines of text, and as values that JSON has."""
 
 import textwrap
 from dataclasses import dataclass, field
-from typing import Iterable, Iterator
+from typing import Any, Iterable, Iterator
 
-from tpmsim.explain import dissection
-from tpmsim.explain.field import Field
+from tpmsim.explain.dissection import Field
 from tpmsim.explain.play import Event
 from tpmsim.explain.reason import Fact, Reason
-from tpmsim.explain.words import command_words, plural
+from tpmsim.explain.words import command_words, plural, size_words
 from tpmsim.standard import NUMBERED
 
 WIDTH = 100
@@ -58,7 +57,6 @@ def name_of(event: Event) -> str:
 
 
 def told(event: Event) -> Iterator[str]:
-    """What there is to tell of an event: nothing of most."""
     if event.reason is not None:
         yield f"line {event.line}: {title(event)}"
         yield from of_reason(event.reason)
@@ -71,13 +69,9 @@ def told(event: Event) -> Iterator[str]:
 
 
 def title(event: Event) -> str:
-    assert event.outcome is not None
-    if not event.refused:
-        return f"{name_of(event)} is accepted"
-    code = int.from_bytes(event.outcome.response[6:10], "big")
-    return (
-        f"{name_of(event)} is refused: {event.refused} ({code:03x}), by check {event.scene.check}"
-    )
+    name, code = name_of(event), int.from_bytes(event.response[6:10], "big")
+    refused = f"is refused: {event.refused} ({code:03x}), by check {event.scene.check}"
+    return f"{name} {refused if event.refused else 'is accepted'}"
 
 
 def told_words(reason: Reason) -> Iterator[str]:
@@ -106,29 +100,77 @@ def facts_words(facts: Iterable[Fact]) -> Iterator[str]:
 
 
 def whole(event: Event) -> Iterator[str]:
-    """All of an event, accepted or refused: its bytes by their fields, and what its HMACs are of."""
     if event.is_power:
         yield f"line {event.line}: a power cycle"
         return
-    assert event.outcome is not None
-    scene = event.scene
+    scene, response, (asked, answered) = event.scene, event.response, event.fields()
     yield f"line {event.line}: {title(event)}"
     yield f"{INDENT}locality {scene.locality}, {scene.elapsed:,} ms after the command before"
-    yield f"{INDENT}the command, {plural(len(scene.buffer), 'byte')}"
-    yield from fields_words(dissection.fields_of_command(scene.buffer, scene.plain), scene.buffer)
+    yield f"{INDENT}the command, {size_words(len(scene.buffer))}"
+    yield from fields_words(asked, scene.buffer)
     for place, facts in event.entries:
         yield f"{INDENT}the HMAC of entry {place}"
         yield from facts_words(facts)
-    response = event.outcome.response
-    yield f"{INDENT}the response, {plural(len(response), 'byte')}"
-    code = NUMBERED.get(scene.number)
-    yield from fields_words(dissection.fields_of_response(code, response, event.answered), response)
+    yield f"{INDENT}the response, {size_words(len(response))}"
+    yield from fields_words(answered, response)
     yield ""
 
 
 def fields_words(fields: list[Field], data: bytes) -> Iterator[str]:
-    """Each field with its first byte, its bytes, its name and what it says."""
     for it in fields:
         said = data[it.at + it.front : it.at + it.size].hex() if not it.is_group else ""
-        name = "  " * it.depth + it.name
-        yield f"{INDENT}  {it.at:4}  {name:26} {said} {f'({it.meaning})' if it.meaning else ''}".rstrip()
+        name, meaning = "  " * it.depth + it.name, f"({it.meaning})" if it.meaning else ""
+        yield f"{INDENT}  {it.at:4}  {name:26} {said} {meaning}".rstrip()
+
+
+VERSION = 1
+
+Value = dict[str, Any]
+
+
+def value_of_log(
+    events: list[Event], counts: Counts, bad_line: int | None, is_whole: bool
+) -> Value:
+    names = "commands", "refused", "power_cycles", "answers", "differing"
+    told = {it: getattr(counts, it) for it in names}
+    values = [value_of_event(it, is_whole) for it in events]
+    return {"version": VERSION, **told, "bad_line": bad_line, "events": values}
+
+
+def value_of_event(event: Event, is_whole: bool) -> Value:
+    scene = event.scene
+    if event.is_power:
+        return {"line": event.line, "power": True}
+    told: Value = {
+        "line": event.line,
+        "command": name_of(event) if scene.number in NUMBERED else None,
+        "code": event.response[6:10].hex(),
+        "refused": event.refused or None,
+        "check": scene.check,
+        "locality": scene.locality,
+        "elapsed": scene.elapsed,
+        "reason": value_of_reason(event.reason) if event.reason else None,
+        "notes": [value_of_reason(it) for it in event.notes],
+        "differences": [vars(it) for it in event.differences],
+    }
+    if is_whole:
+        asked, answered = (list(map(value_of_field, fields)) for fields in event.fields())
+        told |= {
+            "buffer": scene.buffer.hex(),
+            "plain": None if scene.plain is None else scene.plain.hex(),
+            "fields": asked,
+            "response": event.response.hex(),
+            "response_fields": answered,
+            "entries": {str(at): [vars(it) for it in facts] for at, facts in event.entries},
+        }
+    return told
+
+
+def value_of_reason(reason: Reason) -> Value:
+    names = "rule", "sentence", "link", "words", "at", "slips"
+    told = {it: getattr(reason, it) for it in names}
+    return {**told, "facts": [vars(it) for it in reason.facts]}
+
+
+def value_of_field(field: Field) -> Value:
+    return {"group" if name == "is_group" else name: it for name, it in vars(field).items()}

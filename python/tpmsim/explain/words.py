@@ -3,8 +3,8 @@
 import enum
 from typing import Iterable
 
-from tpmsim.standard import CC, frames, handle_kinds, HMAC_SESSION, lines, NUMBERED, NV
-from tpmsim.standard import PERSISTENT, POLICY_SESSION, TRANSIENT
+from tpmsim.standard import CC, frames, handle_kinds, HMAC_SESSION, lines, NUMBERED, NV, PERSISTENT
+from tpmsim.standard import POLICY_SESSION, TRANSIENT
 
 ALGORITHMS = {
     frames.SHA1: "SHA-1",
@@ -59,7 +59,6 @@ def handle_words(handle: int) -> str:
 
 
 def kind_words(handle: int) -> str:
-    """What a handle is by its number."""
     if handle_kinds.is_pcr(handle):
         return "a PCR"
     if handle == frames.RS_PW:
@@ -86,6 +85,10 @@ def bytes_words(data: bytes) -> str:
 
 def plural(count: int, word: str) -> str:
     return f"{count:,} {word}" if count == 1 else f"{count:,} {word}s"
+
+
+def size_words(count: int) -> str:
+    return plural(count, "byte")
 
 
 def listed(words: Iterable[str]) -> str:

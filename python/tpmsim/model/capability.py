@@ -72,7 +72,9 @@ class Commands(Held):
             PERSISTENT: self.objects,
         }
         if kind == HMAC_SESSION:
-            return self.sessions_from(wanted & PLACE_BITS)
+            # Sessions of all types, in the order of their places.
+            by_place = sorted((it & PLACE_BITS, it) for it in self.sessions)
+            return [handle for at, handle in by_place if at >= wanted & PLACE_BITS]
         # That asks for saved sessions, and none is ever saved.
         if kind == POLICY_SESSION:
             return []
@@ -80,11 +82,6 @@ class Commands(Held):
             raise Refusal("HANDLE/p2", "A2")
         of_kind = [it for it in held[kind] if handle_kinds.first_byte(it) == kind]
         return sorted(it for it in of_kind if it >= wanted)
-
-    def sessions_from(self, place: int) -> list[int]:
-        """Sessions of all types, in the order of their places."""
-        by_place = sorted((it & PLACE_BITS, it) for it in self.sessions)
-        return [handle for at, handle in by_place if at >= place]
 
     def properties(self) -> dict[int, bytes]:
         lockout = self.lockout

@@ -1,6 +1,4 @@
-"""What every command goes through before its own parameters: the checks of its buffer, its handles
-and the entries of its authorization area, in the order of docs/table/order_of_refusals.md.
-"""
+"""What every command goes through first (docs/table/order_of_refusals.md)."""
 
 from __future__ import annotations
 
@@ -14,7 +12,7 @@ from tpmsim.standard.frames import AUDIT, AUDIT_EXCLUSIVE, AUDIT_RESET, RESERVED
 from tpmsim.standard.handle_kinds import IS_OF_KIND
 
 if TYPE_CHECKING:
-    from tpmsim.model.machine import Session
+    from tpmsim.model.policy_state import Session
     from tpmsim.model.parameters import Held
 
 LEAST_AREA, MOST_NONCE_OR_HMAC = 9, 32
@@ -24,9 +22,8 @@ HEADER_CHECKS = "G1", "G2", "G3", "G4"
 
 
 class Refusal(Exception):
-    """A command that is refused; `name` is that of the code, as HASH/p1, and `check` that of the
-    check which refuses it, as G11 or A1. `touched` is what dictionary attack protection counts it
-    at, if at anything.
+    """A command that is refused: by a code, as HASH/p1, at a check, as G11 or A1; `touched` is what
+    dictionary attack protection counts it at, if at anything.
     """
 
     def __init__(self, name: str, check: str, touched: str | None = None) -> None:
@@ -36,9 +33,7 @@ class Refusal(Exception):
 
 @dataclass
 class Command:
-    """A command that its buffer spells; without sessions `entries` is None. A handle of the
-    `authorized` first ones is that of the entry in its place.
-    """
+    """A command that its buffer spells; without sessions `entries` is None."""
 
     code: CC
     handles: list[int]
@@ -53,6 +48,13 @@ class Command:
         for place, entry in enumerate(self.entries, 1):
             yield place, entry, authorized[place - 1] if place <= len(authorized) else None
 
+    def others(self, place: int, handle: int | None) -> list[int]:
+        """In the first entry, where it authorizes: the other sessions that decrypt and encrypt."""
+        if place != 1 or handle is None:
+            return []
+        found = [self.with_attribute(it) for it in (DECRYPT, ENCRYPT)]
+        return list(dict.fromkeys(it[1].handle for it in found if it and it[0] != 1))
+
     def with_attribute(self, attribute: int) -> tuple[int, Entry, int | None] | None:
         """The entry that decrypts or encrypts, its number, and the handle that it authorizes."""
         for place, entry, handle in self.places():
@@ -63,8 +65,6 @@ class Command:
 
 @dataclass
 class Answer:
-    """What a command answers, and how many random bytes it drew."""
-
     parameters: bytes = b""
     handle: bytes = b""
     drawn: int = 0
@@ -120,7 +120,6 @@ def read_area(fields: Fields) -> list[Entry]:
 def check_entry(
     command: Command, place: int, entry: Entry, handle: int | None, sessions: dict[int, Session]
 ) -> None:
-    """What is wrong with an entry, whatever its hmac is."""
     before = (command.entries or [])[: place - 1]
     if max(len(entry.nonce), len(entry.hmac)) > MOST_NONCE_OR_HMAC:
         raise Refusal(f"SIZE/s{place}", "G8")

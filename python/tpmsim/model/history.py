@@ -8,13 +8,14 @@ but what an event shows; its rules are those of docs/THEOREMS.md.
 from __future__ import annotations
 
 from dataclasses import dataclass, field, replace
-from typing import Any, Callable, Iterator, TYPE_CHECKING
+from functools import cached_property
+from typing import Any, Callable, Iterable, Iterator, TYPE_CHECKING
 
-from tpmsim.model import nv_commands, object_rules, pcrs, policy_state, state
-from tpmsim.model.parameters import Parameters
-from tpmsim.standard import CC, digest, digest_bytes, DIGEST_BYTES, frames, number, nv, PCRS, policy
-from tpmsim.standard import RH_ENDORSEMENT, RH_LOCKOUT, RH_NULL, RH_OWNER, RH_PLATFORM, RS_PW
-from tpmsim.standard import sessions, SHA1, SHA256, trimmed
+from tpmsim.model import pcrs, policy_state, state
+from tpmsim.standard import CC, digest, digest_bytes, Fields, frames, HIERARCHIES, number, nv, PCRS
+from tpmsim.standard import policy, RH_ENDORSEMENT, RH_LOCKOUT, RH_NULL, RH_OWNER, RH_PLATFORM
+from tpmsim.standard import RS_PW, sessions, SHA1, SHA256, trimmed
+from tpmsim.standard.values import read_all
 
 if TYPE_CHECKING:
     from tpmsim.model.machine import Model
@@ -22,9 +23,7 @@ if TYPE_CHECKING:
 
 @dataclass(frozen=True)
 class Use:
-    """An entry of a command: its session, whether that goes on, and whether the entry authorizes a
-    handle.
-    """
+    """An entry of a command: its session, whether that goes on, and whether it authorizes."""
 
     handle: int
     continues: bool
@@ -51,12 +50,12 @@ class Accepted:
 
     @property
     def handle(self) -> int:
-        """The handle that it answered, of a command that does."""
         assert self.answered is not None
         return self.answered
 
-    def read(self) -> Parameters:
-        return Parameters(self.parameters)
+    @cached_property
+    def given(self) -> dict[str, Any]:
+        return read_all(CC(self.code).parameters, self.parameters)
 
 
 @dataclass(frozen=True)
@@ -73,9 +72,7 @@ def started_values() -> dict[tuple[int, int], bytes]:
 
 @dataclass
 class Pcrs:
-    """The values, how many were written and TPM2_Clear accepted since the last startup, and what
-    the last shutdown found.
-    """
+    """`updates` counts writes and TPM2_Clear; `saved` is what the last shutdown found."""
 
     values: dict[tuple[int, int], bytes] = field(default_factory=started_values)
     updates: int = 0
@@ -85,7 +82,7 @@ class Pcrs:
         self.values[bank, pcr] = value
         self.updates += 1
 
-    def extend(self, pcr: int, values: list[tuple[int, bytes]]) -> None:
+    def extend(self, pcr: int, values: Iterable[tuple[int, bytes]]) -> None:
         for bank, value in values:
             self.set(bank, pcr, digest(bank, self.values[bank, pcr] + value))
 
@@ -96,7 +93,7 @@ class Pcrs:
         pcr = it.handles[0] if it.handles else None
         if it.code == CC.Startup:
             self.updates = 0
-            if it.read().next().number(2) == state.STATE:
+            if it.given["startupType"] == state.STATE:
                 self.values |= {at: was for at, was in self.saved.items() if at[1] < 16}
         elif it.code == CC.Shutdown:
             self.saved = dict(self.values)
@@ -105,25 +102,15 @@ class Pcrs:
         elif pcr is None or pcr == RH_NULL:
             pass
         elif it.code == CC.PCR_Extend:
-            self.extend(pcr, self.digests(it.read().next()))
+            self.extend(pcr, it.given["digests"])
         elif it.code == CC.PCR_Event:
-            data = it.read().next().sized(pcrs.EVENT_BYTES)
+            data = it.given["eventData"]
             self.extend(pcr, [(bank, digest(bank, data)) for bank in (SHA1, SHA256)])
         elif it.code == CC.PCR_Reset:
             for bank in (SHA1, SHA256):
                 self.set(bank, pcr, bytes(digest_bytes(bank)))
 
-    @staticmethod
-    def digests(fields: Parameters) -> list[tuple[int, bytes]]:
-        """Each with the hash algorithm of its bank."""
-        count = fields.number(4)
-        banks = []
-        for _ in range(count):
-            bank = fields.number(2)
-            banks.append((bank, fields.take(digest_bytes(bank))))
-        return banks
-
-    def digest(self, algorithm: int, selection: list[tuple[int, list[int]]]) -> bytes:
+    def digest(self, algorithm: int, selection: Iterable[tuple[int, Iterable[int]]]) -> bytes:
         values = [self.values[bank, pcr] for bank, numbers in selection for pcr in numbers]
         return digest(algorithm, b"".join(values))
 
@@ -131,9 +118,7 @@ class Pcrs:
 # Authorization values: the one that was set last for each handle. These are always there, and have
 # none at first.
 
-WITHOUT_VALUES = dict.fromkeys(
-    (RH_OWNER, RH_ENDORSEMENT, RH_PLATFORM, RH_LOCKOUT, RH_NULL, *PCRS), b""
-)
+WITHOUT_VALUES = dict.fromkeys((*HIERARCHIES, RH_NULL, *PCRS), b"")
 
 
 @dataclass
@@ -144,28 +129,24 @@ class AuthValues:
         return self.values.get(handle, b"")
 
     def command(self, it: Accepted) -> None:
-        fields = it.read().next()
         if it.code in (CC.HierarchyChangeAuth, CC.NV_ChangeAuth):
-            self.values[it.handles[0]] = trimmed(fields.sized(DIGEST_BYTES))
+            self.values[it.handles[0]] = trimmed(it.given["newAuth"])
         elif it.code == CC.NV_DefineSpace:
-            auth_value = trimmed(fields.sized(DIGEST_BYTES))
-            self.values[defined_index(it)] = auth_value
+            self.values[defined_index(it)] = trimmed(it.given["auth"])
         elif it.code == CC.CreatePrimary:
-            self.values[it.handle] = trimmed(object_rules.read_template(it.read()).user_auth)
+            self.values[it.handle] = trimmed(Fields(it.given["inSensitive"]).sized())
         elif it.code == CC.Load and it.loaded is not None:
             self.values[it.handle] = trimmed(it.loaded)
         elif it.code == CC.EvictControl:
-            self.values[fields.number(4)] = self.of(it.handles[1])
-        elif it.code == CC.Startup and fields.number(2) == state.CLEAR:
+            self.values[it.given["persistentHandle"]] = self.of(it.handles[1])
+        elif it.code == CC.Startup and it.given["startupType"] == state.CLEAR:
             self.values[RH_PLATFORM] = b""
         elif it.code == CC.Clear:
             self.values |= {it: b"" for it in (RH_OWNER, RH_ENDORSEMENT, RH_LOCKOUT)}
 
 
 def defined_index(it: Accepted) -> int:
-    fields = it.read().next()
-    fields.sized(DIGEST_BYTES)
-    return fields.next().structure(nv_commands.read_public).index
+    return nv.Public.read(it.given["publicInfo"]).index
 
 
 # Counters: the value of each since its definition, all that any ever had, and the largest of these.
@@ -194,9 +175,7 @@ Bound = tuple[bytes, bytes, str | None]
 
 @dataclass(frozen=True)
 class LiveSession:
-    """A session's start: its type, its hash, its cipher, and the Name, the authorization value and
-    the protection to which it is bound; its key; its latest nonce; and its policy.
-    """
+    """A session, with the Name, the value and the protection that it is bound to, and its policy."""
 
     kind: int
     algorithm: int
@@ -209,9 +188,7 @@ class LiveSession:
 
 @dataclass
 class Sessions:
-    """The sessions that live. What they need of PCRs and authorization values is as it was before
-    the command.
-    """
+    """Those that live. The PCRs and the authorization values are those before the command."""
 
     live: dict[int, LiveSession] = field(default_factory=dict)
 
@@ -222,7 +199,7 @@ class Sessions:
         if it.code == CC.StartAuthSession:
             self.live[it.handle] = self.started(it, auth_values)
         elif it.code == CC.FlushContext:
-            self.live.pop(it.read().next().number(4), None)
+            self.live.pop(it.given["flushHandle"], None)
         elif it.code == CC.PolicyRestart:
             self.change(it.handles[0], restarted)
         elif it.code in ASSERTIONS:
@@ -235,17 +212,13 @@ class Sessions:
         self.live[handle] = change(self.live[handle])
 
     def started(self, it: Accepted, auth_values: AuthValues) -> LiveSession:
-        fields = it.read()
-        nonce_caller = fields.next().sized(DIGEST_BYTES)
-        fields.next().sized(DIGEST_BYTES)
-        kind = fields.next().number(1)
-        (cipher, _), algorithm = fields.next().symmetric(), fields.next().hash()
-        nonce_tpm, bind = it.random[: len(nonce_caller)], it.handles[1]
-        bound: Bound | None = None
-        key = b""
+        given, bind = it.given, it.handles[1]
+        nonce_caller, algorithm = given["nonceCaller"], given["authHash"]
+        nonce_tpm, bound, key = it.random[: len(nonce_caller)], None, b""
         if bind != RH_NULL:
             bound = it.names[1], auth_values.of(bind), it.protections[1]
             key = sessions.session_key(algorithm, bound[1], nonce_tpm, nonce_caller)
+        kind, cipher = given["sessionType"], given["symmetric"].algorithm
         starting = policy_state.starting_state(algorithm)
         return LiveSession(kind, algorithm, cipher, bound, key, nonce_tpm, starting)
 
@@ -280,7 +253,6 @@ ASSERTIONS = (
 
 
 def asserted(it: Accepted, session: LiveSession, values: Pcrs) -> LiveSession:
-    """The session with what an assertion makes of its policy."""
     was = session.policy
     digest, told = made_of(it, session, values)
     told["cp_hash"] = told.get("cp_hash") or was.cp_hash
@@ -289,39 +261,33 @@ def asserted(it: Accepted, session: LiveSession, values: Pcrs) -> LiveSession:
 
 
 def made_of(it: Accepted, session: LiveSession, values: Pcrs) -> tuple[bytes, dict[str, Any]]:
-    """The digest that an assertion makes, and what else of the policy is another one."""
-    algorithm, old, fields = session.algorithm, session.policy.digest, it.read()
+    algorithm, old, given = session.algorithm, session.policy.digest, it.given
     match it.code:
         case CC.PolicyPCR:
-            given, selection = fields.next().sized(DIGEST_BYTES), fields.next().selection()
-            is_taken = session.kind == frames.SE_TRIAL and given
-            taken = given if is_taken else values.digest(algorithm, selection)
-            text = frames.selection(*selection)
-            made = policy.after_pcr(algorithm, old, text, taken)
+            is_taken = session.kind == frames.SE_TRIAL and given["pcrDigest"]
+            taken = given["pcrDigest"] if is_taken else values.digest(algorithm, given["pcrs"])
+            made = policy.after_pcr(algorithm, old, frames.selection(*given["pcrs"]), taken)
             return made, {"update_counter": values.updates}
         case CC.PolicyOR:
-            branches = fields.next().sized_list(policy.LEAST_BRANCHES, policy.MOST_BRANCHES)
-            return policy.after_or(algorithm, branches), {}
+            return policy.after_or(algorithm, given["pHashList"]), {}
         case CC.PolicyCommandCode:
-            code = fields.next().number(4)
+            code = given["code"]
             return policy.after_command_code(algorithm, old, code), {"code": code}
         case CC.PolicyCpHash:
-            cp_hash = fields.next().sized(DIGEST_BYTES)
+            cp_hash = given["cpHashA"]
             return policy.after_cp_hash(algorithm, old, cp_hash), {"cp_hash": cp_hash}
         case CC.PolicyNvWritten:
-            is_written = bool(fields.next().number(1))
+            is_written = bool(given["writtenSet"])
             return policy.after_nv_written(algorithm, old, is_written), {"nv_written": is_written}
         case CC.PolicyLocality:
-            localities = fields.next().number(1)
+            localities = given["locality"]
             return policy.after_locality(algorithm, old, localities), {"localities": localities}
         case CC.PolicySecret:
-            _, cp_hash, policy_ref = (fields.next().sized(DIGEST_BYTES) for _ in range(3))
-            made = policy.after_secret(algorithm, old, it.names[0], policy_ref)
-            return made, {"cp_hash": cp_hash}
+            made = policy.after_secret(algorithm, old, it.names[0], given["policyRef"])
+            return made, {"cp_hash": given["cpHashA"]}
         case CC.PolicyNV:
-            operand, offset, operation = nv_commands.read_policy_nv(fields)
-            arguments = operand + number(offset, 2) + number(operation, 2)
-            return policy.after_nv(algorithm, old, arguments, it.names[1]), {}
+            compared = given["operandB"], number(given["offset"], 2), number(given["operation"], 2)
+            return policy.after_nv(algorithm, old, b"".join(compared), it.names[1]), {}
     demand = policy.PASSWORD if it.code == CC.PolicyPassword else policy.AUTH_VALUE
     return policy.after_auth_value(algorithm, old), {"demand": demand}
 

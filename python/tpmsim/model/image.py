@@ -12,7 +12,7 @@ from tpmsim.model.general import Refusal
 from tpmsim.model.machine import Model
 from tpmsim.model.parameters import Parameters
 from tpmsim.model.protection import Lockout
-from tpmsim.standard import aes, digest, digest_bytes, DIGEST_BYTES, Fields, number, nv
+from tpmsim.standard import aes, digest, DIGEST_BYTES, digest_bytes, Fields, number, nv
 from tpmsim.standard import RH_ENDORSEMENT, RH_LOCKOUT, RH_NULL, RH_OWNER, RH_PLATFORM, SHA1, SHA256
 from tpmsim.standard import Short, sized, trimmed
 from tpmsim.standard.aes_tables import encrypt_block
@@ -32,9 +32,7 @@ class Fault(Exception):
 
 @dataclass(frozen=True)
 class Version:
-    """How many NV indices an image has at most, and how many bytes of their data; and whether it
-    says these limits.
-    """
+    """The limits on NV indices and on the bytes of their data, and whether the image says them."""
 
     number: int
     indices: int
@@ -52,9 +50,6 @@ VERSIONS = {it.number: it for it in (VERSION_1, VERSION_2)}
 
 # Where the body begins in an image that is written.
 BODY_AT = HEAD_BYTES + len(VERSION_2.limits)
-
-
-# Writing.
 
 
 def image(device: Model, version: Version = VERSION_2) -> bytes:
@@ -94,13 +89,9 @@ def hierarchies_text(device: Model) -> bytes:
 
 def lockout_text(lockout: Lockout) -> bytes:
     """The two times are not kept: a power cycle starts them anew."""
-    numbers = (
-        lockout.failed_tries,
-        lockout.max_tries,
-        lockout.recovery_time,
-        lockout.lockout_recovery,
-    )
-    return b"".join(number(it, 4) for it in numbers) + number(lockout.is_closed, 1)
+    names = "failed_tries", "max_tries", "recovery_time", "lockout_recovery"
+    numbers = b"".join(number(getattr(lockout, it), 4) for it in names)
+    return numbers + number(lockout.is_closed, 1)
 
 
 def counts_text(device: Model) -> bytes:
@@ -164,7 +155,6 @@ def open_image(text: bytes, block_cipher: aes.BlockCipher = encrypt_block) -> Mo
 
 
 def fault_of(text: bytes) -> str | None:
-    """Why a text is no image, or nothing where it is one."""
     try:
         open_image(text)
     except Fault as fault:

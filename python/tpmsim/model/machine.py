@@ -12,12 +12,14 @@ from tpmsim.model import capability, general, history, nv_commands, object_comma
 from tpmsim.model import persistent, policy_commands, policy_state, protection, state
 from tpmsim.model.general import Answer, Command, Refusal
 from tpmsim.model.history import Accepted, PowerCycle
-from tpmsim.model.parameters import Parameters, Request, buffer, choice, integer, takes
-from tpmsim.model.policy_state import Entity
-from tpmsim.standard import aes, CC, DECRYPT, digest_bytes, ENCRYPT, Entry, Fact
-from tpmsim.standard import Fields, frames, handle_kinds, number, nv, objects, policy
-from tpmsim.standard import RH_ENDORSEMENT, RH_LOCKOUT, RH_NULL, RH_OWNER, RH_PLATFORM, RS_PW
-from tpmsim.standard import sessions, Short, sized, TRANSIENT, trimmed
+from tpmsim.model.nv_commands import Index
+from tpmsim.model.object_rules import Object
+from tpmsim.model.parameters import buffer, choice, integer, Parameters, Request, takes
+from tpmsim.model.policy_state import Session
+from tpmsim.standard import aes, CC, DECRYPT, digest_bytes, ENCRYPT, Entry, Fact, Fields, frames
+from tpmsim.standard import handle_kinds, number, nv, objects, policy, RH_ENDORSEMENT, RH_LOCKOUT
+from tpmsim.standard import RH_NULL, RH_OWNER, RH_PLATFORM, RS_PW, sessions, Short, sized, TRANSIENT
+from tpmsim.standard import trimmed
 from tpmsim.standard.aes_tables import encrypt_block
 from tpmsim.standard.objects import Attribute
 
@@ -44,34 +46,9 @@ PLACE_BITS = 0xFF_FFFF
 STARVED, MEMORY_CHECK = frames.refusal(0x904), "M"
 
 
-@dataclass
-class Session:
-    """A session, with what it was bound to: the Name, the authorization value, and what wrong
-    values of it counted at, all of them at the start. `cipher` is AES, XOR or ALG_NULL; the masks
-    of XOR are by the session's own hash algorithm. `policy` is what a policy or a trial session was
-    told.
-    """
-
-    kind: int
-    algorithm: int
-    cipher: int
-    nonce_tpm: bytes
-    key: bytes
-    bind: bytes
-    bind_auth: bytes
-    bind_protection: str | None
-    policy: policy_state.State
-
-    @property
-    def is_trial(self) -> bool:
-        return self.kind == frames.SE_TRIAL
-
-
 @dataclass(frozen=True)
 class Row:
-    """What is reported of a command: its code, or 0 where a check of the header refuses it; and the
-    name of the check, or `ok`.
-    """
+    """A command's code, or 0 where its header is refused; and the name of the check, or `ok`."""
 
     code: int
     check: str
@@ -101,11 +78,8 @@ class Model(
     state.Commands,
     capability.Commands,
 ):
-    """The PCRs in both banks and how often a value was written, the hierarchies' authorization
-    values, seeds and proofs, dictionary attack protection, the NV indices, the objects, transient
-    and persistent ones, the sessions, the times, and what was saved for the next start. `tell` is
-    called with each event that is accepted. It is manufactured with 256 bytes, and encrypts by the
-    cipher of aes_tables.py where no other is given.
+    """The device. `tell` is called with each event that is accepted. It is manufactured with 256
+    bytes, and encrypts by the cipher of aes_tables.py where no other is given.
     """
 
     def __init__(
@@ -128,9 +102,7 @@ class Model(
         self.started = False
         self.banks = pcrs.starting_banks()
         self.update_counter = 0
-        self.objects = {
-            handle: it for handle, it in self.objects.items() if persistent.is_persistent(handle)
-        }
+        self.objects = {at: it for at, it in self.objects.items() if persistent.is_persistent(at)}
         self.sessions = {}
         self.time = 0
         self.lockout.power_cycle()
@@ -143,9 +115,7 @@ class Model(
         elapsed: int = 0,
         is_starved: bool = False,
     ) -> Outcome:
-        """What comes of a command, so many milliseconds after the one before. One that is starved is
-        refused the memory that it needs, and nothing but the time changes.
-        """
+        """The milliseconds count first; a command that is starved changes nothing but the time."""
         self.tick(elapsed)
         if is_starved:
             return Outcome(STARVED, Row.of(buffer, MEMORY_CHECK), "MEMORY")
@@ -192,17 +162,14 @@ class Model(
             *(random, answer.drawn, answered, loaded),
         )
 
-    # Entities.
+    def held(self, handle: int) -> Object | Index | None:
+        return self.objects.get(handle) or self.indices.get(handle)
 
     def name(self, handle: int) -> bytes:
-        if handle in self.objects:
-            return self.objects[handle].name
-        if handle in self.indices:
-            return self.indices[handle].public.name
-        return sessions.name_of(handle)
+        held = self.held(handle)
+        return held.public.name if held else sessions.name_of(handle)
 
     def shown(self, command: Command) -> tuple[list[bytes], list[str | None]]:
-        """The Names of its handles, and how what they name is protected."""
         return self.names(command), [self.protection(it) for it in command.handles]
 
     def names(self, command: Command) -> list[bytes]:
@@ -210,48 +177,33 @@ class Model(
 
     def auth_value(self, handle: int | None) -> bytes:
         """That of a PCR and of TPM_RH_NULL is empty, and so is that of no entity."""
-        if handle in self.objects:
-            return self.objects[handle].sensitive.auth_value
-        if handle in self.indices:
-            return self.indices[handle].auth_value
-        return b"" if handle is None else self.auth_values.get(handle, b"")
+        if handle is None:
+            return b""
+        held = self.held(handle)
+        return held.auth_value if held else self.auth_values.get(handle, b"")
 
     def protection(self, handle: int) -> str | None:
         """What wrong authorization values count at, if at anything."""
         if handle == RH_LOCKOUT:
             return protection.LOCKOUT_AUTH
-        if handle in self.objects:
-            is_free = self.objects[handle].public.has(Attribute.NO_DA)
-        elif handle in self.indices:
-            is_free = self.indices[handle].public.has(nv.Attribute.NO_DA)
-        else:
-            return None
-        return None if is_free else protection.TRIES
+        held = self.held(handle)
+        return protection.TRIES if held and not held.public.is_free else None
 
     def takes_auth_value(self, handle: int, code: CC) -> bool:
-        """Whether it can be authorized without a policy, for a command."""
         if handle in self.objects:
             return self.objects[handle].public.has(Attribute.USER_WITH_AUTH)
         if handle in self.indices:
             return nv_commands.takes_auth_value(self.indices[handle].public, code)
         return True
 
-    def policy_entity(self, handle: int, code: CC) -> Entity | None:
-        """An entity that a policy can authorize for a command: an object or an index that has one.
-        Of an index the attributes too have to allow it.
-        """
-        public: objects.Public | nv.Public
-        if handle in self.objects:
-            public = self.objects[handle].public
-        elif handle not in self.indices:
+    def policy_entity(self, handle: int, code: CC) -> objects.Public | nv.Public | None:
+        """What a policy can authorize: an object or an index, whose attributes allow it."""
+        held = self.held(handle)
+        if held is None or not held.public.auth_policy:
             return None
-        else:
-            public = index = self.indices[handle].public
-            if not nv_commands.takes_policy(index, code):
-                return None
-        if not public.auth_policy:
+        if isinstance(held, Index) and not nv_commands.takes_policy(held.public, code):
             return None
-        return policy_state.Entity(public.name_algorithm, public.auth_policy)
+        return held.public
 
     def written(self, handle: int) -> bool | None:
         """Whether an NV index is written; None of all else."""
@@ -259,10 +211,7 @@ class Model(
             return None
         return self.indices[handle].public.has(nv.Attribute.WRITTEN)
 
-    # Authorization.
-
     def is_bound(self, session: Session, handle: int) -> bool:
-        """A binding holds while Name and authorization value are those of the start."""
         now = self.name(handle), self.auth_value(handle)
         return (session.bind, session.bind_auth) == now
 
@@ -277,7 +226,6 @@ class Model(
         return not self.is_bound(self.sessions[entry.handle], handle)
 
     def key(self, entry: Entry, handle: int | None) -> bytes:
-        """The key of an entry's hmac, the handle being what it authorizes, if anything."""
         uses = self.uses_auth_value(entry, handle)
         return self.sessions[entry.handle].key + (self.auth_value(handle) if uses else b"")
 
@@ -286,24 +234,14 @@ class Model(
         return session.key + self.auth_value(handle)
 
     def touched(self, entry: Entry, handle: int | None) -> str | None:
-        """What an entry is a try at, if it is wrong: at a protected value that is the password or
-        in the key, and else at the one that the session's key was made of.
-        """
+        """What an entry is a try at: at its value, or at that which the key was made of."""
         if handle is not None and self.uses_auth_value(entry, handle) and self.protection(handle):
             return self.protection(handle)
         session = self.sessions.get(entry.handle)
         return session.bind_protection if session else None
 
     def nonces_of_others(self, command: Command, place: int, handle: int | None) -> list[bytes]:
-        """The nonces of the sessions that decrypt and encrypt, for the first entry alone."""
-        if place != 1 or handle is None:
-            return []
-        places, entries = list[int](), command.entries or []
-        for attribute in (DECRYPT, ENCRYPT):
-            found = command.with_attribute(attribute)
-            if found and found[0] != 1 and found[0] not in places:
-                places.append(found[0])
-        return [self.sessions[entries[it - 1].handle].nonce_tpm for it in places]
+        return [self.sessions[it].nonce_tpm for it in command.others(place, handle)]
 
     def accepts(self, command: Command, place: int, entry: Entry, handle: int | None) -> bool:
         if entry.handle == RS_PW or entry.demand == policy.PASSWORD:
@@ -324,12 +262,10 @@ class Model(
     def check_policy(
         self, command: Command, place: int, entry: Entry, handle: int, locality: int
     ) -> None:
-        """What refuses a policy session that is to authorize a handle."""
         session, code = self.sessions[entry.handle], command.code
         cp_hash, is_written = self.cp_hash(session, command), self.written(handle)
-        use = policy_state.Use(
-            *(code, code.has(Fact.ADMIN), cp_hash, is_written, self.update_counter, locality)
-        )
+        now = cp_hash, is_written, self.update_counter, locality
+        use = policy_state.Use(code, code.has(Fact.ADMIN), *now)
         policy_state.check_use(session, self.policy_entity(handle, command.code), use, place)
         entry.demand = session.policy.demand
 
@@ -348,7 +284,6 @@ class Model(
                 raise Refusal(f"{name}/s{place}", check, touched)
 
     def plain_parameters(self, command: Command) -> bytes:
-        """The parameters, with the bytes of the first one decrypted where a session asks for it."""
         found = command.with_attribute(DECRYPT)
         if not found:
             return command.parameters
@@ -358,14 +293,9 @@ class Model(
         except Short:
             raise Refusal("INSUFFICIENT/p1", "G10") from None
         session = self.sessions[entry.handle]
-        key = self.encryption_key(session, handle)
-        return sessions.on_first_buffer(
-            lambda data: sessions.decrypted(
-                *(session.cipher, session.algorithm, key, entry.nonce, session.nonce_tpm, data),
-                self.block_cipher,
-            ),
-            command.parameters,
-        )
+        given = session.cipher, session.algorithm, self.encryption_key(session, handle)
+        nonces = entry.nonce, session.nonce_tpm
+        return sessions.first_decrypted(*given, *nonces, command.parameters, self.block_cipher)
 
     # Responses. The effect has come before.
 
@@ -374,11 +304,9 @@ class Model(
             return frames.success(answer.parameters, handle=answer.handle)
         self.draw_nonces(command, random[answer.drawn :])
         parameters = self.answered_parameters(command, answer.parameters)
-        entries = [
-            self.entry_answer(command, parameters, entry, handle)
-            for _, entry, handle in command.places()
-        ]
-        for _, entry, handle in command.places():
+        places = list(command.places())
+        entries = [self.entry_answer(command, parameters, entry, of) for _, entry, of in places]
+        for _, entry, handle in places:
             self.end_use(entry, handle)
         return frames.success(parameters, entries, answer.handle)
 
@@ -393,7 +321,6 @@ class Model(
             session.policy = policy_state.starting_state(session.algorithm)
 
     def draw_nonces(self, command: Command, random: bytes) -> None:
-        """A new nonce of its size for each session, in the order of the entries."""
         for _, entry, _ in command.places():
             if entry.handle != RS_PW:
                 session = self.sessions[entry.handle]
@@ -406,14 +333,9 @@ class Model(
             return parameters
         _, entry, handle = found
         session = self.sessions[entry.handle]
-        key = self.encryption_key(session, handle)
-        return sessions.on_first_buffer(
-            lambda data: sessions.encrypted(
-                *(session.cipher, session.algorithm, key, session.nonce_tpm, entry.nonce, data),
-                self.block_cipher,
-            ),
-            parameters,
-        )
+        given = session.cipher, session.algorithm, self.encryption_key(session, handle)
+        nonces = session.nonce_tpm, entry.nonce
+        return sessions.first_encrypted(*given, *nonces, parameters, self.block_cipher)
 
     def entry_answer(
         self, command: Command, parameters: bytes, entry: Entry, handle: int | None

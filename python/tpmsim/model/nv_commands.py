@@ -1,14 +1,13 @@
-"""NV indices: what may be asked of them, what they hold, and the commands that define and use them.
-
-TPM 2.0 Library, Part 1, section 37; Part 2, section 13; Part 3, section 31. What of these sections
-is left to each TPM, or is narrower here, is that of docs/table.
+"""NV indices, and the commands that define and use them (TPM 2.0 Library, Part 1, section 37; Part
+2, section 13; Part 3, section 31). What is left to each TPM, or is narrower here, is that of
+docs/table.
 """
 
 from dataclasses import dataclass
 
 from tpmsim.model.general import Answer, Refusal
 from tpmsim.model.parameters import buffer, Held, integer, Parameters, Request, structure, takes
-from tpmsim.standard import CC, digest, digest_bytes, DIGEST_BYTES, Fact, first_byte, number, NV
+from tpmsim.standard import CC, digest, DIGEST_BYTES, digest_bytes, Fact, first_byte, number, NV
 from tpmsim.standard import RH_OWNER, RH_PLATFORM, sized, trimmed
 from tpmsim.standard.nv import Attribute, NAMED, NUMBER_BYTES, Public, READS, Type, WRITES
 
@@ -49,9 +48,6 @@ class Index:
         self.mark(Attribute.WRITTEN)
 
 
-# Definition.
-
-
 def read_public(fields: Parameters) -> Public:
     index = fields.number(4)
     if first_byte(index) != NV:
@@ -86,7 +82,6 @@ def has_wrong_size(public: Public) -> bool:
 def check_definition(
     public: Public, auth_value: bytes, hierarchy: int, indices: dict[int, Index]
 ) -> None:
-    """What an index that is to be defined has to be, beside those that there are."""
     if len(auth_value) > digest_bytes(public.name_algorithm):
         raise Refusal("SIZE/p1", "A1")
     if len(public.auth_policy) not in (0, digest_bytes(public.name_algorithm)):
@@ -119,32 +114,20 @@ def takes_policy(public: Public, code: CC) -> bool:
     return public.has(Attribute.POLICYREAD if code.has(Fact.READS_NV) else Attribute.POLICYWRITE)
 
 
-# Use.
+WRITERS = Attribute.OWNERWRITE, Attribute.PPWRITE
+READERS = Attribute.OWNERREAD, Attribute.PPREAD
 
 
 def check_asker(public: Public, asker: int, by_owner: Attribute, by_platform: Attribute) -> None:
-    """Whether a hierarchy may ask for an index; an index may ask for itself alone."""
-    if asker == RH_OWNER:
-        may = public.has(by_owner)
-    elif asker == RH_PLATFORM:
-        may = public.has(by_platform)
-    else:
-        may = asker == public.index
+    by_hierarchy = {RH_OWNER: by_owner, RH_PLATFORM: by_platform}
+    may = public.has(by_hierarchy[asker]) if asker in by_hierarchy else asker == public.index
     if not may:
         raise Refusal("NV_AUTHORIZATION", "A1")
 
 
-def check_writer(public: Public, asker: int) -> None:
-    check_asker(public, asker, Attribute.OWNERWRITE, Attribute.PPWRITE)
-
-
-def check_reader(public: Public, asker: int) -> None:
-    check_asker(public, asker, Attribute.OWNERREAD, Attribute.PPREAD)
-
-
 def check_writing(public: Public, asker: int, kind: Type) -> None:
     """Before every change of an index that is to be of some type."""
-    check_writer(public, asker)
+    check_asker(public, asker, *WRITERS)
     if public.has(Attribute.WRITELOCKED):
         raise Refusal("NV_LOCKED", "A2")
     if public.kind != kind:
@@ -152,7 +135,7 @@ def check_writing(public: Public, asker: int, kind: Type) -> None:
 
 
 def check_reading(public: Public, asker: int) -> None:
-    check_reader(public, asker)
+    check_asker(public, asker, *READERS)
     if public.has(Attribute.READLOCKED):
         raise Refusal("NV_LOCKED", "A2")
     if not public.has(Attribute.WRITTEN):
@@ -165,7 +148,6 @@ def check_range(public: Public, offset: int, size: int, check: str) -> None:
 
 
 def start_up(indices: dict[int, Index]) -> None:
-    """What TPM2_Startup(CLEAR) makes of the indices."""
     for index in indices.values():
         if index.public.has(Attribute.CLEAR_STCLEAR):
             index.data = b""
@@ -201,13 +183,6 @@ OPERATIONS = (
     lambda held, operand: unsigned(held) & unsigned(operand) == unsigned(operand),
     lambda held, operand: unsigned(held) & unsigned(operand) == 0,
 )
-
-
-def read_policy_nv(parameters: Parameters) -> tuple[bytes, int, int]:
-    """The operand, the offset and the number of the operation."""
-    operand = parameters.next().sized(DIGEST_BYTES)
-    offset = parameters.next().number(2)
-    return operand, offset, parameters.next().one_of(2, range(len(OPERATIONS)), "VALUE")
 
 
 def check_comparison(index: Index, asker: int, operand: bytes, offset: int, operation: int) -> None:
@@ -299,7 +274,7 @@ class Commands(Held):
     @takes()
     def nv_write_lock(self, request: Request) -> Answer:
         asker, index = self.asked(request)
-        check_writer(index.public, asker)
+        check_asker(index.public, asker, *WRITERS)
         if not index.public.has(Attribute.WRITEDEFINE | Attribute.WRITE_STCLEAR):
             raise Refusal("ATTRIBUTES/h2", "A2")
         index.mark(Attribute.WRITELOCKED)
@@ -308,7 +283,7 @@ class Commands(Held):
     @takes()
     def nv_read_lock(self, request: Request) -> Answer:
         asker, index = self.asked(request)
-        check_reader(index.public, asker)
+        check_asker(index.public, asker, *READERS)
         if not index.public.has(Attribute.READ_STCLEAR):
             raise Refusal("ATTRIBUTES/h2", "A2")
         index.mark(Attribute.READLOCKED)

@@ -17,12 +17,9 @@ HMAC_BYTES = 1024
 
 
 class Commands(Held):
-    """The commands, of a device that has `objects`, the PCRs, and the hierarchies' `seeds` and
-    `proofs`.
-    """
+    """Of a device that has `objects`, the PCRs, and the hierarchies' `seeds` and `proofs`."""
 
     def free_object(self, check: str) -> int:
-        """The lowest number that is free, as a transient object's handle."""
         places = [TRANSIENT << 24 | it for it in range(OBJECTS)]
         free = [it for it in places if it not in self.objects]
         if not free:
@@ -43,9 +40,7 @@ class Commands(Held):
         hierarchy: int,
         locality: int,
     ) -> bytes:
-        """What both commands answer of a creation: the public area, the creation data, their hash,
-        and the ticket.
-        """
+        """What both commands answer: the public area, creation data, their hash, and the ticket."""
         values = self.values(template.pcrs)
         data = object_rules.creation_data(template, parent, hierarchy, values, locality)
         data_hash = digest(public.name_algorithm, data)
@@ -87,9 +82,8 @@ class Commands(Held):
         handle = self.free_object("A6")
 
         sensitive = replace(sensitive, auth_value=trimmed(sensitive.auth_value))
-        self.objects[handle] = object_rules.loaded(
-            public, sensitive, parent.hierarchy, parent.qualified_name
-        )
+        above = parent.hierarchy, parent.qualified_name
+        self.objects[handle] = object_rules.loaded(public, sensitive, *above)
         return Answer(sized(public.name), number(handle, 4))
 
     @takes()

@@ -1,15 +1,12 @@
-"""Objects: what may be asked of them, what they are made of, and how a parent protects them.
-
-TPM 2.0 Library, Part 1, sections 16 (Names), 22 (protected storage), 25 to 27 (attributes, areas
-and creation of objects); Part 2, section 12. A primary object has no parent: where one is asked
-for, `parent` is None.
+"""Objects: what they are made of, and how a parent protects them (TPM 2.0 Library, Part 1, sections
+16, 22 and 25 to 27; Part 2, section 12). A primary object has no parent: its `parent` is None.
 """
 
 from dataclasses import dataclass, replace
 
 from tpmsim.model.general import Refusal
-from tpmsim.model.parameters import Parameters, buffer, structure
-from tpmsim.standard import aes, ALG_NULL, digest, digest_bytes, DIGEST_BYTES, Fields, frames, kdfa
+from tpmsim.model.parameters import buffer, Parameters, structure
+from tpmsim.standard import aes, ALG_NULL, digest, DIGEST_BYTES, digest_bytes, Fields, frames, kdfa
 from tpmsim.standard import KEYEDHASH, mac, number, SHA256, Short, sized, SYMCIPHER, trimmed
 from tpmsim.standard.aes_tables import encrypt_block
 from tpmsim.standard.objects import Attribute, NAMED, Public
@@ -42,8 +39,6 @@ class Sensitive:
 
 @dataclass(frozen=True)
 class Object:
-    """An object that is loaded, in the hierarchy of its primary object."""
-
     public: Public
     sensitive: Sensitive
     hierarchy: int
@@ -53,6 +48,10 @@ class Object:
     def name(self) -> bytes:
         return self.public.name
 
+    @property
+    def auth_value(self) -> bytes:
+        return self.sensitive.auth_value
+
 
 def loaded(
     public: Public, sensitive: Sensitive, hierarchy: int, parent_qualified_name: bytes
@@ -61,9 +60,6 @@ def loaded(
     algorithm = public.name_algorithm
     qualified = digest(algorithm, parent_qualified_name + public.name)
     return Object(public, sensitive, hierarchy, number(algorithm, 2) + qualified)
-
-
-# Templates, as they are read.
 
 
 @dataclass(frozen=True)
@@ -83,19 +79,9 @@ class Template:
     def data(self) -> bytes:
         return self.values[1]
 
-    @property
-    def sensitive_text(self) -> bytes:
-        return sized(self.user_auth) + sized(self.data)
-
 
 def read_sensitive_create(fields: Parameters) -> tuple[bytes, bytes]:
     return fields.sized(DIGEST_BYTES), fields.sized(DATA_BYTES)
-
-
-def read_scheme(fields: Parameters) -> int:
-    if fields.one_of(2, (ALG_NULL, frames.ALG_HMAC), "SCHEME") == ALG_NULL:
-        return ALG_NULL
-    return fields.hash()
 
 
 def read_public(fields: Parameters) -> Public:
@@ -106,10 +92,10 @@ def read_public(fields: Parameters) -> Public:
         raise fields.refusal("RESERVED_BITS")
     auth_policy = fields.sized(DIGEST_BYTES)
     scheme = ALG_NULL
-    if kind == KEYEDHASH:
-        scheme = read_scheme(fields)
-    else:
+    if kind == SYMCIPHER:
         fields.cipher()
+    elif fields.one_of(2, (ALG_NULL, frames.ALG_HMAC), "SCHEME") != ALG_NULL:
+        scheme = fields.hash()
     unique = fields.sized(DIGEST_BYTES)
     return Public(kind, name_algorithm, attributes, auth_policy, scheme, unique)
 
@@ -118,13 +104,6 @@ TEMPLATE = (
     *(structure(read_sensitive_create), structure(read_public)),
     *(buffer(NAME_BYTES), Parameters.selection),
 )
-
-
-def read_template(parameters: Parameters) -> Template:
-    return Template(*(read(parameters.next()) for read in TEMPLATE))
-
-
-# Templates, as they are checked.
 
 
 def has_wrong_attributes(public: Public, parent: Object | None) -> bool:
@@ -144,32 +123,24 @@ def has_wrong_attributes(public: Public, parent: Object | None) -> bool:
     return not (signs or decrypts) or public.has(Attribute.RESTRICTED) and signs
 
 
-def has_wrong_scheme(public: Public) -> bool:
-    if public.kind != KEYEDHASH:
-        return False
-    if public.scheme == ALG_NULL:
-        return public.has(Attribute.RESTRICTED)
-    return not public.has(Attribute.SIGN)
-
-
 def checks_before(parent: Object | None) -> int:
     """How many checks come before those of a template: whether the parent is one."""
     return 0 if parent is None else 1
 
 
 def check_public(public: Public, parent: Object | None) -> None:
-    """What the public area of an object that is created or loaded has to be."""
     before = checks_before(parent)
     if len(public.auth_policy) not in (0, digest_bytes(public.name_algorithm)):
         raise Refusal("SIZE/p2", f"A{before + 1}")
     if has_wrong_attributes(public, parent):
         raise Refusal("ATTRIBUTES/p2", f"A{before + 2}")
-    if has_wrong_scheme(public):
+    is_null, signs = public.scheme == ALG_NULL, public.has(Attribute.SIGN)
+    is_wrong = public.has(Attribute.RESTRICTED) if is_null else not signs
+    if public.kind == KEYEDHASH and is_wrong:
         raise Refusal("SCHEME/p2", f"A{before + 3}")
 
 
 def check_sensitive(template: Template, parent: Object | None) -> None:
-    """What is asked of the sensitive area of an object that is created."""
     before = checks_before(parent) + PUBLIC_CHECKS
     public, is_given = template.public, bool(template.data)
     if len(trimmed(template.user_auth)) > digest_bytes(public.name_algorithm):
@@ -180,9 +151,6 @@ def check_sensitive(template: Template, parent: Object | None) -> None:
         raise Refusal("ATTRIBUTES/p2", f"A{before + 2}")
     if public.kind == SYMCIPHER and is_given and len(template.data) != AES_KEY_BYTES:
         raise Refusal("SIZE/p1", f"A{before + 3}")
-
-
-# Creation.
 
 
 def key_bytes(template: Template) -> int:
@@ -197,9 +165,7 @@ def key_bytes(template: Template) -> int:
 
 
 def made(template: Template, key: bytes, seed_value: bytes) -> tuple[Public, Sensitive]:
-    """The two areas of an object that is created. What is unique in the public one binds it to the
-    sensitive one; what the template had in its place does not stay.
-    """
+    """What is unique in the public area binds it to the sensitive one."""
     public = template.public
     data = template.data or key
     unique = digest(public.name_algorithm, seed_value + data)
@@ -211,14 +177,9 @@ def primary(template: Template, hierarchy: int, seed: bytes) -> Object:
     """The primary object that a template and a hierarchy's seed have: always the same."""
     algorithm = template.public.name_algorithm
     size = digest_bytes(algorithm)
-    given = kdfa(
-        algorithm,
-        seed,
-        b"PRIMARY",
-        digest(algorithm, template.public.text),
-        digest(algorithm, template.sensitive_text),
-        size + key_bytes(template),
-    )
+    texts = template.public.text, b"".join(map(sized, template.values))
+    newer, older = (digest(algorithm, it) for it in texts)
+    given = kdfa(algorithm, seed, b"PRIMARY", newer, older, size + key_bytes(template))
     public, sensitive = made(template, key=given[size:], seed_value=given[:size])
     return loaded(public, sensitive, hierarchy, number(hierarchy, 4))
 
@@ -283,12 +244,8 @@ def wrapped(
 
 
 def read_sensitive(fields: Parameters) -> Sensitive:
-    return Sensitive(
-        fields.number(2),
-        fields.sized(DIGEST_BYTES),
-        fields.sized(DIGEST_BYTES),
-        fields.sized(DATA_BYTES),
-    )
+    kind, buffers = fields.number(2), (fields.sized(DIGEST_BYTES), fields.sized(DIGEST_BYTES))
+    return Sensitive(kind, *buffers, fields.sized(DATA_BYTES))
 
 
 def unwrapped(

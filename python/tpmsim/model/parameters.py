@@ -10,7 +10,7 @@ from tpmsim.model.general import Answer, Refusal
 from tpmsim.standard import DIGEST_BYTES, Fields, frames, HASHES, PCRS, Short
 
 if TYPE_CHECKING:
-    from tpmsim.model.machine import Session
+    from tpmsim.model.policy_state import Session
     from tpmsim.model.nv_commands import Index
     from tpmsim.model.object_rules import Object
     from tpmsim.model.protection import Lockout
@@ -27,10 +27,8 @@ MOST_BANKS = 16
 
 
 class Parameters:
-    """A command's parameters, read in order; a fault is at the place of the one that is read.
-
-    The fields of a structure that has a size of its own are read so, too: `short` is the code
-    where there are too few bytes.
+    """A command's parameters, or the fields of a structure, read in order; a fault is at the place
+    of the one that is read, and `short` is the code where there are too few bytes.
     """
 
     def __init__(self, data: bytes, place: int = 0, short: str = "INSUFFICIENT") -> None:

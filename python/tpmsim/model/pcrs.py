@@ -33,7 +33,6 @@ def reset_from(pcr: int) -> Sequence[int]:
 
 
 def starting_banks() -> dict[int, list[bytes]]:
-    """The values of all PCRs, in the bank of each hash algorithm."""
     return {alg: [starting_value(alg, pcr) for pcr in PCRS] for alg in HASHES}
 
 
@@ -46,7 +45,6 @@ class Commands(Held):
     """The commands on PCRs, of a device that has `banks` and their `update_counter`."""
 
     def values(self, selection: list[tuple[int, list[int]]]) -> bytes:
-        """The values of all selected PCRs, in the selection's order."""
         return b"".join(self.banks[bank][pcr] for bank, pcrs in selection for pcr in pcrs)
 
     @takes(Parameters.selection)

@@ -16,22 +16,13 @@ def is_persistent(handle: int) -> bool:
 
 
 def check_hierarchy(asker: int, held: Object, removes: bool) -> None:
-    """The owner has what is the owner's or the endorsement hierarchy's. The platform keeps what is
-    its own, and removes what it likes.
-    """
+    """The platform keeps what is its own, and removes what it likes."""
     if asker == RH_PLATFORM:
         allowed = removes or held.hierarchy == RH_PLATFORM
     else:
         allowed = held.hierarchy in (RH_OWNER, RH_ENDORSEMENT)
     if not allowed:
         raise Refusal("HIERARCHY/h2", "A1")
-
-
-def check_range(asker: int, handle: int, removes: bool) -> None:
-    """The lower half of the handles is the owner's, the upper half the platform's."""
-    is_upper = handle >= FIRST_OF_PLATFORM
-    if asker == RH_OWNER and is_upper or asker == RH_PLATFORM and not removes and not is_upper:
-        raise Refusal("RANGE/p1", "A3")
 
 
 def read_persistent(fields: Parameters) -> int:
@@ -51,18 +42,18 @@ class Commands(Held):
         check_hierarchy(asker, held, removes)
         if held.public.has(Attribute.ST_CLEAR):
             raise Refusal("ATTRIBUTES/h2", "A2")
-        check_range(asker, wanted, removes)
+        # The lower half of the handles is the owner's, the upper half the platform's.
+        is_upper = wanted >= FIRST_OF_PLATFORM
+        if asker == RH_OWNER and is_upper or asker == RH_PLATFORM and not removes and not is_upper:
+            raise Refusal("RANGE/p1", "A3")
         if removes:
             if handle != wanted:
                 raise Refusal("HANDLE/h2", "A4")
             del self.objects[handle]
-        else:
-            self.check_place(wanted)
-            self.objects[wanted] = held
-        return Answer()
-
-    def check_place(self, handle: int) -> None:
-        if handle in self.objects:
+            return Answer()
+        if wanted in self.objects:
             raise Refusal("NV_DEFINED", "A5")
-        if len([it for it in self.objects if is_persistent(it)]) == PERSISTENT_OBJECTS:
+        if sum(map(is_persistent, self.objects)) == PERSISTENT_OBJECTS:
             raise Refusal("NV_SPACE", "A6")
+        self.objects[wanted] = held
+        return Answer()

@@ -1,6 +1,4 @@
-"""Scripts: what `tpmsim run --trace` prints of one, line by line, and how it ends. A line may be
-anything; expected.py reads the scripts of tests/, which have comments that say what must come.
-"""
+"""Scripts: what `tpmsim run --trace` prints of one, line by line, and how it ends."""
 
 import re
 from typing import Iterable
@@ -38,9 +36,7 @@ def hex_bytes(text: bytes) -> bytes:
 
 
 class Player:
-    """A device, and what the lines so far said of the commands to come. `starved` has the numbers of
-    the commands, from 1, that are refused memory.
-    """
+    """A device that plays lines; `starved` has the numbers of the commands without memory."""
 
     def __init__(self, device: Model | None = None, starved: Iterable[int] = ()) -> None:
         self.device, self.locality = device or Model(), 0

@@ -1,17 +1,19 @@
-"""The commands that tell policy and trial sessions assertions (TPM 2.0 Library, Part 3, section 23).
-
-A trial session is told what need not be so.
-"""
+"""The assertions (TPM 2.0 Library, Part 3, section 23). A trial session's need not be so."""
 
 from tpmsim.model import nv_commands, policy_state
 from tpmsim.model.general import Answer, Refusal
 from tpmsim.model.parameters import buffer, choice, Held, integer, Parameters, Request, Selection
 from tpmsim.model.parameters import takes
+from tpmsim.model.policy_state import Session, State
 from tpmsim.standard import digest, digest_bytes, frames, number, NUMBERED, policy, sized
 
 
 class Commands(Held):
     """The commands, of a device that has `sessions`, the PCRs, and `indices`."""
+
+    def told_to(self, request: Request) -> tuple[Session, State, int]:
+        session = self.sessions[request.handles[-1]]
+        return session, session.policy, session.algorithm
 
     @takes()
     def policy_restart(self, request: Request) -> Answer:
@@ -21,32 +23,29 @@ class Commands(Held):
 
     @takes(buffer(), Parameters.selection)
     def policy_pcr(self, request: Request, given: bytes, selection: Selection) -> Answer:
-        session = self.sessions[request.handles[0]]
-        told, algorithm = session.policy, session.algorithm
+        session, told, algorithm = self.told_to(request)
         values_digest = digest(algorithm, self.values(selection))
         if not session.is_trial and told.update_counter not in (None, self.update_counter):
             raise Refusal("PCR_CHANGED", "A1")
         if not session.is_trial and given not in (b"", values_digest):
             raise Refusal("VALUE/p1", "A2")
-        told.digest = policy.after_pcr(
-            algorithm, told.digest, frames.selection(*selection), given or values_digest
-        )
+        about = frames.selection(*selection), given or values_digest
+        told.digest = policy.after_pcr(algorithm, told.digest, *about)
         told.update_counter = self.update_counter
         return Answer()
 
     @takes(lambda it: it.sized_list(policy.LEAST_BRANCHES, policy.MOST_BRANCHES))
     def policy_or(self, request: Request, branches: list[bytes]) -> Answer:
-        session = self.sessions[request.handles[0]]
-        if not session.is_trial and session.policy.digest not in branches:
+        session, told, algorithm = self.told_to(request)
+        if not session.is_trial and told.digest not in branches:
             raise Refusal("VALUE/p1", "A1")
-        session.policy.digest = policy.after_or(session.algorithm, branches)
+        told.digest = policy.after_or(algorithm, branches)
         return Answer()
 
     def demanding(self, request: Request, demand: str) -> Answer:
         """What the policy's use has to show beside the session, the last demand alone."""
-        session = self.sessions[request.handles[0]]
-        told = session.policy
-        told.digest = policy.after_auth_value(session.algorithm, told.digest)
+        _, told, algorithm = self.told_to(request)
+        told.digest = policy.after_auth_value(algorithm, told.digest)
         told.demand = demand
         return Answer()
 
@@ -60,20 +59,18 @@ class Commands(Held):
 
     @takes(integer(4))
     def policy_command_code(self, request: Request, code: int) -> Answer:
-        session = self.sessions[request.handles[0]]
-        told = session.policy
+        _, told, algorithm = self.told_to(request)
         if told.code not in (None, code):
             raise Refusal("VALUE/p1", "A1")
         if code not in NUMBERED:
             raise Refusal("POLICY_CC/p1", "A2")
-        told.digest = policy.after_command_code(session.algorithm, told.digest, code)
+        told.digest = policy.after_command_code(algorithm, told.digest, code)
         told.code = code
         return Answer()
 
     @takes(buffer())
     def policy_cp_hash(self, request: Request, cp_hash: bytes) -> Answer:
-        session = self.sessions[request.handles[0]]
-        told, algorithm = session.policy, session.algorithm
+        session, told, algorithm = self.told_to(request)
         if len(cp_hash) != digest_bytes(algorithm):
             raise Refusal("SIZE/p1", "A1")
         if told.cp_hash not in (None, cp_hash):
@@ -85,22 +82,20 @@ class Commands(Held):
     @takes(choice(1, (0, 1)))
     def policy_nv_written(self, request: Request, is_written: int) -> Answer:
         is_written = bool(is_written)
-        session = self.sessions[request.handles[0]]
-        told = session.policy
+        _, told, algorithm = self.told_to(request)
         if told.nv_written not in (None, is_written):
             raise Refusal("VALUE/p1", "A1")
-        told.digest = policy.after_nv_written(session.algorithm, told.digest, is_written)
+        told.digest = policy.after_nv_written(algorithm, told.digest, is_written)
         told.nv_written = is_written
         return Answer()
 
     @takes(integer(1))
     def policy_locality(self, request: Request, localities: int) -> Answer:
         """The parameter has a bit for each locality; the event's own locality does not matter."""
-        session = self.sessions[request.handles[0]]
-        told = session.policy
+        _, told, algorithm = self.told_to(request)
         if localities > policy.ALL_LOCALITIES or not localities & told.localities:
             raise Refusal("RANGE/p1", "A1")
-        told.digest = policy.after_locality(session.algorithm, told.digest, localities)
+        told.digest = policy.after_locality(algorithm, told.digest, localities)
         told.localities &= localities
         return Answer()
 
@@ -108,9 +103,7 @@ class Commands(Held):
     def policy_secret(
         self, request: Request, nonce_tpm: bytes, cp_hash: bytes, policy_ref: bytes, expiration: int
     ) -> Answer:
-        entity, handle = request.handles
-        session = self.sessions[handle]
-        told, algorithm = session.policy, session.algorithm
+        session, told, algorithm = self.told_to(request)
         if expiration:
             raise Refusal("VALUE/p4", "A1")
         if len(cp_hash) not in (0, digest_bytes(algorithm)):
@@ -120,20 +113,21 @@ class Commands(Held):
         other = cp_hash and told.cp_hash not in (None, cp_hash)
         if not session.is_trial and other:
             raise Refusal("CPHASH", "A4")
-        told.digest = policy.after_secret(algorithm, told.digest, self.name(entity), policy_ref)
+        name = self.name(request.handles[0])
+        told.digest = policy.after_secret(algorithm, told.digest, name, policy_ref)
         told.cp_hash = cp_hash or told.cp_hash
         # Nothing expires, so there is no timeout.
         return Answer(sized(b"") + frames.NULL_TICKET)
 
     @takes(buffer(), integer(2), choice(2, range(len(nv_commands.OPERATIONS))))
     def policy_nv(self, request: Request, operand: bytes, offset: int, operation: int) -> Answer:
-        asker, handle, told_to = request.handles
-        session, index = self.sessions[told_to], self.indices[handle]
+        session, told, algorithm = self.told_to(request)
+        asker, handle, _ = request.handles
+        index = self.indices[handle]
         if not session.is_trial:
             nv_commands.check_comparison(index, asker, operand, offset, operation)
         arguments = operand + number(offset, 2) + number(operation, 2)
-        told = session.policy
-        told.digest = policy.after_nv(session.algorithm, told.digest, arguments, index.public.name)
+        told.digest = policy.after_nv(algorithm, told.digest, arguments, index.public.name)
         return Answer()
 
     @takes()

@@ -1,28 +1,17 @@
-"""Policies: what a session was told, and what each assertion makes of its digest.
-
-The equations are those of the TPM 2.0 Library, Part 1, section 19.7 and Part 3, section 23. `old`
-is the digest before an assertion; a policy session and a trial session have the same.
-"""
+"""What a policy session was told, and what that is held against (TPM 2.0 Library, Part 1, 19.7)."""
 
 from __future__ import annotations
 
 from dataclasses import dataclass
 
-from typing import TYPE_CHECKING
-
 from tpmsim.model.general import Refusal
-from tpmsim.standard import digest_bytes
+from tpmsim.standard import digest_bytes, nv, objects, SE_TRIAL
 from tpmsim.standard.policy import ALL_LOCALITIES
-
-if TYPE_CHECKING:
-    from tpmsim.model.machine import Session
 
 
 @dataclass
 class State:
-    """A policy as far as it was told: its digest, and what a use of it will be held against. What
-    is None was not told.
-    """
+    """What a policy was told, and what is held against at a use; None was not told."""
 
     digest: bytes
     update_counter: int | None = None
@@ -37,14 +26,30 @@ def starting_state(algorithm: int) -> State:
     return State(bytes(digest_bytes(algorithm)))
 
 
-# A policy that authorizes.
+@dataclass
+class Session:
+    """A session, with the Name, the authorization value and the protection of its bind entity at
+    the start. `cipher` is AES, XOR or ALG_NULL; the masks of XOR are by its own hash algorithm.
+    """
+
+    kind: int
+    algorithm: int
+    cipher: int
+    nonce_tpm: bytes
+    key: bytes
+    bind: bytes
+    bind_auth: bytes
+    bind_protection: str | None
+    policy: State
+
+    @property
+    def is_trial(self) -> bool:
+        return self.kind == SE_TRIAL
 
 
 @dataclass(frozen=True)
 class Use:
-    """What a policy is held against as it authorizes a command: the command, the device, and
-    whether the entity is written, which is None where that is no NV index.
-    """
+    """What is held against a policy; `written` is None of what is no NV index."""
 
     code: int
     is_admin: bool
@@ -54,18 +59,10 @@ class Use:
     locality: int
 
 
-@dataclass(frozen=True)
-class Entity:
-    """An entity that a policy can authorize."""
-
-    name_algorithm: int
-    auth_policy: bytes
-
-
-def check_use(session: Session, entity: Entity | None, use: Use, place: int) -> None:
-    """What refuses the entry of a place, before its hmac is looked at. `entity` is None where no
-    policy can authorize it.
-    """
+def check_use(
+    session: Session, entity: objects.Public | nv.Public | None, use: Use, place: int
+) -> None:
+    """What refuses an entry before its hmac is looked at; no policy can authorize no entity."""
     told = session.policy
     if session.is_trial:
         raise Refusal(f"ATTRIBUTES/s{place}", "G9")

@@ -1,7 +1,5 @@
-"""Dictionary attack protection: wrong tries at protected authorization values, which are counted
-and forgiven, and the commands that say how (TPM 2.0 Library, Part 1, section 19.8).
-
-lockoutAuth, the value of TPM_RH_LOCKOUT, is protected in a way of its own: one wrong try closes it.
+"""Dictionary attack protection: wrong tries, which are counted and forgiven (TPM 2.0 Library, Part
+1, section 19.8). lockoutAuth, TPM_RH_LOCKOUT's value, is closed by one wrong try.
 """
 
 from dataclasses import dataclass
@@ -59,7 +57,6 @@ class Lockout:
         return self.recovery_time != 0 and self.failed_tries >= self.max_tries
 
     def refuses(self, touched: str | None) -> bool:
-        """Whether an entry that touches protected values, or lockoutAuth, is not looked at."""
         if touched == TRIES:
             return self.is_locked()
         return touched == LOCKOUT_AUTH and self.is_closed
@@ -73,29 +70,19 @@ class Lockout:
             self.is_closed = True
             self.closed_time = 0
 
-    def open(self) -> None:
-        self.is_closed = False
-
-    def reset(self) -> None:
-        self.failed_tries = 0
-
-    def set_parameters(self, max_tries: int, recovery_time: int, lockout_recovery: int) -> None:
-        self.max_tries, self.recovery_time = max_tries, recovery_time
-        self.lockout_recovery = lockout_recovery
-        self.forgiving_time = self.closed_time = 0
-
 
 class Commands(Held):
-    """The commands on the protection, of a device that has a `lockout`."""
-
     @takes()
     def dictionary_attack_lock_reset(self, request: Request) -> Answer:
-        self.lockout.reset()
+        self.lockout.failed_tries = 0
         return Answer()
 
     @takes(integer(4), integer(4), integer(4))
     def dictionary_attack_parameters(
         self, request: Request, max_tries: int, recovery_time: int, lockout_recovery: int
     ) -> Answer:
-        self.lockout.set_parameters(max_tries, recovery_time, lockout_recovery)
+        lockout = self.lockout
+        lockout.max_tries, lockout.recovery_time = max_tries, recovery_time
+        lockout.lockout_recovery = lockout_recovery
+        lockout.forgiving_time = lockout.closed_time = 0
         return Answer()

@@ -1,6 +1,5 @@
-"""What the device keeps from one start to the next: a saved state, the clock and the counts of
-starts, and the commands that start, shut down, and clear (TPM 2.0 Library, Part 1, sections 12, 36
-and 14; Part 3, sections 9, 10, 24 and 29).
+"""Starts and ends, clocks and counts, and TPM2_Clear (TPM 2.0 Library, Part 1, sections 12, 14 and
+36; Part 3, sections 9, 10, 24 and 29).
 """
 
 import enum
@@ -22,24 +21,17 @@ SECRET_BYTES = 32
 
 
 class Saved(enum.IntEnum):
-    """What TPM2_Shutdown saved."""
-
     NONE = 0
     CLEAR = 1
     STATE = 2
 
 
 def secrets(random: bytes, count: int) -> list[bytes]:
-    """Seeds and proofs, as they are drawn one after the other."""
     return [random[at : at + SECRET_BYTES] for at in range(0, SECRET_BYTES * count, SECRET_BYTES)]
 
 
 class Commands(Held):
-    """The commands of a start and of an end, of a device that has `saved` and `saved_banks`, the
-    `clock` and the `time` since the power cycle, and the counts of resets and restarts.
-    """
-
-    # Time.
+    """Of a device that has `saved` and `saved_banks`, the times, and the counts of starts."""
 
     def tick(self, elapsed: int) -> None:
         self.time = min(self.time + elapsed, LAST_TIME)
@@ -84,7 +76,7 @@ class Commands(Held):
         self.seeds[RH_NULL], self.proofs[RH_NULL] = secrets(random, 2)
         # That is how long lockoutAuth stays closed where no time is given for it.
         if not self.lockout.lockout_recovery:
-            self.lockout.open()
+            self.lockout.is_closed = False
 
     @takes(choice(2, (CLEAR, STATE)))
     def shutdown(self, request: Request, kind: int) -> Answer:
@@ -103,22 +95,15 @@ class Commands(Held):
         if self.disable_clear:
             raise Refusal("DISABLED", "A1")
 
-        (self.seeds[RH_OWNER], self.proofs[RH_OWNER], self.proofs[RH_ENDORSEMENT]) = secrets(
-            request.random, 3
-        )
+        drawn = secrets(request.random, 3)
+        self.seeds[RH_OWNER], self.proofs[RH_OWNER], self.proofs[RH_ENDORSEMENT] = drawn
         owners = RH_OWNER, RH_ENDORSEMENT
-        self.objects = {
-            handle: it for handle, it in self.objects.items() if it.hierarchy not in owners
-        }
-        self.indices = {
-            handle: it
-            for handle, it in self.indices.items()
-            if it.public.has(nv.Attribute.PLATFORMCREATE)
-        }
+        kept = nv.Attribute.PLATFORMCREATE
+        self.objects = {at: it for at, it in self.objects.items() if it.hierarchy not in owners}
+        self.indices = {at: it for at, it in self.indices.items() if it.public.has(kept)}
         for hierarchy in (*owners, RH_LOCKOUT):
             self.auth_values.pop(hierarchy, None)
-        self.lockout.open()
-        self.lockout.reset()
+        self.lockout.is_closed, self.lockout.failed_tries = False, 0
         self.clock = self.reset_count = self.restart_count = 0
         self.update_counter += 1
         return Answer(drawn=3 * SECRET_BYTES)

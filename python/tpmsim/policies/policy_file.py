@@ -1,15 +1,13 @@
-"""The policy in a file, as docs/USING.md has it: a line an assertion, and branches that stand further in
-below `either` and `or`; and what a session is told of it, in order.
-"""
+"""The policy in a file (docs/USING.md), and what a session is told of it, in order."""
 
 from __future__ import annotations
 
 from dataclasses import dataclass
-from typing import Iterator, Protocol
+from typing import Iterator
 
 from tpmsim.policies.policy_texts import Policy, policy_digest, Written
 from tpmsim.policies.written import read_assertion, Unsaid
-from tpmsim.standard import CC, digest_bytes, frames, HASH_WORDS, SHA1, SHA256
+from tpmsim.standard import CC, digest_bytes, frames, HASH_WORDS, nv, objects, SHA1, SHA256
 from tpmsim.standard.policy import LEAST_BRANCHES, MOST_BRANCHES
 
 ALGORITHMS = SHA256, SHA1
@@ -83,7 +81,6 @@ class Reader:
 
     @property
     def text(self) -> bytes:
-        """What the next row says, or nothing where there is none."""
         return self.next.text if self.next else b""
 
     def take(self) -> Row:
@@ -135,44 +132,26 @@ class Reader:
         except Unsaid as fault:
             raise Fault(row.number, fault) from None
         if said.code in (CC.PolicyPCR, CC.PolicyCpHash):
-            self.note_size(row.number, len(said.values[-1]))
+            size = len(said.values[-1])
+            if self.size is None:
+                self.size, self.size_line = size, row.number
+            if self.size != size:
+                other = f"that of line {self.size_line} has {self.size}"
+                raise Fault(row.number, f"its digest has {size} bytes, and {other}")
         return Written(row.number, said)
-
-    def note_size(self, line: int, size: int) -> None:
-        if self.size is None:
-            self.size, self.size_line = size, line
-        if self.size != size:
-            other = f"that of line {self.size_line} has {self.size}"
-            raise Fault(line, f"its digest has {size} bytes, and {other}")
-
-
-class HasPolicy(Protocol):
-    """The public area of an object or an index."""
-
-    @property
-    def name_algorithm(self) -> int:
-        ...
-
-    @property
-    def auth_policy(self) -> bytes:
-        ...
 
 
 class PolicyFile:
-    """A file, by the name that it was given, with its policy."""
-
     def __init__(self, name: str, text: bytes) -> None:
         self.name, self.rows = name, rows_of(text)
         reader = Reader(self.rows)
         self.policy = reader.policy(0, 1)
         self.size, self.size_line = reader.size, reader.size_line
         sizes = [reader.size] if reader.size else [digest_bytes(it) for it in ALGORITHMS]
-        self.digests = {
-            it: policy_digest(it, self.policy) for it in ALGORITHMS if digest_bytes(it) in sizes
-        }
+        those = [it for it in ALGORITHMS if digest_bytes(it) in sizes]
+        self.digests = {it: policy_digest(it, self.policy) for it in those}
 
-    def is_of(self, public: HasPolicy) -> bool:
-        """Whether it is the policy of what has this public area."""
+    def is_of(self, public: nv.Public | objects.Public) -> bool:
         found = self.digests.get(public.name_algorithm)
         return found is not None and found == public.auth_policy
 
@@ -190,9 +169,7 @@ class PolicyFile:
 
 @dataclass(frozen=True)
 class Step:
-    """An assertion with its parameters; of TPM2_PolicyOR with the steps of each branch, and of one
-    about an entity with its Name.
-    """
+    """An assertion; PolicyOR has the steps of each branch, and one about an entity its Name."""
 
     code: CC
     parameters: bytes = b""
@@ -201,12 +178,11 @@ class Step:
 
 
 def policy_of(words: str) -> Policy:
-    """The policy that words say; policy_file.Fault where they say none."""
+    """Fault where they say none."""
     return PolicyFile("policy", words.encode()).policy
 
 
 def digest_of(words: str, algorithm: int = SHA256) -> bytes:
-    """The digest of a policy in words, for an authPolicy."""
     return policy_digest(algorithm, policy_of(words))
 
 

@@ -5,7 +5,6 @@ begins with the hash of the one before, as tpm_policy_meaning has it (PolicyDige
 from __future__ import annotations
 
 from dataclasses import dataclass
-from typing import Iterable
 
 from tpmsim.policies.written import Said, Update
 from tpmsim.standard import CC, digest, digest_bytes, number
@@ -13,17 +12,13 @@ from tpmsim.standard import CC, digest, digest_bytes, number
 
 @dataclass(frozen=True)
 class Written:
-    """An assertion, and the line of the policy on which it stands."""
-
     line: int
     said: Said
 
 
 @dataclass(frozen=True)
 class Policy:
-    """Assertions one after another, behind one of several branches, if it begins with a PolicyOR:
-    then the line is that of `either`.
-    """
+    """Assertions, behind one of several branches; then the line is that of `either`."""
 
     line: int = 0
     branches: tuple[Policy, ...] = ()
@@ -31,18 +26,13 @@ class Policy:
 
 
 def zeros(algorithm: int) -> bytes:
-    """A policy begins with zeros."""
     return bytes(digest_bytes(algorithm))
-
-
-def or_update(digests: Iterable[bytes]) -> Update:
-    """TPM2_PolicyOR is about the joined digests of its branches, without their sizes."""
-    return Update(CC.PolicyOR, b"".join(digests))
 
 
 def texts_after(algorithm: int, old: bytes, update: Update) -> list[bytes]:
     """The texts that are hashed for an assertion after a digest, the latest first."""
-    text = old + number(update.code, 4) + update.about
+    begin = zeros(algorithm) if update.forgets else old
+    text = begin + number(update.code, 4) + update.about
     referred = []
     if update.reference is not None:
         referred = [digest(algorithm, text) + update.reference]
@@ -55,12 +45,11 @@ def digest_after(algorithm: int, texts: list[bytes]) -> bytes:
 
 
 def policy_texts(algorithm: int, policy: Policy) -> list[bytes]:
-    """The texts that are hashed for a policy, those of its branches too, the latest first."""
     texts: list[bytes] = []
     if policy.branches:
         of_branches = [policy_texts(algorithm, it) for it in policy.branches]
-        digests = [digest_after(algorithm, it) for it in of_branches]
-        texts = texts_after(algorithm, zeros(algorithm), or_update(digests))
+        said = Said(CC.PolicyOR, tuple(digest_after(algorithm, it) for it in of_branches))
+        texts = texts_after(algorithm, b"", said.update(algorithm))
         texts += [text for branch in of_branches for text in branch]
     for written in policy.assertions:
         update = written.said.update(algorithm)

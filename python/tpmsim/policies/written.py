@@ -3,22 +3,12 @@ their words in docs/USING.md, what they put into the digest, and what a session 
 """
 
 from dataclasses import dataclass
-from typing import Any, Callable
+from typing import Any, Callable, Sequence
 
-from tpmsim.standard import (
-    CC,
-    DIGEST_BYTES,
-    Fields,
-    HIERARCHIES,
-    Kind,
-    NUMBERED,
-    PCRS,
-    SHA1,
-    SHA256,
-)
-from tpmsim.standard import digest, digest_bytes, name_of, number, sized, values
-from tpmsim.standard.lines import HANDLE_NAMES, Wrong, bytes_of, handle_word, hex_word
-from tpmsim.standard.lines import WORDS, number_up_to
+from tpmsim.standard import CC, digest, DIGEST_BYTES, digest_bytes, Fields, frames, HIERARCHIES
+from tpmsim.standard import Kind, name_of, number, NUMBERED, PCRS, SHA1, SHA256, sized, values
+from tpmsim.standard.lines import bytes_of, HANDLE_NAMES, handle_word, hex_word, number_up_to, WORDS
+from tpmsim.standard.lines import Wrong
 
 # How TPM2_PolicyNV compares, by the numbers of its operations.
 OPERATIONS = "eq neq sgt ugt slt ult sge uge sle ule bs bc".split()
@@ -30,15 +20,15 @@ HASHED_NAMES = {number(it, 2): 2 + digest_bytes(it) for it in (SHA1, SHA256)}
 
 @dataclass(frozen=True)
 class Update:
-    """What an assertion puts into the digest: the code of its command, what it is about, and
-    policyRef, where it has one; and the text that is hashed apart, where it is about the hash of
-    one.
+    """What an assertion puts into the digest: its code, what it is about, and policyRef, if it has
+    one; the text that is hashed apart, if any; and whether it forgets the digest before it.
     """
 
     code: CC
     about: bytes = b""
     reference: bytes | None = None
     apart: tuple[bytes, ...] = ()
+    forgets: bool = False
 
 
 class Unsaid(Exception):
@@ -46,7 +36,6 @@ class Unsaid(Exception):
 
 
 def shown(word: bytes) -> str:
-    """A word in quotation marks, whatever its bytes are."""
     plain = "".join(chr(it) if 0x20 < it < 0x7F else "?" for it in word)
     return f'"{plain}"'
 
@@ -73,7 +62,6 @@ def read_name(word: bytes) -> bytes:
 
 
 def name_word(name: bytes) -> str:
-    """A Name, which of a hierarchy is its handle."""
     hierarchies = {name_of(it): handle_word(it) for it in HIERARCHIES}
     return hierarchies.get(name) or hex_word(name)
 
@@ -162,7 +150,8 @@ class Said:
     PolicyCommandCode, PolicyCpHash and PolicyLocality (bit n for locality n), such a command; of
     PolicyNvWritten, an NV index that is written, or is not; of PolicySecret, that the entity of the
     Name was authorized for the policyRef; and of PolicyNV, that the bytes of the index of the Name
-    from the offset on compare so with the operand.
+    from the offset on compare so with the operand. PolicyOR, which is not written so, has the digests
+    of its branches.
     """
 
     code: CC
@@ -170,11 +159,13 @@ class Said:
 
     @property
     def words(self) -> str:
-        pairs = zip(FORMS[self.code], self.values)
+        pairs = zip(FORMS.get(self.code, ()), self.values)
         return " ".join([str(self.code.name), *(word.written(it) for word, it in pairs)])
 
     def update(self, algorithm: int) -> Update:
         match self.code, *self.values:
+            case CC.PolicyOR, *digests:
+                return Update(self.code, b"".join(digests), forgets=True)
             case CC.PolicyPassword, *_:
                 return Update(CC.PolicyAuthValue)
             case CC.PolicyPCR, selection, values_digest:
@@ -206,6 +197,28 @@ class Said:
         """The Name of the entity or the index that it is about, if it is about one."""
         is_about = self.code in (CC.PolicySecret, CC.PolicyNV)
         return bytes(self.values[0]) if is_about else b""
+
+
+def said_of(
+    code: CC,
+    parameters: bytes,
+    names: Sequence[bytes],
+    pcr_digest: Callable[[list[values.Bank], bytes], bytes],
+) -> Said:
+    """What a command asserts, by its Names, and of TPM2_PolicyPCR by the `pcr_digest`."""
+    given = values.read_all(code.parameters, parameters)
+    match code:
+        case CC.PolicyPCR:
+            selected = given["pcrs"]
+            found = pcr_digest(selected, given["pcrDigest"])
+            return Said(code, (frames.selection(*selected), found))
+        case CC.PolicyOR:
+            return Said(code, tuple(given["pHashList"]))
+        case CC.PolicySecret:
+            return Said(code, (names[0], given["policyRef"]))
+        case CC.PolicyNV:
+            return Said(code, (names[1], *given.values()))
+    return Said(code, tuple(given.values()))
 
 
 def read_word(word: Word, given: bytes) -> Any:

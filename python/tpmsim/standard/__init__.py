@@ -2,7 +2,7 @@
 
 from tpmsim.standard.commands import CC, Fact, Handle, HandleKind, Kind, NUMBERED, Parameter
 from tpmsim.standard.frames import AES, ALG_HMAC, ALG_NULL, area, CFB, command, COMMAND_BYTES
-from tpmsim.standard.frames import CONTINUE_SESSION, DECRYPT, digests, ENCRYPT, entry, Entry
+from tpmsim.standard.frames import CONTINUE_SESSION, DECRYPT, digests, ENCRYPT, Entry, entry
 from tpmsim.standard.frames import HEADER_BYTES, HMAC_SESSION, KEYEDHASH, MOST_ENTRIES, number, NV
 from tpmsim.standard.frames import on_handle, on_handles, PERSISTENT, policy_secret, POLICY_SESSION
 from tpmsim.standard.frames import RH_ENDORSEMENT, RH_LOCKOUT, RH_NULL, RH_OWNER, RH_PLATFORM, RS_PW
@@ -11,7 +11,7 @@ from tpmsim.standard.frames import sized, start_auth_session, SYMCIPHER, TRANSIE
 from tpmsim.standard.handle_kinds import first_byte, HIERARCHIES, is_index, is_pcr, is_policy
 from tpmsim.standard.handle_kinds import is_session, PCRS
 from tpmsim.standard.reading import Fields, Short
-from tpmsim.standard.sessions import command_hash, digest, digest_bytes, DIGEST_BYTES, HASH_WORDS
+from tpmsim.standard.sessions import command_hash, digest, DIGEST_BYTES, digest_bytes, HASH_WORDS
 from tpmsim.standard.sessions import HASHES, kdfa, mac, name_of, trimmed
 
 # fmt: off

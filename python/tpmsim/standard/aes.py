@@ -1,6 +1,4 @@
 """AES-128 (FIPS 197) and its cipher feedback mode with whole blocks (SP 800-38A, 6.3), by the book.
-
-aes_tables.py has the cipher by tables, which is quicker. Either is given to who encrypts.
 """
 
 import operator

@@ -2,9 +2,6 @@
 2.0 Library, Part 3. All that is said elsewhere of every command follows from here: its number, its
 shape, its line, what a policy can name, what TPM2_GetCapability answers, and the method that does
 it.
-
-It is a module and not a file of data, so that a name which is misspelt is found where it stands,
-and what stands on it has no reader of its own and no second file to be shipped beside it.
 """
 
 from __future__ import annotations
@@ -248,7 +245,6 @@ class CC(enum.IntEnum):
 
     @property
     def authorized(self) -> int:
-        """How many of its handles need authorization."""
         return sum(it.is_authorized for it in self.handles)
 
     @property

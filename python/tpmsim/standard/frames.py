@@ -51,16 +51,12 @@ PLACES = {"h": 0, "p": 0x040, "s": 0x800}
 
 
 def number(value: int, size: int) -> bytes:
-    """A number of so many bytes, the highest first."""
     return value.to_bytes(size, "big")
 
 
 def sized(data: bytes) -> bytes:
-    """A buffer behind its size in two bytes."""
     return number(len(data), 2) + data
 
-
-# Commands.
 
 # The header of a command, the longest command, and the most entries of one.
 HEADER_BYTES, COMMAND_BYTES, MOST_ENTRIES = 10, 4096, 3
@@ -133,9 +129,7 @@ def on_handle(
 
 
 def symmetric(aes: bool = False, xor: int | None = None) -> bytes:
-    """What a session encrypts by: AES-128 in mode CFB, masks that a hash algorithm makes, or
-    nothing.
-    """
+    """What a session encrypts by: AES-128 in mode CFB, masks by a hash algorithm, or nothing."""
     if xor is not None:
         return number(XOR, 2) + number(xor, 2)
     if not aes:
@@ -168,7 +162,6 @@ def selection(*banks: tuple[int, Iterable[int]]) -> bytes:
 
 
 def digests(*values: tuple[int, bytes]) -> bytes:
-    """A list of digests, each behind its hash algorithm."""
     return number(len(values), 4) + b"".join(number(alg, 2) + digest for alg, digest in values)
 
 
@@ -213,9 +206,7 @@ def nv_read(size: int, offset: int = 0) -> bytes:
 
 
 def sensitive_create(user_auth: bytes = b"", data: bytes = b"") -> bytes:
-    """A TPM2B_SENSITIVE_CREATE: what an object is to have as its authorization value, and what is
-    to be sealed, or used as its key.
-    """
+    """A TPM2B_SENSITIVE_CREATE: an authorization value, and what is to be sealed, or a key."""
     return sized(sized(user_auth) + sized(data))
 
 
@@ -240,9 +231,7 @@ def public_area(
 
 
 def creation(sensitive: bytes, public: bytes, outside_info: bytes = b"", pcrs: Banks = ()) -> bytes:
-    """The parameters of TPM2_CreatePrimary and TPM2_Create, of which the first two have their
-    sizes already.
-    """
+    """Those of TPM2_CreatePrimary and TPM2_Create; the first two have their sizes already."""
     return sensitive + public + sized(outside_info) + selection(*pcrs)
 
 
@@ -257,9 +246,6 @@ def ticket(tag: int, hierarchy: int, digest: bytes) -> bytes:
 
 # The ticket of an assertion that does not expire: of TPM_RH_NULL, and with an empty digest.
 NULL_TICKET = ticket(ST_AUTH_SECRET, RH_NULL, b"")
-
-
-# Responses.
 
 
 def refusal(code: int) -> bytes:

@@ -1,8 +1,6 @@
 """Commands in words, and what is traced of an event (docs/LINES.md).
 
-A line is a command's name, its handles, its entries and its parameters, in this order, with one
-space between two tokens. `assemble` makes the buffer of a line, and `line_of` finds the line of a
-buffer. A line is bytes, since one that is wrong may be anything.
+A line is bytes, since one that is wrong may be anything.
 """
 
 from __future__ import annotations
@@ -44,8 +42,6 @@ class NoWords(Exception):
     """Bytes that no token spells."""
 
 
-# Hex, numbers and handles.
-
 NOTHING, JOIN = b"-", b"+"
 HEX = re.compile(rb"(?:[0-9A-Fa-f]{2})+")
 HANDLE = re.compile(rb"[0-9A-Fa-f]{8}")
@@ -64,7 +60,6 @@ HANDLE_NAMES = {
 
 
 def of_form(form: re.Pattern[bytes], token: bytes) -> re.Match[bytes]:
-    """What a token is in a form, where it is of that."""
     found = form.fullmatch(token)
     if not found:
         raise Wrong(BAD_FIELD)
@@ -118,8 +113,6 @@ def word_in(words: dict[bytes, Any], value: bytes | int, other: str | None = Non
     return other
 
 
-# Parameters.
-
 HASHES = {b"sha1": SHA1, b"sha256": SHA256}
 HASHES_OR_NULL = {**HASHES, b"null": ALG_NULL}
 CIPHERS = {
@@ -132,9 +125,7 @@ CIPHERS = {
 
 @dataclass(frozen=True)
 class Words:
-    """How a kind of parameter is said: its name in docs/table, the value of a token, and the token
-    of a value.
-    """
+    """How a kind is said: its name in docs/table, a token's value, and a value's token."""
 
     kind: Kind
     name: str
@@ -188,20 +179,12 @@ def bank_of(piece: bytes) -> Bank:
     return Bank(algorithm, tuple(number_up_to(PCRS[-1], it) for it in rest.split(b",")))
 
 
-def bank_word(bank: Bank) -> str:
-    return f"{word_in(HASHES, bank.algorithm)}:{','.join(map(str, bank.pcrs))}"
-
-
 def digest_of(piece: bytes) -> Digest:
     algorithm, rest = hash_and_rest(piece)
     digest = bytes_of(rest)
     if len(digest) != digest_bytes(algorithm):
         raise Wrong(BAD_FIELD)
     return Digest(algorithm, digest)
-
-
-def digest_word(value: Digest) -> str:
-    return f"{word_in(HASHES, value.algorithm)}:{value.digest.hex()}"
 
 
 def one_of(kind: Kind, words: dict[bytes, Any]) -> Words:
@@ -224,8 +207,14 @@ WORDS: dict[Kind, Words] = {
         integer(Kind.HANDLE, 4, "{:#010x}"),
         Words(Kind.BUFFER, "Buffer", buffer_of, hex_word),
         listed(Kind.BUFFERS, buffer_of, hex_word, is_empty=False),
-        listed(Kind.SELECTION, bank_of, bank_word),
-        listed(Kind.DIGESTS, digest_of, digest_word),
+        listed(
+            *(Kind.SELECTION, bank_of),
+            lambda it: f"{word_in(HASHES, it.algorithm)}:{','.join(map(str, it.pcrs))}",
+        ),
+        listed(
+            *(Kind.DIGESTS, digest_of),
+            lambda it: f"{word_in(HASHES, it.algorithm)}:{it.digest.hex()}",
+        ),
         one_of(Kind.CIPHER, CIPHERS),
         one_of(Kind.HASH, HASHES_OR_NULL),
     )
@@ -245,8 +234,6 @@ def words_of_parameters(code: CC) -> list[Words]:
 def parameter_words(code: CC, fields: Fields) -> list[str]:
     return [it.word(fields) for it in words_of_parameters(code)]
 
-
-# Entries.
 
 PASSWORD_PREFIX, SESSION_PREFIX = b"pw:", b"s:"
 
@@ -278,17 +265,11 @@ def entry_word(entry: Entry) -> str:
     return f"s:{handle}:{hex_word(entry.nonce)}:{entry.attributes:02x}:{hmac}"
 
 
-# Lines.
-
-
 class Tokens:
     """The tokens of a line, taken from the front; the first fault ends it."""
 
     def __init__(self, line: bytes) -> None:
         self.left, self.column = line.split(b" "), 1
-
-    def is_next(self, test: Callable[..., Any]) -> bool:
-        return bool(self.left) and test(self.left[0])
 
     def take(self, spelled: Callable[[bytes], T]) -> T:
         """What the next token spells."""
@@ -319,7 +300,7 @@ def assemble(line: bytes) -> bytes:
     code = tokens.take(code_of)
     handles = [tokens.take(handle_of) for _ in code.handles]
     entries: list[Entry] = []
-    while len(entries) < frames.MOST_ENTRIES and tokens.is_next(is_entry):
+    while len(entries) < frames.MOST_ENTRIES and any(map(is_entry, tokens.left[:1])):
         entries.append(tokens.take(entry_of))
     parameters = b"".join(tokens.take(it.spelled) for it in words_of_parameters(code))
     tokens.end()
@@ -350,9 +331,6 @@ def words_of(fields: Fields) -> list[str]:
         area = fields.take(fields.number(4))
         entries = [entry_word(it) for it in frames.entries_of(area)]
     return [code.name, *handles, *entries, *parameter_words(code, fields)]
-
-
-# The trace.
 
 
 def traced(outcome: Outcome, locality: int, elapsed: int) -> str:

@@ -57,7 +57,6 @@ READS = Attribute.PPREAD | Attribute.OWNERREAD | Attribute.AUTHREAD | Attribute.
 
 
 def of_type(kind: int) -> int:
-    """The bits of the attributes that say what an index is."""
     return kind << TYPE_SHIFT
 
 
@@ -72,8 +71,11 @@ class Public:
     data_size: int = NUMBER_BYTES
 
     def has(self, attributes: int) -> bool:
-        """Whether it has one of these."""
         return bool(self.attributes & attributes)
+
+    @property
+    def is_free(self) -> bool:
+        return self.has(Attribute.NO_DA)
 
     @property
     def kind(self) -> int:
@@ -87,9 +89,8 @@ class Public:
 
     @property
     def text(self) -> bytes:
-        return frames.nv_public_area(
-            self.index, self.name_algorithm, self.attributes, self.auth_policy, self.data_size
-        )
+        head = self.index, self.name_algorithm, self.attributes
+        return frames.nv_public_area(*head, self.auth_policy, self.data_size)
 
     @property
     def name(self) -> bytes:

@@ -30,9 +30,7 @@ NAMED = sum(Attribute)
 
 @dataclass(frozen=True)
 class Public:
-    """TPMT_PUBLIC. A KEYEDHASH has a scheme, which is a hash algorithm to make HMACs by, or NULL;
-    the cipher of a SYMCIPHER is always AES-128 in mode CFB.
-    """
+    """TPMT_PUBLIC; the scheme of a KEYEDHASH is a hash or NULL, and a cipher is AES-128 CFB."""
 
     kind: int
     name_algorithm: int
@@ -42,23 +40,22 @@ class Public:
     unique: bytes = b""
 
     def has(self, attributes: int) -> bool:
-        """Whether it has one of these."""
         return bool(self.attributes & attributes)
 
     @property
+    def is_free(self) -> bool:
+        return self.has(Attribute.NO_DA)
+
+    @property
     def text(self) -> bytes:
-        if self.kind == KEYEDHASH:
-            details = frames.scheme(self.scheme)
-        else:
-            details = frames.symmetric(aes=True)
-        return frames.public_area(
-            self.kind, self.name_algorithm, self.attributes, self.auth_policy, details, self.unique
-        )
+        is_keyed_hash = self.kind == KEYEDHASH
+        details = frames.scheme(self.scheme) if is_keyed_hash else frames.symmetric(aes=True)
+        head = self.kind, self.name_algorithm, self.attributes
+        return frames.public_area(*head, self.auth_policy, details, self.unique)
 
     @property
     def name(self) -> bytes:
-        text_digest = digest(self.name_algorithm, self.text)
-        return number(self.name_algorithm, 2) + text_digest
+        return number(self.name_algorithm, 2) + digest(self.name_algorithm, self.text)
 
     @classmethod
     def read(cls, text: bytes) -> "Public":

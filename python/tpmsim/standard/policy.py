@@ -53,8 +53,6 @@ def after_secret(algorithm: int, old: bytes, name: bytes, policy_ref: bytes) -> 
 
 
 def after_nv(algorithm: int, old: bytes, arguments: bytes, name: bytes) -> bytes:
-    """`arguments` are the operand, the offset and the operation, as they are compared; the Name is
-    that of the index.
-    """
+    """`arguments` are the operand, the offset and the operation; the Name is the index's."""
     compared = digest(algorithm, arguments)
     return digest(algorithm, old + number(CC.PolicyNV, 4) + compared + name)

@@ -58,9 +58,7 @@ def session_key(algorithm: int, auth_value: bytes, nonce_tpm: bytes, nonce_calle
 
 
 def command_hash(algorithm: int, code: CC, names: Iterable[bytes], parameters: bytes) -> bytes:
-    """cpHash (18.7), of the Names of the handles, and of the parameters as they are sent, the first
-    one encrypted where it is.
-    """
+    """cpHash (18.7), of the handles' Names and of the parameters as they are sent."""
     return digest(algorithm, number(code, 4) + b"".join(names) + parameters)
 
 
@@ -78,24 +76,12 @@ def entry_hmac(
     others: list[bytes],
     attributes: int,
 ) -> bytes:
-    """The hmac of an entry (19.6.5), from the hash of its command's or response's parameters.
-
-    `others` are the nonces of the sessions that decrypt and encrypt, in this order: in a command's
-    first entry, where it authorizes a handle, and of sessions that are not its own.
+    """The hmac of an entry (19.6.5), from its cpHash or rpHash. In the first entry of a command,
+    where it authorizes, `others` are the nonces of other sessions that decrypt and encrypt, in this
+    order.
     """
     text = parameters + newer + older + b"".join(others) + number(attributes, 1)
     return mac(algorithm, key, text)
-
-
-def masked(algorithm: int, key: bytes, newer: bytes, older: bytes, data: bytes) -> bytes:
-    """Data with a mask of their size on them, or taken off again (section 21.2)."""
-    return aes.xor(data, kdfa(algorithm, key, b"XOR", newer, older, len(data)))
-
-
-def key_and_block(algorithm: int, key: bytes, newer: bytes, older: bytes) -> tuple[bytes, bytes]:
-    """The AES key and the first block of parameter encryption (section 21.3)."""
-    both = kdfa(algorithm, key, b"CFB", newer, older, 2 * aes.BLOCK)
-    return both[: aes.BLOCK], both[aes.BLOCK :]
 
 
 def encrypted(
@@ -108,14 +94,33 @@ def encrypted(
     block_cipher: aes.BlockCipher = encrypt_block,
     by_aes: Callable[..., bytes] = aes.cfb_encrypt,
 ) -> bytes:
-    """By a session's cipher, which is XOR or AES; `block_cipher` is the AES that is used."""
+    """By a session's cipher: masks of the data's size (21.2), or AES (21.3), by `block_cipher`."""
     if cipher == XOR:
-        return masked(algorithm, key, newer, older, data)
-    return by_aes(*key_and_block(algorithm, key, newer, older), data, block_cipher)
+        return aes.xor(data, kdfa(algorithm, key, b"XOR", newer, older, len(data)))
+    both = kdfa(algorithm, key, b"CFB", newer, older, 2 * aes.BLOCK)
+    return by_aes(both[: aes.BLOCK], both[aes.BLOCK :], data, block_cipher)
 
 
 # The other way round, of the same arguments.
 decrypted = functools.partial(encrypted, by_aes=aes.cfb_decrypt)
+
+
+def first_encrypted(
+    cipher: int,
+    algorithm: int,
+    key: bytes,
+    newer: bytes,
+    older: bytes,
+    parameters: bytes,
+    block_cipher: aes.BlockCipher = encrypt_block,
+    change: Callable[..., bytes] = encrypted,
+) -> bytes:
+    """Parameters whose first is a sized buffer, with its bytes encrypted, and not its size."""
+    given = cipher, algorithm, key, newer, older
+    return on_first_buffer(lambda data: change(*given, data, block_cipher), parameters)
+
+
+first_decrypted = functools.partial(first_encrypted, change=decrypted)
 
 
 def on_first_buffer(change: Callable[[bytes], bytes], parameters: bytes) -> bytes:

@@ -11,15 +11,11 @@ from tpmsim.standard.sessions import digest_bytes
 
 
 class Bank(NamedTuple):
-    """PCRs of a bank: the hash algorithm, and their numbers."""
-
     algorithm: int
     pcrs: tuple[int, ...]
 
 
 class Digest(NamedTuple):
-    """A digest with its hash algorithm."""
-
     algorithm: int
     digest: bytes
 
@@ -41,9 +37,7 @@ class Ticket:
 
 @dataclass(frozen=True)
 class Time:
-    """The milliseconds since the power came on and those that the device ever ran, and how often it
-    was reset and restarted.
-    """
+    """In milliseconds since the power came on, and ever; and how often it was reset."""
 
     time: int
     clock: int
@@ -61,16 +55,12 @@ class Capability:
 
 
 class HasText(Protocol):
-    """A structure that fills a sized buffer, such as a public area."""
-
     @property
     def text(self) -> bytes:
         ...
 
 
 class Values(NamedTuple):
-    """How a value of a kind is written, and how it is read."""
-
     write: Callable[[Any], bytes]
     read: Callable[[Fields], Any]
 
@@ -101,23 +91,11 @@ def read_digest(fields: Fields) -> Digest:
     return Digest(algorithm, fields.take(size))
 
 
-def write_cipher(value: Cipher) -> bytes:
-    return frames.symmetric(value.algorithm == AES, value.mask_algorithm)
-
-
 def read_cipher(fields: Fields) -> Cipher:
     algorithm = fields.number(2)
     if algorithm == AES:
         fields.take(4)
     return Cipher(algorithm, fields.number(2) if algorithm == XOR else None)
-
-
-def read_ticket(fields: Fields) -> Ticket:
-    return Ticket(fields.number(2), fields.number(4), fields.sized())
-
-
-def write_ticket(value: Ticket) -> bytes:
-    return frames.ticket(value.tag, value.hierarchy, value.digest)
 
 
 def read_time(fields: Fields) -> Time:
@@ -138,14 +116,17 @@ VALUES: dict[Kind, Values] = {
     Kind.CODE: numbers(4),
     Kind.HANDLE: numbers(4),
     Kind.HASH: numbers(2),
-    Kind.BUFFER: Values(write_buffer, lambda fields: fields.sized()),
-    Kind.BUFFERS: Values(
-        lambda value: frames.sized_list(*value), read_list(lambda fields: fields.sized())
-    ),
+    Kind.BUFFER: Values(write_buffer, Fields.sized),
+    Kind.BUFFERS: Values(lambda value: frames.sized_list(*value), read_list(Fields.sized)),
     Kind.SELECTION: Values(lambda value: frames.selection(*value), read_list(read_bank)),
     Kind.DIGESTS: Values(lambda value: frames.digests(*value), read_list(read_digest)),
-    Kind.CIPHER: Values(write_cipher, read_cipher),
-    Kind.TICKET: Values(write_ticket, read_ticket),
+    Kind.CIPHER: Values(
+        lambda value: frames.symmetric(value.algorithm == AES, value.mask_algorithm), read_cipher
+    ),
+    Kind.TICKET: Values(
+        lambda value: frames.ticket(value.tag, value.hierarchy, value.digest),
+        lambda fields: Ticket(fields.number(2), fields.number(4), fields.sized()),
+    ),
     Kind.TIME: Values(answered_alone, read_time),
     Kind.CAPABILITY: Values(
         answered_alone, lambda fields: Capability(fields.number(4), fields.take(len(fields.data)))
@@ -160,9 +141,7 @@ def write_in_order(code: CC, *values: Any) -> bytes:
 
 
 def write_all(code: CC, values: dict[str, Any]) -> bytes:
-    """The parameters of a command, each by its name in Part 3; TypeError where one is missing, or
-    is none of its parameters.
-    """
+    """Each by its name in Part 3; TypeError where one is missing, or is no parameter."""
     names = [it.name for it in code.parameters]
     if set(values) != set(names):
         raise TypeError(f"{code.name} takes {', '.join(names) or 'no parameters'}")
