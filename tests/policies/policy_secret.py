@@ -57,6 +57,7 @@ for session in tpm.each_session():
     ):
         accepted(words, policy_ref=policy_ref)
         tpm.digest_is("Its digest", session)
+
     tpm.restarts(session)
     right = session.nonce_tpm
     accepted("nonceTPM, the right one", nonce_tpm=right)
@@ -70,6 +71,7 @@ for session in tpm.each_session():
     refused_but_in_trial("The one before: NONCE/p1", dict(nonce_tpm=right))
     accepted("The new one", nonce_tpm=session.nonce_tpm)
     tpm.digest_is("Its digest", session)
+
     size = digest_bytes(session.algorithm)
     one, other = bytes([1]) * size, bytes(size)
     tpm.restarts(session)
@@ -90,6 +92,7 @@ for session in tpm.each_session():
     tpm.digest_is("The digest is zeros", session, zeros(session))
     accepted("Zeros as the first one", cp_hash=other)
     refused_but_in_trial("Another: CPHASH", dict(cp_hash=one))
+
     tpm.restarts(session)
     expirations = 1, 0x100, 0x0100_0000, 0xFFFF_FFFF, 0x8000_0000
     case = "expiration that is not 0, of either sign: VALUE/p4"
