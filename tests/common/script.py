@@ -44,7 +44,7 @@ class Script:
         self.played: list[Played] = []
         self.device, self.locality, self.random = Model(), 0, bytes(RANDOM_BYTES)
         self.seeds, self.elapsed, self.pause = 0, 0, 0
-        self.write_comment(f"{head} Written by {written_by.name} beside it.")
+        self.write_comment(f"{head} Written by {written_by.stem}.py beside it.")
 
     @property
     def last(self) -> Outcome:
