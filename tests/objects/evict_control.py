@@ -47,10 +47,9 @@ def handles_and_parameter(owners):
     case = "Who has no persistent objects: VALUE/h1"
     fails(case, *((it, owners, FIRST) for it in (RH_ENDORSEMENT, RH_LOCKOUT, RH_NULL, 0, owners)))
     tpm.raw("No object: INSUFFICIENT/h2", command(CC.EvictControl, handles[:4]))
-    fails(
-        "What is no object: PCR 0, an NV index, a session, and a hierarchy: VALUE/h2",
-        *((RH_OWNER, it, FIRST) for it in (0, 0x0100_0000, 0x0200_0000, 0x0300_0000, RH_OWNER)),
-    )
+    case = "What is no object: PCR 0, an NV index, a session, and a hierarchy: VALUE/h2"
+    others = 0, 0x0100_0000, 0x0200_0000, 0x0300_0000, RH_OWNER
+    fails(case, *((RH_OWNER, it, FIRST) for it in others))
     fails("A transient object that is not there: REFERENCE_H1", (RH_OWNER, 0x8000_0007, FIRST))
     fails("A persistent object that is not there: HANDLE/h2", (RH_OWNER, FIRST, FIRST))
     tpm.raw("Without sessions: AUTH_MISSING", command(CC.EvictControl, handles + number(FIRST, 4)))
@@ -60,10 +59,9 @@ def handles_and_parameter(owners):
 
     tpm.says("A wrong password, and no parameter: BAD_AUTH/s1", evicting(b"", b"x"))
     tpm.says("The parameter cut: INSUFFICIENT/p1", evicting(b""), evicting(b"\x81" * 3))
-    fails(
-        "It is no handle of a persistent object: VALUE/p1",
-        *((RH_OWNER, owners, it) for it in (0, owners, 0x8200_0000, 0x0100_0000, 0xFFFF_FFFF)),
-    )
+    case = "It is no handle of a persistent object: VALUE/p1"
+    others = 0, owners, 0x8200_0000, 0x0100_0000, 0xFFFF_FFFF
+    fails(case, *((RH_OWNER, owners, it) for it in others))
     tpm.says("That, and a byte behind it: VALUE/p1", evicting(number(owners, 4) + b"\0"))
     tpm.says("A byte behind a right one: SIZE", evicting(number(FIRST, 4) + b"\0"))
 

@@ -115,10 +115,8 @@ for what, prepare, tries in (
         said = tpm(f"The authorization {what}, by the session that is {name}: {outcome}/s1")
         said.refused(wrong(prepared))
         tpm.accepted("The right one", prepared)
-tpm.refused(
-    "An entry that authorizes nothing, of the session that is bound to the object: AUTH_FAIL/s1",
-    wrong(tpm.random(1, to_guarded)),
-)
+case = "An entry that authorizes nothing, of the session that is bound to the object: AUTH_FAIL/s1"
+tpm.refused(case, wrong(tpm.random(1, to_guarded)))
 said = tpm("Of the session that is bound to the one with noDA: BAD_AUTH/s1")
 said.refused(wrong(tpm.random(1, to_open)))
 tpm.flush_objects("The object is flushed", guarded)

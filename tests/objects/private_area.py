@@ -28,9 +28,8 @@ def parent_of(algorithm, hash_name):
 
 
 tpm.chapter("A private area that the device made, and that is changed on its way.")
-for (algorithm, hash_name), step, words in zip(
-    HASHES, (1, 6), ("each shorter length", "shorter lengths")
-):
+LENGTHS = (1, "each shorter length"), (6, "shorter lengths")
+for (algorithm, hash_name), (step, words) in zip(HASHES, LENGTHS):
     parent = parent_of(algorithm, hash_name)
     made = tpm.create("TPM2_Create of a byte", parent, sealed(SHA1), data=b"x")
     private, public = made.private, made.public
