@@ -88,10 +88,8 @@ is_disabled("Behind lockoutRecovery")
 
 tpm.chapter("By sessions that cannot encrypt what is no sized buffer.")
 session = tpm.start("An HMAC session with AES", aes=True)
-for words, attributes in (
-    ("Its only parameter is one byte, and nothing is answered: ATTRIBUTES/s1", DECRYPTS),
-    (": ATTRIBUTES/s1", ENCRYPTS),
-):
+words = "Its only parameter is one byte, and nothing is answered"
+for words, attributes in ((f"{words}: ATTRIBUTES/s1", DECRYPTS), (": ATTRIBUTES/s1", ENCRYPTS)):
     prepared = tpm.clear_control(RH_PLATFORM, NO, session)
     tpm.fails(words, prepared.but_entry(1, attributes=attributes))
 tpm("It is flushed").flush(session)

@@ -10,7 +10,7 @@ from tests.common.vocabulary import area, bits, BY_OWNER, counter, digest_bytes,
 from tests.common.vocabulary import frames, HASHES, number, nv, NvAttribute, RH_ENDORSEMENT
 from tests.common.vocabulary import RH_LOCKOUT, RH_NULL, RH_OWNER, RH_PLATFORM, SHA1, sized, Teller
 
-CREATED = NvAttribute.PLATFORMCREATE
+CREATED, ANOTHER = NvAttribute.PLATFORMCREATE, 0x0100_0100
 
 tpm = Teller(__name__, __doc__)
 
@@ -155,15 +155,14 @@ words = {FIRST: "64 of them, of eight bytes", FIRST + 32: "The 33rd of them"}
 for index in every:
     by, created = (RH_PLATFORM, CREATED) if index % 2 else (RH_OWNER, 0)
     tpm.define(words.get(index, ""), area(index, BY_OWNER | created), by=by)
-case = "A 65th, of eight bytes or of none: NV_SPACE"
-unfitting(case, area(0x0100_0100), area(0x0100_0100, size=0))
+unfitting("A 65th, of eight bytes or of none: NV_SPACE", area(ANOTHER), area(ANOTHER, size=0))
 unfitting("One that is there: NV_DEFINED", area(FIRST + 1))
 tpm.power_cycle()
-unfitting("One more after a power cycle: NV_SPACE", area(0x0100_0100))
+unfitting("One more after a power cycle: NV_SPACE", area(ANOTHER))
 tpm("One is undefined").undefining(FIRST + 7)
-tpm.define("And another one defined", area(0x0100_0100))
+tpm.define("And another one defined", area(ANOTHER))
 unfitting("But no second one: NV_SPACE", area(FIRST + 7))
-for index in (*every, 0x0100_0100):
+for index in (*every, ANOTHER):
     if index != FIRST + 7:
         by = RH_PLATFORM if index in every and index % 2 else RH_OWNER
         what = "All are undefined" if index == FIRST else ""

@@ -22,9 +22,6 @@ from tests.common.vocabulary import sealed, SHA256, storage_key, wrong
 FIRST, OWNERS_LAST, PLATFORMS_FIRST, LAST = 0x8100_0000, 0x817F_FFFF, 0x8180_0000, 0x81FF_FFFF
 OTHER, THIRD = 0x8100_0001, 0x8100_0002
 
-# How many persistent objects there may be.
-MOST = 16
-
 CLEARED = storage_key(attributes=storage_key().attributes | ObjectAttribute.ST_CLEAR)
 
 tpm = Steps(__name__, __doc__)
@@ -138,7 +135,7 @@ tpm.power_cycle()
 tpm.chapter("Sixteen persistent objects, and no more.")
 transient = tpm.owned("An object of the owner", storage_key())
 platforms = tpm.create_primary("And one of the platform", RH_PLATFORM, storage_key())
-handles = [FIRST + 3 * it for it in range(MOST - 1)] + [LAST]
+handles = [FIRST + 3 * it for it in range(15)] + [LAST]
 for handle in handles[:-1]:
     tpm.keep("Fifteen of the owner" if handle == FIRST else "", RH_OWNER, transient, handle)
 tpm.keep("One of the platform", RH_PLATFORM, platforms, LAST)

@@ -61,14 +61,13 @@ for algorithm, hash_name in reversed(HASHES):
     tpm.flush_objects("Both are flushed", handle, again)
     tpm("The session that is bound to it lives on").reset(bound)
     tpm("But there is no object: REFERENCE_H0").prepare(CC.Unseal, [handle], b"", bound)
-    said = tpm("Another object takes the place of one")
-    stranger = said.owned(sealed(), user_auth=PIN, data=b"x")
-    assert stranger in (handle, again)
-    tpm.unseal("To that it is not bound, and the value is in the key", stranger, b"x", bound)
+    alien = tpm.owned("Another object takes the place of one", sealed(), user_auth=PIN, data=b"x")
+    assert alien in (handle, again)
+    tpm.unseal("To that it is not bound, and the value is in the key", alien, b"x", bound)
     handle = tpm.load("TPM2_Load of the object", parent, made)
-    assert handle != stranger
+    assert handle != alien
     tpm.unseal("To this it is bound: its key is the session's alone", handle, SECRET, bound)
-    tpm.flush_objects("The other is flushed", stranger)
+    tpm.flush_objects("The other is flushed", alien)
     tpm.flushes("A session is flushed", unbound, bound, owner)
 
 tpm.chapter("TPM2_StartAuthSession: bind is an object.")
