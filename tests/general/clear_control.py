@@ -2,6 +2,8 @@
 the platform, and enables it again (NO, 00), which only the platform may.
 """
 
+import itertools
+
 from tpmsim.model.capability import LOCKOUT_COUNTER, PROPERTIES
 from tests.common.steps import Steps
 from tests.common.vocabulary import CC, command, DECRYPTS, ENCRYPTS, number, on_handle
@@ -33,10 +35,9 @@ says(case, *(command(CC.ClearControl, number(it, 4) + b"\1") for it in BOTH))
 says("No parameter: INSUFFICIENT/p1", *(on_handle(CC.ClearControl, it) for it in BOTH))
 case = "Neither YES nor NO: VALUE/p1"
 tpm.says(case, *(tpm.clear_control(handle, value) for handle in BOTH for value in (2, 0x80, 0xFF)))
-says(
-    "A byte behind it, also of NO by lockoutAuth: SIZE",
-    *(on_handle(CC.ClearControl, handle, it) for handle in BOTH for it in (b"\0\0", b"\1\0")),
-)
+longer = itertools.product(BOTH, (b"\0\0", b"\1\0"))
+case = "A byte behind it, also of NO by lockoutAuth: SIZE"
+says(case, *(on_handle(CC.ClearControl, *it) for it in longer))
 policy = tpm.policy("A policy session")
 said = tpm("No policy authorizes it: AUTH_UNAVAILABLE")
 said.fails(*(tpm.clear_control(it, YES, policy) for it in BOTH))
@@ -87,10 +88,8 @@ is_disabled("Behind lockoutRecovery")
 
 tpm.chapter("By sessions that cannot encrypt what is no sized buffer.")
 session = tpm.start("An HMAC session with AES", aes=True)
-for words, attributes in (
-    ("Its only parameter is one byte, and nothing is answered: ATTRIBUTES/s1", DECRYPTS),
-    (": ATTRIBUTES/s1", ENCRYPTS),
-):
+words = "Its only parameter is one byte, and nothing is answered"
+for words, attributes in ((f"{words}: ATTRIBUTES/s1", DECRYPTS), (": ATTRIBUTES/s1", ENCRYPTS)):
     prepared = tpm.clear_control(RH_PLATFORM, NO, session)
     tpm.fails(words, prepared.but_entry(1, attributes=attributes))
 tpm("It is flushed").flush(session)

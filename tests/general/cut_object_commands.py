@@ -24,9 +24,8 @@ def template(public, data=b""):
 def creation(public, data=b""):
     """The parameters of its creation."""
     asked = template(public, data)
-    return frames.creation(
-        frames.sensitive_create(b"abc", data), sized(public.text), asked.outside_info, asked.pcrs
-    )
+    sensitive = frames.sensitive_create(b"abc", data)
+    return frames.creation(sensitive, sized(public.text), asked.outside_info, asked.pcrs)
 
 
 def loading(data):

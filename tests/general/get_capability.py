@@ -116,12 +116,8 @@ gives("From the last one of the kind", HANDLES, 0x40FF_FFFF, 1, [])
 tpm.chapter("Sessions: those of every type are 02, by their places.")
 borders("There is none", HANDLES, 0x0200_0000, [])
 borders("Nor from its last one on", HANDLES, 0x02FF_FFFF, [])
-held = [
-    tpm.trial("A trial session"),
-    tpm.start("An HMAC session"),
-    tpm.policy("A policy session"),
-    tpm.start("An HMAC session"),
-]
+held = [tpm.trial("A trial session"), tpm.start("An HMAC session")]
+held += [tpm.policy("A policy session"), tpm.start("An HMAC session")]
 handles = [it.handle for it in held]
 assert handles == [0x0300_0000, 0x0200_0001, 0x0300_0002, 0x0200_0003]
 borders("From 02000000", HANDLES, 0x0200_0000, handles)

@@ -13,7 +13,6 @@ from tests.common.vocabulary import FIFTH, FIRST, FOURTH, hmac_key, LOCKS, polic
 from tests.common.vocabulary import RH_NULL, RH_OWNER, RH_PLATFORM, sealed, SECOND, SHA256
 from tests.common.vocabulary import storage_key, THIRD, Use, wrong
 
-KEPT = 0x8100_0001
 CHANGING = policy.after_command_code(SHA256, bytes(32), CC.NV_ChangeAuth)
 
 tpm = Steps(__name__, __doc__)
@@ -67,7 +66,7 @@ COMMANDS = {
     CC.ReadPublic: lambda: tpm.public(storage()),
     CC.Unseal: lambda: tpm.unsealing(sealed_data()),
     CC.HMAC: lambda: tpm.hmac(key(), b"data", SHA256),
-    CC.EvictControl: lambda: tpm.evicting(RH_OWNER, storage(), KEPT),
+    CC.EvictControl: lambda: tpm.evicting(RH_OWNER, storage(), 0x8100_0001),
     CC.HierarchyChangeAuth: lambda: tpm.change_auth(RH_ENDORSEMENT, b"", b""),
     CC.NV_DefineSpace: lambda: tpm.defining(area(0x0100_0008)),
     CC.NV_UndefineSpace: lambda: tpm.undefining(tpm.define("An index", area(0x0100_0006))),

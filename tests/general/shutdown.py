@@ -19,16 +19,14 @@ case = "A password, as there is nothing to authorize: HANDLE/s1"
 says(case, command(CC.Shutdown, frames.area(frames.entry()) + number(STATE, 2), frames.SESSIONS))
 says("No authorization area: AUTHSIZE", command(CC.Shutdown, number(0, 2), frames.SESSIONS))
 tpm.power()
-case = "None of these has saved a state: TPM2_Startup(STATE): VALUE/p1"
-says(case, command(CC.Startup, number(STATE, 2)))
+tpm("None of these has saved a state: TPM2_Startup(STATE): VALUE/p1").starting(STATE)
 
 tpm.startup()
 tpm("TPM2_Shutdown(CLEAR)").shutting_down(CLEAR)
 tpm.says("TPM2_Shutdown(STATE), and once more: SUCCESS", *map(tpm.shutting_down, (STATE, STATE)))
 says("It does not stop the device: TPM2_GetRandom: SUCCESS", tpm.random(2).buffer())
 tpm("TPM2_PCR_Reset").reset(b"")
-case = "Nor can it be started again without a power cycle: INITIALIZE"
-says(case, command(CC.Startup, number(CLEAR, 2)))
+tpm("Nor can it be started again without a power cycle: INITIALIZE").starting(CLEAR)
 tpm.chapter("The last one counts.")
 tpm("TPM2_Shutdown(STATE)").shutting_down(STATE)
 tpm("TPM2_Shutdown(CLEAR)").shutting_down(CLEAR)

@@ -26,10 +26,8 @@ def extend(what):
 
 
 def values(what):
-    """The PCRs' values in both banks, which are read one by one."""
-    read = [tpm(what if pcr == PCRS[0] else "").read_pcr(pcr) for pcr in PCRS]
-    # Behind the update counter.
-    return {pcr: it[4:] for pcr, it in zip(PCRS, read)}
+    """The PCRs' values in both banks, which are read one by one, behind the update counter."""
+    return {it: tpm(what if it == PCRS[0] else "").read_pcr(it)[4:] for it in PCRS}
 
 
 def resume():

@@ -9,11 +9,10 @@ from tests.common.vocabulary import storage_key, STORES, THIRD, wrong
 
 
 PIN, DATA = b"pin", b"data"
-PARENT, SEALED, KEY = range(0x8000_0000, 0x8000_0003)
 
 # The policy of an index whose value may be changed by who knows it.
-CHANGING = policy.after_command_code(SHA256, bytes(32), CC.NV_ChangeAuth)
-CHANGING = policy.after_auth_value(SHA256, CHANGING)
+AFTER_CODE = policy.after_command_code(SHA256, bytes(32), CC.NV_ChangeAuth)
+CHANGING = policy.after_auth_value(SHA256, AFTER_CODE)
 
 tpm = Steps(__name__, __doc__)
 
@@ -45,15 +44,14 @@ def change_auth():
 
 tpm.set_protection("TPM2_DictionaryAttackParameters: maxTries is 1", 1, 1000, 1000)
 
-handles = [
+PARENT, SEALED, KEY = (
     tpm.owned(f"{words} without noDA", template, user_auth=PIN, data=data)
     for words, template, data in (
         ("A storage key", storage_key(attributes=PROTECTED | STORES), b""),
         ("A sealed object", sealed(attributes=PROTECTED), DATA),
         ("An HMAC key", hmac_key(attributes=PROTECTED), DATA),
     )
-]
-assert handles == [PARENT, SEALED, KEY]
+)
 made = tpm.create("An object below the storage key", PARENT, sealed(), data=DATA)
 tries("Create", lambda: tpm.child(PARENT, sealed(), data=DATA))
 tries("Load", lambda: tpm.loading(PARENT, made))

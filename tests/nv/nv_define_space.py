@@ -10,7 +10,7 @@ from tests.common.vocabulary import area, bits, BY_OWNER, counter, digest_bytes,
 from tests.common.vocabulary import frames, HASHES, number, nv, NvAttribute, RH_ENDORSEMENT
 from tests.common.vocabulary import RH_LOCKOUT, RH_NULL, RH_OWNER, RH_PLATFORM, SHA1, sized, Teller
 
-CREATED = NvAttribute.PLATFORMCREATE
+CREATED, ANOTHER = NvAttribute.PLATFORMCREATE, 0x0100_0100
 
 tpm = Teller(__name__, __doc__)
 
@@ -73,10 +73,9 @@ def sizes():
             case = f"{name} of another size than eight bytes: SIZE/p2"
             unfitting(case, *(of(make, size=it) for it in (0, 7, 9, 16, 2048, 0xFFFF)))
             fitting(f"{name} of eight bytes", of(make))
-        unfitting(
-            f"An index that is extended, of another size than {size} bytes: SIZE/p2",
-            *(of(extended, size=it) for it in (0, 8, size - 1, size + 1, 52 - size, 2048)),
-        )
+        case = f"An index that is extended, of another size than {size} bytes: SIZE/p2"
+        others = 0, 8, size - 1, size + 1, 52 - size, 2048
+        unfitting(case, *(of(extended, size=it) for it in others))
         fitting(f"One of {size} bytes", of(extended))
         case = "An ordinary index of more than 2,048 bytes: SIZE/p2"
         unfitting(case, *(of(size=it) for it in (2049, 4096, 0xFFFF)))
@@ -91,20 +90,16 @@ said.fails(*(raw(it) for it in (b"", b"\0", b"\0\1", b"\0\x20" + bytes(31))))
 said = tpm("auth of 33 bytes, whole or cut, also where they are zeros: SIZE/p1")
 said.fails(raw(sized(b"a" * 33) + good), raw(sized(bytes(33)) + good), raw(number(33, 2)))
 empty = sized(b"")
-tpm.fails(
-    "publicInfo that is cut: before its size, within it, and within its bytes: INSUFFICIENT/p2",
-    *(raw(empty + it) for it in (b"", b"\0", good[:-1], b"\xff\xff")),
-)
+case = "publicInfo that is cut: before its size, within it, and within its bytes: INSUFFICIENT/p2"
+tpm.fails(case, *(raw(empty + it) for it in (b"", b"\0", good[:-1], b"\xff\xff")))
 text = area().text
 said = tpm("Its size does not reach to the end of its fields: SIZE/p2")
 said.fails(*(raw(empty + sized(text[:length])) for length in range(len(text))))
 said = tpm("Its size reaches beyond them, or dataSize is behind it: SIZE/p2")
 said.fails(raw(empty + sized(text + b"\0")), raw(empty + sized(text[:-2]) + text[-2:]))
 tpm.fails("A byte behind publicInfo: SIZE", raw(empty + good + b"\0"))
-unfitting(
-    "nvIndex that is no handle of an index: VALUE/p2",
-    *map(area, (0, 0x0000_0001, 0x0200_0001, RH_OWNER, 0x8100_0001, 0xFFFF_FFFF)),
-)
+others = 0, 0x0000_0001, 0x0200_0001, RH_OWNER, 0x8100_0001, 0xFFFF_FFFF
+unfitting("nvIndex that is no handle of an index: VALUE/p2", *map(area, others))
 reserved = (1 << 8, 1 << 9, *(BY_OWNER | 1 << it for it in range(20, 25)))
 for words, at, size, bad in (
     ("nameAlg: SHA-384, NULL and none: HASH/p2", 4, 2, (0x000C, 0x0010, 0)),
@@ -124,10 +119,9 @@ tpm.chapter("Types.")
 case = "Every type but ordinary 0, counter 1, bits 2 and extend 4, whatever the size: ATTRIBUTES/p2"
 unfitting(case, *(area(kind=it) for it in range(16) if it not in list(Type)))
 tpm.chapter("Attributes.")
-unfitting(
-    "POLICY_DELETE, WRITELOCKED, GLOBALLOCK, ORDERLY, READLOCKED and WRITTEN: ATTRIBUTES/p2",
-    *(area(attributes=BY_OWNER | it) for it in NvAttribute if it & nv_commands.NOT_DEFINED),
-)
+case = "POLICY_DELETE, WRITELOCKED, GLOBALLOCK, ORDERLY, READLOCKED and WRITTEN: ATTRIBUTES/p2"
+later = (it for it in NvAttribute if it & nv_commands.NOT_DEFINED)
+unfitting(case, *(area(attributes=BY_OWNER | it) for it in later))
 case = "No attribute that allows to write: ATTRIBUTES/p2"
 reads = 0, *(it for it in NvAttribute if it & nv.READS), nv.READS
 unfitting(case, *(area(attributes=it) for it in reads))
@@ -161,15 +155,14 @@ words = {FIRST: "64 of them, of eight bytes", FIRST + 32: "The 33rd of them"}
 for index in every:
     by, created = (RH_PLATFORM, CREATED) if index % 2 else (RH_OWNER, 0)
     tpm.define(words.get(index, ""), area(index, BY_OWNER | created), by=by)
-case = "A 65th, of eight bytes or of none: NV_SPACE"
-unfitting(case, area(0x0100_0100), area(0x0100_0100, size=0))
+unfitting("A 65th, of eight bytes or of none: NV_SPACE", area(ANOTHER), area(ANOTHER, size=0))
 unfitting("One that is there: NV_DEFINED", area(FIRST + 1))
 tpm.power_cycle()
-unfitting("One more after a power cycle: NV_SPACE", area(0x0100_0100))
+unfitting("One more after a power cycle: NV_SPACE", area(ANOTHER))
 tpm("One is undefined").undefining(FIRST + 7)
-tpm.define("And another one defined", area(0x0100_0100))
+tpm.define("And another one defined", area(ANOTHER))
 unfitting("But no second one: NV_SPACE", area(FIRST + 7))
-for index in (*every, 0x0100_0100):
+for index in (*every, ANOTHER):
     if index != FIRST + 7:
         by = RH_PLATFORM if index in every and index % 2 else RH_OWNER
         what = "All are undefined" if index == FIRST else ""

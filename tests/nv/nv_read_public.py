@@ -63,10 +63,9 @@ tpm.is_now("And it ends with the command", SECOND, Use(plain, 0))
 
 tpm.chapter("Handles.")
 right = tpm.index_public(SECOND)
-tpm.fails(
-    "What is no index: the owner, PCR 0, an object, a persistent one and a session: VALUE/h1",
-    *(right.but(handles=[it]) for it in (RH_OWNER, 0, 0x8000_0000, 0x8100_0000, encrypting.handle)),
-)
+case = "What is no index: the owner, PCR 0, an object, a persistent one and a session: VALUE/h1"
+others = RH_OWNER, 0, 0x8000_0000, 0x8100_0000, encrypting.handle
+tpm.fails(case, *(right.but(handles=[it]) for it in others))
 said = tpm("Indices that are not defined: HANDLE/h1")
 said.fails(*(right.but(handles=[it]) for it in (0x0100_0000, 0x0100_0003, 0x01FF_FFFF)))
 tpm.fails("A byte behind the handle: SIZE", right.but(parameters=b"\0"))

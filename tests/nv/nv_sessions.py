@@ -166,32 +166,30 @@ tpm("TPM2_NV_Write of 1,024 bytes that are encrypted").writing(FIFTH, whole, ses
 tpm.read("TPM2_NV_Read", FIFTH, whole, session.encrypting)
 
 
-def decrypts(prepared):
-    return prepared.but_entry(1, attributes=DECRYPTS)
-
-
-def encrypts(prepared):
-    return prepared.but_entry(1, attributes=ENCRYPTS)
+def bent(attributes, *prepared):
+    return [it.but_entry(1, attributes=attributes) for it in prepared]
 
 
 read = tpm.reading(FIRST, 8, session)
 write = tpm.writing(FIRST, DATA, session)
+changes = tpm.setting(THIRD, 1, session), tpm.incrementing(FOURTH, session)
+others = tpm.write_locking(FIRST, session), tpm.undefining(FIRST, owner)
 tpm.fails(
     "decrypt, where the first parameter is no sized buffer or none: TPM2_NV_Read, "
     "TPM2_NV_SetBits, TPM2_NV_Increment, TPM2_NV_WriteLock and TPM2_NV_UndefineSpace: "
     "ATTRIBUTES/s1",
-    *map(decrypts, (read, tpm.setting(THIRD, 1, session), tpm.incrementing(FOURTH, session))),
-    *map(decrypts, (tpm.write_locking(FIRST, session), tpm.undefining(FIRST, owner))),
+    *bent(DECRYPTS, read, *changes, *others),
 )
+others = tpm.extending(SECOND, DATA, session), tpm.defining(area(0x0100_0006), owner)
 tpm.fails(
     "encrypt, where nothing is answered: TPM2_NV_Write, TPM2_NV_Extend and TPM2_NV_DefineSpace: "
     "ATTRIBUTES/s1",
-    *map(encrypts, (write, tpm.extending(SECOND, DATA, session))),
-    encrypts(tpm.defining(area(0x0100_0006), owner)),
+    *bent(ENCRYPTS, write, *others),
 )
 none = tpm.start("A session without AES", bind=FIRST)
 said = tpm("It cannot encrypt: SYMMETRIC/s1")
-said.fails(decrypts(tpm.writing(FIRST, DATA, none)), encrypts(tpm.reading(FIRST, 8, none)))
+written, read = tpm.writing(FIRST, DATA, none), tpm.reading(FIRST, 8, none)
+said.fails(*bent(DECRYPTS, written), *bent(ENCRYPTS, read))
 said = tpm("Data that are cut, and decrypted: INSUFFICIENT/p1")
 said.prepare(CC.NV_Write, [FIRST, FIRST], b"\0\4abc", session.decrypting)
 flush(session, plain, none, owner)

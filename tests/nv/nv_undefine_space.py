@@ -37,10 +37,9 @@ tpm("The platform takes away what is the owner's, too").undefining(FIRST, by=RH_
 tpm.chapter("Handles, and authorization values.")
 tpm.define("An index of the owner's", area(FIRST, BY_OWNER | NvAttribute.AUTHREAD), auth=b"a")
 right = tpm.undefining(FIRST)
-tpm.fails(
-    "authHandle that is an index, TPM_RH_ENDORSEMENT, TPM_RH_NULL, a PCR or a session: VALUE/h1",
-    *(right.but(handles=[it, FIRST]) for it in (FIRST, RH_ENDORSEMENT, RH_NULL, 0, 0x0300_0000)),
-)
+case = "authHandle that is an index, TPM_RH_ENDORSEMENT, TPM_RH_NULL, a PCR or a session: VALUE/h1"
+others = FIRST, RH_ENDORSEMENT, RH_NULL, 0, 0x0300_0000
+tpm.fails(case, *(right.but(handles=[it, FIRST]) for it in others))
 said = tpm("nvIndex that is none: VALUE/h2")
 said.fails(*(right.but(handles=[RH_OWNER, it]) for it in (RH_OWNER, 0, 0x8000_0000, 0x8100_0000)))
 tpm.fails("An index that is not there: HANDLE/h2", right.but(handles=[RH_OWNER, THIRD]))

@@ -77,10 +77,8 @@ tpm.chapter("The nonces of sessions are drawn behind them.")
 session = tpm.start("A session", aes=True)
 other = tpm.start("And another")
 tpm.create("TPM2_Create with both", parent, storage_key(), session, other)
-long = [
-    tpm.start(f"With a nonce of 32 bytes, the {what}", size=32, aes=True)
-    for what in ("first", "second", "third")
-]
+ranks = "first", "second", "third"
+long = [tpm.start(f"With a nonce of 32 bytes, the {it}", size=32, aes=True) for it in ranks]
 tpm.chapter(
     "A key of 32 bytes, a seed of 32, the first block, and three nonces of 32: 176 random bytes "
     "are the most that are drawn. What is answered is the longest of a creation, too."

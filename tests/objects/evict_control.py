@@ -22,9 +22,6 @@ from tests.common.vocabulary import sealed, SHA256, storage_key, wrong
 FIRST, OWNERS_LAST, PLATFORMS_FIRST, LAST = 0x8100_0000, 0x817F_FFFF, 0x8180_0000, 0x81FF_FFFF
 OTHER, THIRD = 0x8100_0001, 0x8100_0002
 
-# How many persistent objects there may be.
-MOST = 16
-
 CLEARED = storage_key(attributes=storage_key().attributes | ObjectAttribute.ST_CLEAR)
 
 tpm = Steps(__name__, __doc__)
@@ -47,10 +44,9 @@ def handles_and_parameter(owners):
     case = "Who has no persistent objects: VALUE/h1"
     fails(case, *((it, owners, FIRST) for it in (RH_ENDORSEMENT, RH_LOCKOUT, RH_NULL, 0, owners)))
     tpm.raw("No object: INSUFFICIENT/h2", command(CC.EvictControl, handles[:4]))
-    fails(
-        "What is no object: PCR 0, an NV index, a session, and a hierarchy: VALUE/h2",
-        *((RH_OWNER, it, FIRST) for it in (0, 0x0100_0000, 0x0200_0000, 0x0300_0000, RH_OWNER)),
-    )
+    case = "What is no object: PCR 0, an NV index, a session, and a hierarchy: VALUE/h2"
+    others = 0, 0x0100_0000, 0x0200_0000, 0x0300_0000, RH_OWNER
+    fails(case, *((RH_OWNER, it, FIRST) for it in others))
     fails("A transient object that is not there: REFERENCE_H1", (RH_OWNER, 0x8000_0007, FIRST))
     fails("A persistent object that is not there: HANDLE/h2", (RH_OWNER, FIRST, FIRST))
     tpm.raw("Without sessions: AUTH_MISSING", command(CC.EvictControl, handles + number(FIRST, 4)))
@@ -60,10 +56,9 @@ def handles_and_parameter(owners):
 
     tpm.says("A wrong password, and no parameter: BAD_AUTH/s1", evicting(b"", b"x"))
     tpm.says("The parameter cut: INSUFFICIENT/p1", evicting(b""), evicting(b"\x81" * 3))
-    fails(
-        "It is no handle of a persistent object: VALUE/p1",
-        *((RH_OWNER, owners, it) for it in (0, owners, 0x8200_0000, 0x0100_0000, 0xFFFF_FFFF)),
-    )
+    case = "It is no handle of a persistent object: VALUE/p1"
+    others = 0, owners, 0x8200_0000, 0x0100_0000, 0xFFFF_FFFF
+    fails(case, *((RH_OWNER, owners, it) for it in others))
     tpm.says("That, and a byte behind it: VALUE/p1", evicting(number(owners, 4) + b"\0"))
     tpm.says("A byte behind a right one: SIZE", evicting(number(FIRST, 4) + b"\0"))
 
@@ -140,7 +135,7 @@ tpm.power_cycle()
 tpm.chapter("Sixteen persistent objects, and no more.")
 transient = tpm.owned("An object of the owner", storage_key())
 platforms = tpm.create_primary("And one of the platform", RH_PLATFORM, storage_key())
-handles = [FIRST + 3 * it for it in range(MOST - 1)] + [LAST]
+handles = [FIRST + 3 * it for it in range(15)] + [LAST]
 for handle in handles[:-1]:
     tpm.keep("Fifteen of the owner" if handle == FIRST else "", RH_OWNER, transient, handle)
 tpm.keep("One of the platform", RH_PLATFORM, platforms, LAST)

@@ -19,9 +19,8 @@ def is_at(place, handle):
 
 ABSENT = (0x8000_0000, 0x8000_0007, 0x8000_0008, 0x8000_0010, 0x8001_0000, 0x80FF_FFFF)
 tpm.says("While there is no object: HANDLE/p1", *map(tpm.flush, ABSENT))
-tpm.says(
-    "A persistent object is not flushed: VALUE/p1", *map(tpm.flush, (0x8100_0000, 0x81FF_FFFF))
-)
+case = "A persistent object is not flushed: VALUE/p1"
+tpm.says(case, *map(tpm.flush, (0x8100_0000, 0x81FF_FFFF)))
 parent = tpm.create_primary("A storage key, 80000000", RH_OWNER, storage_key())
 made = tpm.create("TPM2_Create of sealed data", parent, sealed(), data=b"secret")
 for place in range(1, PLACES):

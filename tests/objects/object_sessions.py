@@ -61,14 +61,13 @@ for algorithm, hash_name in reversed(HASHES):
     tpm.flush_objects("Both are flushed", handle, again)
     tpm("The session that is bound to it lives on").reset(bound)
     tpm("But there is no object: REFERENCE_H0").prepare(CC.Unseal, [handle], b"", bound)
-    said = tpm("Another object takes the place of one")
-    stranger = said.owned(sealed(), user_auth=PIN, data=b"x")
-    assert stranger in (handle, again)
-    tpm.unseal("To that it is not bound, and the value is in the key", stranger, b"x", bound)
+    alien = tpm.owned("Another object takes the place of one", sealed(), user_auth=PIN, data=b"x")
+    assert alien in (handle, again)
+    tpm.unseal("To that it is not bound, and the value is in the key", alien, b"x", bound)
     handle = tpm.load("TPM2_Load of the object", parent, made)
-    assert handle != stranger
+    assert handle != alien
     tpm.unseal("To this it is bound: its key is the session's alone", handle, SECRET, bound)
-    tpm.flush_objects("The other is flushed", stranger)
+    tpm.flush_objects("The other is flushed", alien)
     tpm.flushes("A session is flushed", unbound, bound, owner)
 
 tpm.chapter("TPM2_StartAuthSession: bind is an object.")
@@ -115,10 +114,8 @@ for what, prepare, tries in (
         said = tpm(f"The authorization {what}, by the session that is {name}: {outcome}/s1")
         said.refused(wrong(prepared))
         tpm.accepted("The right one", prepared)
-tpm.refused(
-    "An entry that authorizes nothing, of the session that is bound to the object: AUTH_FAIL/s1",
-    wrong(tpm.random(1, to_guarded)),
-)
+case = "An entry that authorizes nothing, of the session that is bound to the object: AUTH_FAIL/s1"
+tpm.refused(case, wrong(tpm.random(1, to_guarded)))
 said = tpm("Of the session that is bound to the one with noDA: BAD_AUTH/s1")
 said.refused(wrong(tpm.random(1, to_open)))
 tpm.flush_objects("The object is flushed", guarded)

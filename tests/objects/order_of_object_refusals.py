@@ -79,9 +79,8 @@ for code, on in ((CC.CreatePrimary, RH_OWNER), (CC.Create, parent)):
         ("A byte behind creationPCR", "SIZE", with_public(WRONG) + b"\0"),
     )
     if code == CC.Create:
-        tpm.in_order(
-            code, uses, ("Under what is no parent", "TYPE/h1", [handle], with_public(WRONG))
-        )
+        case = "Under what is no parent", "TYPE/h1", [handle], with_public(WRONG)
+        tpm.in_order(code, uses, case)
     of_creation(
         *((*words, with_public(public)) for *words, public in PUBLIC_FAULTS),
         ("userAuth of 21 bytes", "SIZE/p1", with_public(sealed(SHA1, GENERATED))),

@@ -28,9 +28,8 @@ def parent_of(algorithm, hash_name):
 
 
 tpm.chapter("A private area that the device made, and that is changed on its way.")
-for (algorithm, hash_name), step, words in zip(
-    HASHES, (1, 6), ("each shorter length", "shorter lengths")
-):
+LENGTHS = (1, "each shorter length"), (6, "shorter lengths")
+for (algorithm, hash_name), (step, words) in zip(HASHES, LENGTHS):
     parent = parent_of(algorithm, hash_name)
     made = tpm.create("TPM2_Create of a byte", parent, sealed(SHA1), data=b"x")
     private, public = made.private, made.public
@@ -82,7 +81,7 @@ class Forger:
     def refused(self, what, *privates):
         refused(what, self.parent, self.public, *privates)
 
-    def text_refused(self, what, *texts):
+    def bad_text(self, what, *texts):
         self.refused(what, *map(self.forge, texts))
 
     def made(self, given=b"", **parts):
@@ -125,19 +124,18 @@ def sensitive_area(forger):
     tpm.chapter("The sensitive area.")
     case = "Another type than that of the public area"
     types = (SYMCIPHER, 0, 1, 0x0010, 0xFFFF)
-    forger.text_refused(case, *(sensitive(kind=it) for it in types))
+    forger.bad_text(case, *(sensitive(kind=it) for it in types))
     text = sensitive(auth=b"a")
     content = text[2:]
     case = "Too short for what is in it, at each length"
     shorter = (sized(content[:length]) for length in range(0, len(content), 3))
-    forger.text_refused(case, *shorter)
+    forger.bad_text(case, *shorter)
     case = "Its size, and fewer bytes; no size; nothing"
-    forger.text_refused(case, text[:-1], text[:2], text[:1], b"")
-    case = "A byte left over in it, and behind it"
-    forger.text_refused(case, sized(content + b"\0"), text + b"\0")
+    forger.bad_text(case, text[:-1], text[:2], text[:1], b"")
+    forger.bad_text("A byte left over in it, and behind it", sized(content + b"\0"), text + b"\0")
     case = "An authorization value and a seed of 33 bytes, and data of 129"
     long = {"auth": b"a" * 33}, {"seed": b"s" * 33}, {"data": b"d" * 129}
-    forger.text_refused(case, *(sensitive(**it) for it in long))
+    forger.bad_text(case, *(sensitive(**it) for it in long))
     key = object_rules.encrypting_key(forger.known, storage_key().name)
     protected = sized(ZERO_BLOCK) + aes.cfb_encrypt(key, ZERO_BLOCK, text)
     forger.refused("Encrypted with the key of another Name", forger.behind(protected))

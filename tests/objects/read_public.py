@@ -25,9 +25,8 @@ for hierarchy, name in ((RH_OWNER, "TPM_RH_OWNER"), (RH_NULL, "TPM_RH_NULL")):
         (SHA256, "One under that, with nameAlg SHA-256"),
     ):
         handles.append(tpm.below(f"{what}: TPM2_Create", handles[-1], storage_key(algorithm)))
-    for handle, algorithm, what in zip(
-        handles, (SHA256, SHA1, SHA256), ("The first", "The second", "The third")
-    ):
+    ranks = (SHA256, "The first"), (SHA1, "The second"), (SHA256, "The third")
+    for handle, (algorithm, what) in zip(handles, ranks):
         public, answered = tpm.read_public(f"{what}: TPM2_ReadPublic", handle)
         qualified = number(algorithm, 2) + digest(algorithm, qualified + public.name)
         assert answered == qualified

@@ -37,12 +37,11 @@ for algorithm, hash_name in reversed(HASHES):
     tpm.unseal("Beside a password", handle, data, b"pin", unrelated.encrypting)
     for size in (1, 16, 17, 127):
         said = tpm(f"{size} bytes: TPM2_Create, with inSensitive encrypted")
-        small = said.create(
-            parent, sealed(), session.decrypting, user_auth=b"pin", data=data[:size]
-        )
+        part = data[:size]
+        small = said.create(parent, sealed(), session.decrypting, user_auth=b"pin", data=part)
         said = tpm("TPM2_Load, with inPrivate encrypted")
         with said.loaded(parent, small, session.decrypting) as again:
-            tpm.unseal("TPM2_Unseal, encrypted", again, data[:size], session.encrypting)
+            tpm.unseal("TPM2_Unseal, encrypted", again, part, session.encrypting)
 
     tpm.chapter("129 bytes.")
     tpm("In plain: SIZE/p1").child(parent, sealed(), data=bytes(129))

@@ -300,14 +300,13 @@ for code in (CC.Create, CC.Load):
     under_data.public(f"TPM2_{code.name}, of what cannot be read: TYPE/p2", shorts(1))
 for place in range(6):
     tpm.load("" if place else "Eight objects are there", parent, child)
-creating, _, loading = TARGETS
+creating, _, load = TARGETS
 case = "TPM2_CreatePrimary of a ninth, with scheme HMAC and without sign: SCHEME/p2"
 creating.asked(case, sealed(scheme=SHA256))
 case, short = "With a key of 15 bytes for a SYMCIPHER: SIZE/p1", bytes(15)
 creating.created(case, aes_key(STORES), frames.sensitive_create(data=short))
 creating.asked("With nothing wrong: OBJECT_MEMORY", sealed())
-loading.asked("TPM2_Load of a ninth, with an empty private area: INTEGRITY/p1", sealed())
-case = "And fixedTPM without fixedParent: ATTRIBUTES/p2"
-loading.asked(case, sealed(attributes=FIXED_TPM | OPEN))
+load.asked("TPM2_Load of a ninth, with an empty private area: INTEGRITY/p1", sealed())
+load.asked("And fixedTPM without fixedParent: ATTRIBUTES/p2", sealed(attributes=FIXED_TPM | OPEN))
 tpm("With nothing wrong: OBJECT_MEMORY").loading(parent, child)
 tpm.create("TPM2_Create needs no place", parent, sealed(), data=b"secret")
