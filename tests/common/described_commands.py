@@ -15,8 +15,9 @@ from collections.abc import Callable, Iterable, Iterator
 from dataclasses import dataclass, replace
 from unittest import mock
 
+from tpmsim.caller import HERE, sealed
 from tpmsim.model.capability import COMMANDS, TOTAL_COMMANDS, command_attributes
-from tpmsim.standard import CC, Fact, Fields, Handle, HandleKind, KEYEDHASH, Kind, NUMBERED
+from tpmsim.standard import CC, Fact, Fields, Handle, HandleKind, Kind, NUMBERED
 from tpmsim.standard import RH_LOCKOUT, RH_NULL, RH_OWNER, RH_PLATFORM, RS_PW, SHA256, frames
 from tpmsim.standard import handle_kinds, lines, number, Short
 from tpmsim.standard.nv import Attribute, Public
@@ -85,9 +86,7 @@ def index_line(index: int, attributes: int, auth_policy: bytes) -> str:
 
 
 def setup() -> list[str]:
-    here = ObjectAttribute.FIXED_TPM | ObjectAttribute.FIXED_PARENT | ObjectAttribute.NO_DA
-    scheme = frames.scheme(frames.ALG_NULL)
-    public = frames.public_area(KEYEDHASH, SHA256, here, UNTOLD, scheme, b"")
+    public = sealed(attributes=HERE | ObjectAttribute.NO_DA, auth_policy=UNTOLD).text
     sensitive = frames.sensitive_create(data=b"data")[2:]
     reads, writes = Attribute.AUTHREAD, Attribute.AUTHWRITE
     by_policy = Attribute.POLICYREAD | Attribute.POLICYWRITE

@@ -54,23 +54,25 @@ class Run:
             fail(f"{line}: {given}, and not {wanted}")
         return wanted
 
-    def tell(self, line):
-        """Tells a line, and looks at the image behind it."""
-        old, before = identity(), device_told(self.player.device)
-        self.write(line)
-        wanted = self.read(line)
-        if not wanted:
-            return
-        changes = device_told(self.player.device) != before or wanted == ["power"]
-        check_save(line, self.player.device, changes or not self.is_saved, old)
-        self.commands += 1
-        self.saves += changes or not self.is_saved
-        self.is_saved = True
+    def tell(self, *lines):
+        """Tells lines, and looks at the image behind each."""
+        for line in lines:
+            old, before = identity(), device_told(self.player.device)
+            self.write(line)
+            wanted = self.read(line)
+            if wanted:
+                changes = device_told(self.player.device) != before or wanted == ["power"]
+                changes = changes or not self.is_saved
+                check_save(line, self.player.device, changes, old)
+                self.commands, self.saves = self.commands + 1, self.saves + changes
+                self.is_saved = True
 
-    def end(self):
-        """Ends the script. The clock of its last command is saved too."""
+    def end(self, stays=False):
+        """Ends the script. The clock of its last command is saved too, in an image that may stay."""
         end(self.process)
         check_image("the end", self.player.device)
+        if not stays:
+            IMAGE.unlink()
 
     def kill(self):
         """Kills the program, and gives the device that has to be in the image."""
@@ -83,23 +85,19 @@ def watch(script):
     """A script line by line, and once more on the image that it left."""
     for again in ("", ", on its image"):
         run = Run(opened() if again else None)
-        for line in script.read_bytes().splitlines():
-            run.tell(line)
-        run.end()
+        run.tell(*script.read_bytes().splitlines())
+        run.end(stays=not again)
         print(f"{script.stem}{again}: {run.commands} events, {run.saves} saves")
-    IMAGE.unlink()
 
 
 def check_powers():
     """A power cycle saves the clock too, which no command did that changed nothing else."""
     run = Run()
-    for line in (b"do Startup 0", b"wait 5000", b"do ReadClock", b"power", b"do ReadClock"):
-        run.tell(line)
+    run.tell(b"do Startup 0", b"wait 5000", b"do ReadClock", b"power", b"do ReadClock")
     device = opened()
     if device.clock != 5000:
         fail(f"the clock of the image is {device.clock}")
     run.end()
-    IMAGE.unlink()
     print("a power cycle saves the clock")
 
 
@@ -108,15 +106,12 @@ def check_kills():
     lines = [b"do Startup 0", DEFINE, INCREMENT, INCREMENT, EXTEND, b"do Shutdown 1", INCREMENT]
     for count in range(1, len(lines) + 1):
         run = Run()
-        for line in lines[:count]:
-            run.tell(line)
+        run.tell(*lines[:count])
         device = run.kill()
         check_image(f"killed behind {lines[count - 1]}", device, image_told)
         again = Run(opened())
-        again.tell(b"do Startup 0")
-        again.tell(b"do NV_Read OWNER 01000002 pw:- 8 0")
+        again.tell(b"do Startup 0", b"do NV_Read OWNER 01000002 pw:- 8 0")
         again.end()
-        IMAGE.unlink()
     print(f"killed behind each of {len(lines)} responses: what was told is in the image")
 
 
@@ -127,12 +122,11 @@ def check_entropy():
     run = Run(None, "--entropy", "entropy")
     run.player.device = Model(random)
     run.tell(b"do Startup 0")
-    run.end()
+    run.end(stays=True)
     pathlib.Path("entropy").write_bytes(b"")
     run = Run(opened(), "--entropy", "entropy")
     run.tell(b"do Startup 0")
     run.end()
-    IMAGE.unlink()
     print("a new device is made of the first 256 random bytes")
 
 
@@ -148,8 +142,7 @@ def check_unsaved():
     (BESIDE / "file").unlink()
     BESIDE.rmdir()
     run = Run()
-    run.tell(b"do Startup 0")
-    run.tell(DEFINE)
+    run.tell(b"do Startup 0", DEFINE)
     kept = IMAGE.read_bytes()
     BESIDE.mkdir()
     run.write(b"do GetRandom 4")
@@ -172,7 +165,6 @@ def check_pieces():
         run.read(line)
     check_image("many commands at once", run.player.device)
     run.end()
-    IMAGE.unlink()
     print("many commands at once are saved")
 
 

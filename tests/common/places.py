@@ -7,10 +7,10 @@ TOP = TESTS.parent
 EXAMPLES = TOP / "examples"
 
 
-def of_tests(suffix: str = ".tpm") -> list[pathlib.Path]:
-    """The scripts of tests/ and of its folders by their names, but for parts of other tests."""
-    found = [*TESTS.glob(f"*{suffix}"), *TESTS.glob(f"*/*{suffix}")]
-    return sorted((it for it in found if it.parent.name != "common"), key=lambda it: it.name)
+def of_tests() -> list[pathlib.Path]:
+    """The scripts of the folders of tests/ by their names, but for parts of other tests."""
+    found = (it for it in TESTS.glob("*/*.tpm") if it.parent.name != "common")
+    return sorted(found, key=lambda it: it.name)
 
 
 def scripts() -> list[pathlib.Path]:

@@ -56,12 +56,13 @@ class Run:
         """What the command is answered. The time of an answer is the host's."""
         return self.device.execute(buffer_of(line), 0, RANDOM).response
 
-    def tell(self, line):
-        """Tells a command, and compares its response."""
-        self.client.sendall(buffer_of(line))
-        given, wanted = answer(self.client), self.wanted(line)
-        if given is None or (given != wanted and line != "ReadClock"):
-            fail(f"{line}: {given}, and not {wanted}")
+    def tell(self, *lines):
+        """Tells commands, and compares each response."""
+        for line in lines:
+            self.client.sendall(buffer_of(line))
+            given, wanted = answer(self.client), self.wanted(line)
+            if given is None or (given != wanted and line != "ReadClock"):
+                fail(f"{line}: {given}, and not {wanted}")
 
     def tell_and_look(self, line):
         """Tells a command, and looks at the image behind it: whether it was saved."""
@@ -109,11 +110,10 @@ def check_each(program):
 def check_kills(program, count):
     """What was answered is in the image, wherever the program is killed behind a response."""
     for number in range(count):
-        run = Run(program)
-        for line in LINES[: number % len(LINES) + 1]:
-            run.tell(line)
+        run, told = Run(program), LINES[: number % len(LINES) + 1]
+        run.tell(*told)
         run.kill()
-        run.check_image(f"kill {number + 1}, behind {line}")
+        run.check_image(f"kill {number + 1}, behind {told[-1]}")
     print(f"{count} kills straight behind a response: all that was answered is in the image")
 
 
@@ -139,8 +139,7 @@ def check_unsaved(program):
     """A change that cannot be saved is not answered, and ends the program. What needs no save is
     answered."""
     run = Run(program)
-    for line in LINES[:4]:
-        run.tell(line)
+    run.tell(*LINES[:4])
     BESIDE.mkdir()
     kept, old = IMAGE.read_bytes(), identity()
     run.tell("GetRandom 4")
@@ -160,8 +159,7 @@ def check_without(program):
     """Without the option nothing is saved before a connection ends."""
     IMAGE.unlink()
     run = Run(program, options=())
-    for line in LINES:
-        run.tell(line)
+    run.tell(*LINES)
     run.kill()
     if IMAGE.exists():
         fail("there is an image, without the option")

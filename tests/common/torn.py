@@ -33,12 +33,12 @@ from tests.common.shims import (
 from tpmsim.model import machine
 from tpmsim.model.image import image, open_image
 from tpmsim.standard import lines
+from tests.common.outputs import repeated
 from tests.common.streams import device_told, image_told
 
 TOP = HERE.parent.parent
 SCRIPT = TOP / "examples/measured_boot.tpm"
 ROOM = Room("torn")
-RANDOM_BYTES = 256
 HALF = 0
 
 # The calls that reach files, sockets and the clock in other ways than the shim knows.
@@ -137,7 +137,7 @@ COMMANDS = sum(map(len, SENT))
 
 def random_of(number):
     """The random bytes of the manufacture, 0, and of each command that is executed."""
-    return bytes([number]) * RANDOM_BYTES
+    return repeated(bytes([number]))
 
 
 @dataclass(frozen=True)
