@@ -104,7 +104,6 @@ class Begun:
     line: int
     nonce_caller: bytes
     bind: int
-    bind_untrimmed: bytes = b""
     nonces: list[Since] = field(default_factory=list)
     told: list[Step] = field(default_factory=list)
     restarted: int = 0
@@ -175,8 +174,7 @@ class Past:
         if command.code == CC.StartAuthSession and answered is not None:
             nonce, bind = Parameters(plain).sized(frames.COMMAND_BYTES), command.handles[1]
             session = self.model.sessions[answered]
-            untrimmed = self.untrimmed.get(bind, b"")
-            self.sessions[answered] = Begun(session, line, nonce, bind, untrimmed)
+            self.sessions[answered] = Begun(session, line, nonce, bind)
             self.sessions[answered].take(line)
         self.note_value(command, plain, answered)
         self.note_entries(line, command)
