@@ -3,13 +3,12 @@
 from dataclasses import dataclass, field
 from typing import Iterator
 
-from tpmsim.audit.entities import Entities
 from tpmsim.audit.ground import Finding, Grounds, Use
 from tpmsim.audit.lines import Repeats
 from tpmsim.audit.log import Disagreement, section
 from tpmsim.audit.policy_lines import Policies
 from tpmsim.audit.session_lines import SessionLines
-from tpmsim.audit.watch import Seen
+from tpmsim.audit.watch import Entities, Seen
 from tpmsim.explain import text
 from tpmsim.explain.words import command_words
 from tpmsim.model.machine import Model
