@@ -1,4 +1,4 @@
-"""What each use of an entity was, by the history before it; the failed guesses; and other refusals."""
+"""What each use of an entity was, by the history before it; failed guesses; and other refusals."""
 
 from dataclasses import dataclass, field
 from typing import Iterator
@@ -39,7 +39,8 @@ class Stretch:
 
     def words(self, last: int) -> str:
         lines = "line" if len(self.failed) == 1 else "lines"
-        bound = f" of at most {self.bound} (maxTries {self.most} + {self.elapsed} ms / {self.recovery} s)"
+        of = f"maxTries {self.most} + {self.elapsed} ms / {self.recovery} s"
+        bound = f" of at most {self.bound} ({of})"
         if self.bound is None:
             bound = ", and recoveryTime is 0, so that any number may fail"
         head = f"  lines {self.first} to {last}: {len(self.failed)}{bound}"
