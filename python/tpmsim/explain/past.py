@@ -43,7 +43,8 @@ class Step:
 
     @property
     def given(self) -> bytes:
-        return bytes(self.said.values[self.place])
+        has_given = self.selected is not None or self.handle is not None
+        return bytes(self.said.values[self.place]) if has_given else b""
 
     def but(self, given: bytes) -> Step:
         """The same of another Name, or of PCRs with another digest."""
