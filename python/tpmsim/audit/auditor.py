@@ -3,7 +3,6 @@
 from dataclasses import dataclass
 from typing import Iterator, Sequence
 
-from tpmsim.audit.entities import Entities
 from tpmsim.audit.ground import Grounds
 from tpmsim.audit.lines import CounterLines, PcrLines, Repeats, ValueLines
 from tpmsim.audit.log import Disagreement, Log
@@ -11,7 +10,7 @@ from tpmsim.audit.policy_lines import Policies
 from tpmsim.audit.session_lines import SessionLines
 from tpmsim.audit.start import Start
 from tpmsim.audit.uses import Guesses, Refusals, Uses
-from tpmsim.audit.watch import Seen, Watch
+from tpmsim.audit.watch import Entities, Seen, Watch
 from tpmsim.model.player import BadLine, LINES, Player
 from tpmsim.policies.policy_file import PolicyFile
 from tpmsim.standard import NUMBERED

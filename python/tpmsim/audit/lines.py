@@ -167,7 +167,7 @@ class CounterLines:
 
 
 class Repeats:
-    """Commands with an HMAC session's hmac that were accepted again, byte for byte, while it lived."""
+    """Commands that were accepted again by an HMAC session, byte for byte, while it lived."""
 
     def __init__(self, sessions: SessionLines) -> None:
         self.sessions, self.told = sessions, list[str]()

@@ -7,10 +7,10 @@ from dataclasses import dataclass
 from typing import Iterator, Sequence
 
 from tpmsim.audit import broken
-from tpmsim.audit.entities import Entities, Entity
 from tpmsim.audit.ground import Finding, Grounds, Use
 from tpmsim.audit.log import section
 from tpmsim.audit.session_lines import Asserted
+from tpmsim.audit.watch import Entities, Entity
 from tpmsim.explain.words import command_words
 from tpmsim.model.parameters import Parameters
 from tpmsim.policies.policy_file import PolicyFile

@@ -1,15 +1,14 @@
-"""What each use of an entity was, by the history before it; the failed guesses; and other refusals."""
+"""What each use of an entity was, by the history before it; failed guesses; and other refusals."""
 
 from dataclasses import dataclass, field
 from typing import Iterator
 
-from tpmsim.audit.entities import Entities
 from tpmsim.audit.ground import Finding, Grounds, Use
 from tpmsim.audit.lines import Repeats
 from tpmsim.audit.log import Disagreement, section
 from tpmsim.audit.policy_lines import Policies
 from tpmsim.audit.session_lines import SessionLines
-from tpmsim.audit.watch import Seen
+from tpmsim.audit.watch import Entities, Seen
 from tpmsim.explain import text
 from tpmsim.explain.words import command_words
 from tpmsim.model.machine import Model
@@ -40,7 +39,8 @@ class Stretch:
 
     def words(self, last: int) -> str:
         lines = "line" if len(self.failed) == 1 else "lines"
-        bound = f" of at most {self.bound} (maxTries {self.most} + {self.elapsed} ms / {self.recovery} s)"
+        of = f"maxTries {self.most} + {self.elapsed} ms / {self.recovery} s"
+        bound = f" of at most {self.bound} ({of})"
         if self.bound is None:
             bound = ", and recoveryTime is 0, so that any number may fail"
         head = f"  lines {self.first} to {last}: {len(self.failed)}{bound}"

@@ -49,22 +49,18 @@ def locked(scene: Scene, place: int, entry: Entry, handle: int | None) -> Reason
         found.rule = "lockoutAuth"
         found.words = f"A wrong try has closed lockoutAuth; {until}."
     else:
+        left = MILLISECONDS * lockout.recovery_time - lockout.forgiving_time
+        reset = "DictionaryAttackLockReset resets them at once"
+        opens = f"One is forgiven in {seconds_words(left)}; {reset}."
+        if not lockout.max_tries:
+            opens = "With a maxTries of 0 that is always so."
         tries = f"{lockout.failed_tries} failed tries >= maxTries {lockout.max_tries}"
-        found.words = f"Something protected is locked out: {tries}. {recovery_words(scene)}"
+        found.words = f"Something protected is locked out: {tries}. {opens}"
         recent = scene.past.tries[-lockout.failed_tries :] if lockout.failed_tries else []
         found.add("failed tries", ", ".join(f"line {it}" for it in recent) or "before the log")
     is_right = model.accepts(scene.command, place, entry, handle)
     found.add("the entry itself", f"{'right' if is_right else 'wrong'}, and not looked at")
     return found
-
-
-def recovery_words(scene: Scene) -> str:
-    lockout = scene.model.lockout
-    if not lockout.max_tries:
-        return "With a maxTries of 0 that is always so."
-    left = MILLISECONDS * lockout.recovery_time - lockout.forgiving_time
-    reset = "DictionaryAttackLockReset resets them at once"
-    return f"One is forgiven in {seconds_words(left)}; {reset}."
 
 
 def wrong(scene: Scene, place: int, entry: Entry, handle: int | None) -> Reason:

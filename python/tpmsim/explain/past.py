@@ -43,7 +43,8 @@ class Step:
 
     @property
     def given(self) -> bytes:
-        return bytes(self.said.values[self.place])
+        has_given = self.selected is not None or self.handle is not None
+        return bytes(self.said.values[self.place]) if has_given else b""
 
     def but(self, given: bytes) -> Step:
         """The same of another Name, or of PCRs with another digest."""
@@ -104,7 +105,6 @@ class Begun:
     line: int
     nonce_caller: bytes
     bind: int
-    bind_untrimmed: bytes = b""
     nonces: list[Since] = field(default_factory=list)
     told: list[Step] = field(default_factory=list)
     restarted: int = 0
@@ -175,8 +175,7 @@ class Past:
         if command.code == CC.StartAuthSession and answered is not None:
             nonce, bind = Parameters(plain).sized(frames.COMMAND_BYTES), command.handles[1]
             session = self.model.sessions[answered]
-            untrimmed = self.untrimmed.get(bind, b"")
-            self.sessions[answered] = Begun(session, line, nonce, bind, untrimmed)
+            self.sessions[answered] = Begun(session, line, nonce, bind)
             self.sessions[answered].take(line)
         self.note_value(command, plain, answered)
         self.note_entries(line, command)

@@ -175,7 +175,7 @@ Bound = tuple[bytes, bytes, str | None]
 
 @dataclass(frozen=True)
 class LiveSession:
-    """A session, with the Name, the value and the protection that it is bound to, and its policy."""
+    """A session, with the Name, the value and the protection that it is bound to."""
 
     kind: int
     algorithm: int

@@ -150,8 +150,8 @@ class Said:
     PolicyCommandCode, PolicyCpHash and PolicyLocality (bit n for locality n), such a command; of
     PolicyNvWritten, an NV index that is written, or is not; of PolicySecret, that the entity of the
     Name was authorized for the policyRef; and of PolicyNV, that the bytes of the index of the Name
-    from the offset on compare so with the operand. PolicyOR, which is not written so, has the digests
-    of its branches.
+    from the offset on compare so with the operand. PolicyOR, which is not written so, has
+    the digests of its branches.
     """
 
     code: CC
