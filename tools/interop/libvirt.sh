@@ -1,17 +1,18 @@
 #!/bin/sh
-# Has libvirt begin, save, restore and end a guest with a TPM of type `emulator`, whose swtpm and
-# swtpm_setup are those of tools/interop/attached_swtpm.sh, which stand first on the daemon's path; and one of
-# type `external`, whose swtpm runs already. The daemon is of a session, of the user who calls this, or of
-# nobody where that is root. Not part of the gate. It installs nothing, and leaves nothing behind.
+# Has libvirt begin, save, restore and end a guest, and go back to a snapshot of it, with a TPM of type
+# `emulator`, whose swtpm and swtpm_setup are those of tools/interop/attached_swtpm.sh, which stand first on
+# the daemon's path; and one of type `external`, whose swtpm runs already. The daemon is of a session, of the
+# user who calls this, or of nobody where that is root. Not part of the gate. It installs nothing, and leaves
+# nothing behind.
 #
 #   tools/interop/libvirt.sh
 #
-# Needs Debian's libvirt-daemon, libvirt-daemon-driver-qemu, libvirt-clients, qemu-system-x86, swtpm,
-# libtpms-dev and util-linux. The folder of tools/interop/attached_swtpm.sh is that of $ATTACHED, or it is made.
+# Needs Debian's libvirt-daemon, libvirt-daemon-driver-qemu, libvirt-clients, qemu-system-x86, qemu-utils,
+# swtpm, libtpms-dev and util-linux. The folder of tools/interop/attached_swtpm.sh is that of $ATTACHED, or it is made.
 set -u
 
 top=$(CDPATH='' cd "$(dirname "$0")/../.." && pwd -P) || exit 1
-for needed in libvirtd virsh qemu-system-x86_64 swtpm setpriv; do
+for needed in libvirtd virsh qemu-system-x86_64 qemu-img swtpm setpriv; do
     PATH=$PATH:/usr/sbin command -v "$needed" >/dev/null || {
         echo "$0: $needed is not there; the head of this file says what is needed" >&2
         exit 2
@@ -59,13 +60,13 @@ check() {
     fi
 }
 
-# guest NAME BACKEND: a guest without a disk, with this backend of its TPM.
+# guest NAME BACKEND [DEVICE]: a guest with this backend of its TPM, and perhaps another device.
 guest() {
     cat >"$folder/home/$1.xml" <<END
 <domain type='qemu'><name>$1</name><memory unit='MiB'>64</memory><vcpu>1</vcpu>
 <os><type arch='x86_64' machine='q35'>hvm</type></os><features><acpi/></features>
 <devices><emulator>/usr/bin/qemu-system-x86_64</emulator>
-<tpm model='tpm-crb'>$2</tpm></devices></domain>
+<tpm model='tpm-crb'>$2</tpm>${3:-}</devices></domain>
 END
     virsh define "$folder/home/$1.xml"
 }
@@ -98,12 +99,20 @@ chmod 755 "$folder"
 [ "$(id -u)" -ne 0 ] || chown -R 65534:65534 "$folder/home"
 chmod 700 "$folder/home/run"
 as_user libvirtd -d -t 600 -p "$folder/home/libvirtd" >"$folder/virsh" 2>&1 || exit 1
-check 'a guest is defined' guest emulator "<backend type='emulator' version='2.0'/>"
+as_user qemu-img create -q -f qcow2 "$folder/home/disk.qcow2" 64M || exit 1
+disk="<disk type='file'><driver name='qemu' type='qcow2'/><source file='$folder/home/disk.qcow2'/>"
+check 'a guest is defined' guest emulator "<backend type='emulator' version='2.0'/>" \
+    "$disk<target dev='vda' bus='virtio'/></disk>"
 check 'it starts' virsh start emulator
 check 'its swtpm has the device in it' is_ours emulator
 sleep 20
 check 'its device is kept' is_stored
 check 'the firmware has used it to the end' is_used
+check 'a snapshot is taken as it runs' virsh snapshot-create-as emulator one
+check 'it is reset' virsh reset emulator
+check 'it goes back to the snapshot' virsh snapshot-revert emulator one --running
+check 'and runs' is_in_state emulator running
+check 'the snapshot is deleted' virsh snapshot-delete emulator one
 check 'it is saved as it runs' virsh managedsave emulator
 check 'it is off' is_in_state emulator 'shut off'
 check 'it goes on from there' virsh start emulator
