@@ -33,8 +33,8 @@ jobs=${JOBS:-$(getconf _NPROCESSORS_ONLN)}
 work=$(mktemp -d) || exit 1
 trap 'rm -rf "$work"' EXIT
 mkdir "$work/told" || exit 1
-# The tests share what Python compiles.
-export PYTHONPYCACHEPREFIX="$work/python"
+# The tests share what Python compiles, and what several of them compile of C.
+export PYTHONPYCACHEPREFIX="$work/python" TPMSIM_BUILT="$work/built"
 : >"$work/queue"
 number=0
 

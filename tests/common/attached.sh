@@ -7,21 +7,38 @@ needs cc nm
 nm --defined-only "$archive" 2>/dev/null | grep -q ' tpmsim_journal_open$' ||
     skip 'the archive has no calls for journals'
 
-# attach CALLER SOURCE WORDS..: compiles a caller in C, or a main source of attached/, with all
-# parts of the kept device, for which each warning is an error.
+# in_c WORDS..: compiles with each warning an error.
+in_c() {
+    cc -std=c11 -O1 -Wall -Wextra -Werror -Wconversion -I"$dist" -I"$attached" "$@" || exit 1
+}
+
+# parts WORDS..: the folder with all parts of the kept device, compiled with those of these words that
+# say how; once for all tests that tools/scripts.sh runs, which names the folder TPMSIM_BUILT.
+parts() {
+    how=$(printf '%s\n' "$@" | grep '^-[fg]')
+    built=${TPMSIM_BUILT:-$room/built}/attached-$(echo "$how" | cksum | tr ' ' -)
+    if [ ! -d "$built" ]; then
+        mkdir -p "$room/parts" "${built%/*}" || exit 1
+        for part in "$attached"/*.c; do
+            # shellcheck disable=SC2086 # they are words
+            in_c $how -c -o "$room/parts/$(basename "$part" .c).o" "$part"
+        done
+        rm "$room/parts/tcti.o" "$room/parts/power.o"
+        # Another test may have been faster.
+        mv -T "$room/parts" "$built" 2>"$room/moved" || rm -r "$room/parts"
+    fi
+    echo "$built"
+}
+
+# attach CALLER SOURCE WORDS..: compiles a caller in C, or a main source of attached/, over the parts
+# of the kept device.
 attach() {
     caller=$room/$1
     source=$callers/$2.c
     [ -f "$source" ] || source=$attached/$2.c
     shift 2
-    for part in "$attached"/*.c; do
-        case $part in
-        */tcti.c | */power.c) ;;
-        *) set -- "$part" "$@" ;;
-        esac
-    done
-    cc -std=c11 -O1 -Wall -Wextra -Werror -Wconversion -I"$dist" -I"$attached" -o "$caller" \
-        "$source" "$@" "$archive" || exit 1
+    built=$(parts "$@") || exit 1
+    in_c -o "$caller" "$source" "$built"/*.o "$@" "$archive"
 }
 
 # attach_both SOURCE WORDS..: compiles a caller twice: by its name, and with sanitizers as

@@ -11,14 +11,27 @@ unset CFLAGS
 assemble=$tests/../dist/tpmsim
 sanitizers='-g -fsanitize=address,undefined -fno-sanitize-recover=all'
 
-"$tests/../tools/interop/attached_swtpm.sh" "$room/swtpm" >"$room/built" 2>&1 || { cat "$room/built" && exit 1; }
-CFLAGS=$sanitizers "$tests/../tools/interop/attached_swtpm.sh" "$room/sanitized" >"$room/built" 2>&1 ||
-    { cat "$room/built" && exit 1; }
-for words in '' "$sanitizers"; do
-    # shellcheck disable=SC2086 # they are words
-    cc -std=c11 -D_GNU_SOURCE -O1 -Wall -Wextra -Werror -Wconversion $words \
-        -o "$room/caller${words:+.sanitized}" "$tests"/swtpm/*.c || exit 1
-done
+# build FOLDER: makes all of these in a folder.
+build() {
+    mkdir -p "$1" || exit 1
+    "$tests/../tools/interop/attached_swtpm.sh" "$1/swtpm" >"$room/built" 2>&1 || { cat "$room/built" && exit 1; }
+    CFLAGS=$sanitizers "$tests/../tools/interop/attached_swtpm.sh" "$1/sanitized" >"$room/built" 2>&1 ||
+        { cat "$room/built" && exit 1; }
+    for words in '' "$sanitizers"; do
+        # shellcheck disable=SC2086 # they are words
+        cc -std=c11 -D_GNU_SOURCE -O1 -Wall -Wextra -Werror -Wconversion $words \
+            -o "$1/caller${words:+.sanitized}" "$tests"/swtpm/*.c || exit 1
+    done
+}
+
+# They are built once for all tests that tools/scripts.sh runs, which names the folder TPMSIM_BUILT.
+built=${TPMSIM_BUILT:-$room/shared}/swtpm
+if [ ! -d "$built" ]; then
+    mkdir -p "${built%/*}" && build "$room/new"
+    # Another test may have been faster.
+    mv -T "$room/new" "$built" 2>"$room/moved" || rm -r "$room/new"
+fi
+cp -R "$built/." "$room" || exit 1
 
 # spell: the lines of standard input, of which `do WORDS` has a command in words.
 spell() {
