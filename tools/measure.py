@@ -53,7 +53,7 @@ def use_of(pid: str) -> tuple[Process, Use] | None:
         return None
     folder = os.readlink(f"/proc/{pid}/cwd")
     named = words.index("--crate-name") + 1 if "--crate-name" in words else 0
-    crate = words[named] if named else os.path.basename(folder)
+    crate = words[named] if named else "others"
     kind = "wrong bodies" if "rt-edit" in folder else "tests" if "--test" in words else "proofs"
     _, seconds, began = status_of(pid)
     return (pid, began), (crate, kind, seconds)
@@ -126,6 +126,7 @@ def figures(lines: list[str], minutes: float, uses: dict[Process, Use]) -> dict[
         "processor_seconds_by_crate": {
             crate: {kind: round(seconds[crate, kind]) for kind in KINDS if seconds[crate, kind]}
             for crate in crates
+            if any(seconds[crate, kind] for kind in KINDS)
         },
     }
 
