@@ -380,6 +380,13 @@ def parsed() -> argparse.Namespace:
     return parser.parse_args()
 
 
+def begin(crate: Crate, groups: list[list[WrongBody]]) -> list[list[WrongBody]]:
+    """Makes ready to try these groups of a crate's wrong bodies, and gives them."""
+    if len(groups) > 1:
+        crate.keep()
+    return groups
+
+
 def tried(folder: pathlib.Path, names: list[str], jobs: int) -> int:
     """Tries the wrong bodies of these crates, and tells how many were refused."""
     proved = folder / "proved"
@@ -390,12 +397,11 @@ def tried(folder: pathlib.Path, names: list[str], jobs: int) -> int:
         for crate in (Crate(proved, name, folder) for name in names)
     }
     with concurrent.futures.ThreadPoolExecutor(jobs) as pool:
-        several = [crate for crate, found in groups.items() if len(found) > 1]
-        list(pool.map(Crate.keep, several))
+        begun = {pool.submit(begin, crate, found): crate for crate, found in groups.items()}
         trials = [
-            pool.submit(try_group, crate, group)
-            for crate, found in groups.items()
-            for group in found
+            pool.submit(try_group, begun[ready], group)
+            for ready in concurrent.futures.as_completed(begun)
+            for group in ready.result()
         ]
         return sum(trial.result() for trial in trials)
 
