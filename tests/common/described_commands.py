@@ -16,7 +16,7 @@ from dataclasses import dataclass, replace
 from unittest import mock
 
 from tpmsim.caller import HERE, sealed
-from tpmsim.model.capability import COMMANDS, TOTAL_COMMANDS, command_attributes
+from tpmsim.model.capability import COMMANDS, HANDLES, PCRS, TOTAL_COMMANDS, command_attributes
 from tpmsim.standard import CC, Fact, Fields, Handle, HandleKind, Kind, NUMBERED
 from tpmsim.standard import RH_LOCKOUT, RH_NULL, RH_OWNER, RH_PLATFORM, RS_PW, SHA256, frames
 from tpmsim.standard import handle_kinds, lines, number, Short
@@ -360,11 +360,24 @@ def read_answer(code: CC, response: bytes | None) -> str:
         handles = [fields.number(4) for _ in code.answered_handles]
         text = fields.take(fields.number(4)) if tag == frames.SESSIONS else fields.data
         read_all(code.answered_parameters, text)
+        if any(it.kind == Kind.CAPABILITY for it in code.answered_parameters):
+            read_capability(Fields(text))
     except Short:
         return "cut"
     except ValueError:
         return "more"
     return "read" if all(map(takes, code.answered_handles, handles)) else "another handle"
+
+
+def read_capability(fields: Fields) -> None:
+    """Reads moreData, a capability and its list; ValueError where more is there."""
+    _, kind = fields.take(1), fields.number(4)
+    if kind == PCRS:
+        lines.WORDS[Kind.SELECTION].word(fields)
+    else:
+        fields.take(fields.number(4) * (4 if kind in (HANDLES, COMMANDS) else 8))
+    if fields.data:
+        raise ValueError
 
 
 CHECKS = {
