@@ -1,7 +1,7 @@
 -- The executions on the device for one event lead from its record to the one after it.
 use Rattle.std.proofs.Common.{◌≡◌, ℕ, Bool, true, false, List, [], Option, Some, None, refl, ap}
-use Rattle.tpm_history.specs.Executions.{Leads}
-use Rattle.tpm_history.proofs.Following.{stretch_follows}
+use Rattle.tpm_machine.specs.Executions.{Leads}
+use Rattle.tpm_machine.proofs.Following.{stretch_follows}
 use Rattle.tpm_record.specs.Record.{Record}
 use Rattle.tpm_step.specs.Events.{PlainEvent, Given, Cycled}
 use Rattle.tpm_completion.specs.Execution.{Behind, Completes, CompletesBy, CompletesIf, Seen, given_up_behind}

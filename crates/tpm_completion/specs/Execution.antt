@@ -1,7 +1,7 @@
 -- How the completing layer handles one event: which events the device executes, what is answered,
 -- and what the layer remembers then.
 use Rattle.std.specs.Prelude.{◌≡◌, ℕ, ◌==◌, Bool, true, false, List, [], Option, Some, None, replicate}
-use Rattle.tpm_history.specs.Follows.{After, Follows}
+use Rattle.tpm_machine.specs.Follows.{After, Follows}
 use Rattle.tpm_machine.specs.Drawn.{drawn_by}
 use Rattle.tpm_machine.specs.State.{latest_drawn, state_of}
 use Rattle.tpm_machine.specs.declared.machine.Machine.{Machine}

@@ -14,8 +14,8 @@ pub mod Saving
 pub mod Told
 pub use Rattle.tpm_machine.specs.Drawn
 pub use Rattle.tpm_machine.specs.State
-pub use Rattle.tpm_history.specs.Executions
-pub use Rattle.tpm_history.specs.Follows
+pub use Rattle.tpm_machine.specs.Executions
+pub use Rattle.tpm_machine.specs.Follows
 pub use Rattle.tpm_step.specs.Events
 pub use Rattle.tpm_step.specs.Step
 pub use Rattle.tpm_record.specs.Record

@@ -1,9 +1,9 @@
 -- The executions on the device for one event: one without the layer, and with it as many as the
 -- layer causes.
 use Rattle.std.specs.Prelude.{ℕ, Bool, true, false, List, [], ◌∷◌, Option, Some, None}
-use Rattle.tpm_history.specs.Executions.{Execution}
-use Rattle.tpm_history.specs.Follows.{Follows, StretchFollows}
-use Rattle.tpm_history.specs.History.{History}
+use Rattle.tpm_machine.specs.Executions.{Execution}
+use Rattle.tpm_machine.specs.Follows.{Follows, StretchFollows}
+use Rattle.tpm_machine.specs.History.{History}
 use Rattle.tpm_record.specs.Record.{Record}
 use Rattle.tpm_step.specs.Events.{PlainEvent, Given, Cycled}
 use Rattle.tpm_completion.specs.Execution.{AsksFirst, Behind, Completes, CompletesBy, CompletesIf, Seen, given_up_behind, no_random}

@@ -51,7 +51,7 @@ use Rattle.tpm_actions_policy.specs.PolicyNv.{Parameters as NvParameters, compar
 use Rattle.tpm_actions_policy.specs.PolicyPcr.{pcr_parameters}
 use Rattle.tpm_actions_policy.specs.PolicySecret.{Parameters as SecretParameters, secret_of, secret_parameters}
 use Rattle.tpm_step.specs.Table.{row_of}
-use Rattle.tpm_laws.proofs.Binding.{asked, ok_at, ok_bind, ok_bind_is, ok_then, some_is}
+use Rattle.tpm_step.proofs.Binding.{asked, ok_at, ok_bind, ok_bind_is, ok_then, some_is}
 use Rattle.tpm_history.specs.AcceptedAssertions.{Finds}
 use Rattle.tpm_history.specs.History.{AcceptedCommand, History}
 use Rattle.tpm_history.specs.Policies.{assertion_by}

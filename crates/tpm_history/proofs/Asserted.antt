@@ -32,7 +32,7 @@ use Rattle.tpm_actions_policy.specs.Assertions.{assertion_in, policy_after}
 use Rattle.tpm_actions_policy.specs.PolicyNv.{Parameters as NvParameters, nv_parameters}
 use Rattle.tpm_actions_policy.specs.PolicyPcr.{Parameters as PcrParameters, pcr_parameters, pcr_parts_of}
 use Rattle.tpm_actions_policy.specs.PolicySecret.{Parameters as SecretParameters, secret_of, secret_parameters}
-use Rattle.tpm_laws.proofs.Binding.{ok_bind, ok_bind_is, ok_then}
+use Rattle.tpm_step.proofs.Binding.{ok_bind, ok_bind_is, ok_then}
 use Rattle.tpm_history.specs.DevicePcrs.{HasPcrs}
 use Rattle.tpm_history.specs.DeviceSessions.{SessionFacts, facts_of, session_facts}
 use Rattle.tpm_history.specs.History.{AcceptedCommand, History}

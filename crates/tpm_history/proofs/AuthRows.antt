@@ -76,7 +76,7 @@ use Rattle.tpm_types_command.specs.Part.{Part, Nothing, Sessions, NvData, NvCoun
 use Rattle.tpm_types_command.specs.Part.{Saved, DisableClear, Cleared}
 use Rattle.tpm_laws.specs.IndexChanges.{ChangesIndices, Defines, Writes}
 use Rattle.tpm_laws.specs.Handles.{FitsRule, HandlesFit}
-use Rattle.tpm_laws.proofs.Binding.{asked, ok_at, ok_bind, ok_bind_is, ok_then, ok_weaker, some_is}
+use Rattle.tpm_step.proofs.Binding.{asked, ok_at, ok_bind, ok_bind_is, ok_then, ok_weaker, some_is}
 use Rattle.tpm_laws.proofs.Table.{of_success, row_touches}
 use Rattle.tpm_history.specs.AuthValues.{AuthValues, changed_value, cleared_values, copied_value, created_value, defined_value, loaded_value, started_values, values_by, with_value}
 use Rattle.tpm_history.specs.DeviceAuthValues.{HaveValues, auth_seen, index_auth, object_auth}

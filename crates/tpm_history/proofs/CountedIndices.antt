@@ -26,7 +26,7 @@ use Rattle.tpm_nv.specs.Startup.{kept_written, started, started_attributes, star
 use Rattle.tpm_record.specs.Record.{Record}
 use Rattle.tpm_actions_base.specs.Request.{Request, second_handle}
 use Rattle.tpm_step.specs.Table.{row_of}
-use Rattle.tpm_laws.proofs.Binding.{ok_at, ok_weaker}
+use Rattle.tpm_step.proofs.Binding.{ok_at, ok_weaker}
 use Rattle.tpm_laws.proofs.Table.{row_changes}
 use Rattle.tpm_laws.specs.Footprint.{StartsNv}
 use Rattle.tpm_types_command.specs.Part.{Part, NvData, NvCounter, NvAuthValue, NvDefined, NvUndefined, Beginning}

@@ -29,7 +29,7 @@ use Rattle.tpm_step.specs.Step.{Accepted, success_step}
 use Rattle.tpm_step.specs.Table.{row_of}
 use Rattle.tpm_laws.specs.Acceptance.{IsAcceptance}
 use Rattle.tpm_laws.specs.Handles.{HandlesFit}
-use Rattle.tpm_laws.proofs.Binding.{ok_at}
+use Rattle.tpm_step.proofs.Binding.{ok_at}
 use Rattle.tpm_laws.proofs.Leaving.{success_leaves}
 use Rattle.tpm_history.specs.AuthValues.{AuthValues, auth_of, values_by}
 use Rattle.tpm_history.specs.DeviceAuthValues.{HasAuthValues, HaveValues, auth_seen, index_auth, object_auth}

@@ -25,7 +25,7 @@ use Rattle.tpm_step.specs.Table.{row_of}
 use Rattle.tpm_laws.specs.Acceptance.{IsAcceptance}
 use Rattle.tpm_laws.specs.Footprint.{Touches}
 use Rattle.tpm_types_command.specs.Part.{Part, AuthValues, Beginning, Saved}
-use Rattle.tpm_laws.proofs.Binding.{ok_at, ok_bind, ok_weaker}
+use Rattle.tpm_step.proofs.Binding.{ok_at, ok_bind, ok_weaker}
 use Rattle.tpm_laws.proofs.Table.{row_touches}
 use Rattle.tpm_laws.proofs.Leaving.{answered_only, success_leaves}
 use Rattle.tpm_history.specs.DevicePcrs.{AreSaved, HasPcrs, IsSavedAs, saved_in}

@@ -20,7 +20,7 @@ use Rattle.tpm_step.specs.Step.{Accepted, success_step}
 use Rattle.tpm_step.specs.Table.{row_of}
 use Rattle.tpm_laws.specs.Acceptance.{IsAcceptance}
 use Rattle.tpm_laws.specs.Draws.{draws_of}
-use Rattle.tpm_laws.proofs.Binding.{ok_at}
+use Rattle.tpm_step.proofs.Binding.{ok_at}
 use Rattle.tpm_laws.proofs.Draws.{startup_alone}
 use Rattle.tpm_laws.proofs.Table.{row_draws_so}
 use Rattle.tpm_history.specs.AuthValues.{auth_of}

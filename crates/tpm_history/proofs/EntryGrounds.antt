@@ -38,7 +38,7 @@ use Rattle.tpm_auth.specs.Grant.{grant, grant_by, password_grant, session_grant_
 use Rattle.tpm_auth.specs.Granting.{IsGranting}
 use Rattle.tpm_auth.specs.SessionGrant.{comparison, comparison_holds, demand_by, demanded, demands_password, entry_protection, granted_value, has_value_in_key, is_authentic, is_password_demand, session_grant, use_of, used_auth_value}
 use Rattle.tpm_auth.specs.declared.session_grant.Grant.{Grant}
-use Rattle.tpm_laws.proofs.Binding.{asked, ok_at, ok_bind, ok_bind_is, ok_checked, ok_then, ok_weaker}
+use Rattle.tpm_step.proofs.Binding.{asked, ok_at, ok_bind, ok_bind_is, ok_checked, ok_then, ok_weaker}
 use Rattle.tpm_history.specs.AuthValues.{auth_of}
 use Rattle.tpm_history.specs.DevicePcrs.{HasPcrs}
 use Rattle.tpm_history.specs.DeviceSessions.{AreLive, SessionFacts, facts_of, session_facts}

@@ -46,7 +46,7 @@ use Rattle.tpm_step.specs.General.{general}
 use Rattle.tpm_step.specs.Step.{Accepted, Stepped, acceptance, accepted, answer_where, answer_without_memory, refusal_step, request_in, stepped_of}
 use Rattle.tpm_step.specs.Table.{row_of}
 use Rattle.tpm_step.specs.declared.refused_command.RefusedCommand.{RefusedCommand}
-use Rattle.tpm_laws.proofs.Binding.{err_bind, err_bind_is, err_if}
+use Rattle.tpm_step.proofs.Binding.{err_bind, err_bind_is, err_if}
 use Rattle.tpm_history.specs.EntryHmacs.{used_in}
 use Rattle.tpm_history.specs.Tries.{FailsTry, IsAnsweredTry, IsRefusedTry, check_for, counts_try, fails_try, is_try, touched, touched_by, touched_of_session, touched_where, try_refusal}
 use Rattle.tpm_laws.specs.Order.{IsPlain}

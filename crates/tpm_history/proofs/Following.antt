@@ -30,7 +30,7 @@ use Rattle.tpm_step.specs.declared.refused_command.RefusedCommand.{RefusedComman
 use Rattle.tpm_laws.specs.Acceptance.{IsAcceptance}
 use Rattle.tpm_laws.specs.Sizes.{AreSized}
 use Rattle.tpm_laws.proofs.Acceptance.{accepted_is}
-use Rattle.tpm_laws.proofs.Binding.{ok_at}
+use Rattle.tpm_step.proofs.Binding.{ok_at}
 use Rattle.tpm_laws.proofs.SizedSteps.{cycled_sized, execution_sized, manufactured_sized}
 use Rattle.tpm_history.specs.AuthValues.{auth_of}
 use Rattle.tpm_history.specs.Executions.{Execution, Leads, history_after}

@@ -14,7 +14,7 @@ use Rattle.tpm_actions_device.specs.DictionaryAttackLockReset.{dictionary_attack
 use Rattle.tpm_actions_device.specs.DictionaryAttackParameters.{dictionary_attack_parameters_row, lockout_parameters}
 use Rattle.tpm_step.specs.Step.{Accepted, counted_in, success_step}
 use Rattle.tpm_step.specs.Table.{row_of}
-use Rattle.tpm_laws.proofs.Binding.{ok_at, ok_bind, ok_weaker}
+use Rattle.tpm_step.proofs.Binding.{ok_at, ok_bind, ok_weaker}
 use Rattle.tpm_laws.proofs.Table.{row_touches}
 use Rattle.tpm_laws.proofs.Leaving.{success_leaves}
 use Rattle.tpm_laws.specs.Acceptance.{IsAcceptance}

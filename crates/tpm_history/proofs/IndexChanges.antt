@@ -10,7 +10,7 @@ use Rattle.tpm_types_nv.specs.declared.nv_type.NvType.TheVariants as type
 use Rattle.tpm_nv.specs.Access.{counted, incremented, index_or_fault, number_or, with_data, writable}
 use Rattle.tpm_nv.specs.Index.{NvContents, NvIndex, changed_index, index_at}
 use Rattle.tpm_nv.specs.declared.fault.WriteFault.TheVariants.{Exhausted, Undefined}
-use Rattle.tpm_laws.proofs.Binding.{ok_bind_is, some_is}
+use Rattle.tpm_step.proofs.Binding.{ok_bind_is, some_is}
 use Rattle.tpm_laws.specs.IndexChanges.{IsCounter}
 use Rattle.tpm_laws.proofs.IndexChanges.{writable_type}
 

@@ -40,7 +40,7 @@ use Rattle.tpm_step.specs.Table.{row_of}
 use Rattle.tpm_laws.specs.Footprint.{Touches}
 use Rattle.tpm_types_command.specs.Part.{Part, AuthValues, Banks, Beginning, Cleared}
 use Rattle.tpm_types_command.specs.CommandCode.{part_of}
-use Rattle.tpm_laws.proofs.Binding.{ok_bind, ok_bind_is, ok_then, ok_weaker}
+use Rattle.tpm_step.proofs.Binding.{ok_bind, ok_bind_is, ok_then, ok_weaker}
 use Rattle.tpm_laws.proofs.Table.{row_touches}
 use Rattle.tpm_history.specs.DevicePcrs.{AreSaved, IsSavedAs}
 use Rattle.tpm_history.specs.Pcrs.{count_in, extended_by_all, if_pcr, measured_by, names_pcr, pcr_by, resumed, updates_by}

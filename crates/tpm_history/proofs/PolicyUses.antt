@@ -38,7 +38,7 @@ use Rattle.tpm_actions_base.specs.Rows.{only}
 use Rattle.tpm_actions_policy.specs.PolicyNv.{nv_parameters}
 use Rattle.tpm_actions_policy.specs.PolicyPcr.{pcr_parameters}
 use Rattle.tpm_actions_policy.specs.PolicySecret.{secret_parameters}
-use Rattle.tpm_laws.proofs.Binding.{ok_at, ok_bind}
+use Rattle.tpm_step.proofs.Binding.{ok_at, ok_bind}
 use Rattle.tpm_history.specs.AcceptedAssertions.{AllAskForTheirHandles, AllFind, SessionsFind}
 use Rattle.tpm_history.specs.AssertedBy.{IsAssertedBy, ShowsSecret}
 use Rattle.tpm_history.specs.AuthValues.{auth_of}

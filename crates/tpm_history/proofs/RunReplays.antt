@@ -15,8 +15,8 @@ use Rattle.tpm_step.specs.Safe.{AcceptsModestly}
 use Rattle.tpm_step.specs.Step.{Accepted, Stepped, acceptance, accepted, request_in}
 use Rattle.tpm_step.specs.Table.{row_of}
 use Rattle.tpm_step.specs.declared.refused_command.RefusedCommand.{RefusedCommand}
-use Rattle.tpm_laws.proofs.Binding.{ok_at, ok_bind, ok_in_command, ok_then}
-use Rattle.tpm_laws.proofs.Decoding.{general_reads}
+use Rattle.tpm_step.proofs.Binding.{ok_at, ok_bind, ok_in_command, ok_then}
+use Rattle.tpm_step.proofs.Decoding.{general_reads}
 use Rattle.tpm_history.specs.EntryHmacs.{AllShowHmacs}
 use Rattle.tpm_history.specs.Executions.{Execution, Leads, history_after, with_execution}
 use Rattle.tpm_history.specs.History.{AcceptedCommand, Done, History, command_of, with_command}

@@ -26,7 +26,7 @@ use Rattle.tpm_actions_policy.specs.Assertions.{assertion_in, assertion_row, ass
 use Rattle.tpm_actions_policy.specs.PolicyRestart.{policy_restart_row}
 use Rattle.tpm_step.specs.Table.{row_of}
 use Rattle.tpm_types_command.specs.CommandCode.{part_of}
-use Rattle.tpm_laws.proofs.Binding.{ok_bind, ok_bind_is, ok_then, ok_weaker, some_is}
+use Rattle.tpm_step.proofs.Binding.{ok_bind, ok_bind_is, ok_then, ok_weaker, some_is}
 use Rattle.tpm_laws.proofs.Parts.{leaves_sessions}
 use Rattle.tpm_laws.proofs.Table.{row_same}
 use Rattle.tpm_history.specs.AuthValues.{auth_of}

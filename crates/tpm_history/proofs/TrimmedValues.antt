@@ -15,7 +15,7 @@ use Rattle.tpm_types_object.specs.declared.sensitive.Sensitive.{Sensitive}
 use Rattle.tpm_actions_base.specs.Request.{Request, first_handle}
 use Rattle.tpm_actions_base.specs.Rows.{only}
 use Rattle.tpm_nvactions.specs.NvDefineSpace as definition
-use Rattle.tpm_laws.proofs.Binding.{ok_bind, ok_then}
+use Rattle.tpm_step.proofs.Binding.{ok_bind, ok_then}
 use Rattle.tpm_history.specs.AuthValues.{AuthValues, auth_of, changed_value, copied_value, created_value, defined_value, loaded_value, started_values, values_by, with_value}
 use Rattle.tpm_history.specs.HandleMap.{with_at}
 use Rattle.tpm_history.specs.History.{Done, History, PowerCycled}

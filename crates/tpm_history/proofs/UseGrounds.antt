@@ -23,7 +23,7 @@ use Rattle.tpm_types.specs.declared.rc.ResponseCode.TheVariants as code
 use Rattle.tpm_types.specs.declared.role.Role.{Role}
 use Rattle.tpm_types.specs.declared.role.Role.TheVariants as role
 use Rattle.tpm_record.specs.declared.entity.Means.TheVariants as means
-use Rattle.tpm_laws.proofs.Binding.{asked, ok_bind_is}
+use Rattle.tpm_step.proofs.Binding.{asked, ok_bind_is}
 use Rattle.tpm_history.specs.Grounds.{IsPolicyOf, NamesCommand}
 use Rattle.tpm_history.specs.Sessions.{LiveSession, policy_in}
 use Rattle.tpm_history.specs.View.{OfHandle, OfIndex, OfObject, View}

@@ -3,11 +3,11 @@
 use Rattle.std.proofs.Common.{◌≡◌, Bool, ◌∷◌, Result, Ok, Err, IfOk, sym, subst}
 use Rattle.tpm_record.specs.Cycle.{cycled}
 use Rattle.tpm_record.specs.Record.{Record}
-use Rattle.tpm_history.specs.Follows.{Follows}
-use Rattle.tpm_history.specs.History.{History, PowerCycled}
-use Rattle.tpm_history.proofs.Following.{cycled_follows}
-use Rattle.tpm_image.specs.Opening.{OpensAgain}
-use Rattle.tpm_image.specs.declared.fault.ImageFault.{ImageFault}
+use Rattle.tpm_machine.specs.Follows.{Follows}
+use Rattle.tpm_machine.specs.History.{History, PowerCycled}
+use Rattle.tpm_machine.proofs.Following.{cycled_follows}
+use Rattle.tpm_image_text.specs.Opening.{OpensAgain}
+use Rattle.tpm_image_text.specs.declared.fault.ImageFault.{ImageFault}
 
 pub opened_follows : {M : Type 0} (record_of : M → Record) (can : Bool) (r : Record) (history : History) (result : Result M ImageFault) → OpensAgain record_of can r result → Follows r history → IfOk result (λ machine. Follows (record_of machine) (PowerCycled ∷ history))
 opened_follows record_of can r history (Ok machine) opens follows =

@@ -3,14 +3,12 @@
 
 ghost use Rattle.std.specs.Prelude.{◌≡◌, List, [], not, ℕ};
 ghost use Rattle.std.specs.Str.{bytes_eq};
-ghost use Rattle.tpm_image.specs.KeptText.{kept_text};
-ghost use Rattle.tpm_image.specs.Saving.{PutsFront};
+ghost use Rattle.tpm_image_text.specs.KeptText.{kept_text};
+ghost use Rattle.tpm_image_text.specs.Saving.{PutsFront};
 ghost use Rattle.tpm_machine.specs.State.{state_of};
 
-use crate::body::write_body_at;
-use crate::fields::Text;
-use crate::image::put_front;
 use std::marker::Model;
+use tpm_image_text::{Text, put_front, write_body_at};
 use tpm_machine::Machine;
 use tpm_record::Keep;
 

@@ -10,11 +10,11 @@ use Rattle.tpm_completion.specs.Completion.{new_completion}
 use Rattle.tpm_completion.specs.Execution.{Seen}
 use Rattle.tpm_completion.specs.declared.completion.Completion.{Completion}
 use Rattle.tpm_completion.proofs.Exactly.{exactly}
-use Rattle.tpm_image.specs.Image.{image_of, image_text}
-use Rattle.tpm_image.specs.NonVolatile.{NonVolatile, kept_of, powered_on}
-use Rattle.tpm_image.specs.declared.fault.ImageFault.{ImageFault}
-use Rattle.tpm_image.specs.declared.version.Version.TheVariants.{Two}
-use Rattle.tpm_image.proofs.RecordLaws.{record_again, record_image}
+use Rattle.tpm_image_text.specs.Image.{image_of, image_text}
+use Rattle.tpm_image_text.specs.NonVolatile.{NonVolatile, kept_of, powered_on}
+use Rattle.tpm_image_text.specs.declared.fault.ImageFault.{ImageFault}
+use Rattle.tpm_image_text.specs.declared.version.Version.TheVariants.{Two}
+use Rattle.tpm_image_text.proofs.RecordLaws.{record_again, record_image}
 use Rattle.tpm_bytes.proofs.Fields.{ok_is}
 use Rattle.tpm_journal_text.specs.Entry.{IsEntry, PlainEntry, entry_text, sum_after}
 use Rattle.tpm_journal_text.specs.Head.{head_sum, head_text}

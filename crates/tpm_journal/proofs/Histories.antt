@@ -1,11 +1,10 @@
 -- The history of a device that executes entries again.
 use Rattle.std.proofs.Common.{ℕ, Bool, List, [], ◌∷◌, Option}
 use Rattle.tpm_record.specs.Record.{Record}
-use Rattle.tpm_history.specs.Executions.{Leads}
-use Rattle.tpm_history.specs.Follows.{Follows, StretchFollows}
-use Rattle.tpm_history.specs.History.{History}
-use Rattle.tpm_history.proofs.Following.{stretch_follows}
-use Rattle.tpm_history.proofs.PowerCycles.{leads_on}
+use Rattle.tpm_machine.specs.Executions.{Leads}
+use Rattle.tpm_machine.specs.Follows.{Follows, StretchFollows}
+use Rattle.tpm_machine.specs.History.{History}
+use Rattle.tpm_machine.proofs.Following.{leads_on, stretch_follows}
 use Rattle.tpm_completion.specs.Run.{run_of}
 use Rattle.tpm_completion.proofs.Runs.{run_leads}
 use Rattle.tpm_journal.specs.Command.{event_of}

@@ -3,11 +3,11 @@ use Rattle.std.proofs.Common.{◌≡◌, ℕ, Bool, false, List, ◌++◌, lengt
 use Rattle.std.proofs.lemmas.Bool.{false≢true}
 use Rattle.std.proofs.lemmas.List.{length-take-le, take-append-drop}
 use Rattle.tpm_record.specs.Record.{Record}
-use Rattle.tpm_image.specs.Image.{image_of}
-use Rattle.tpm_image.specs.NonVolatile.{NonVolatile, powered_on}
-use Rattle.tpm_image.specs.Opening.{Opens}
-use Rattle.tpm_image.specs.declared.fault.ImageFault.{ImageFault}
-use Rattle.tpm_image.specs.declared.fault.ImageFault.TheVariants as fault
+use Rattle.tpm_image_text.specs.Image.{image_of}
+use Rattle.tpm_image_text.specs.NonVolatile.{NonVolatile, powered_on}
+use Rattle.tpm_image_text.specs.Opening.{Opens}
+use Rattle.tpm_image_text.specs.declared.fault.ImageFault.{ImageFault}
+use Rattle.tpm_image_text.specs.declared.fault.ImageFault.TheVariants as fault
 use Rattle.tpm_journal_text.specs.Head.{IsHeadOf, head_text}
 use Rattle.tpm_journal_text.specs.declared.head.Head.{Head}
 use Rattle.tpm_journal.specs.Opening.{BeginsWith, Reads}

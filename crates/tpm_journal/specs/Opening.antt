@@ -1,8 +1,8 @@
 -- A text that is opened as a journal.
 use Rattle.std.specs.Prelude.{◌≡◌, ◌+◌, ℕ, false, List, ◌++◌, length, Result, Ok, Err, Some, None}
 use Rattle.tpm_completion.specs.declared.completion.Completion.{Completion}
-use Rattle.tpm_image.specs.Image.{image_of}
-use Rattle.tpm_image.specs.NonVolatile.{NonVolatile, powered_on}
+use Rattle.tpm_image_text.specs.Image.{image_of}
+use Rattle.tpm_image_text.specs.NonVolatile.{NonVolatile, powered_on}
 use Rattle.tpm_journal_text.specs.Entry.{PlainEntry}
 use Rattle.tpm_journal_text.specs.Head.{HasHead, head_sum, head_text}
 use Rattle.tpm_journal_text.specs.Journal.{entries_text}

@@ -2,11 +2,11 @@
 
 ghost use Rattle.std.specs.Prelude.{◌≡◌, ◌≤◌, ◌<◌, false, length, take};
 ghost use Rattle.tpm_completion.specs.Execution.{seen_of};
-ghost use Rattle.tpm_history.specs.Follows.{After, Follows};
-ghost use Rattle.tpm_image.specs.Image.{image_text};
-ghost use Rattle.tpm_image.specs.NonVolatile.{kept_of};
-ghost use Rattle.tpm_image.specs.Saving.{PutsFront};
-ghost use Rattle.tpm_image.specs.declared.version.Version.TheVariants.{Two};
+ghost use Rattle.tpm_machine.specs.Follows.{After, Follows};
+ghost use Rattle.tpm_image_text.specs.Image.{image_text};
+ghost use Rattle.tpm_image_text.specs.NonVolatile.{kept_of};
+ghost use Rattle.tpm_image_text.specs.Saving.{PutsFront};
+ghost use Rattle.tpm_image_text.specs.declared.version.Version.TheVariants.{Two};
 ghost use Rattle.tpm_journal.specs.Command.{Executed, command_at, elapsed_of, entry_of};
 ghost use Rattle.tpm_journal.specs.State.{journal_after, journal_begun, journal_of};
 ghost use Rattle.tpm_journal_text.specs.Entry.{IsEntry, entry_text};
@@ -19,8 +19,8 @@ ghost use Rattle.tpm_step.specs.Step.{outcome_step};
 ghost use Rattle.tpm_types.specs.Locality.{locality_number};
 
 use tpm_completion::{Completion, execute as complete};
-use tpm_image::laws::image_laws;
 use tpm_image::save_into;
+use tpm_image_text::laws::image_laws;
 use tpm_journal_text::{ENTRY_LIMIT, ENTRY_ROOM, Entry, IMAGE_ROOM, head_size, sum_of, write_head};
 use tpm_machine::Machine;
 use tpm_record::Keep;

@@ -4,11 +4,11 @@ ghost use Rattle.std.specs.Prelude.{◌≡◌, ◌++◌, ℕ, Bool, List, Option
 ghost use Rattle.std.specs.List.{AllByRecursion};
 ghost use Rattle.tpm_completion.specs.Completion.{new_completion};
 ghost use Rattle.tpm_completion.specs.declared.completion.Completion.{Completion};
-ghost use Rattle.tpm_history.specs.Follows.{Follows, StretchFollows};
-ghost use Rattle.tpm_history.specs.History.{History};
-ghost use Rattle.tpm_image.specs.Image.{image_text};
-ghost use Rattle.tpm_image.specs.NonVolatile.{kept_of};
-ghost use Rattle.tpm_image.specs.declared.version.Version.TheVariants.{Two};
+ghost use Rattle.tpm_machine.specs.Follows.{Follows, StretchFollows};
+ghost use Rattle.tpm_machine.specs.History.{History};
+ghost use Rattle.tpm_image_text.specs.Image.{image_text};
+ghost use Rattle.tpm_image_text.specs.NonVolatile.{kept_of};
+ghost use Rattle.tpm_image_text.specs.declared.version.Version.TheVariants.{Two};
 ghost use Rattle.tpm_journal.specs.Living.{Answers, Lives};
 ghost use Rattle.tpm_journal.specs.Opening.{BeginsWith, IsOpenedAgain, OpensJournal};
 ghost use Rattle.tpm_journal.specs.Replay.{IsFollowedWhole, Repeats, Replays, run_of_all};

@@ -22,7 +22,7 @@ use Rattle.tpm_step.specs.Step.{acceptance, accepted, request_in}
 use Rattle.tpm_step.specs.Table.{row_of}
 use Rattle.tpm_laws.specs.Acceptance.{IsAcceptance, IsDue}
 use Rattle.tpm_laws.specs.Handles.{HandlesFit}
-use Rattle.tpm_laws.proofs.Binding.{ok_at, ok_bind, ok_bind_is, ok_checked, ok_in_command, ok_then}
+use Rattle.tpm_step.proofs.Binding.{ok_at, ok_bind, ok_bind_is, ok_checked, ok_in_command, ok_then}
 use Rattle.tpm_laws.proofs.Handles.{general_fits}
 
 due_of : (code : CommandCode) (r : Record) → both_or_neither r.fixed.started (is_startup code) ≡ false → IsDue code r

@@ -15,13 +15,9 @@ use Rattle.tpm_actions_base.specs.Rows.{Success}
 use Rattle.tpm_step.specs.Step.{Accepted, acceptance, request_in}
 use Rattle.tpm_step.specs.Table.{row_of}
 use Rattle.tpm_laws.specs.Sessions.{HaveSessions, SessionsStay}
-use Rattle.tpm_laws.proofs.Binding.{ok_at}
+use Rattle.tpm_step.proofs.Binding.{checked_ok, ok_at}
 use Rattle.tpm_laws.proofs.Sessions.{entries_have, entries_keep}
 use Rattle.tpm_laws.proofs.Table.{row_stays}
-
-pub checked_ok : {X : Type 0} (check : Check) (x : Result X Rc) (y : X) → checked check x ≡ Ok y → x ≡ Ok y
-checked_ok {X} check (Ok x) y e = ap (λ (z : X). let r : Result X Rc = Ok z in r) (ok_is {E = Refused} x y e)
-checked_ok check (Err rc) y e = absurd cc
 
 entries_start : (r : Record) (c : Whole) (locality : ℕ) (grants : _) → authorize r c locality ≡ Ok grants → HaveSessions r c.entries
 unfolding authorize

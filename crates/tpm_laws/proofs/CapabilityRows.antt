@@ -11,7 +11,7 @@ use Rattle.tpm_actions_capability.specs.declared.get_capability.Capability.TheVa
 use Rattle.tpm_actions_capability.specs.declared.get_capability.CapabilityParameters.{CapabilityParameters}
 use Rattle.tpm_laws.specs.Order.{Late, Plain}
 use Rattle.tpm_laws.specs.RowLaws.{RowLaws}
-use Rattle.tpm_laws.proofs.Binding.{err_bind}
+use Rattle.tpm_step.proofs.Binding.{err_bind}
 use Rattle.tpm_laws.proofs.Order.{ordered_steps}
 use Rattle.tpm_laws.proofs.PlainSteps.{plain_steps}
 use Rattle.tpm_laws.proofs.Successes.{in_place_steps}

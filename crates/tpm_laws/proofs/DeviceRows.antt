@@ -61,7 +61,7 @@ use Rattle.tpm_laws.specs.RowLaws.{RowLaws, SuccessLaws}
 use Rattle.tpm_laws.specs.Shapes.{Grows, taken_in}
 use Rattle.tpm_laws.specs.Sizes.{AreSized, IsSized}
 use Rattle.tpm_laws.proofs.AllPlaces.{all_set}
-use Rattle.tpm_laws.proofs.Binding.{asked, ok_bind, ok_bind_is, some_is}
+use Rattle.tpm_step.proofs.Binding.{asked, ok_bind, ok_bind_is, ok_then, some_is}
 use Rattle.tpm_laws.proofs.Order.{ordered_steps}
 use Rattle.tpm_laws.proofs.PlainSteps.{plain_steps}
 use Rattle.tpm_laws.proofs.SessionPlaces.{flushed_all, stays_put}
@@ -81,7 +81,6 @@ use Rattle.tpm_record.specs.Hierarchy.{cleared_hierarchies}
 use Rattle.tpm_actions_base.specs.Refusals.{action_refusal, or_refusal}
 use Rattle.tpm_actions_base.specs.Rows.{all_read}
 use Rattle.tpm_actions_device.specs.Clear.{clear_row, cleared_fixed}
-use Rattle.tpm_laws.proofs.Binding.{ok_then}
 
 -- ---- a startup and a shutdown
 

@@ -23,7 +23,7 @@ use Rattle.tpm_actions_base.specs.Request.{Request}
 use Rattle.tpm_step.specs.General.{body_of, both_or_neither, general, in_header, is_startup}
 use Rattle.tpm_step.specs.General.{present_handles_at, sessions_pass}
 use Rattle.tpm_laws.specs.Draws.{draws_of}
-use Rattle.tpm_laws.proofs.Binding.{ok_bind, ok_checked, ok_in_command, ok_then}
+use Rattle.tpm_step.proofs.Binding.{ok_bind, ok_checked, ok_in_command, ok_then}
 
 entries_few : (most : ℕ) (text : List ℕ) → IfOk (entries_in most text) (λ es. length es ≤ most)
 entries_few most [] = omega arith

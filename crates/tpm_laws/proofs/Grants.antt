@@ -28,7 +28,7 @@ use Rattle.tpm_auth.proofs.Granting.{granting}
 use Rattle.tpm_laws.specs.Grants.{GrantsFit, granted_handle, handle_in}
 use Rattle.tpm_laws.specs.Refusals.{RefusesAuthorization}
 use Rattle.tpm_laws.specs.Sessions.{HasSession, HaveSessions}
-use Rattle.tpm_laws.proofs.Binding.{err_bind, err_checked, err_if, ok_at, ok_bind, ok_weaker}
+use Rattle.tpm_step.proofs.Binding.{err_bind, err_checked, err_if, ok_at, ok_bind, ok_weaker}
 use Rattle.tpm_laws.proofs.Sessions.{entries_have}
 
 -- ---- by which checks entries are refused

@@ -25,8 +25,7 @@ use Rattle.tpm_step.specs.Step.{acceptance, request_in}
 use Rattle.tpm_step.specs.Table.{row_of}
 use Rattle.tpm_laws.specs.Handles.{FitsRule, HandlesFit}
 use Rattle.tpm_laws.specs.Refusals.{Passes}
-use Rattle.tpm_laws.proofs.Accepted.{checked_ok}
-use Rattle.tpm_laws.proofs.Binding.{asked, ok_checked, ok_in_command, err_bind, err_bind_is, err_checked, err_if, ok_bind, ok_bind_is, ok_then}
+use Rattle.tpm_step.proofs.Binding.{asked, checked_ok, err_bind, err_bind_is, err_checked, err_if, ok_bind, ok_bind_is, ok_checked, ok_in_command, ok_then}
 use Rattle.tpm_laws.proofs.Grants.{grants_refuse}
 use Rattle.tpm_laws.proofs.Table.{row_passes}
 

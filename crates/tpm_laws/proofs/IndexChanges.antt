@@ -41,7 +41,7 @@ use Rattle.tpm_nvactions.specs.NvDefineSpace.{definition_refusal}
 use Rattle.tpm_types_command.specs.Part.{NvAuthValue, NvCounter, NvData, Part}
 use Rattle.tpm_laws.specs.IndexChanges.{ChangesAuth, ChangesIndices, HasNoConflict}
 use Rattle.tpm_laws.specs.IndexChanges.{Increments, Writes}
-use Rattle.tpm_laws.proofs.Binding.{ok_at, ok_bind, ok_bind_is, some_is}
+use Rattle.tpm_step.proofs.Binding.{ok_at, ok_bind, ok_bind_is, some_is}
 use Rattle.tpm_laws.proofs.Parts.{SameCount}
 
 -- ---- an index is written or locked

@@ -58,7 +58,7 @@ use Rattle.tpm_laws.specs.IndexChanges.{ChangesIndices, HasNoConflict}
 use Rattle.tpm_laws.specs.Order.{IsLate, Late, Orders, Plain}
 use Rattle.tpm_laws.specs.RowLaws.{RowLaws, SuccessLaws}
 use Rattle.tpm_laws.specs.Shapes.{AnswersItsShape, Grows, behind, spelled}
-use Rattle.tpm_laws.proofs.Binding.{err_bind, err_if, ok_bind, ok_bind_is, ok_then}
+use Rattle.tpm_step.proofs.Binding.{err_bind, err_if, ok_bind, ok_bind_is, ok_then}
 use Rattle.tpm_laws.proofs.IndexChanges.{auth_changes, bits_write, counts_so}
 use Rattle.tpm_laws.proofs.IndexChanges.{extended_writes, keeps_count, none_is, passes_so}
 use Rattle.tpm_laws.proofs.IndexChanges.{read_locked_writes, same_count, target_names}

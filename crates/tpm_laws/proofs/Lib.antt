@@ -1,4 +1,3 @@
-pub mod Binding
 pub mod Readings
 pub mod AllPlaces
 pub mod SizedParts
@@ -18,7 +17,6 @@ pub mod Sessions
 pub mod Accepted
 pub mod Grants
 pub mod Handles
-pub mod Decoding
 pub mod Memory
 pub mod Draws
 pub mod SizedSteps

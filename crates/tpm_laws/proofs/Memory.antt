@@ -27,8 +27,7 @@ use Rattle.tpm_step.specs.Step.{Accepted, Stepped, acceptance, accepted, stepped
 use Rattle.tpm_step.specs.Table.{row_of}
 use Rattle.tpm_step.specs.declared.refused_command.RefusedCommand.{RefusedCommand}
 use Rattle.tpm_laws.specs.Refusals.{Passes}
-use Rattle.tpm_laws.proofs.Accepted.{checked_ok}
-use Rattle.tpm_laws.proofs.Binding.{err_bind, err_bind_is, err_checked, err_if}
+use Rattle.tpm_step.proofs.Binding.{checked_ok, err_bind, err_bind_is, err_checked, err_if}
 use Rattle.tpm_laws.proofs.Grants.{grants_refuse}
 use Rattle.tpm_laws.proofs.Table.{row_wants}
 

@@ -66,7 +66,7 @@ use Rattle.tpm_laws.specs.IndexChanges.{ChangesIndices}
 use Rattle.tpm_laws.specs.Order.{Late, Orders, Plain}
 use Rattle.tpm_laws.specs.RowLaws.{RowLaws, SuccessLaws}
 use Rattle.tpm_laws.specs.Shapes.{AnswersItsShape, GrowsAsShaped, taken_in}
-use Rattle.tpm_laws.proofs.Binding.{err_bind, err_if, ok_bind, ok_bind_is, ok_then, some_is}
+use Rattle.tpm_step.proofs.Binding.{err_bind, err_if, ok_bind, ok_bind_is, ok_then, some_is}
 use Rattle.tpm_laws.proofs.Order.{IsThere, behind_found, either, ordered_steps}
 use Rattle.tpm_laws.proofs.Parts.{leaves_sessions}
 use Rattle.tpm_laws.proofs.PlainSteps.{plain_steps}

@@ -34,7 +34,7 @@ use Rattle.tpm_laws.specs.Handles.{FitsRule, HandlesFit}
 use Rattle.tpm_laws.specs.Order.{InOrder, IsLate, Late, Orders}
 use Rattle.tpm_laws.specs.Refusals.{Passes}
 use Rattle.tpm_laws.specs.Shapes.{ReadsParameters, behind_kind, spelled}
-use Rattle.tpm_laws.proofs.Binding.{bind_assoc, err_bind, err_fault, err_if, err_or}
+use Rattle.tpm_step.proofs.Binding.{bind_assoc, err_bind, err_fault, err_if, err_or}
 use Rattle.tpm_laws.proofs.Readings.{all_read_outcome, only_read, outcome, read_all}
 use Rattle.tpm_laws.proofs.Readings.{read_one, trimmed_read}
 

@@ -7,7 +7,7 @@ use Rattle.tpm_actions_base.specs.Refusals.{fault_refusal, or_refusal}
 use Rattle.tpm_actions_base.specs.Request.{first_handle, second_handle, third_handle}
 use Rattle.tpm_actions_base.specs.Rows.{parameter}
 use Rattle.tpm_laws.specs.Order.{Plain}
-use Rattle.tpm_laws.proofs.Binding.{err_bind, err_fault, err_if, err_or}
+use Rattle.tpm_step.proofs.Binding.{err_bind, err_fault, err_if, err_or}
 
 pub plain_parameter : {X : Type 0} (n : ℕ) (x : Result X Rc) → Plain (parameter n x)
 plain_parameter n (Ok x) = tt

@@ -42,7 +42,7 @@ use Rattle.tpm_laws.specs.RowLaws.{RowLaws, SuccessLaws}
 use Rattle.tpm_laws.specs.Sessions.{SessionsStay}
 use Rattle.tpm_laws.specs.Shapes.{AnswersItsShape}
 use Rattle.tpm_laws.specs.Sizes.{AreSized, IsSized}
-use Rattle.tpm_laws.proofs.Binding.{ok_bind, ok_bind_is, ok_then, some_is}
+use Rattle.tpm_step.proofs.Binding.{ok_bind, ok_bind_is, ok_then, some_is}
 use Rattle.tpm_laws.proofs.Order.{late_found, ordered_steps}
 use Rattle.tpm_laws.proofs.Parts.{same_sessions}
 use Rattle.tpm_laws.proofs.PlainSteps.{plain_steps}

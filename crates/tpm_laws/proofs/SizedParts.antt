@@ -13,7 +13,7 @@ use Rattle.tpm_policy.specs.Assertion.{Assertion, Pcr, Or, AuthValue, Password, 
 use Rattle.tpm_policy.specs.State.{Policy, starting}
 use Rattle.tpm_session.specs.Key.{is_nonce_size, session_key}
 use Rattle.tpm_session.specs.declared.session.Binding.{Binding}
-use Rattle.tpm_laws.proofs.Binding.{ok_bind}
+use Rattle.tpm_step.proofs.Binding.{ok_bind}
 
 -- ---- session keys
 

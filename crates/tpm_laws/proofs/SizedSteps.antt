@@ -39,7 +39,7 @@ use Rattle.tpm_types_command.specs.declared.command_code.CommandCode.{CommandCod
 use Rattle.tpm_laws.proofs.Draws.{general_few}
 use Rattle.tpm_laws.specs.Sizes.{AreSized, IsSized}
 use Rattle.tpm_laws.proofs.AllPlaces.{all_changed, all_found, all_free}
-use Rattle.tpm_laws.proofs.Binding.{ok_bind, ok_then, ok_in_command}
+use Rattle.tpm_step.proofs.Binding.{ok_bind, ok_then, ok_in_command}
 use Rattle.tpm_laws.proofs.SizedParts.{starting_sized, nonce_few, nonce_taken}
 use Rattle.tpm_laws.proofs.SessionPlaces.{flushed_all, policy_all}
 use Rattle.tpm_laws.proofs.Table.{row_draws, row_sized}

@@ -16,7 +16,7 @@ use Rattle.tpm_laws.specs.Acceptance.{IsAcceptance, IsDue}
 use Rattle.tpm_laws.specs.Footprint.{Touches}
 use Rattle.tpm_types_command.specs.Part.{Part, AuthValues, Beginning}
 use Rattle.tpm_types_command.specs.CommandCode.{part_of}
-use Rattle.tpm_laws.proofs.Binding.{ok_at, ok_bind, ok_weaker}
+use Rattle.tpm_step.proofs.Binding.{ok_at, ok_bind, ok_weaker}
 use Rattle.tpm_laws.proofs.Table.{row_touches}
 use Rattle.tpm_laws.proofs.Leaving.{success_leaves}
 

@@ -13,7 +13,7 @@ use Rattle.tpm_laws.specs.IndexChanges.{ChangesIndices}
 use Rattle.tpm_laws.specs.RowLaws.{SuccessLaws}
 use Rattle.tpm_laws.specs.Shapes.{AnswersItsShape, Grows, GrowsAsShaped}
 use Rattle.tpm_laws.specs.Sizes.{IsSized}
-use Rattle.tpm_laws.proofs.Binding.{ok_bind}
+use Rattle.tpm_step.proofs.Binding.{ok_bind}
 use Rattle.tpm_laws.proofs.Parts.{keeps_places, leaves_sessions, sessions_same}
 use Rattle.tpm_laws.proofs.Parts.{touched_grows, touched_same}
 

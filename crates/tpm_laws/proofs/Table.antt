@@ -19,7 +19,7 @@ use Rattle.tpm_laws.specs.RowLaws.{RowLaws, SuccessLaws}
 use Rattle.tpm_laws.specs.Sessions.{SessionsStay}
 use Rattle.tpm_laws.specs.Shapes.{AnswersItsShape, GrowsAsShaped, ReadsParameters, spelled}
 use Rattle.tpm_laws.specs.Sizes.{AreSized}
-use Rattle.tpm_laws.proofs.Binding.{ok_weaker}
+use Rattle.tpm_step.proofs.Binding.{ok_weaker}
 use Rattle.tpm_laws.proofs.CapabilityRows as capability
 use Rattle.tpm_laws.proofs.DeviceRows as device
 use Rattle.tpm_laws.proofs.IndexRows as nv

@@ -11,7 +11,7 @@ use Rattle.tpm_record.specs.Record.{Record}
 use Rattle.tpm_step.specs.General.{body_of, general, in_command, in_header, sessions_pass}
 use Rattle.tpm_step.specs.declared.refused_command.RefusedCommand.{RefusedCommand}
 use Rattle.tpm_laws.specs.Order.{IsPlain, Plain}
-use Rattle.tpm_laws.proofs.Binding.{err_bind, err_checked, err_if}
+use Rattle.tpm_step.proofs.Binding.{err_bind, err_checked, err_if}
 
 header_plain : (x : Result (Header × List ℕ) HeaderFault) → IfErr (in_header x) (λ e. IsPlain e.refused)
 header_plain (Ok header) = tt

@@ -152,7 +152,7 @@ pub fn later_handle_laws()
 /// A command that the general checks let through is the one that the whole buffer spells: so one
 /// buffer decodes to one command, whatever the record.
 #[inline(always)]
-#[tactic(auto, using(crate::proofs::Decoding::general_reads, crate::proofs::Decoding::one_command))]
+#[tactic(auto, using(tpm_step::proofs::Decoding::general_reads, tpm_step::proofs::Decoding::one_command))]
 pub fn decoding_laws()
     ensures read { (r : Record) (buffer : List ℕ)
         → IfOk (general r buffer) (λ c. command_at buffer ≡ Ok (c, [])) }

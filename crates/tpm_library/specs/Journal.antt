@@ -1,10 +1,10 @@
 -- What a device does with its journal.
 use Rattle.std.specs.Prelude.{◌≡◌, ◌≤◌, ◌<◌, ℕ, Bool, false, List, length, take, Option, Some, None, Result, Ok, Err}
-use Rattle.tpm_completion.specs.Execution.{Seen}
-use Rattle.tpm_history.specs.Follows.{After, Follows}
-use Rattle.tpm_image.specs.Image.{image_text}
-use Rattle.tpm_image.specs.NonVolatile.{kept_of}
-use Rattle.tpm_image.specs.declared.version.Version.TheVariants.{Two}
+use Rattle.tpm_journal.specs.Execution.{Seen}
+use Rattle.tpm_machine.specs.Follows.{After, Follows}
+use Rattle.tpm_image_text.specs.Image.{image_text}
+use Rattle.tpm_image_text.specs.NonVolatile.{kept_of}
+use Rattle.tpm_image_text.specs.declared.version.Version.TheVariants.{Two}
 use Rattle.tpm_journal.specs.Command.{Command, Executed, command_at, elapsed_of, entry_of}
 use Rattle.tpm_journal.specs.Opening.{IsJournal, OpensJournal}
 use Rattle.tpm_journal.specs.State.{journal_after, journal_begun}

@@ -1,7 +1,7 @@
 -- The numbers that calls answer.
 use Rattle.std.specs.Prelude.{◌≡◌, ℕ, Option, Some, None, Result, Ok, Err}
-use Rattle.tpm_image.specs.declared.fault.ImageFault.{ImageFault}
-use Rattle.tpm_image.specs.declared.fault.ImageFault.TheVariants as fault
+use Rattle.tpm_image_text.specs.declared.fault.ImageFault.{ImageFault}
+use Rattle.tpm_image_text.specs.declared.fault.ImageFault.TheVariants as fault
 use Rattle.tpm_journal.specs.declared.following.FollowFault.{FollowFault}
 use Rattle.tpm_journal.specs.declared.following.FollowFault.TheVariants as follow
 use Rattle.tpm_journal.specs.declared.opening.OpenFault.{OpenFault}

@@ -2,15 +2,15 @@
 
 ghost use Rattle.std.specs.Prelude.{◌≡◌, ◌∷◌, [], IfErr, IfOk, IfSome, drop, false, length};
 ghost use Rattle.std.specs.Prelude.{replicate, take, true};
-ghost use Rattle.tpm_history.specs.Follows.{After, Follows};
-ghost use Rattle.tpm_history.specs.History.{History, PowerCycled};
-ghost use Rattle.tpm_image.specs.Image.{IsImage, image_text};
-ghost use Rattle.tpm_image.specs.KeptText.{kept_text};
-ghost use Rattle.tpm_image.specs.NonVolatile.{kept_of};
-ghost use Rattle.tpm_image.specs.Opening.{Opens};
-ghost use Rattle.tpm_image.specs.Saving.{PutsFront};
-ghost use Rattle.tpm_image.specs.declared.version.Version.{Version};
-ghost use Rattle.tpm_image.specs.declared.version.Version.TheVariants.{Two};
+ghost use Rattle.tpm_machine.specs.Follows.{After, Follows};
+ghost use Rattle.tpm_machine.specs.History.{History, PowerCycled};
+ghost use Rattle.tpm_image_text.specs.Image.{IsImage, image_text};
+ghost use Rattle.tpm_image_text.specs.KeptText.{kept_text};
+ghost use Rattle.tpm_image_text.specs.NonVolatile.{kept_of};
+ghost use Rattle.tpm_image_text.specs.Opening.{Opens};
+ghost use Rattle.tpm_image_text.specs.Saving.{PutsFront};
+ghost use Rattle.tpm_image_text.specs.declared.version.Version.{Version};
+ghost use Rattle.tpm_image_text.specs.declared.version.Version.TheVariants.{Two};
 ghost use Rattle.tpm_machine.specs.Drawn.{drawn_by};
 ghost use Rattle.tpm_record.specs.IsRecord.{IsRecord};
 ghost use Rattle.tpm_record.specs.Record.{Record, manufactured};

@@ -1,6 +1,6 @@
 -- What a log writes is the entry of the latest execution.
 use Rattle.std.proofs.Common.{◌≡◌, ℕ, Option, Some, sym, ap, ◌∙◌, subst}
-use Rattle.tpm_history.specs.Executions.{Execution}
+use Rattle.tpm_machine.specs.Executions.{Execution}
 use Rattle.tpm_journal_text.specs.Entry.{PlainEntry}
 use Rattle.tpm_log.specs.Executed.{entry_by, entry_in}
 use Rattle.tpm_log.specs.Log.{Adds, AddsEntry, AddsSome, Written}

@@ -1,7 +1,7 @@
 -- The entry of an execution.
 use Rattle.std.specs.Prelude.{ℕ, false, List, take, Option, Some, None}
 use Rattle.tpm_step.specs.Events.{PlainEvent, Given, Cycled}
-use Rattle.tpm_history.specs.Executions.{Execution}
+use Rattle.tpm_machine.specs.Executions.{Execution}
 use Rattle.tpm_machine.specs.Drawn.{drawn_by}
 use Rattle.tpm_journal_text.specs.Entry.{PlainEntry}
 use Rattle.tpm_journal_text.specs.Sum.{sum_of}

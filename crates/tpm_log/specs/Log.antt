@@ -3,7 +3,7 @@ use Rattle.std.specs.Prelude.{◌≡◌, ℕ, Bool, false, List, map, Option, So
 use Rattle.std.specs.Io.KnownBytes.{Appends}
 use Rattle.std.specs.List.{AllByRecursion, FoldsTo}
 use Rattle.tpm_bytes.specs.Tap.{device_of}
-use Rattle.tpm_history.specs.Executions.{Execution}
+use Rattle.tpm_machine.specs.Executions.{Execution}
 use Rattle.tpm_journal_text.specs.Entry.{IsEntry, PlainEntry, entry_text, sum_after}
 use Rattle.tpm_journal_text.specs.Head.{head_sum, head_text}
 use Rattle.tpm_journal_text.specs.Journal.{entries_text, sum_after_all}

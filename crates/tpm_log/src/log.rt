@@ -1,17 +1,17 @@
 //! A log, which is written to a writer: its head, and an entry for each command.
 
 ghost use Rattle.std.specs.Prelude.{◌≡◌, ◌≤◌, IfOk, length, take, true};
-ghost use Rattle.tpm_image.specs.Image.{image_text};
-ghost use Rattle.tpm_image.specs.NonVolatile.{kept_of};
-ghost use Rattle.tpm_image.specs.declared.version.Version.TheVariants.{Two};
+ghost use Rattle.tpm_image_text.specs.Image.{image_text};
+ghost use Rattle.tpm_image_text.specs.NonVolatile.{kept_of};
+ghost use Rattle.tpm_image_text.specs.declared.version.Version.TheVariants.{Two};
 ghost use Rattle.tpm_journal_text.specs.Head.{image_limit};
 ghost use Rattle.tpm_machine.specs.State.{state_of};
 
 use crate::entry::entry_of;
 use std::io::Write;
 use tpm_bytes::Tap;
-use tpm_image::laws::image_laws;
 use tpm_image::save_into;
+use tpm_image_text::laws::image_laws;
 use tpm_journal_text::{ENTRY_ROOM, IMAGE_ROOM, head_size, write_head};
 use tpm_machine::Machine;
 use tpm_record::Keep;

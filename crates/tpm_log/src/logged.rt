@@ -1,7 +1,7 @@
 //! A witness that keeps a log, if there is one, and then tells another witness.
 
 ghost use Rattle.std.specs.Prelude.{◌≡◌, OnErr, OnOk, true};
-ghost use Rattle.tpm_history.specs.Executions.{Execution};
+ghost use Rattle.tpm_machine.specs.Executions.{Execution};
 ghost use Rattle.tpm_log.specs.Log.{AddsWhereKept, log_failed};
 ghost use Rattle.tpm_machine.specs.State.{latest_drawn, state_of};
 ghost use Rattle.tpm_saver.specs.Latest.{IsLatest};

@@ -1,4 +1,3 @@
-pub mod Drawn
 pub mod State
 pub use Rattle.tpm_step.specs.Events
 pub use Rattle.tpm_step.specs.Step
@@ -6,3 +5,7 @@ pub use Rattle.tpm_step.specs.Run
 pub use Rattle.tpm_step.specs.Safe
 pub use Rattle.tpm_record.specs.Record
 pub use Rattle.tpm_record.specs.IsRecord
+pub use Rattle.tpm_execution.specs.Drawn
+pub use Rattle.tpm_history.specs.Executions
+pub use Rattle.tpm_history.specs.Follows
+pub use Rattle.tpm_history.specs.History

@@ -1,2 +1,2 @@
 pub mod Latest
-pub use Rattle.tpm_history.specs.Executions
+pub use Rattle.tpm_machine.specs.Executions

@@ -12,8 +12,8 @@ use Rattle.tpm_record.specs.Record.{Record}
 use Rattle.tpm_step.specs.Execution.{Executes}
 use Rattle.tpm_step.specs.Step.{outcome_step}
 use Rattle.tpm_step.specs.declared.event.Outcome.{Outcome}
-use Rattle.tpm_history.specs.Executions.{Execution, Leads}
-use Rattle.tpm_history.proofs.PowerCycles.{leads_on}
+use Rattle.tpm_machine.specs.Executions.{Execution, Leads}
+use Rattle.tpm_machine.proofs.Following.{leads_on}
 use Rattle.tpm_wire.specs.Serve.{AreFewer, AreFirst, Asking, Asks, AsksForEach, AsksInVain, Delivers, Ends, Finishes, HoldsLastBack, LosesLast, Notes, NotesEach, buffer_in, buffers_of, responses_of}
 use Rattle.tpm_wire.specs.Stream.{Cut, Cutting, CutsTo, Stream, cut_of, cut_with, fed, next_of, uncut}
 use Rattle.tpm_wire.specs.Wire.{execution_of, given}

@@ -2,9 +2,9 @@
 use Rattle.std.proofs.Common.{◌≡◌, ℕ, Bool, Option, Some, None, Result, Ok, Err, sym, subst}
 use Rattle.tpm_containers.specs.Slots.{at_place}
 use Rattle.tpm_step.specs.Step.{outcome_step}
-use Rattle.tpm_history.specs.Follows.{Follows}
-use Rattle.tpm_history.specs.History.{History}
-use Rattle.tpm_history.proofs.Following.{execution_follows}
+use Rattle.tpm_machine.specs.Follows.{Follows}
+use Rattle.tpm_machine.specs.History.{History}
+use Rattle.tpm_machine.proofs.Following.{execution_follows}
 use Rattle.tpm_wire.specs.History.{answered_history, cut_history, stream_history, turn_history}
 use Rattle.tpm_wire.specs.Stream.{Cut, Stream, next_of}
 use Rattle.tpm_wire.specs.Wire.{AnswersTurn, Turns, TurnsAt, TurnsBy, Wire, given}

@@ -15,9 +15,8 @@ use Rattle.tpm_step.specs.Execution.{Executes}
 use Rattle.tpm_step.specs.Run.{after_all}
 use Rattle.tpm_step.specs.Step.{Stepped, outcome_step}
 use Rattle.tpm_step.specs.declared.event.Outcome.{Outcome}
-use Rattle.tpm_history.specs.Executions.{Execution, Leads, power_cycle}
-use Rattle.tpm_history.proofs.Following.{stretch_follows}
-use Rattle.tpm_history.proofs.PowerCycles.{power_cycle_executes}
+use Rattle.tpm_machine.specs.Executions.{Execution, Leads, power_cycle}
+use Rattle.tpm_machine.proofs.Following.{power_cycle_executes, stretch_follows}
 use Rattle.tpm_wire.specs.Number.{number_of}
 use Rattle.tpm_wire.specs.Schedule.{Call, Closing, Does, Event, Executed, Feeding, IsOf, IsServed, Life, Opening, PowerCycled, PowerCycling, Schedules, SchedulesAreRuns, SchedulesAreServed, SchedulesLead, Turning, buffer_due, events_in, events_of, executed, plain_event_of, lives_after, lives_after_all, new_life, with_life}
 use Rattle.tpm_wire.specs.Stream.{Cut, Cutting, Stream, cut_of, fed, fitting, next_of, opened, uncut}

@@ -3,7 +3,7 @@ use Rattle.tpm_types.specs.Limits.{buffer_limit}
 use Rattle.std.proofs.Common.{◌≡◌, ℕ, ◌+◌, ◌<◌, ◌≤◌, List, [], ◌∷◌, ◌++◌, length, None, false, refl, sym, ap, subst, ◌∙◌, append-nil, append_assoc, length-append, arith}
 use Rattle.std.proofs.lemmas.Fn.{FoldsTo-push}
 use Rattle.std.specs.List.{FoldsTo}
-use Rattle.tpm_history.specs.Executions.{Execution}
+use Rattle.tpm_machine.specs.Executions.{Execution}
 use Rattle.tpm_wire.specs.Serve.{AreFirst, ReadsPiece, buffers_of}
 use Rattle.tpm_wire.specs.Stream.{Cutting, Stream, cut_of, cut_with, fed, next_of}
 use Rattle.tpm_wire.proofs.Cutting.{cut_last}

@@ -2,7 +2,7 @@
 use Rattle.std.specs.Prelude.{ℕ, Option, Some, None, Result, Ok}
 use Rattle.tpm_containers.specs.Slots.{at_place}
 use Rattle.tpm_record.specs.Record.{Record}
-use Rattle.tpm_history.specs.History.{History, recorded}
+use Rattle.tpm_machine.specs.History.{History, recorded}
 use Rattle.tpm_wire.specs.Stream.{Cut, Stream, next_of}
 use Rattle.tpm_wire.specs.Wire.{Wire, given}
 use Rattle.tpm_wire.specs.declared.fault.NoConnection.{NoConnection}

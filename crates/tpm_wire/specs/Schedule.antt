@@ -11,9 +11,9 @@ use Rattle.tpm_step.specs.Events.{PlainEvent, Cycled}
 use Rattle.tpm_step.specs.Run.{after_all}
 use Rattle.tpm_step.specs.Step.{outcome_step}
 use Rattle.tpm_step.specs.declared.event.Outcome.{Outcome}
-use Rattle.tpm_history.specs.Executions.{Execution, Leads}
-use Rattle.tpm_history.specs.Follows.{Follows, StretchFollows}
-use Rattle.tpm_history.specs.History.{History}
+use Rattle.tpm_machine.specs.Executions.{Execution, Leads}
+use Rattle.tpm_machine.specs.Follows.{Follows, StretchFollows}
+use Rattle.tpm_machine.specs.History.{History}
 use Rattle.tpm_wire.specs.Number.{number_of}
 use Rattle.tpm_wire.specs.Stream.{Stream, cut_of, cut_with}
 use Rattle.tpm_wire.specs.Wire.{Closes, Feeds, Opens, Turns, Wire, given, new_wire}

@@ -9,9 +9,9 @@ use Rattle.std.specs.Io.KnownBytes.{Appends, Consumes, Keeps}
 use Rattle.tpm_bytes.specs.Tap.{AppendsFront, Marks, after_read}
 use Rattle.tpm_record.specs.Record.{Record}
 use Rattle.tpm_step.specs.Events.{PlainEvent, Given, Cycled}
-use Rattle.tpm_history.specs.Executions.{Execution, Leads}
-use Rattle.tpm_history.specs.Follows.{Follows, StretchFollows}
-use Rattle.tpm_history.specs.History.{History}
+use Rattle.tpm_machine.specs.Executions.{Execution, Leads}
+use Rattle.tpm_machine.specs.Follows.{Follows, StretchFollows}
+use Rattle.tpm_machine.specs.History.{History}
 use Rattle.tpm_wire.specs.Stream.{Cut, Cutting, Stream, cut_of, fed, next_of}
 use Rattle.tpm_wire.specs.Wire.{given}
 use Rattle.tpm_bytes.specs.declared.tap.Failed.{Failed}

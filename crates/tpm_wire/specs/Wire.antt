@@ -8,7 +8,7 @@ use Rattle.tpm_step.specs.Events.{PlainEvent, Given}
 use Rattle.tpm_step.specs.Execution.{Executes}
 use Rattle.tpm_step.specs.Step.{outcome_step}
 use Rattle.tpm_step.specs.declared.event.Outcome.{Outcome}
-use Rattle.tpm_history.specs.Executions.{Execution}
+use Rattle.tpm_machine.specs.Executions.{Execution}
 use Rattle.tpm_machine.specs.State.{state_of}
 use Rattle.tpm_wire.specs.Number.{number_of}
 use Rattle.tpm_wire.specs.Stream.{Cut, Stream, fed, fitting, next_of, opened}

@@ -5,7 +5,7 @@ ghost use Rattle.tpm_types.specs.Limits.{buffer_limit};
 ghost use Rattle.std.specs.Prelude.{◌≡◌, ◌≢◌, ◌+◌, ◌≤◌, Err, IfOk, List, None, OnOk, length, take};
 ghost use Rattle.tpm_bytes.specs.Tap.{device_of, marks_of, unmarked};
 ghost use Rattle.tpm_machine.specs.State.{state_of};
-ghost use Rattle.tpm_history.specs.Executions.{Execution, Leads};
+ghost use Rattle.tpm_machine.specs.Executions.{Execution, Leads};
 ghost use Rattle.tpm_step.specs.Execution.{Executes};
 ghost use Rattle.tpm_step.specs.Step.{outcome_step};
 ghost use Rattle.tpm_containers.specs.Slots.{lowest_free};

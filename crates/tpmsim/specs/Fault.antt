@@ -5,15 +5,17 @@ use Rattle.std.specs.declared.io.ErrorKind.{ErrorKind}
 use Rattle.std.specs.declared.io.ErrorKind.TheVariants.{OutOfMemory}
 use Rattle.tpmsim.specs.declared.fault.Fault.{Fault}
 use Rattle.tpmsim.specs.declared.fault.Fault.TheVariants.{Usage, ScriptLine, Asm, NoLine, Image, File, Socket, Entropy, Memory, Kept}
-use Rattle.tpm_image.specs.declared.fault.ImageFault.{ImageFault}
-use Rattle.tpm_image.specs.declared.fault.ImageFault.TheVariants as image
+use Rattle.tpm_image_text.specs.declared.fault.ImageFault.{ImageFault}
+use Rattle.tpm_image_text.specs.declared.fault.ImageFault.TheVariants as image
 use Rattle.tpm_line.specs.declared.fault.SpellFault.{SpellFault}
 use Rattle.tpm_line.specs.declared.fault.SpellFault.TheVariants as spelling
 use Rattle.tpm_text.specs.declared.fault.AsmFault.{AsmFault}
 use Rattle.tpm_text.specs.declared.fault.AsmFault.TheVariants as line
 use Rattle.tpmsim_arguments.specs.declared.fault.ArgumentFault.{ArgumentFault}
 use Rattle.tpmsim_arguments.specs.declared.fault.ArgumentFault.TheVariants as words
-use Rattle.tpmsim_kept.specs.Fault.{is_of_contents, kept_fault_text}
+use Rattle.tpmsim_folder.specs.Fault.{is_of_contents, kept_fault_text}
+use Rattle.tpmsim_image.specs.declared.fault.DeviceFault.{DeviceFault}
+use Rattle.tpmsim_image.specs.declared.fault.DeviceFault.TheVariants as device
 use Rattle.tpmsim_kept.specs.declared.stop.PlayFault.{PlayFault}
 use Rattle.tpmsim_kept.specs.declared.stop.PlayFault.TheVariants as play
 use Rattle.tpmsim_script.specs.declared.fault.ScriptFault.{ScriptFault}
@@ -47,10 +49,13 @@ abbrev pub fault_of_spelling : SpellFault → Fault
 fault_of_spelling spelling.NoLine = NoLine
 fault_of_spelling spelling.NoMemory = Memory
 
--- the fault of a file that was not opened as an image: memory ran out, or the file is no image
-abbrev pub fault_of_image : ImageFault → Fault
-fault_of_image image.NoMemory = Memory
-fault_of_image fault = Image fault
+-- the fault of a device in an image that was not opened, saved or served
+abbrev pub fault_of_device : DeviceFault → Fault
+fault_of_device (device.Image fault) = Image fault
+fault_of_device device.File = File
+fault_of_device device.Socket = Socket
+fault_of_device device.Entropy = Entropy
+fault_of_device device.Memory = Memory
 
 -- the fault of a script that was not played on a kept device
 abbrev pub fault_of_play : PlayFault → Fault

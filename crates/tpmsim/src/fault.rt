@@ -1,17 +1,19 @@
 //! Why the program fails: what it says on standard error, and its exit status.
 
 ghost use Rattle.std.specs.Prelude.{◌≡◌, if◌then◌else◌};
-ghost use Rattle.tpmsim_kept.specs.Fault.{is_of_contents};
+ghost use Rattle.tpmsim_folder.specs.Fault.{is_of_contents};
 
 use std::alloc::AllocError;
 use std::io::ErrorKind;
 use std::{fmt, io};
 use tpm_bytes::NoMemory;
-use tpm_image::ImageFault;
+use tpm_image_text::ImageFault;
 use tpm_line::SpellFault;
 use tpm_text::AsmFault;
 use tpmsim_arguments::ArgumentFault;
-use tpmsim_kept::{KeptFault, PlayFault};
+use tpmsim_folder::KeptFault;
+use tpmsim_image::DeviceFault;
+use tpmsim_kept::PlayFault;
 use tpmsim_script::ScriptFault;
 
 /// Why the program failed. The fault prints as the line on standard error says it.
@@ -119,15 +121,18 @@ impl From<NoMemory> for Fault {
     }
 }
 
-impl From<ImageFault> for Fault {
-    ghost use Rattle.tpmsim.specs.Fault.{fault_of_image};
+impl From<DeviceFault> for Fault {
+    ghost use Rattle.tpmsim.specs.Fault.{fault_of_device};
 
-    ghost from_gives = { λ image_fault fault. fault ≡ fault_of_image image_fault };
+    ghost from_gives = { λ device_fault fault. fault ≡ fault_of_device device_fault };
 
-    fn from(fault: ImageFault) -> Fault {
+    fn from(fault: DeviceFault) -> Fault {
         match fault {
-            ImageFault::NoMemory => Fault::Memory,
-            fault => Fault::Image(fault),
+            DeviceFault::Image(fault) => Fault::Image(fault),
+            DeviceFault::File => Fault::File,
+            DeviceFault::Socket => Fault::Socket,
+            DeviceFault::Entropy => Fault::Entropy,
+            DeviceFault::Memory => Fault::Memory,
         }
     }
 }

@@ -1,6 +1,5 @@
 //! What the program does with a device that is kept in a folder.
 
-use crate::entropy::Entropy;
 use crate::fault::Fault;
 use std::fs;
 use std::io::Read;
@@ -8,8 +7,11 @@ use tpm_bytes::Tap;
 use tpm_machine::Machine;
 use tpm_record::SlotKeep;
 use tpm_step::Outcome;
+use tpmsim_folder::{Force, Place, Said};
+use tpmsim_image::Entropy;
 use tpmsim_journal_script::{RetellFault, retell};
-use tpmsim_kept::{Force, Kept, Place, Said, play};
+use tpmsim_kept::said::said_of_opening;
+use tpmsim_kept::{Kept, play};
 use tpmsim_script::first_bytes;
 
 /// Takes power away from the device in a folder, and gives it back.
@@ -26,7 +28,9 @@ pub fn print_script(rt: &HostRuntime, folder: &str) -> Result<(), Fault> {
     let output = &mut Tap::new(rt.stdout());
     match retell(&mut machine, text.as_slice(), &mut outcome, output) {
         Ok(()) => Ok(()),
-        Err(RetellFault::Open(fault)) => Err(Fault::Kept(Place::Journal.that(Said::of(fault)))),
+        Err(RetellFault::Open(fault)) => {
+            Err(Fault::Kept(Place::Journal.that(said_of_opening(fault))))
+        }
         Err(RetellFault::Write) => Err(Fault::File),
     }
 }

@@ -1,17 +1,23 @@
 //! How the program serves a device that is kept in a folder, one connection after another. Between
 //! two commands of a connection other processes may have theirs.
 
-use crate::entropy::Entropy;
 use crate::fault::Fault;
-use crate::socket::{Socket, bind};
 use tpm_bytes::Tap;
 use tpmsim_arguments::Service;
+use tpmsim_folder::Force;
+use tpmsim_image::{Entropy, Socket, bind};
 use tpmsim_kept::serving::{RandomBytes, ServeFault};
-use tpmsim_kept::{Force, Kept, serve};
+use tpmsim_kept::{Kept, serve};
 
-impl RandomBytes for Entropy {
+/// The random bytes of a served device, which are those of a file.
+#[derive(Drop)]
+struct FileBytes {
+    entropy: Entropy,
+}
+
+impl RandomBytes for FileBytes {
     fn next(&mut self) -> Option<[u8; 256]> {
-        match self.random() {
+        match self.entropy.random() {
             Ok(random) => Some(random),
             Err(_) => None,
         }
@@ -31,7 +37,7 @@ pub fn serve_kept(rt: &HostRuntime, service: &Service, folder: &str) -> Result<(
     }
     kept.open()?;
     let socket = bind(rt, service.socket)?;
-    let served = serve_connections(service, &socket, &mut kept, &mut entropy);
+    let served = serve_connections(service, &socket, &mut kept, &mut FileBytes { entropy });
     socket.remove(rt, service.socket);
     served
 }
@@ -51,7 +57,7 @@ fn serve_connections(
     service: &Service,
     socket: &Socket,
     kept: &mut Kept<'_>,
-    entropy: &mut Entropy,
+    bytes: &mut FileBytes,
 ) -> Result<(), Fault> {
     for _ in 0..service.connections {
         let stream = socket
@@ -59,7 +65,7 @@ fn serve_connections(
             .map_err(|error| Fault::of_io(error, Fault::Socket))?;
         let reader = &mut Tap::new(&stream);
         let writer = &mut Tap::new(&stream);
-        match serve(kept, service.locality, entropy, reader, writer) {
+        match serve(kept, service.locality, bytes, reader, writer) {
             Ok(()) | Err(ServeFault::Client) => {}
             Err(ServeFault::Random) => return Err(Fault::Entropy),
             Err(ServeFault::Kept(fault)) => return Err(Fault::Kept(fault)),

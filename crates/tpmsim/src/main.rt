@@ -13,26 +13,16 @@
 //!
 //! The program uses tpmsim_arguments for its words, tpmsim_script for scripts and tpmsim_check for
 //! their check, `tpm_text` and `tpm_line` for lines, `tpm_help` for what it tells of these,
-//! `tpm_image` and tpmsim_kept for a device that is kept, tpmsim_journal_script for what happened
-//! to it, and `tpm_wire` and `tpm_log` for one that is served. All that touches files, sockets and
-//! clocks is here or in tpmsim_kept; what the device answers is proved in the crates below.
+//! tpmsim_image and tpmsim_kept for a device that is kept in an image or a folder, and
+//! tpmsim_journal_script for what happened to the latter. All that touches files, sockets and
+//! clocks is here, in tpmsim_image, in tpmsim_folder or in tpmsim_kept; what the device answers is
+//! proved in the crates below.
 
 mod checking;
-mod command_saver;
-mod entropy;
 mod fault;
-mod folder;
-mod image_file;
-mod image_lock;
-mod image_saver;
 mod kept;
 mod kept_serving;
-mod log_file;
 mod running;
-mod serving;
-mod socket;
-mod source;
-mod stopwatch;
 mod telling;
 
 use checking::check_script;
@@ -41,13 +31,13 @@ use hex::FromHexError;
 use kept::{cycle_power, play_script, print_script};
 use kept_serving::serve_kept;
 use running::{run_alone, run_kept};
-use serving::serve_device;
 use std::env;
 use std::process::ExitCode;
 use telling::{print_code, print_forms};
 use tpm_line::line_of;
 use tpm_text::assemble;
 use tpmsim_arguments::{Arguments, Place, Service, Storage};
+use tpmsim_image::serve_device;
 
 fn main(rt: HostRuntime) -> ExitCode {
     match try_main(&rt) {
@@ -110,7 +100,7 @@ fn run_in_place(
 /// Serves the device that is kept in a place.
 fn serve_in_place(rt: &HostRuntime, service: &Service) -> Result<(), Fault> {
     match service.place {
-        Place::Image(image) => serve_device(rt, service, image),
+        Place::Image(image) => Ok(serve_device(rt, service, image)?),
         Place::State(folder) => serve_kept(rt, service, folder),
     }
 }

@@ -1,14 +1,12 @@
 //! How the program runs a script, on a device that is kept in a file, or on one that nobody keeps.
 
-use crate::entropy::Entropy;
 use crate::fault::Fault;
-use crate::image_file::ImageFile;
-use crate::image_saver::ImageSaver;
 use std::fs;
 use tpm_bytes::Tap;
 use tpm_machine::Machine;
 use tpm_record::SlotKeep;
 use tpm_saver::Saver;
+use tpmsim_image::{Entropy, ImageFile, ImageSaver};
 use tpmsim_script::{new_machine, run_device, run_script};
 
 /// Runs a script, from a file or from standard input, on a new device that nobody keeps.
@@ -48,7 +46,7 @@ pub fn run_kept(
     };
     let played = play(rt, machine, &mut saver, script, trace);
     match saver.fault() {
-        Some(fault) => Err(fault),
+        Some(fault) => Err(Fault::from(fault)),
         None => played,
     }
 }
@@ -60,7 +58,7 @@ fn manufacture(
     entropy: &mut Option<Entropy>,
 ) -> Result<Machine<SlotKeep>, Fault> {
     match entropy {
-        Some(entropy) => entropy.manufacture(rt),
+        Some(entropy) => Ok(entropy.manufacture(rt)?),
         None => Ok(new_machine(rt.alloc())?),
     }
 }

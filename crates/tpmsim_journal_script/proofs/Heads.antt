@@ -2,8 +2,8 @@
 use Rattle.std.proofs.Common.{◌≡◌, ℕ, Bool, false, List, Option, Ok, take, drop, subst, ◌∙◌}
 use Rattle.std.specs.Io.KnownBytes.{Appends}
 use Rattle.std.proofs.KnownBytes.{Appends-trans}
-use Rattle.tpm_image.specs.Image.{image_of}
-use Rattle.tpm_image.specs.NonVolatile.{NonVolatile, powered_on}
+use Rattle.tpm_image_text.specs.Image.{image_of}
+use Rattle.tpm_image_text.specs.NonVolatile.{NonVolatile, powered_on}
 use Rattle.tpm_journal.specs.State.{journal_begun, journal_of}
 use Rattle.tpm_journal.specs.declared.following.FollowFault.{FollowFault}
 use Rattle.tpm_journal.specs.declared.following.Followed.{Followed}

@@ -2,8 +2,8 @@
 use Rattle.std.specs.Prelude.{◌≡◌, ◌≢◌, ℕ, false, true, Bool, List, [], ◌∷◌, ◌++◌, codes, flat_map, Option, Some, None, Result, Ok, Err}
 use Rattle.std.specs.Io.KnownBytes.{Appends, Keeps}
 use Rattle.tpm_bytes.specs.Tap.{Marks}
-use Rattle.tpm_image.specs.Image.{image_of}
-use Rattle.tpm_image.specs.NonVolatile.{NonVolatile, powered_on}
+use Rattle.tpm_image_text.specs.Image.{image_of}
+use Rattle.tpm_image_text.specs.NonVolatile.{NonVolatile, powered_on}
 use Rattle.tpm_journal.specs.Command.{event_of}
 use Rattle.tpm_journal.specs.Opening.{BeginsWith}
 use Rattle.tpm_journal.specs.Replay.{Performance, Performs, Repeats, Replays}

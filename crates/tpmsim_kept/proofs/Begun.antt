@@ -1,10 +1,10 @@
 -- A head has at least one byte, so that it does not fit into an empty room.
 use Rattle.std.proofs.Common.{◌≡◌, ℕ, ◌<◌, List, ◌∷◌, length, drop, ap, subst, ◌∙◌, arith}
 use Rattle.std.specs.Prelude.{false}
-use Rattle.tpm_history.specs.Follows.{After, Follows}
-use Rattle.tpm_image.specs.Image.{image_text}
-use Rattle.tpm_image.specs.NonVolatile.{kept_of}
-use Rattle.tpm_image.specs.declared.version.Version.TheVariants.{Two}
+use Rattle.tpm_machine.specs.Follows.{After, Follows}
+use Rattle.tpm_image_text.specs.Image.{image_text}
+use Rattle.tpm_image_text.specs.NonVolatile.{kept_of}
+use Rattle.tpm_image_text.specs.declared.version.Version.TheVariants.{Two}
 use Rattle.tpm_journal.specs.State.{journal_begun}
 use Rattle.tpm_journal_text.specs.Head.{head_text}
 use Rattle.tpm_journal_text.specs.Marked.{marked_line}

@@ -1,10 +1,10 @@
 -- What a device in memory does with its journal.
 use Rattle.std.specs.Prelude.{◌≡◌, ℕ, ◌≤◌, false, ◌⊎◌, length, List, Some, None, Result, Ok, Err}
-use Rattle.tpm_completion.specs.Execution.{Seen}
-use Rattle.tpm_history.specs.Follows.{After, Follows}
-use Rattle.tpm_image.specs.Image.{image_text}
-use Rattle.tpm_image.specs.NonVolatile.{kept_of}
-use Rattle.tpm_image.specs.declared.version.Version.TheVariants.{Two}
+use Rattle.tpm_journal.specs.Execution.{Seen}
+use Rattle.tpm_machine.specs.Follows.{After, Follows}
+use Rattle.tpm_image_text.specs.Image.{image_text}
+use Rattle.tpm_image_text.specs.NonVolatile.{kept_of}
+use Rattle.tpm_image_text.specs.declared.version.Version.TheVariants.{Two}
 use Rattle.tpm_journal.specs.Command.{Command, Executed, command_at, elapsed_of, entry_of}
 use Rattle.tpm_journal.specs.Opening.{IsJournal, OpensJournal}
 use Rattle.tpm_journal.specs.Replay.{Replays}
@@ -22,8 +22,8 @@ use Rattle.tpm_step.specs.declared.event.Outcome.{Outcome}
 use Rattle.tpm_text.specs.Trace.{IsRow}
 use Rattle.tpmsim_kept.specs.Fault.{said_of_following, said_of_opening}
 use Rattle.tpmsim_kept.specs.declared.device.Device.{Device}
-use Rattle.tpmsim_kept.specs.declared.fault.Said.{Said}
-use Rattle.tpmsim_kept.specs.declared.fault.Said.TheVariants.{WantsMemory}
+use Rattle.tpmsim_folder.specs.declared.fault.Said.{Said}
+use Rattle.tpmsim_folder.specs.declared.fault.Said.TheVariants.{WantsMemory}
 
 -- the record of a device; its containers are seen as their contents
 abbrev pub record_of : Device → Record

@@ -1,6 +1,5 @@
 pub mod Device
 pub mod Fault
-pub mod Standing
 pub mod Stop
 pub use Rattle.tpm_journal.specs.Replay
 pub use Rattle.tpm_journal.specs.Opening

@@ -1,14 +1,14 @@
 //! A device in memory of its own, with its journal.
 
 ghost use Rattle.std.specs.Prelude.{◌≡◌, ◌≤◌, ◌<◌, IfErr, IfOk, OnErr, OnOk, length, replicate, take};
-ghost use Rattle.tpm_image.specs.Saving.{PutsFront};
+ghost use Rattle.tpm_image_text.specs.Saving.{PutsFront};
 ghost use Rattle.tpm_journal_text.specs.Head.{head_text};
 ghost use Rattle.tpm_record.specs.Record.{manufactured};
 ghost use Rattle.tpm_types.specs.Locality.{locality_number};
 ghost use Rattle.tpmsim_kept.specs.Device.{BeginsJournal, FollowsText, HasFault, IsOfJournal, IsSaidOf, Records};
 ghost use Rattle.tpmsim_kept.specs.Device.{command_by, image_at_power, record_of};
 
-use crate::fault::Said;
+use crate::said::{said_of_following, said_of_opening};
 use std::alloc::Global;
 use tpm_bytes::NoMemory;
 use tpm_journal::opening::open;
@@ -18,6 +18,7 @@ use tpm_machine::Machine;
 use tpm_record::SlotKeep;
 use tpm_step::Outcome;
 use tpm_types::Locality;
+use tpmsim_folder::Said;
 
 /// A device, and the state of its journal. The outcome of an event is written over one that the
 /// caller lends.
@@ -57,7 +58,7 @@ impl Device {
         };
         match device.open_in_place(text, outcome) {
             Ok(taken) => Ok((device, taken)),
-            Err(fault) => Err(Said::of(fault)),
+            Err(fault) => Err(said_of_opening(fault)),
         }
     }
 
@@ -80,7 +81,7 @@ impl Device {
         let followed = self.journal.follow(&mut self.machine, text, outcome);
         match followed.fault {
             None => Ok(followed.taken),
-            Some(fault) => Err(Said::of_following(fault)),
+            Some(fault) => Err(said_of_following(fault)),
         }
     }
 

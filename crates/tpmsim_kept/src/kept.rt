@@ -5,14 +5,13 @@ ghost use Rattle.tpmsim_kept.specs.Device.{IsAnswer};
 
 use crate::beginning::begin;
 use crate::device::Device;
-use crate::fault::{KeptFault, Place, Said};
-use crate::folder::{Folder, identity_of};
-use crate::force::Force;
-use crate::journal_file::{JournalFile, read_whole};
-use crate::lock::Lock;
-use crate::moment::{Moment, clock_of};
+use crate::journal_file::JournalFile;
 use tpm_step::Outcome;
 use tpm_types::Locality;
+use tpmsim_folder::folder::{Folder, identity_of};
+use tpmsim_folder::moment::{Moment, clock_of};
+use tpmsim_folder::reading::read_whole;
+use tpmsim_folder::{Force, KeptFault, Lock, Place, Said};
 
 /// A device that is kept in a folder. A call that fails has answered nothing, and the next one
 /// begins with what the journal has.

@@ -8,28 +8,20 @@
 //! [`Kept`] is a kept device. Several processes may hold one at once: each locks the folder for a
 //! command, executes the others' new entries, and then its own command. [`playing`] plays a script
 //! on it, and [`serving`] serves it on a connection. Its parts are a device with its journal in
-//! memory ([`device`]), for which contracts say what tpm_journal says; what may stand at a path
-//! ([`standing`]); and the folder, its lock and the journal's file ([`folder`], [`lock`],
-//! [`journal_file`], [`beginning`]). No contract can say what a file holds.
+//! memory ([`device`]), for which contracts say what tpm_journal says, and the journal's file
+//! ([`journal_file`], [`beginning`]). The folder, its lock and what faults say of it are in
+//! tpmsim_folder; no contract can say what a file holds.
 
 mod beginning;
 pub mod device;
-pub mod fault;
-mod folder;
-pub mod force;
 mod journal_file;
 pub mod kept;
-mod lock;
-pub mod moment;
 pub mod playing;
+pub mod said;
 pub mod serving;
-pub mod standing;
 pub mod stop;
 
-pub use fault::{KeptFault, Place, Said};
-pub use force::Force;
 pub use kept::Kept;
-pub use moment::Moment;
 pub use playing::play;
 pub use serving::serve;
 pub use stop::PlayFault;

@@ -5,13 +5,13 @@ ghost use Rattle.std.specs.Prelude.{◌≤◌, length};
 ghost use Rattle.tpmsim_kept.specs.Device.{IsAnswer};
 
 use crate::kept::Kept;
-use crate::moment::Moment;
 use crate::stop::{PlayFault, Stop};
 use std::alloc::Global;
 use std::io::{Read, Write};
 use tpm_bytes::Tap;
 use tpm_step::{Event, Outcome};
 use tpm_text::trace_text;
+use tpmsim_folder::Moment;
 use tpmsim_script::ScriptFault;
 use tpmsim_script::answers::Answers;
 use tpmsim_script::line::Line;

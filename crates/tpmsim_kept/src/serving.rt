@@ -1,15 +1,14 @@
 //! A kept device that is served on a connection. Other processes may execute commands between two
 //! of its own.
 
-use crate::fault::KeptFault;
 use crate::kept::Kept;
-use crate::moment::Moment;
 use std::io::{Read, Write};
 use tpm_bytes::Tap;
 use tpm_step::Outcome;
 use tpm_types::{BUFFER_LIMIT, Locality};
 use tpm_wire::connection::Connection;
 use tpm_wire::reading::fill;
+use tpmsim_folder::{KeptFault, Moment};
 
 /// The most reads in which one connection may give bytes.
 const READS: u32 = 1_048_576;

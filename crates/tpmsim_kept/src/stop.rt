@@ -2,9 +2,9 @@
 
 ghost use Rattle.std.specs.Prelude.{◌≡◌};
 
-use crate::fault::KeptFault;
 use std::alloc::AllocError;
 use tpm_text::AsmFault;
+use tpmsim_folder::KeptFault;
 use tpmsim_script::line::Unfit;
 use tpmsim_script::{BadLine, ScriptFault};
 

@@ -1,7 +1,7 @@
 use Rattle.std.specs.Prelude.{false}
 use Rattle.std.proofs.lemmas.Result.{err_from_is_err_and}
 use Rattle.tpm_machine.specs.State.{state_of}
-use Rattle.tpm_image.proofs.OpeningLaws.{unframed}
+use Rattle.tpm_image_text.proofs.OpeningLaws.{unframed}
 use Rattle.tpm_image.proofs.image.fill_machine.Goals as goal
 
 pub returns-in_err-version : goal.returns-in_err-version

@@ -1,7 +1,7 @@
 use Rattle.std.specs.Prelude.{◌||◌}
 use Rattle.tpm_machine.specs.State.{state_of}
 use Rattle.tpm_image.proofs.Histories.{opened_follows}
-use Rattle.tpm_image.proofs.RecordLaws.{opened_found, opened_only}
+use Rattle.tpm_image_text.proofs.RecordLaws.{opened_found, opened_only}
 use Rattle.tpm_image.proofs.image.open.Goals as goal
 
 pub returns-clause-found : goal.returns-clause-found

@@ -2,7 +2,7 @@ use Rattle.std.proofs.Common.{rules, ◌∙◌, sym}
 use Rattle.std.specs.Prelude.{◌||◌}
 use Rattle.std.proofs.lemmas.Result.{err_from_is_err_and}
 use Rattle.tpm_machine.specs.State.{state_of}
-use Rattle.tpm_image.proofs.OpeningLaws.{is_image, unframed}
+use Rattle.tpm_image_text.proofs.OpeningLaws.{is_image, unframed}
 use Rattle.tpm_image.proofs.image.open_device.Goals as goal
 
 pub returns-in_err-version-clause-exact : goal.returns-in_err-version-clause-exact

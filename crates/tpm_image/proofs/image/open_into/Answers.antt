@@ -2,7 +2,7 @@ use Rattle.std.specs.Prelude.{false}
 use Rattle.tpm_machine.specs.State.{state_of}
 use Rattle.tpm_record.specs.Record.{Record}
 use Rattle.tpm_image.proofs.Histories.{opened_follows}
-use Rattle.tpm_image.proofs.RecordLaws.{opened_only}
+use Rattle.tpm_image_text.proofs.RecordLaws.{opened_only}
 use Rattle.tpm_image.proofs.image.open_into.Goals as goal
 
 pub returns-clause-history : goal.returns-clause-history

@@ -1,8 +1,8 @@
 use Rattle.std.proofs.Common.{rules, ◌≡◌, ◌++◌, List, ℕ, OnErr, subst}
 use Rattle.tpm_bytes.specs.Tap.{AppendsFront, device_of}
-use Rattle.tpm_image.specs.Image.{image_text}
-use Rattle.tpm_image.specs.NonVolatile.{kept_of}
-use Rattle.tpm_image.specs.declared.version.Version.TheVariants.{Two}
+use Rattle.tpm_image_text.specs.Image.{image_text}
+use Rattle.tpm_image_text.specs.NonVolatile.{kept_of}
+use Rattle.tpm_image_text.specs.declared.version.Version.TheVariants.{Two}
 use Rattle.tpm_image.proofs.image.save.Goals as goal
 
 -- The part of the image that went out is its front: a part of the head, or the head and a part of

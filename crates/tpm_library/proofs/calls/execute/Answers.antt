@@ -1,6 +1,6 @@
 use Rattle.std.proofs.Common.{sym, ap, subst, ◌∙◌, ◌≡◌, false}
 use Rattle.std.specs.declared.option.Option.TheVariants.{Some}
-use Rattle.tpm_history.specs.Follows.{After, Follows}
+use Rattle.tpm_machine.specs.Follows.{After, Follows}
 use Rattle.tpm_machine.specs.Drawn.{drawn_by}
 use Rattle.tpm_step.specs.Events.{PlainEvent, Given, plain_event}
 use Rattle.tpm_step.specs.Execution.{Executes}

@@ -3,7 +3,7 @@ use denote.Param.Always.{always_mut}
 use Rattle.std.specs.Io.KnownBytes.{Appends}
 use Rattle.tpm_bytes.specs.Tap.{device_of, marks_of}
 use Rattle.tpm_machine.specs.State.{state_of}
-use Rattle.tpm_history.specs.Executions.{Execution, Leads}
+use Rattle.tpm_machine.specs.Executions.{Execution, Leads}
 use Rattle.tpm_wire.specs.Serve.{AsksForEach, NotesEach, buffers_of, responses_of}
 use Rattle.tpm_wire.specs.Stream.{CutsTo}
 use Rattle.tpm_wire.proofs.serving.answer_whole.Given as goal

@@ -2,8 +2,7 @@ use Rattle.tpm_types.specs.Limits.{buffer_limit}
 use Rattle.std.proofs.Common.{◌-◌, ◌<◌, ◌∷◌, [], ◌++◌, length, refl, sym, ap, ◌∙◌, arith, length-append, inl, inr}
 use Rattle.std.proofs.KnownBytes.{Appends-nil, Consumes-kept, Consumes-nil, Consumes-trans}
 use Rattle.tpm_bytes.specs.Tap.{Marks, device_of, marks_of}
-use Rattle.tpm_history.proofs.Following.{stretch_follows}
-use Rattle.tpm_history.proofs.PowerCycles.{leads_on}
+use Rattle.tpm_machine.proofs.Following.{leads_on, stretch_follows}
 use Rattle.tpm_wire.specs.Serve.{buffers_of, room_left}
 use Rattle.tpm_wire.specs.Stream.{Cutting, Stream, cut_with, next_of}
 use Rattle.tpm_wire.proofs.Cutting.{cut_last, next_opened, next_room}

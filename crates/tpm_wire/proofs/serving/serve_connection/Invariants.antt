@@ -5,7 +5,7 @@ use Rattle.std.specs.Io.KnownBytes.{Appends, Consumes}
 use Rattle.std.specs.List.{FoldsTo}
 use Rattle.tpm_bytes.specs.Tap.{device_of, marks_of}
 use Rattle.tpm_machine.specs.State.{state_of}
-use Rattle.tpm_history.specs.Executions.{Execution, Leads}
+use Rattle.tpm_machine.specs.Executions.{Execution, Leads}
 use Rattle.tpm_wire.specs.Serve.{AsksForEach, ReadsPiece, NotesEach, buffers_of, responses_of}
 use Rattle.tpm_wire.specs.Stream.{cut_of, cut_with, next_of}
 use Rattle.tpm_wire.proofs.serving.serve_connection.Given as goal

@@ -1,0 +1,4 @@
+pub mod Refusals
+pub mod Answering
+pub mod DecodingLaws
+pub mod Accepting

@@ -1,0 +1,16 @@
+use Rattle.std.proofs.Common.{◌≡◌, ◌+◌, ◌≤◌, drop, length}
+use Rattle.tpm_bytes.specs.Many.{each_at}
+use Rattle.tpm_bytes.proofs.Joining.{behind}
+use Rattle.tpm_step.specs.General.{present_handle_at}
+use Rattle.tpm_execution.proofs.decoding.read_handles.Given as goal
+
+-- The handles so far, and those that are left to be read, are all that there were to read.
+abbrev pub invariant-loop-rule : goal.invariant-loop-rule
+invariant-loop-rule g l =
+    let at = present_handle_at (g.K.Keep.record_of l.keep) in
+    record {
+      joined : behind l.handles.items (each_at at l.number (drop l.rule-index l.rules) l.ahead) ≡ each_at at 1 l.rules l.text;
+      place : l.number ≡ l.rule-index + 1;
+      size : length l.handles.items ≡ l.rule-index;
+      few : length l.rules ≤ 3;
+    }

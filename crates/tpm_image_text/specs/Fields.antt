@@ -1,0 +1,78 @@
+-- The fields of an image, each with its text and its reading. A field that is cut short, or has a
+-- value that it may not have, is malformed, whatever other readers call that.
+use Rattle.std.specs.Prelude.{ℕ, nat_lt, not, Bool, true, false, List, ◌++◌, length, Result, Ok}
+use Rattle.std.specs.Int.{Width, w8, w16, to_be_bytes}
+use Rattle.std.specs.List.{flat_map}
+use Rattle.std.specs.Str.{bytes_eq}
+use Rattle.tpm_bytes.specs.Many.{many_at}
+use Rattle.tpm_bytes.specs.Reading.{◌>>=◌, bytes_at, number_at, or_fault, refused_if}
+use Rattle.tpm_types.specs.AuthValue.{trimmed}
+use Rattle.tpm_types.specs.Buffer.{buffer_at}
+use Rattle.tpm_types.specs.YesNo.{yes_no_at}
+use Rattle.tpm_image_text.specs.declared.fault.Malformed.{Malformed}
+
+abbrev pub malformed : Malformed
+malformed = record {}
+
+-- a reading of a field, whose every fault is that the body is malformed
+abbrev pub in_body : {X E : Type 0}
+    → (List ℕ → Result (X × List ℕ) E)
+    → List ℕ → Result (X × List ℕ) Malformed
+in_body at text = or_fault (at text) malformed
+
+-- a reading of a value that has to pass a test
+abbrev pub passing : {X : Type 0}
+    → (X → Bool)
+    → (List ℕ → Result (X × List ℕ) Malformed)
+    → List ℕ → Result (X × List ℕ) Malformed
+passing test at text = do
+  x ← at text
+  passed ← refused_if (not (test x.0)) malformed
+  Ok x
+
+-- ---- numbers, yes or no, and bytes of a field
+
+abbrev pub number_in : Width → List ℕ → Result (ℕ × List ℕ) Malformed
+number_in width text = in_body (number_at width) text
+
+-- the byte of a yes (1) or a no (0)
+abbrev pub yes_no_number : Bool → ℕ
+yes_no_number true = 1
+yes_no_number false = 0
+
+abbrev pub yes_no_text : Bool → List ℕ
+yes_no_text is_yes = to_be_bytes w8 (yes_no_number is_yes)
+
+abbrev pub yes_no_in : List ℕ → Result (Bool × List ℕ) Malformed
+yes_no_in text = in_body yes_no_at text
+
+-- this many bytes, as they are read
+abbrev pub bytes_in : ℕ → List ℕ → Result (List ℕ × List ℕ) Malformed
+bytes_in count text = in_body (bytes_at count) text
+
+-- a sized buffer of at most this many bytes, as it is read
+abbrev pub buffer_in : ℕ → List ℕ → Result (List ℕ × List ℕ) Malformed
+buffer_in limit text = in_body (buffer_at limit) text
+
+-- an authorization value: a sized buffer of at most 32 bytes, with no zero at its end
+abbrev pub is_trimmed : List ℕ → Bool
+is_trimmed value = bytes_eq (trimmed value) value
+
+unfoldable pub auth_value_in : List ℕ → Result (List ℕ × List ℕ) Malformed
+auth_value_in text = passing is_trimmed (buffer_in 32) text
+
+-- ---- things one after another
+
+-- the text of a list of things: how many there are, and each of them
+abbrev pub counted_text : {X : Type 0} → (X → List ℕ) → List X → List ℕ
+counted_text text_of things = to_be_bytes w16 (length things) ++ flat_map text_of things
+
+-- a list of at most this many things, as it is read
+abbrev pub counted_in : {X : Type 0}
+    → (most : ℕ)
+    → (List ℕ → Result (X × List ℕ) Malformed)
+    → List ℕ → Result (List X × List ℕ) Malformed
+counted_in most at text = do
+  count ← number_in w16 text
+  few ← refused_if (nat_lt most count.0) malformed
+  many_at at count.0 count.1

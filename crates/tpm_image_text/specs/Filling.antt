@@ -1,0 +1,76 @@
+-- What filling the state of a device with what a text spells answers and leaves.
+use Rattle.std.specs.Prelude.{◌≡◌, ℕ, ◌+◌, ◌<◌, ◌≤◌, Bool, true, List, [], ◌∷◌, ◌++◌, Result, Ok, Err, IfOk}
+use Rattle.tpm_containers.specs.SortedMap.{Entries}
+use Rattle.tpm_lockout.specs.Lockout.{restored}
+use Rattle.tpm_record.specs.Record.{Record}
+use Rattle.tpm_record.specs.declared.fixed.Fixed.{Fixed}
+use Rattle.tpm_image_text.specs.Fields.{malformed}
+use Rattle.tpm_image_text.specs.NonVolatile.{KeptState, NonVolatile, powered_on}
+use Rattle.tpm_image_text.specs.declared.fault.FillFault.{FillFault}
+use Rattle.tpm_image_text.specs.declared.fault.FillFault.TheVariants as unfilled
+use Rattle.tpm_image_text.specs.declared.fault.Malformed.{Malformed}
+
+-- Something was filled with what a text spells; or the text is malformed; or memory was refused,
+-- and then nothing is said of the text.
+abbrev pub Fills : {X : Type 0}
+    → Bool → Result (X × List ℕ) Malformed → X
+    → Result (Unit {0}) FillFault → List ℕ → Type 0
+Fills can read filled (Ok done) rest = read ≡ Ok (filled, rest)
+Fills can read filled (Err unfilled.Malformed) rest = read ≡ Err malformed
+Fills can read filled (Err unfilled.NoMemory) rest = can ≡ true
+
+-- every key of these entries is below this one
+abbrev pub AllBelow : {X : Type 0} → ℕ → Entries X → Type 0
+AllBelow key [] = Unit {0}
+AllBelow key (e ∷ es) = (e.0 < key) × AllBelow key es
+
+-- One entry was read and put after the others, its key is not below the lowest that it may have,
+-- and the next key has to be above it; or what is read is malformed or misplaced, which is what
+-- Misfits says of it; or memory was refused.
+abbrev pub Appends : {X : Type 0}
+    → Bool → Result ((ℕ × X) × List ℕ) Malformed → (lowest : ℕ) → (ℕ × X → Type 0)
+    → (old : Entries X) → Result ℕ FillFault → (new : Entries X) → List ℕ → Type 0
+Appends {X} can read lowest Misfits old (Ok next) new rest =
+    (entry : ℕ × X) × (read ≡ Ok (entry, rest)) × (lowest ≤ entry.0) × (next ≡ entry.0 + 1)
+    × (new ≡ old ++ entry ∷ [])
+Appends can read lowest Misfits old (Err unfilled.Malformed) new rest = IfOk read (λ x. Misfits x.0)
+Appends can read lowest Misfits old (Err unfilled.NoMemory) new rest = can ≡ true
+
+-- the fixed part of a record, with what was kept of it, and both times of lockout at their
+-- beginning
+abbrev pub with_state : Fixed → KeptState → Fixed
+with_state fixed state = record fixed {
+  saved = state.saved;
+  hierarchies = state.hierarchies;
+  disable_clear = state.disable_clear;
+  lockout = restored state.lockout;
+  clock = state.clock;
+  reset_count = state.reset_count;
+  restart_count = state.restart_count;
+}
+
+-- What was kept was put into the fixed part of a record, and the largest value that a counter ever
+-- had was answered; or the text is malformed.
+abbrev pub Restores : Result (KeptState × List ℕ) Malformed
+    → Fixed → Result ℕ Malformed → Fixed → List ℕ → Type 0
+Restores read old (Ok max_count) new rest =
+    (state : KeptState) × (read ≡ Ok (state, rest)) × (new ≡ with_state old state)
+    × (max_count ≡ state.max_count)
+Restores read old (Err fault) new rest = read ≡ Err fault
+
+-- A record became that of the device that kept what the text spells; or the text is malformed; or
+-- memory was refused, and then nothing is said of the text.
+abbrev pub PowersOn : Bool → Result NonVolatile Malformed → Result (Unit {0}) FillFault
+    → Record → Type 0
+PowersOn can read (Ok done) new = (kept : NonVolatile) × (read ≡ Ok kept) × (new ≡ powered_on kept)
+PowersOn can read (Err unfilled.Malformed) new = read ≡ Err malformed
+PowersOn can read (Err unfilled.NoMemory) new = can ≡ true
+
+-- A new state stands for the record of the device that kept what the text spells; or the text is
+-- malformed; or memory was refused.
+abbrev pub Filled : {K : Type 0} → (K → Record) → Bool → Result NonVolatile Malformed
+    → Result K FillFault → Type 0
+Filled record_of can read (Ok keep) =
+    (kept : NonVolatile) × (read ≡ Ok kept) × (record_of keep ≡ powered_on kept)
+Filled record_of can read (Err unfilled.Malformed) = read ≡ Err malformed
+Filled record_of can read (Err unfilled.NoMemory) = can ≡ true

@@ -1,0 +1,25 @@
+-- What opening an image answers and leaves.
+use Rattle.std.specs.Prelude.{◌≡◌, Bool, true, List, ℕ, Result, Ok, Err}
+use Rattle.tpm_record.specs.Cycle.{cycled}
+use Rattle.tpm_record.specs.Record.{Record}
+use Rattle.tpm_image_text.specs.Image.{image_of}
+use Rattle.tpm_image_text.specs.NonVolatile.{NonVolatile, powered_on}
+use Rattle.tpm_image_text.specs.declared.fault.ImageFault.{ImageFault}
+use Rattle.tpm_image_text.specs.declared.fault.ImageFault.TheVariants.{NoMemory}
+
+-- An image was opened: the result is a machine with the record of the device that kept what the
+-- image says, as power comes on; or the fault of the text; or memory was refused, which stands only
+-- in place of a machine.
+abbrev pub Opens : {M : Type 0} → (M → Record) → Bool → List ℕ → Result M ImageFault → Type 0
+Opens record_of can text (Ok machine) =
+    (kept : NonVolatile) × (image_of text ≡ Ok kept) × (record_of machine ≡ powered_on kept)
+Opens record_of can text (Err NoMemory) =
+    (can ≡ true) × ((kept : NonVolatile) × (image_of text ≡ Ok kept))
+Opens record_of can text (Err fault) = image_of text ≡ Err fault
+
+-- The image of a record was opened, and gave the record after a power cycle, unless memory was
+-- refused.
+abbrev pub OpensAgain : {M : Type 0} → (M → Record) → Bool → Record → Result M ImageFault → Type 0
+OpensAgain record_of can r (Ok machine) = record_of machine ≡ cycled r
+OpensAgain record_of can r (Err NoMemory) = can ≡ true
+OpensAgain record_of can r (Err fault) = ⊥

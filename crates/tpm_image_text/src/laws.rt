@@ -1,0 +1,47 @@
+//! The laws of images.
+
+ghost use Rattle.std.specs.Prelude.{◌≡◌, ◌≤◌, ◌<◌, ℕ, List, Ok, Err, length, take};
+ghost use Rattle.tpm_image_text.specs.Image.{IsImage, IsWithin, image_of, image_text};
+ghost use Rattle.tpm_image_text.specs.Sizes.{image_size};
+ghost use Rattle.tpm_image_text.specs.KeptText.{kept_but_clock, kept_text};
+ghost use Rattle.tpm_image_text.specs.NonVolatile.{kept_of, powered_on};
+ghost use Rattle.tpm_image_text.specs.declared.fault.ImageFault.TheVariants as fault;
+ghost use Rattle.tpm_image_text.specs.declared.version.Version.{Version};
+ghost use Rattle.tpm_image_text.specs.declared.version.Version.TheVariants.{Two};
+ghost use Rattle.tpm_record.specs.Cycle.{cycled};
+ghost use Rattle.tpm_record.specs.IsRecord.{IsRecord};
+ghost use Rattle.tpm_record.specs.Record.{Record};
+
+/// Every device has an image of version 2, and the image of a device, of either version, tells what
+/// the device keeps, and is no longer than the longest; a device that kept just that is the device
+/// after a power cycle. The function does nothing.
+#[inline(always)]
+#[tactic(auto, using(crate::proofs::RecordLaws::record_image, crate::proofs::RecordLaws::record_again, crate::proofs::RecordLaws::record_small, crate::proofs::ImageLaws::powered_again))]
+pub fn image_laws()
+    ensures made { (r : Record) → IsRecord r
+        → IsImage Two (kept_of r) (image_text Two (kept_of r)) }
+    ensures told { (version : Version) (r : Record) → IsRecord r → IsWithin version (kept_of r)
+        → image_of (image_text version (kept_of r)) ≡ Ok (kept_of r) }
+    ensures small { (version : Version) (r : Record) → IsRecord r
+        → length (image_text version (kept_of r)) ≤ image_size }
+    ensures cycled { (r : Record) → powered_on (kept_of r) ≡ cycled r }
+{}
+
+/// Two records with one kept text keep the same, without the clock.
+#[inline(always)]
+#[tactic(auto, using(crate::proofs::RecordLaws::kept_alike))]
+pub fn kept_text_laws()
+    ensures { (r s : Record) → IsRecord r → IsRecord s → kept_text r ≡ kept_text s
+        → kept_but_clock r ≡ kept_but_clock s }
+{}
+
+/// No proper prefix of an image, of either version, is an image: below 42 bytes it is Short, and
+/// otherwise it is refused by Length.
+#[inline(always)]
+#[tactic(auto, using(crate::proofs::ImageLaws::front_short, crate::proofs::RecordLaws::record_cut))]
+pub fn prefix_laws()
+    ensures short { (text : List ℕ) (n : ℕ) → n < 42 → image_of (take n text) ≡ Err fault.Short }
+    ensures length { (version : Version) (r : Record) (n : ℕ) → IsRecord r → 42 ≤ n
+        → n < length (image_text version (kept_of r))
+        → image_of (take n (image_text version (kept_of r))) ≡ Err fault.Length }
+{}

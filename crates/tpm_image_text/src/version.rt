@@ -1,0 +1,99 @@
+//! The versions of an image, and the limits of each on NV indices.
+
+ghost use Rattle.tpm_types.specs.Limits.{nv_index_limit, nv_space_limit};
+ghost use Rattle.tpm_image_text.specs.Body.{limits_in, limits_text};
+ghost use Rattle.tpm_image_text.specs.Sizes.{limits_size, text_size};
+ghost use Rattle.tpm_image_text.specs.Version.{index_limit, space_limit, version_number, version_numbered};
+ghost use Rattle.tpm_image_text.specs.declared.version.Version.TheVariants.{Two};
+ghost use Rattle.std.specs.Prelude.{◌≡◌, ◌≤◌, ◌+◌, ◌++◌, length};
+ghost use Rattle.tpm_bytes.specs.Reading.{Reads};
+
+use crate::fault::Malformed;
+use crate::fields::{Text, read_u16, read_u32, write_u16, write_u32};
+use tpm_bytes::Cursor;
+use tpm_types::{NV_INDEX_LIMIT, NV_SPACE_LIMIT};
+
+/// A version of an image.
+#[derive(Clone, Copy, Debug, PartialEq, Eq)]
+pub enum Version {
+    /// Version 1 is read, and no longer written. Its images have at most 32 NV indices, with 8,192
+    /// bytes.
+    One,
+    /// Version 2 says how many NV indices and how many bytes of data a device has at most.
+    Two,
+}
+
+impl Version {
+    /// The number by which an image names the version.
+    pub fn number(self) -> u16
+        ensures { result ≡ version_number self }
+    {
+        match self {
+            Version::One => 1,
+            Version::Two => 2,
+        }
+    }
+
+    /// The version of a number, if it is the number of one.
+    #[tactic(auto, unfolding(crate::specs::Version::version_numbered))]
+    pub fn numbered(number: u16) -> Option<Version>
+        ensures { result ≡ version_numbered number }
+    {
+        match number {
+            1 => Some(Version::One),
+            2 => Some(Version::Two),
+            _ => None,
+        }
+    }
+
+    /// How many NV indices an image has at most.
+    pub fn index_limit(self) -> usize
+        ensures value { result ≡ index_limit self }
+        ensures small { result ≤ nv_index_limit }
+    {
+        match self {
+            Version::One => 32,
+            Version::Two => NV_INDEX_LIMIT,
+        }
+    }
+
+    /// The most bytes of data that the NV indices of an image have together.
+    pub fn space_limit(self) -> usize
+        ensures value { result ≡ space_limit self }
+        ensures small { result ≤ nv_space_limit }
+    {
+        match self {
+            Version::One => 8_192,
+            Version::Two => NV_SPACE_LIMIT,
+        }
+    }
+}
+
+/// Reads the limits that an image says, which have to be those of its version.
+#[tactic(auto, unfolding(crate::specs::Body::limits_in))]
+pub fn read_limits(version: Version, text: &mut Cursor) -> Result<(), Malformed>
+    ensures { Reads (λ done. done) (limits_in version text.old) text.old result text.new }
+{
+    if version == Version::One {
+        return Ok(());
+    }
+    let mut ahead = Cursor::new(text.rest());
+    let indices = usize::from(read_u16(&mut ahead)?);
+    let space = read_u32(&mut ahead)? as usize;
+    if indices != version.index_limit() || space != version.space_limit() {
+        return Err(Malformed);
+    }
+    *text = ahead;
+    Ok(())
+}
+
+/// Writes the limits of the device.
+#[tactic(auto, unfolding(crate::specs::Body::limits_text))]
+pub fn write_limits(text: &mut Text)
+    requires { length text.old + limits_size ≤ text_size }
+    ensures written { text.new ≡ text.old ++ limits_text Two }
+    ensures small { length text.new ≡ length text.old + limits_size }
+{
+    write_u16(NV_INDEX_LIMIT as u16, text);
+    write_u32(NV_SPACE_LIMIT as u32, text);
+}

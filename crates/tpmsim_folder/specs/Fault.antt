@@ -1,0 +1,52 @@
+-- What the faults of a kept device say.
+use Rattle.std.specs.Prelude.{Bool, true, false, List, ℕ, ◌++◌, codes}
+use Rattle.tpmsim_folder.specs.declared.fault.KeptFault.{KeptFault}
+use Rattle.tpmsim_folder.specs.declared.fault.Place.{Place}
+use Rattle.tpmsim_folder.specs.declared.fault.Place.TheVariants as place
+use Rattle.tpmsim_folder.specs.declared.fault.Said.{Said}
+use Rattle.tpmsim_folder.specs.declared.fault.Said.TheVariants as said
+
+abbrev pub place_text : Place → List ℕ
+place_text place.Folder = codes "state"
+place_text place.Journal = codes "state/journal"
+place_text place.NewJournal = codes "state/journal.new"
+place_text place.Lock = codes "state/lock"
+
+abbrev pub said_text : Said → List ℕ
+said_text said.IsLink = codes "is a link, which is not followed"
+said_text said.IsNoFile = codes "is no regular file"
+said_text said.IsNoFolder = codes "is no folder"
+said_text said.IsOfAnother = codes "belongs to another user"
+said_text said.IsNotThere = codes "is not there"
+said_text said.IsGone = codes "is gone"
+said_text said.CannotBeMade = codes "cannot be made"
+said_text said.CannotBeGivenItsMode = codes "cannot be given its mode"
+said_text said.CannotBeLookedAt = codes "cannot be looked at"
+said_text said.CannotBeOpened = codes "cannot be opened"
+said_text said.CannotBeLocked = codes "cannot be locked"
+said_text said.CannotBeRead = codes "cannot be read"
+said_text said.CannotBeWritten = codes "cannot be written"
+said_text said.CannotBeCut = codes "cannot be cut to whole records"
+said_text said.CannotBeForced = codes "cannot be forced to the disk"
+said_text said.CannotTakeThePlace = codes "cannot take the journal's place"
+said_text said.WasShortened = codes "was shortened by something else"
+said_text said.WasShortenedMeanwhile = codes "was shortened while it was read"
+said_text said.IsReplaced = codes "is replaced again and again"
+said_text said.WantsClock = codes "needs the host's clock, which cannot be read or is before 1970"
+said_text said.WantsMemory = codes "wants memory that is not there"
+said_text said.IsNoJournal = codes "is no journal of a device"
+said_text said.HoldsNoImage = codes "holds an image that this program does not open"
+said_text said.IsDamaged = codes "is damaged, and stays as it is"
+said_text said.WasAnsweredOtherwise =
+    codes "was written by a program that answers otherwise than this one, and stays as it is"
+
+abbrev pub kept_fault_text : KeptFault → List ℕ
+kept_fault_text fault = place_text fault.place ++ codes " " ++ said_text fault.said
+
+-- whether a journal's contents are at fault, and not the system
+abbrev pub is_of_contents : Said → Bool
+is_of_contents said.IsNoJournal = true
+is_of_contents said.HoldsNoImage = true
+is_of_contents said.IsDamaged = true
+is_of_contents said.WasAnsweredOtherwise = true
+is_of_contents _ = false

@@ -1,0 +1,34 @@
+-- What may stand at a path of a kept device: a regular file or a folder of the user who runs the
+-- process, and no link.
+use Rattle.std.specs.Prelude.{ℕ, ◌==◌, if◌then◌else◌, Option, Some, None}
+use Rattle.std.specs.Fs.{IsDir, IsFile, IsSymlink}
+use Rattle.std.specs.declared.fs.attrs.FileType.{FileType}
+use Rattle.tpmsim_folder.specs.declared.fault.Said.{Said}
+use Rattle.tpmsim_folder.specs.declared.fault.Said.TheVariants.{IsLink, IsNoFile, IsNoFolder, IsOfAnother}
+use Rattle.tpmsim_folder.specs.declared.standing.Kind.{Kind}
+use Rattle.tpmsim_folder.specs.declared.standing.Kind.TheVariants.{Link, File, Folder, Other}
+
+-- The file at a path is of this kind.
+abbrev pub IsOfKind : Kind → FileType → Type 0
+IsOfKind Link t = IsSymlink t
+IsOfKind File t = IsFile t
+IsOfKind Folder t = IsDir t
+IsOfKind Other t = (IsSymlink t → ⊥) × (IsFile t → ⊥) × (IsDir t → ⊥)
+
+-- what a fault says where the owner is not the user
+abbrev pub owner_fault : (owner user : ℕ) → Option Said
+owner_fault owner user = if owner == user then None else Some IsOfAnother
+
+-- what a fault says of what is not a regular file of the user
+abbrev pub file_fault : Kind → (owner user : ℕ) → Option Said
+file_fault Link owner user = Some IsLink
+file_fault File owner user = owner_fault owner user
+file_fault Folder owner user = Some IsNoFile
+file_fault Other owner user = Some IsNoFile
+
+-- what a fault says of what is not a folder of the user
+abbrev pub folder_fault : Kind → (owner user : ℕ) → Option Said
+folder_fault Link owner user = Some IsLink
+folder_fault Folder owner user = owner_fault owner user
+folder_fault File owner user = Some IsNoFolder
+folder_fault Other owner user = Some IsNoFolder

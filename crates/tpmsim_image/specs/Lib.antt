@@ -1,0 +1,3 @@
+pub mod Fault
+pub mod Saving
+pub mod Stopwatch

@@ -1,0 +1,117 @@
+//! The file with the device's image: it is locked and opened at the start, and put in place as a
+//! whole at each save, so that a fault leaves the old one.
+
+use crate::fault::DeviceFault;
+use crate::folder::folder_of;
+use crate::image_lock::ImageLock;
+use std::fs::{File, OpenOptions};
+use std::io::ErrorKind;
+use std::os::unix::fs::OpenOptionsExt;
+use std::{fs, io};
+use tpm_bytes::Tap;
+use tpm_image::{open, save};
+use tpm_machine::Machine;
+use tpm_record::{Keep, SlotKeep};
+
+/// The permissions of an image: its owner alone reads and writes it, since it has the device's
+/// seeds and every authorization value.
+const OWNER_ALONE: u32 = 0o600;
+
+/// The file of an image, which no other run has while this value is there. It has the paths that a
+/// save needs, so that a save takes no memory: once a device is served, it is not lost for want of
+/// memory.
+#[derive(Drop)]
+pub struct ImageFile<'a> {
+    path: &'a str,
+    /// The path of the new file, in the same folder.
+    new: String,
+    folder: String,
+    _lock: ImageLock,
+}
+
+impl<'a> ImageFile<'a> {
+    /// Takes the file at this path, whether there is one or not. The lock is on another file in the
+    /// same folder, since each save puts another file in its place. Where another run has it,
+    /// nothing is touched.
+    pub fn take(rt: &HostRuntime, path: &'a str) -> Result<ImageFile<'a>, DeviceFault> {
+        let folder = folder_of(path);
+        let new = format!(in rt.alloc(); "{path}.new")?;
+        let folder = format!(in rt.alloc(); "{folder}.")?;
+        let lock = format!(in rt.alloc(); "{path}.lock")?;
+        let locked = lock_image(rt, path, lock.as_str());
+        Ok(ImageFile {
+            path,
+            new,
+            folder,
+            _lock: locked.map_err(|error| DeviceFault::of_io(error, DeviceFault::File))?,
+        })
+    }
+
+    /// The device whose image is in the file; None where there is no file.
+    pub fn open(&self, rt: &HostRuntime) -> Result<Option<Machine<SlotKeep>>, DeviceFault> {
+        match fs::read(rt, self.path) {
+            Ok(image) => Ok(Some(open(rt.alloc(), image.as_slice())?)),
+            Err(error) if error.kind() == ErrorKind::NotFound => Ok(None),
+            Err(error) => Err(DeviceFault::of_io(error, DeviceFault::File)),
+        }
+    }
+
+    /// Writes the image of a device to the new file, forces that file to the disk, and puts it in
+    /// the place of the old one; then the folder is forced to the disk too. Where a fault comes
+    /// before that, the old image stays.
+    pub fn save<K: Keep>(&self, rt: &HostRuntime, machine: &Machine<K>) -> Result<(), DeviceFault> {
+        write_image(rt, self.new.as_str(), machine)?;
+        put_in_place(rt, self.new.as_str(), self.path, self.folder.as_str()).map_err(
+            |error| DeviceFault::of_io(error, DeviceFault::File),
+        )
+    }
+}
+
+/// Takes the lock of an image, where its path may have one. Only a regular file is opened: a pipe
+/// would wait for whoever writes to it.
+fn lock_image(rt: &HostRuntime, path: &str, lock: &str) -> io::Result<ImageLock> {
+    match fs::metadata(rt, path) {
+        Ok(metadata) if !metadata.is_file() => return Err(io::Error::from(ErrorKind::InvalidInput)),
+        Err(error) if error.kind() != ErrorKind::NotFound || folder_of(path) == path => {
+            return Err(error);
+        }
+        _ => {}
+    }
+    ImageLock::take(rt, lock)
+}
+
+/// Writes the image of a device to a file that is made anew, and forces it to the disk.
+fn write_image<K: Keep>(
+    rt: &HostRuntime,
+    path: &str,
+    machine: &Machine<K>,
+) -> Result<(), DeviceFault> {
+    let file = create_anew(rt, path).map_err(|error| DeviceFault::of_io(error, DeviceFault::File))?;
+    let mut tap = Tap::new(file);
+    save(machine, &mut tap).map_err(|_| DeviceFault::File)?;
+    let file = tap.into_inner();
+    file.sync_all()
+        .map_err(|error| DeviceFault::of_io(error, DeviceFault::File))
+}
+
+/// Makes a new file that only its owner may use. What is at the path is removed: a file that a
+/// killed run left, or a link, but not what the link leads to.
+fn create_anew(rt: &HostRuntime, path: &str) -> io::Result<File> {
+    match fs::remove_file(rt, path) {
+        Err(error) if error.kind() != ErrorKind::NotFound => return Err(error),
+        _ => {}
+    }
+    OpenOptions::new()
+        .write(true)
+        .create_new(true)
+        .mode(OWNER_ALONE)
+        .open(rt, path)
+}
+
+/// Renames a file to another path of its folder, and forces the folder to the disk. The folder is
+/// opened first, so that nothing is renamed where that fails.
+fn put_in_place(rt: &HostRuntime, new: &str, path: &str, folder: &str) -> io::Result<()> {
+    let folder = fs::open(rt, folder)?;
+    fs::rename(rt, new, path)?;
+    folder.sync_all()
+}

@@ -1,0 +1,33 @@
+#![tactic(auto)]
+
+//! A device that is kept in an image: the image's file and its lock ([`image_file`],
+//! [`image_lock`]), its savers ([`image_saver`], [`command_saver`]), and the serving of it on a
+//! socket ([`serving`]), with a log where one is asked for ([`log_file`]).
+//!
+//! What the device is given comes from the host: random bytes from a file ([`entropy`]), the time
+//! that has passed ([`stopwatch`]), and both together for each command ([`source`]). The socket
+//! ([`socket`]) serves any device. Contracts say what a saver notes, and which time a command is
+//! told; no contract can say what a file holds.
+//!
+//! The crate uses tpm_image for images, tpm_wire for connections, tpm_log for logs, and the settings
+//! of tpmsim_arguments.
+
+pub mod command_saver;
+pub mod entropy;
+pub mod fault;
+mod folder;
+pub mod image_file;
+mod image_lock;
+pub mod image_saver;
+mod log_file;
+pub mod serving;
+pub mod socket;
+pub mod source;
+pub mod stopwatch;
+
+pub use entropy::Entropy;
+pub use fault::DeviceFault;
+pub use image_file::ImageFile;
+pub use image_saver::ImageSaver;
+pub use serving::serve_device;
+pub use socket::{Socket, bind};

@@ -1,0 +1,42 @@
+//! The file of a served device's log, which is made anew and is its owner's alone.
+
+use crate::fault::DeviceFault;
+use std::fs::{File, OpenOptions};
+use std::io;
+use std::os::unix::fs::OpenOptionsExt;
+use std::time::{SystemTime, UNIX_EPOCH};
+use tpm_log::Log;
+use tpm_machine::Machine;
+use tpm_record::Keep;
+
+/// The permissions of a log: its owner alone reads and writes it, since its head has the device's
+/// seeds and every authorization value, as an image does.
+const OWNER_ALONE: u32 = 0o600;
+
+/// Makes the file of a log at this path, where nothing may be yet, not even a link, and begins the
+/// log of a device as power came on.
+pub fn begin_log<K: Keep>(
+    rt: &HostRuntime,
+    path: &str,
+    machine: &Machine<K>,
+) -> Result<Log<File>, DeviceFault> {
+    let now_ms = clock_ms(rt).map_err(|error| DeviceFault::of_io(error, DeviceFault::File))?;
+    let file = create(rt, path).map_err(|error| DeviceFault::of_io(error, DeviceFault::File))?;
+    Log::begin(file, machine, now_ms).map_err(|_| DeviceFault::File)
+}
+
+fn create(rt: &HostRuntime, path: &str) -> io::Result<File> {
+    OpenOptions::new()
+        .write(true)
+        .create_new(true)
+        .mode(OWNER_ALONE)
+        .open(rt, path)
+}
+
+/// The host's clock in milliseconds since 1970, or 0 where it is set to an earlier time.
+fn clock_ms(rt: &HostRuntime) -> io::Result<u64> {
+    match SystemTime::now(rt)?.duration_since(UNIX_EPOCH) {
+        Ok(since) => Ok(u64::try_from(since.as_millis()).unwrap_or(u64::MAX)),
+        Err(_) => Ok(0),
+    }
+}

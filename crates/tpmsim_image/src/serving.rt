@@ -1,0 +1,135 @@
+//! How the program serves a device on a socket, one connection after another, with its image saved
+//! after each connection, and where that is asked for before each response too, and with a log of
+//! its commands where one is asked for.
+
+use crate::command_saver::CommandSaver;
+use crate::entropy::Entropy;
+use crate::fault::DeviceFault;
+use crate::image_file::ImageFile;
+use crate::image_saver::ImageSaver;
+use crate::log_file::begin_log;
+use crate::socket::{Socket, bind};
+use crate::source::Source;
+use std::fs::File;
+use std::os::unix::net::UnixStream;
+use tpm_bytes::Tap;
+use tpm_log::Logged;
+use tpm_machine::Machine;
+use tpm_record::Keep;
+use tpm_saver::Saver;
+use tpm_wire::{HostFault, Mux, ServeFault, serve_saving};
+use tpmsim_arguments::Service;
+
+/// Serves a device on a socket: the one whose image is in the file, or a new one where there is no
+/// file.
+pub fn serve_device(rt: &HostRuntime, service: &Service, image: &str) -> Result<(), DeviceFault> {
+    let file = ImageFile::take(rt, image)?;
+    let opened = file.open(rt)?;
+    let mut entropy = Entropy::open(rt, service.entropy)?;
+    let mut saver = ImageSaver::new(rt, file);
+    let machine = match opened {
+        Some(machine) => {
+            saver.opened(&machine);
+            machine
+        }
+        None => entropy.manufacture(rt)?,
+    };
+    let mut source = Source::new(entropy, service.locality);
+    let mut witness = Logged {
+        log: None,
+        next: CommandSaver {
+            image: saver,
+            saves_each: service.saves_each,
+        },
+    };
+    serve_machine(rt, service, machine, &mut source, &mut witness)
+}
+
+/// Serves a machine on the socket. Removes the socket's file in the end, if it is still at its
+/// path.
+fn serve_machine<K: Keep>(
+    rt: &HostRuntime,
+    service: &Service,
+    machine: Machine<K>,
+    source: &mut Source,
+    witness: &mut Logged<File, CommandSaver<'_>>,
+) -> Result<(), DeviceFault> {
+    let socket = bind(rt, service.socket)?;
+    let mut mux = Mux::new(machine);
+    let served = serve_socket(rt, service, &socket, &mut mux, source, witness);
+    socket.remove(rt, service.socket);
+    served
+}
+
+/// Begins the log, if there is to be one, and serves the connections.
+fn serve_socket<K: Keep>(
+    rt: &HostRuntime,
+    service: &Service,
+    socket: &Socket,
+    mux: &mut Mux<K>,
+    source: &mut Source,
+    witness: &mut Logged<File, CommandSaver<'_>>,
+) -> Result<(), DeviceFault> {
+    if let Some(path) = service.log {
+        witness.log = Some(begin_log(rt, path, mux.machine())?);
+    }
+    serve_connections(rt, service.connections, socket, mux, source, witness)
+}
+
+/// Serves this many connections, one after another.
+fn serve_connections<K: Keep>(
+    rt: &HostRuntime,
+    connections: u32,
+    socket: &Socket,
+    mux: &mut Mux<K>,
+    source: &mut Source,
+    witness: &mut Logged<File, CommandSaver<'_>>,
+) -> Result<(), DeviceFault> {
+    for _ in 0..connections {
+        let stream = socket
+            .accept()
+            .map_err(|error| DeviceFault::of_io(error, DeviceFault::Socket))?;
+        let served = exchange(rt, &stream, mux, source, witness);
+        save_behind(served, mux, &mut witness.next)?;
+    }
+    Ok(())
+}
+
+/// Saves the device after a connection, its clock too, and says why the program ends, if it does. A
+/// device that is saved before each response is not saved again where a command was not answered
+/// because the log or the image was not written: the image already has all that was answered.
+fn save_behind<K: Keep>(
+    served: Result<u64, ServeFault>,
+    mux: &Mux<K>,
+    saver: &mut CommandSaver<'_>,
+) -> Result<(), DeviceFault> {
+    if !saver.saves_each || served != Err(ServeFault::Save) {
+        let _ = saver.image.save(mux.machine());
+    }
+    if let Some(fault) = saver.image.fault() {
+        return Err(fault);
+    }
+    match served {
+        Err(ServeFault::Save) => Err(DeviceFault::File),
+        Err(ServeFault::Host) => Err(DeviceFault::Entropy),
+        _ => Ok(()),
+    }
+}
+
+/// Executes the commands of a connection, and answers each once the witness was told of it.
+fn exchange<K: Keep>(
+    rt: &HostRuntime,
+    stream: &UnixStream,
+    mux: &mut Mux<K>,
+    source: &mut Source,
+    witness: &mut Logged<File, CommandSaver<'_>>,
+) -> Result<u64, ServeFault> {
+    let mut host = || source.host(rt).map_err(|_| HostFault);
+    serve_saving(
+        mux,
+        &mut Tap::new(stream),
+        &mut Tap::new(stream),
+        &mut host,
+        witness,
+    )
+}

@@ -1,0 +1,136 @@
+//! The socket on which a device is served: only its owner may use it, from the moment it is there.
+
+use crate::fault::DeviceFault;
+use crate::folder::folder_of;
+use std::fs::{DirBuilder, Permissions};
+use std::io::ErrorKind;
+use std::os::unix::fs::{DirBuilderExt, FileTypeExt, MetadataExt, PermissionsExt};
+use std::os::unix::net::{SocketAddr, UnixListener, UnixStream};
+use std::{fs, io};
+
+/// A socket that takes connections, and the identity of its file.
+#[derive(Drop)]
+pub struct Socket {
+    listener: UnixListener,
+    identity: Identity,
+}
+
+impl Socket {
+    /// Takes the next connection.
+    pub fn accept(&self) -> io::Result<UnixStream> {
+        let (stream, _) = self.listener.accept()?;
+        Ok(stream)
+    }
+
+    /// Removes the socket's file from this path. A file that has taken its place there stays.
+    pub fn remove(&self, rt: &HostRuntime, path: &str) {
+        match identity_at(rt, path) {
+            Ok(identity) if identity == self.identity => {
+                let _ = fs::remove_file(rt, path);
+            }
+            _ => {}
+        }
+    }
+}
+
+/// The identity of a file, which tells it from all others: its device and its inode.
+#[derive(Clone, Copy, Debug, PartialEq, Eq)]
+struct Identity {
+    device: u64,
+    inode: u64,
+}
+
+/// The identity of the file at a path.
+fn identity_at(rt: &HostRuntime, path: &str) -> io::Result<Identity> {
+    let metadata = fs::symlink_metadata(rt, path)?;
+    Ok(Identity {
+        device: metadata.dev(),
+        inode: metadata.ino(),
+    })
+}
+
+/// A socket at this path, which only its owner may use, from the moment it is there. A socket that
+/// is there already and at which nobody answers is replaced.
+pub fn bind(rt: &HostRuntime, path: &str) -> Result<Socket, DeviceFault> {
+    let bound = bind_aside(rt, path);
+    bound.map_err(|error| DeviceFault::of_io(error, DeviceFault::Socket))
+}
+
+/// Binds a socket in a folder beside the path that nobody else may enter, and puts it at the path
+/// when it is ready.
+fn bind_aside(rt: &HostRuntime, path: &str) -> io::Result<Socket> {
+    SocketAddr::from_pathname(path)?;
+    let front = folder_of(path);
+    let folder = format!(in rt.alloc(); "{front}.")?;
+    let aside = Aside::make(rt, front)?;
+    let bound = bind_in_folder(rt, aside.socket.as_str(), path, folder.as_str());
+    let _ = fs::remove_file(rt, aside.socket.as_str());
+    let _ = fs::remove_dir(rt, aside.folder.as_str());
+    bound
+}
+
+/// A folder that nobody else may enter, and the path of a socket in this folder.
+#[derive(Drop)]
+struct Aside {
+    folder: String,
+    socket: String,
+}
+
+/// How many names are tried for a folder beside the socket.
+const FOLDERS: u8 = 100;
+
+impl Aside {
+    /// Makes a folder that nobody else may enter, in the folder that this front of a path names.
+    /// Its name is short, since few bytes fit into the address of a socket; a folder that is there
+    /// is left alone.
+    fn make(rt: &HostRuntime, front: &str) -> io::Result<Aside> {
+        for number in 0..FOLDERS {
+            let folder = format!(in rt.alloc(); "{front}.{number}")?;
+            let socket = format!(in rt.alloc(); "{folder}/s")?;
+            match DirBuilder::new().mode(0o700).create(rt, folder.as_str()) {
+                Ok(()) => return Ok(Aside { folder, socket }),
+                Err(error) if error.kind() == ErrorKind::AlreadyExists => {}
+                Err(error) => return Err(error),
+            }
+        }
+        Err(io::Error::from(ErrorKind::AlreadyExists))
+    }
+}
+
+/// Binds a socket to the path aside, and gives it the other path too, which is in this folder.
+fn bind_in_folder(rt: &HostRuntime, aside: &str, path: &str, folder: &str) -> io::Result<Socket> {
+    let listener = UnixListener::bind(rt, aside)?;
+    fs::set_permissions(rt, aside, Permissions::from_mode(0o600))?;
+    let identity = identity_at(rt, aside)?;
+    match fs::hard_link(rt, aside, path) {
+        Err(error) if error.kind() == ErrorKind::AlreadyExists => {
+            replace_left(rt, aside, path, folder)?;
+        }
+        linked => linked?,
+    }
+    Ok(Socket { listener, identity })
+}
+
+/// Puts a socket in the place of one that was left. The folder is locked meanwhile, so that of two
+/// runs that do this at once the second finds the socket of the first, and leaves it there.
+fn replace_left(rt: &HostRuntime, aside: &str, path: &str, folder: &str) -> io::Result<()> {
+    let folder = fs::open(rt, folder)?;
+    folder.lock()?;
+    if is_left(rt, path) {
+        fs::remove_file(rt, path)?;
+    }
+    fs::hard_link(rt, aside, path)
+}
+
+/// Whether a socket is at this path at which nobody answers.
+fn is_left(rt: &HostRuntime, path: &str) -> bool {
+    let is_socket = match fs::symlink_metadata(rt, path) {
+        Ok(metadata) => metadata.file_type().is_socket(),
+        Err(_) => false,
+    };
+    is_socket
+        && match UnixStream::connect(rt, path) {
+            Ok(_) => false,
+            Err(error) => error.kind() == ErrorKind::ConnectionRefused,
+        }
+}

@@ -1,0 +1,53 @@
+//! The elapsed time of each command, of which no millisecond is told twice.
+
+ghost use Rattle.std.specs.Prelude.{◌≡◌, None};
+ghost use Rattle.std.specs.Time.{instant_nanos};
+ghost use Rattle.tpmsim_image.specs.Stopwatch.{after_command, told};
+
+use std::marker::Model;
+use std::time::Instant;
+
+/// A stopwatch, which knows how much time commands were told. Contracts see when the first command
+/// came, and how many of the milliseconds since then were told or dropped.
+#[derive(Drop)]
+pub struct Stopwatch {
+    first: Option<Instant>,
+    passed_ms: u128,
+}
+
+impl Model for Stopwatch {
+    ghost use Rattle.std.specs.Option.{option_map};
+    ghost use Rattle.std.specs.Time.{instant_nanos};
+    ghost use Rattle.tpmsim_image.specs.Stopwatch.{StopwatchState};
+
+    ghost Value = { StopwatchState };
+
+    ghost view = { λ s. record { first = option_map instant_nanos s.first; passed = s.passed_ms } };
+}
+
+impl Stopwatch {
+    /// A stopwatch before the first command.
+    pub fn new() -> Stopwatch
+        ensures { result ≡ record { first = None; passed = 0 } }
+    {
+        Stopwatch {
+            first: None,
+            passed_ms: 0,
+        }
+    }
+
+    /// The milliseconds that a command is told which comes now: 0 for the first command, and for
+    /// each later one those since the first that no command was told, 2^32 - 1 at most. The others
+    /// are dropped.
+    pub fn tell(&mut self, now: Instant) -> u32
+        ensures value { result ≡ told (instant_nanos now) self.old }
+        ensures after { self.new ≡ after_command (instant_nanos now) self.old }
+    {
+        let first = self.first.unwrap_or(now);
+        let since_ms = now.saturating_duration_since(first).as_millis();
+        let untold_ms = since_ms.saturating_sub(self.passed_ms);
+        self.first = Some(first);
+        self.passed_ms = self.passed_ms.max(since_ms);
+        u32::try_from(untold_ms).unwrap_or(u32::MAX)
+    }
+}
