@@ -9,6 +9,7 @@ device in Python, to which the same commands are starved.
 """
 
 import collections
+import functools
 import pathlib
 import sys
 
@@ -49,12 +50,13 @@ class Script:
         self.refused = collections.Counter()
 
     def check(self):
-        with Turns(self.program, [], SCRIPT) as turns:
-            given = turns.run(0, 0)
+        with Turns(self.program, []) as turns:
+            run = functools.partial(turns.run, stdin=SCRIPT)
+            given = run()
             if given.status != 0 or self.answers(given) != self.whole:
                 fail(f"the script, nothing refused: {given}")
             self.check_all_succeed()
-            for turn, alone, rest in self.program.each(turns, turns.run):
+            for turn, alone, rest in self.program.each(turns, run):
                 self.check_alone(turn, alone)
                 self.check_run(turn, rest)
         self.tell()

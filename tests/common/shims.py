@@ -2,6 +2,7 @@
 the C library, and makes some of their calls fail.
 """
 
+import functools
 import os
 import pathlib
 import select
@@ -131,13 +132,14 @@ class MemoryFile:
     """A standard stream of runs, which all of them find at its begin."""
 
     def __init__(self, name):
-        self.file = open(os.memfd_create(name), "w+b", buffering=0)
+        self.name, self.file = name, open(os.memfd_create(name), "w+b", buffering=0)
 
     def fill(self, content):
         self.file.seek(0)
         self.file.truncate()
-        self.file.write(content)
-        self.file.seek(0)
+        if content:
+            self.file.write(content)
+            self.file.seek(0)
 
     @property
     def content(self):
@@ -146,24 +148,22 @@ class MemoryFile:
 
 
 class Turns:
-    """Runs of the same words in a folder, one after another, of a program behind a shim that has
-    turns.h. To begin one takes two numbers, which the shim is told.
+    """Runs in a folder, one after another, of a program behind a shim that has turns.h. They have the
+    same words, but for the last one where a run has its own.
     """
 
-    def __init__(self, shim, words, stdin=b"", folder="."):
-        self.stdin, self.streams = stdin, [MemoryFile(name) for name in ("in", "out", "error")]
+    def __init__(self, shim, words, folder="."):
+        self.streams = [MemoryFile(name) for name in ("stdin", "stdout", "stderr")]
         self.is_marked = False
         self.socket, theirs = socket.socketpair(socket.AF_UNIX, socket.SOCK_SEQPACKET)
         with theirs:
             number = theirs.fileno()
-            told = {"LD_PRELOAD": str(shim.library), "TURNS": str(number)}
-            streams = dict(zip(("stdin", "stdout", "stderr"), (it.file for it in self.streams)))
             self.process = subprocess.Popen(
                 [shim.program, *words],
                 cwd=folder,
-                env={**os.environ, **told},
+                env={**os.environ, "LD_PRELOAD": str(shim.library), "TURNS": str(number)},
                 pass_fds=[number],
-                **streams,
+                **{stream.name: stream.file for stream in self.streams},
             )
 
     def __enter__(self):
@@ -173,10 +173,11 @@ class Turns:
         self.socket.close()
         self.process.wait()
 
-    def begin(self, first, second):
-        for stream, content in zip(self.streams, (self.stdin, b"", b"")):
+    def begin(self, first=0, second=0, word=None, stdin=b""):
+        """Begins a run, with the two numbers that its shim is told, and perhaps a last word."""
+        for stream, content in zip(self.streams, (stdin, b"", b"")):
             stream.fill(content)
-        self.socket.send(TURN.pack(first, second))
+        self.socket.send(TURN.pack(first, second) + (b"" if word is None else word + b"\0"))
 
     def poll(self):
         """Nothing as long as the run goes on, as that of a process."""
@@ -192,8 +193,8 @@ class Turns:
         _, output, error = (stream.content for stream in self.streams)
         return Ending(os.waitstatus_to_exitcode(status), output, error)
 
-    def run(self, first, second):
-        self.begin(first, second)
+    def run(self, *numbers, **told):
+        self.begin(*numbers, **told)
         return self.ended()
 
 
@@ -227,8 +228,8 @@ class Refusals(Shim):
 
     def whole(self, words, stdin=b""):
         """How it ends with nothing refused."""
-        with Turns(self, words, stdin) as turns:
-            return turns.run(0, 0)
+        with Turns(self, words) as turns:
+            return turns.run(stdin=stdin)
 
     @staticmethod
     def each(turns, run):
@@ -259,10 +260,11 @@ class Refusals(Shim):
 
     def check(self, label, words, whole, memory, stdin=b"", needed=FOREVER):
         """The same of how a run ends, which has to be so with nothing refused."""
-        with Turns(self, words, stdin) as turns:
-            given = turns.run(0, 0)
+        with Turns(self, words) as turns:
+            run = functools.partial(turns.run, stdin=stdin)
+            given = run()
             if given != whole:
                 fail(f"{label}, nothing refused: {given}")
-            allocations = self.compare(label, turns, turns.run, whole, memory, needed)
+            allocations = self.compare(label, turns, run, whole, memory, needed)
         print(f"{label}: {memory.error.decode().strip()}")
         return allocations

@@ -101,15 +101,15 @@ def check_service(program, label, image, connections):
     lock of its image.
     """
 
-    def run(first, last):
+    def run(*refused):
         ROOM.furnish(image, bytes(1024))
-        turns.begin(first, last)
+        turns.begin(*refused)
         answers = talked(turns) if connections else b""
         return Service(turns.ended(), answers, image_told(ROOM.image), ROOM.left)
 
     ROOM.furnish(image, b"")
     with Turns(program, [*SERVE, str(connections)], folder=ROOM.path) as turns:
-        whole = run(0, 0)
+        whole = run()
         if whole.ending != WELL or whole.others or bool(whole.answers) != bool(connections):
             fail(f"{label}, nothing refused: {whole}")
         program.compare(label, turns, run, whole, Service(MEMORY, b"", image_told(image), ()))
