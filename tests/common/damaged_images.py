@@ -52,6 +52,13 @@ class Program:
         self.opening, self.saving = opening, saving
         pathlib.Path("entropy").write_bytes(RANDOM * (len(LINES) + 1))
 
+    @staticmethod
+    def place(text):
+        """Puts an image in its place, as a new file: a file system may write out a shortened one."""
+        path = pathlib.Path("image")
+        path.unlink(missing_ok=True)
+        path.write_bytes(text)
+
     def end(self, runs):
         """The fault of the image, or nothing where the run ended well."""
         given = runs.ended()
@@ -62,7 +69,7 @@ class Program:
 
     def fault_of(self, text):
         """What the program answers to an image; where it opens it, it saves nothing."""
-        pathlib.Path("image").write_bytes(text)
+        self.place(text)
         self.opening.begin()
         return self.end(self.opening)
 
@@ -78,7 +85,7 @@ class Program:
         return pathlib.Path("image").read_bytes()
 
     def saved_again(self, text):
-        pathlib.Path("image").write_bytes(text)
+        self.place(text)
         return self.saved(b"")
 
 
