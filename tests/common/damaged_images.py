@@ -54,7 +54,7 @@ class Program:
 
     @staticmethod
     def place(text):
-        """Puts an image in its place, as a new file: a file system may write out a shortened one."""
+        """Puts an image in its place, as a new file: one that is shortened may be written out."""
         path = pathlib.Path("image")
         path.unlink(missing_ok=True)
         path.write_bytes(text)

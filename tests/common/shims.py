@@ -148,8 +148,8 @@ class MemoryFile:
 
 
 class Turns:
-    """Runs in a folder, one after another, of a program behind a shim that has turns.h. They have the
-    same words, but for the last one where a run has its own.
+    """Runs in a folder, one after another, of a program behind a shim that has turns.h. They have
+    the same words, but for the last one where a run has its own.
     """
 
     def __init__(self, shim, words, folder="."):
@@ -217,8 +217,8 @@ class Tears(Shim):
 
 
 class Refusals(Shim):
-    """A program that is refused memory, by the shim refuse.c: the allocations of a run from the first
-    number to the second.
+    """A program that is refused memory, by the shim refuse.c: the allocations of a run from the
+    first number to the second.
     """
 
     def __init__(self, program):
