@@ -9,7 +9,6 @@ Then some of them stand in scripts, and lines of scripts have bytes of other kin
 """
 
 import collections
-import concurrent.futures
 import functools
 import itertools
 import pathlib
@@ -19,10 +18,9 @@ import tempfile
 from tpmsim.model.machine import Model
 from tpmsim.standard import lines
 from tests.common.expected import assembled, fault_of, traced
-from tests.common.shims import Ending, ran
+from tests.common.shims import Ending, ran, Shim, Turns
 
 TESTS = pathlib.Path(__file__).resolve().parent.parent
-AT_ONCE = 4
 STARTUP, STARTED = b"do Startup 0\n", b"80010000000a00000000\n"
 
 # Each way bends one in so many tokens, beginning at the next one each time.
@@ -176,10 +174,10 @@ def counted(outcomes):
     return ", ".join(f"{name} {count}" for name, count in sorted(outcomes.items()))
 
 
-def try_bend(pool, program, name, bent_lines):
+def try_bend(asm, name, bent_lines):
     """The lines that are bent in one way, by `tpmsim asm`."""
     want = [wanted(line) for line in bent_lines]
-    give = pool.map(lambda line: ran(program, "asm", line), bent_lines)
+    give = [asm.run(word=line) for line in bent_lines]
     differ = compared(
         (shown(it), end, given) for it, (_, end), given in zip(bent_lines, want, give)
     )
@@ -190,14 +188,11 @@ def try_bend(pool, program, name, bent_lines):
 # Scripts.
 
 
-def try_faults(pool, program, what, bad):
+def try_faults(scripts, what, bad):
     """Scripts of three lines, of which the second is bad, and is told."""
-
-    def run(line):
-        return ran(program, "run", "-", stdin=STARTUP + b"do " + line + b"\n" + STARTUP)
-
     want = Ending(2, STARTED, b"tpmsim: script line 2\n")
-    differ = compared((shown(b"do " + it), want, give) for it, give in zip(bad, pool.map(run, bad)))
+    give = [scripts.run(stdin=STARTUP + b"do " + it + b"\n" + STARTUP) for it in bad]
+    differ = compared((shown(b"do " + it), want, given) for it, given in zip(bad, give))
     print(f"{what}: {len(bad)} scripts, each with one as its second line; {differ} differ")
 
 
@@ -215,7 +210,7 @@ def try_answers(program, good):
     print(f"bent lines that are lines: one script, {len(good)} commands; {differ} differ")
 
 
-def try_bytes(pool, program, what, put):
+def try_bytes(traces, what, put):
     """Scripts of which the second line has these bytes at one of its places."""
     bent_lines = [
         line[:at] + put + line[at + taken :]
@@ -225,7 +220,7 @@ def try_bytes(pool, program, what, put):
     ]
     texts = [STARTUP + line + b"\n" + STARTUP for line in bent_lines]
     want = [traced(text) for text in texts]
-    give = pool.map(lambda text: ran(program, "run", "--trace", "-", stdin=text), texts)
+    give = [traces.run(stdin=text) for text in texts]
     differ = compared(zip(map(shown, bent_lines), want, give))
     counts = f"{len(texts)} scripts, {sum(it.status != 0 for it in want)} with a bad line"
     print(f"{what} in a script's line: {counts}; {differ} differ")
@@ -234,21 +229,23 @@ def try_bytes(pool, program, what, put):
 def main(program):
     first = first_lines()
     print(f"{len(first)} commands, {sum(len(it.split(b' ')) for it in first)} tokens")
-    tried = []
-    with concurrent.futures.ThreadPoolExecutor(AT_ONCE) as pool:
+    shim, tried = Shim(program, "turns"), []
+    with Turns(shim, ["asm", ""]) as asm:
         for number, (name, bend) in enumerate(BENDS.items()):
             bent_lines = list(bent(first, bend, number % EACH, EACH))
-            try_bend(pool, program, name, bent_lines)
+            try_bend(asm, name, bent_lines)
             tried += bent_lines
-        once = list(dict.fromkeys(tried))
+    once = list(dict.fromkeys(tried))
+    with Turns(shim, ["run", "-"]) as scripts:
         bad = [it for it in once if fault_of(it)]
-        try_faults(pool, program, "bent lines that are none", bad[::SAMPLED])
+        try_faults(scripts, "bent lines that are none", bad[::SAMPLED])
         # A NUL cannot stand in a word of a command line.
         nul = list(bent(first, functools.partial(replaced, b"\0")))
-        try_faults(pool, program, "lines with a NUL in place of a token", nul)
-        try_answers(program, [it for it in once if not fault_of(it)])
+        try_faults(scripts, "lines with a NUL in place of a token", nul)
+    try_answers(program, [it for it in once if not fault_of(it)])
+    with Turns(shim, ["run", "--trace", "-"]) as traces:
         for name, put in BYTES.items():
-            try_bytes(pool, program, name, put)
+            try_bytes(traces, name, put)
 
 
 if __name__ == "__main__":

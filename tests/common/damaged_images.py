@@ -17,14 +17,14 @@ import socket
 import sys
 
 from tests.common import client
-from tests.common.shims import begun, ended, Ending, SERVE, WELL
+from tests.common.shims import Ending, SERVE, Shim, Turns, WELL
 
 from tpmsim.model import image
 from tpmsim.model.machine import Model
 from tpmsim.standard import lines
 from tests.images import image_bodies
 from tests.images import image_cases
-from tests.images.bent_bodies import Bender
+from tests.images.bent_bodies import Bender, Body
 
 STATUS_OF_FAULT, FAULT = 4, "tpmsim: image "
 EXTEND = "PCR_Extend {} pw:- sha1:a9993e364706816aba3e25717850c26c9cd0d89d"
@@ -44,18 +44,24 @@ CLOCK = 0x0102_0304
 
 
 class Program:
-    """A program that serves a device, each time for the one image that it is given."""
+    """A program that serves a device, each time for the one image that it is given: `opening` has
+    its runs without a connection, and `saving` those with one.
+    """
 
-    def __init__(self, path):
-        self.path = path
+    def __init__(self, opening, saving):
+        self.opening, self.saving = opening, saving
         pathlib.Path("entropy").write_bytes(RANDOM * (len(LINES) + 1))
 
-    def start(self, connections):
-        return begun([self.path, *SERVE, str(connections)])
+    @staticmethod
+    def place(text):
+        """Puts an image in its place, as a new file: one that is shortened may be written out."""
+        path = pathlib.Path("image")
+        path.unlink(missing_ok=True)
+        path.write_bytes(text)
 
-    def end(self, process):
-        """The fault of the image, or nothing where the program ended well."""
-        given = ended(process)
+    def end(self, runs):
+        """The fault of the image, or nothing where the run ended well."""
+        given = runs.ended()
         fault = given.error.decode("ascii", "replace").removeprefix(FAULT).removesuffix("\n")
         if given == Ending(STATUS_OF_FAULT, error=f"{FAULT}{fault}\n".encode()):
             return fault
@@ -63,22 +69,23 @@ class Program:
 
     def fault_of(self, text):
         """What the program answers to an image; where it opens it, it saves nothing."""
-        pathlib.Path("image").write_bytes(text)
-        return self.end(self.start(0))
+        self.place(text)
+        self.opening.begin()
+        return self.end(self.opening)
 
     def saved(self, commands):
         """What the program saves behind a connection with these commands."""
-        started = self.start(1)
+        self.saving.begin()
         connection = client.connected("socket")
         connection.sendall(commands)
         connection.shutdown(socket.SHUT_WR)
         client.received(connection)
         connection.close()
-        assert self.end(started) is None
+        assert self.end(self.saving) is None
         return pathlib.Path("image").read_bytes()
 
     def saved_again(self, text):
-        pathlib.Path("image").write_bytes(text)
+        self.place(text)
         return self.saved(b"")
 
 
@@ -161,9 +168,9 @@ THREE_WAYS = (
 
 
 def bent(device, seed, count, version=image.VERSION_2):
-    bender = Bender(seed)
+    bender, body = Bender(seed), Body(device)
     for number in range(1, count + 1):
-        words, text = bender.bent(device, version)
+        words, text = bender.bent(body, version)
         yield f"{number} of seed {seed}, {words}", text
 
 
@@ -236,5 +243,11 @@ def main(program, mode, step=1):
     sys.exit(comparison.differ > 0)
 
 
+def main_of_program(path, mode):
+    shim = Shim(os.path.abspath(path), "turns")
+    with Turns(shim, [*SERVE, "0"]) as opening, Turns(shim, [*SERVE, "1"]) as saving:
+        main(Program(opening, saving), mode, 1 if mode else STEP)
+
+
 if __name__ == "__main__":
-    main(Program(os.path.abspath(sys.argv[1])), sys.argv[2:], 1 if sys.argv[2:] else STEP)
+    main_of_program(sys.argv[1], sys.argv[2:])

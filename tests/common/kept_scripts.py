@@ -12,7 +12,7 @@ from tpmsim.model import player
 from tpmsim.model.image import image, open_image
 from tpmsim.model.machine import Model
 from tests.common import places
-from tests.common.streams import image_told, device_told
+from tests.common.streams import image_told, without_clock
 from tests.common.kept_image import BESIDE, IMAGE, check_image, check_save, identity, opened
 from tests.common.shims import FILE, begun, end, ended, fail
 
@@ -56,16 +56,17 @@ class Run:
 
     def tell(self, *lines):
         """Tells lines, and looks at the image behind each."""
+        before = without_clock(self.player.device)
         for line in lines:
-            old, before = identity(), device_told(self.player.device)
+            old = identity()
             self.write(line)
             wanted = self.read(line)
             if wanted:
-                changes = device_told(self.player.device) != before or wanted == ["power"]
-                changes = changes or not self.is_saved
+                kept = without_clock(self.player.device)
+                changes = kept != before or wanted == ["power"] or not self.is_saved
                 check_save(line, self.player.device, changes, old)
                 self.commands, self.saves = self.commands + 1, self.saves + changes
-                self.is_saved = True
+                self.is_saved, before = True, kept
 
     def end(self, stays=False):
         """Ends the script. The clock of its last command is saved too, in an image that may stay."""

@@ -11,18 +11,31 @@ bent scripts are many, for each twentieth `cmd` line.
 """
 
 import collections
+import functools
 import sys
 
 from tpmsim.model import general
 from tpmsim.standard import Fields, frames, lines
 from tests.common import places
-from tests.common.expected import fault_of, line_told
-from tests.common.shims import ran
+from tests.common.expected import line_told
+from tests.common.shims import Shim, Turns
 
-PROGRAM = sys.argv[1]
 EACH = 20
 FIRST, STEP = 25, 10
 AS_BYTES = "All commands stand as bytes"
+
+
+# Many lines stand in more than one script.
+line_of = functools.cache(lines.line_of)
+
+
+@functools.cache
+def assembled(line):
+    """The buffer of a line, or nothing of one that is none."""
+    try:
+        return lines.assemble(line)
+    except lines.Fault:
+        return None
 
 
 def put_together(buffer):
@@ -34,10 +47,13 @@ def put_together(buffer):
     return frames.buffer_of(code, handles, entries, fields.data)
 
 
+@functools.cache
 def is_right(line):
-    buffer = lines.assemble(line)
-    again = lines.line_of(buffer) or ""
-    return put_together(buffer) == buffer == lines.assemble(again.encode("ascii"))
+    buffer = assembled(line)
+    if buffer is None:
+        return False
+    again = line_of(buffer) or ""
+    return put_together(buffer) == buffer == assembled(again.encode("ascii"))
 
 
 def faults(text):
@@ -47,7 +63,7 @@ def faults(text):
         word, _, argument = line.partition(" ")
         if word == "do" and not is_right(argument.encode("ascii")):
             yield number
-        if word == "cmd" and is_written and lines.line_of(bytes.fromhex(argument)):
+        if word == "cmd" and is_written and line_of(bytes.fromhex(argument)):
             yield number
 
 
@@ -59,9 +75,9 @@ def arguments(word):
     return list(dict.fromkeys(behind for front, _, behind in told if front == word))
 
 
-def check(buffer):
+def check(turns, buffer):
     """Whether the line is right; of another one it is said which it should be."""
-    told, wanted = ran(PROGRAM, "line", buffer.hex()), line_told(buffer)
+    told, wanted = turns.run(word=buffer.hex().encode("ascii")), line_told(buffer)
     if told != wanted:
         print(f"FAILED: {buffer.hex()}: {told}, and not {wanted}")
     return told == wanted
@@ -81,9 +97,10 @@ def some(buffers):
 ending_well = [it for it in places.scripts() if not it.with_suffix(".status").exists()]
 wrong = [f"{it}:{at}" for it in ending_well for at in faults(it.read_text("ascii"))]
 print("\n".join(f"FAILED: {it}" for it in wrong) or "each do line comes back as a line")
-spelled = dict.fromkeys(lines.assemble(it) for it in arguments(b"do") if not fault_of(it))
-if all([check(it) for it in some(spelled)]):
-    print("as one of its buffer, where the program is asked")
+spelled = dict.fromkeys(buffer for it in arguments(b"do") if (buffer := assembled(it)))
 bent = [bytes.fromhex(it.decode()) for it in arguments(b"cmd") if it and len(it) % 2 == 0][::EACH]
-if all([check(it) for it in bent]):
-    print("of the buffers of cmd lines, those that no line spells have none")
+with Turns(Shim(sys.argv[1], "turns"), ["line", ""]) as turns:
+    if all([check(turns, it) for it in some(spelled)]):
+        print("as one of its buffer, where the program is asked")
+    if all([check(turns, it) for it in bent]):
+        print("of the buffers of cmd lines, those that no line spells have none")

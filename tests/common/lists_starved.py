@@ -9,13 +9,14 @@ device in Python, to which the same commands are starved.
 """
 
 import collections
+import functools
 import pathlib
 import sys
 
 from tpmsim.model import image, machine
 from tpmsim.model.player import Player
 from tpmsim.standard import CC, lines
-from tests.common.shims import HERE, Ending, Refusals, fail
+from tests.common.shims import HERE, Ending, Refusals, Turns, fail
 
 MEMORY = Ending(3, error=b"tpmsim_lists: memory\n")
 STARVED, SUCCESS = machine.STARVED.hex(), bytes(4).hex()
@@ -49,17 +50,16 @@ class Script:
         self.refused = collections.Counter()
 
     def check(self):
-        given = self.program.whole([], SCRIPT)
-        if given.status != 0 or self.answers(given) != self.whole:
-            fail(f"the script, nothing refused: {given}")
-        self.check_all_succeed()
-        for turn, alone, rest in self.program.each(self.run):
-            self.check_alone(turn, alone)
-            self.check_run(turn, rest)
+        with Turns(self.program, []) as turns:
+            run = functools.partial(turns.run, stdin=SCRIPT)
+            given = run()
+            if given.status != 0 or self.answers(given) != self.whole:
+                fail(f"the script, nothing refused: {given}")
+            self.check_all_succeed()
+            for turn, alone, rest in self.program.each(turns, run):
+                self.check_alone(turn, alone)
+                self.check_run(turn, rest)
         self.tell()
-
-    def run(self, first, last):
-        return self.program.ended([], first, last, SCRIPT)
 
     @staticmethod
     def answers(ending):

@@ -2,9 +2,13 @@
 the C library, and makes some of their calls fail.
 """
 
+import functools
 import os
 import pathlib
+import select
 import shutil
+import socket
+import struct
 import subprocess
 import sys
 from dataclasses import dataclass
@@ -24,7 +28,10 @@ OTHERS = (
 )
 
 FOREVER = 1_000_000_000
-REFUSED, CALLS = pathlib.Path("refused"), pathlib.Path("calls")
+CALLS = pathlib.Path("calls")
+
+# What turns.h reads and writes: the two numbers of a run, and then its status and its mark.
+TURN, REPORT = struct.Struct("ll"), struct.Struct("ii")
 
 
 @dataclass(frozen=True)
@@ -78,8 +85,13 @@ class Room:
         self.path = pathlib.Path(name)
 
     def furnish(self, image, entropy):
-        shutil.rmtree(self.path, ignore_errors=True)
-        self.path.mkdir()
+        """What is there goes, but the folder stays: runs may have been begun in it."""
+        self.path.mkdir(exist_ok=True)
+        for path in self.path.iterdir():
+            if path.is_dir():
+                shutil.rmtree(path)
+            else:
+                path.unlink()
         if image is not None:
             (self.path / "image").write_bytes(image)
         (self.path / "entropy").write_bytes(entropy)
@@ -116,6 +128,76 @@ class Shim:
         return begun([self.program, *words], folder, LD_PRELOAD=self.library, **told)
 
 
+class MemoryFile:
+    """A standard stream of runs, which all of them find at its begin."""
+
+    def __init__(self, name):
+        self.name, self.file = name, open(os.memfd_create(name), "w+b", buffering=0)
+
+    def fill(self, content):
+        self.file.seek(0)
+        self.file.truncate()
+        if content:
+            self.file.write(content)
+            self.file.seek(0)
+
+    @property
+    def content(self):
+        self.file.seek(0)
+        return self.file.read()
+
+
+class Turns:
+    """Runs in a folder, one after another, of a program behind a shim that has turns.h. They have
+    the same words, but for the last one where a run has its own.
+    """
+
+    def __init__(self, shim, words, folder="."):
+        self.streams = [MemoryFile(name) for name in ("stdin", "stdout", "stderr")]
+        self.is_marked = False
+        self.socket, theirs = socket.socketpair(socket.AF_UNIX, socket.SOCK_SEQPACKET)
+        with theirs:
+            number = theirs.fileno()
+            self.process = subprocess.Popen(
+                [shim.program, *words],
+                cwd=folder,
+                env={**os.environ, "LD_PRELOAD": str(shim.library), "TURNS": str(number)},
+                pass_fds=[number],
+                **{stream.name: stream.file for stream in self.streams},
+            )
+
+    def __enter__(self):
+        return self
+
+    def __exit__(self, *_):
+        self.socket.close()
+        self.process.wait()
+
+    def begin(self, first=0, second=0, word=None, stdin=b""):
+        """Begins a run, with the two numbers that its shim is told, and perhaps a last word."""
+        for stream, content in zip(self.streams, (stdin, b"", b"")):
+            stream.fill(content)
+        self.socket.send(TURN.pack(first, second) + (b"" if word is None else word + b"\0"))
+
+    def poll(self):
+        """Nothing as long as the run goes on, as that of a process."""
+        ready, _, _ = select.select([self.socket], [], [], 0)
+        return ready or None
+
+    def ended(self):
+        told = self.socket.recv(REPORT.size)
+        if not told:
+            fail("the shim has ended")
+        status, is_marked = REPORT.unpack(told)
+        self.is_marked = bool(is_marked)
+        _, output, error = (stream.content for stream in self.streams)
+        return Ending(os.waitstatus_to_exitcode(status), output, error)
+
+    def run(self, *numbers, **told):
+        self.begin(*numbers, **told)
+        return self.ended()
+
+
 class Tears(Shim):
     """A program whose calls the shim tear.c notes, and of which it makes one fail."""
 
@@ -135,45 +217,41 @@ class Tears(Shim):
 
 
 class Refusals(Shim):
-    """A program that is refused memory, by the shim refuse.c."""
+    """A program that is refused memory, by the shim refuse.c: the allocations of a run from the
+    first number to the second.
+    """
 
     def __init__(self, program):
         super().__init__(program, "refuse")
         if "malloc" not in self.check_calls(OTHERS):
             fail("the program does not get its memory by malloc")
 
-    def begun(self, words, first, last, folder="."):
-        """A run to which the allocations from the first to the last are refused."""
-        REFUSED.unlink(missing_ok=True)
-        return super().begun(words, folder, FIRST=first, LAST=last, REFUSED=REFUSED.resolve())
-
-    def ended(self, words, first, last, stdin=b""):
-        return ended(self.begun(words, first, last), stdin)
-
     def whole(self, words, stdin=b""):
         """How it ends with nothing refused."""
-        return self.ended(words, 0, 0, stdin)
+        with Turns(self, words) as turns:
+            return turns.run(stdin=stdin)
 
-    def each(self, run):
+    @staticmethod
+    def each(turns, run):
         """Refuses each allocation in turn, alone and with all that follow. `run` makes a run of the
         two numbers. Gives the number of each, with what came of the one run and of the other.
         """
         turn = 1
         while True:
             alone = run(turn, turn)
-            if not REFUSED.exists():
+            if not turns.is_marked:
                 break
             yield turn, alone, run(turn, FOREVER)
             turn += 1
         if turn == 1:
             fail("nothing could be refused")
 
-    def compare(self, label, run, whole, starved, needed=FOREVER):
+    def compare(self, label, turns, run, whole, starved, needed=FOREVER):
         """Makes sure that a run comes to `starved` where memory is refused to it; or, where one
         allocation alone is refused, as with nothing refused. After the first `needed` allocations
         it always comes to the same as with nothing refused. Gives how many allocations there are.
         """
-        for turn, alone, rest in self.each(run):
+        for turn, alone, rest in self.each(turns, run):
             if alone not in ((whole, starved) if turn <= needed else (whole,)):
                 fail(f"{label}, allocation {turn} refused: {alone}")
             if rest != (starved if turn <= needed else whole):
@@ -182,13 +260,11 @@ class Refusals(Shim):
 
     def check(self, label, words, whole, memory, stdin=b"", needed=FOREVER):
         """The same of how a run ends, which has to be so with nothing refused."""
-
-        def run(first, last):
-            return self.ended(words, first, last, stdin)
-
-        given = self.whole(words, stdin)
-        if given != whole:
-            fail(f"{label}, nothing refused: {given}")
-        turns = self.compare(label, run, whole, memory, needed)
+        with Turns(self, words) as turns:
+            run = functools.partial(turns.run, stdin=stdin)
+            given = run()
+            if given != whole:
+                fail(f"{label}, nothing refused: {given}")
+            allocations = self.compare(label, turns, run, whole, memory, needed)
         print(f"{label}: {memory.error.decode().strip()}")
-        return turns
+        return allocations

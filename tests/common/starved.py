@@ -7,14 +7,15 @@ has to end with status 3 and `tpmsim: memory`. Where one alone is refused, it ha
 else just as it does with nothing refused: some collections ask again, for less.
 """
 
+import functools
 import pathlib
 import socket
 import sys
 from dataclasses import dataclass
 
 from client import connected, received
-from tests.common.shims import FILE, HERE, SERVE, WELL, Ending, Refusals, Room, ended, fail
-from tests.common.streams import image_told
+from tests.common import streams
+from tests.common.shims import FILE, HERE, SERVE, WELL, Ending, Refusals, Room, Turns, fail
 
 TOP = HERE.parent.parent
 SCRIPT = TOP / "examples/measured_boot.tpm"
@@ -28,6 +29,9 @@ SENT = bytes.fromhex(
     "6f776e"
 )
 ROOM = Room("served")
+
+# Most runs leave the image that they found.
+image_told = functools.cache(streams.image_told)
 
 
 def out_of(name):
@@ -78,9 +82,9 @@ class Service:
     others: tuple
 
 
-def talked(process):
+def talked(turns):
     """What a connection is answered, or nothing where the run ends before it."""
-    client = connected(ROOM.path / "socket", process)
+    client = connected(ROOM.path / "socket", turns)
     if not client:
         return b""
     try:
@@ -97,16 +101,18 @@ def check_service(program, label, image, connections):
     lock of its image.
     """
 
-    def run(first, last):
+    def run(*refused):
         ROOM.furnish(image, bytes(1024))
-        process = program.begun([*SERVE, str(connections)], first, last, ROOM.path)
-        answers = talked(process) if connections else b""
-        return Service(ended(process), answers, image_told(ROOM.image), ROOM.left)
+        turns.begin(*refused)
+        answers = talked(turns) if connections else b""
+        return Service(turns.ended(), answers, image_told(ROOM.image), ROOM.left)
 
-    whole = run(0, 0)
-    if whole.ending != WELL or whole.others or bool(whole.answers) != bool(connections):
-        fail(f"{label}, nothing refused: {whole}")
-    program.compare(label, run, whole, Service(MEMORY, b"", image_told(image), ()))
+    ROOM.furnish(image, b"")
+    with Turns(program, [*SERVE, str(connections)], folder=ROOM.path) as turns:
+        whole = run()
+        if whole.ending != WELL or whole.others or bool(whole.answers) != bool(connections):
+            fail(f"{label}, nothing refused: {whole}")
+        program.compare(label, turns, run, whole, Service(MEMORY, b"", image_told(image), ()))
     print(f"{label}: {MEMORY.error.decode().strip()}")
     return ROOM.image
 

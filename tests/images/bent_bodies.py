@@ -3,6 +3,7 @@
 A seed always gives the same: of `random` only that is used which is the same everywhere.
 """
 
+import pickle
 import random
 
 from tests.images import image_fields
@@ -18,8 +19,36 @@ NUMBERS = *SIZES, 0x8000, 0xFFFF
 BYTES = 0, 1, 2, 3, 0x80, 0x81, 0xFF
 
 
+class Body:
+    """The body of a device, of whose fields there is a new copy each time."""
+
+    def __init__(self, device):
+        self.pickled = pickle.dumps(image_fields.body_of(device))
+
+    @property
+    def fields(self):
+        return pickle.loads(self.pickled)
+
+
+def within(fields):
+    """All lists of fields, from the outermost."""
+    found = []
+    add_lists(found, fields)
+    return found
+
+
+def add_lists(found, fields):
+    found.append(fields)
+    for it in fields:
+        if isinstance(it, Sized):
+            add_lists(found, it.fields)
+        elif isinstance(it, Counted):
+            for group in it.groups:
+                add_lists(found, group)
+
+
 class Bender(random.Random):
-    """It bends the body of a device. Some bends are of the text, the others of its fields."""
+    """It bends a body. Some bends are of its text, the others of its fields."""
 
     def below(self, count):
         return int(self.random() * count)
@@ -27,9 +56,9 @@ class Bender(random.Random):
     def one_of(self, values):
         return values[self.below(len(values))]
 
-    def bent(self, device, version=VERSION_2):
+    def bent(self, body, version=VERSION_2):
         """What was done, and the image; now and then two things are done to the fields."""
-        fields = image_fields.body_of(device)
+        fields = body.fields
         text_bends = self.change_byte, self.remove_piece, self.double_piece, self.insert_piece
         field_bends = (
             *(self.change_field, self.copy_field, self.change_number, self.resize),
@@ -73,18 +102,8 @@ class Bender(random.Random):
 
     # Bends of the fields. What is behind a size or a count is written with the one it then has.
 
-    def within(self, fields):
-        """All lists of fields, from the outermost."""
-        yield fields
-        for it in fields:
-            inner = [it.fields] if isinstance(it, Sized) else []
-            if isinstance(it, Counted):
-                inner = it.groups
-            for more in inner:
-                yield from self.within(more)
-
     def all_of(self, fields, *kinds):
-        return [it for inner in self.within(fields) for it in inner if isinstance(it, kinds)]
+        return [it for inner in within(fields) for it in inner if isinstance(it, kinds)]
 
     def plain(self, fields):
         return self.one_of([it for it in self.all_of(fields, Plain) if it.text])
@@ -120,7 +139,7 @@ class Bender(random.Random):
 
     def groups(self, fields):
         """Fields beside each other, or groups behind a count."""
-        lists = [it for it in self.within(fields) if it]
+        lists = [it for it in within(fields) if it]
         lists += [it.groups for it in self.all_of(fields, Counted) if it.groups]
         return self.one_of(lists)
 

@@ -1,6 +1,6 @@
 # Damaged images: what the program answers to each is what the device in Python says of it.
 tests=$(cd "$(dirname "$0")/.." && pwd -P)
 . "$tests/common/cases.sh"
-needs python3
+needs cc python3
 
 python3 "$tests/common/damaged_images.py" "$program"

@@ -5,6 +5,6 @@
 # their tokens; each further one is a way of bending.
 tests=$(cd "$(dirname "$0")/.." && pwd -P)
 . "$tests/common/cases.sh"
-needs python3
+needs cc python3
 
 python3 "$tests/common/bent_lines.py" "$program"

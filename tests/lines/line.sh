@@ -2,7 +2,7 @@
 # common/line.py looks up, and some others.
 tests=$(cd "$(dirname "$0")/.." && pwd -P)
 . "$tests/common/cases.sh"
-needs python3
+needs cc python3
 
 python3 "$tests/common/line.py" "$program"
 

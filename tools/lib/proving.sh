@@ -7,10 +7,12 @@
 # tries.
 copy_crates() {
     mkdir -p "$1/crates" && cp HANDLES "$1" || return 1
+    # shellcheck disable=SC2086 # they are words
+    tar cf - -C crates --exclude=out --exclude=must-fail $crates | (cd "$1/crates" && tar xf -) ||
+        return 1
     for crate in $crates; do
-        tar cf - --exclude=out --exclude=must-fail "crates/$crate" | (cd "$1" && tar xf -) &&
-            grep "^${crate}[ :]" crates.txt >>"$1/crates.txt" || return 1
-    done
+        grep "^${crate}[ :]" crates.txt || return 1
+    done >"$1/crates.txt"
 }
 
 # Logs what `rt` prints, and says which crates are proved.

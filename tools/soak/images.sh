@@ -3,7 +3,8 @@
 # Python under python/tpmsim/model: every beginning of the largest image of each version, each byte
 # of that of version 2 changed in three ways or more, and bodies of a full device that are bent at
 # random, with the length and the digest that they have to have. What is opened of these is saved
-# again, too. It is no part of the gate; tests/images/images.sh is. Needs python3; takes some minutes.
+# again, too. It is no part of the gate; tests/images/images.sh is. Needs cc and python3; takes some
+# minutes.
 #
 #   tools/soak/images.sh             ten thousand bent bodies of seed 1
 #   tools/soak/images.sh 7           those of seed 7
