@@ -33,8 +33,10 @@ jobs=${JOBS:-$(getconf _NPROCESSORS_ONLN)}
 work=$(mktemp -d) || exit 1
 trap 'rm -rf "$work"' EXIT
 mkdir "$work/told" || exit 1
-# The tests share what Python compiles, and what several of them compile of C.
+# The tests share what Python compiles, which the environment may forbid it to keep, and what several
+# of them compile of C.
 export PYTHONPYCACHEPREFIX="$work/python" TPMSIM_BUILT="$work/built"
+unset PYTHONDONTWRITEBYTECODE
 : >"$work/queue"
 number=0
 
