@@ -2,16 +2,29 @@
 
 import atexit
 import contextlib
+import multiprocessing
 import os
 import signal
 import subprocess
 import sys
 import tempfile
 
-# What a program in Python compiles is compiled once.
-COMPILED = tempfile.TemporaryDirectory()
-atexit.register(COMPILED.cleanup)
-COMPILES = {"PYTHONDONTWRITEBYTECODE": "", "PYTHONPYCACHEPREFIX": COMPILED.name}
+import tpmsim.simulator
+
+FORKS = multiprocessing.get_context("fork")
+
+
+def folder_of_compiled():
+    """Where what a program in Python compiles is: where it is kept already, or a folder of our own."""
+    kept = os.environ.get("PYTHONPYCACHEPREFIX")
+    if kept:
+        return kept
+    folder = tempfile.TemporaryDirectory()
+    atexit.register(folder.cleanup)
+    return folder.name
+
+
+COMPILES = {"PYTHONDONTWRITEBYTECODE": "", "PYTHONPYCACHEPREFIX": folder_of_compiled()}
 
 
 @contextlib.contextmanager
@@ -23,14 +36,44 @@ def running(*words, ready):
             yield ready(process)
         finally:
             process.terminate()
-            assert process.wait(60) in (0, -signal.SIGTERM), f"{words} ends with a fault"
+            check_ending(process.wait(60), words)
+
+
+def check_ending(status, words):
+    assert status in (0, -signal.SIGTERM), f"{words} ends with a fault"
+
+
+def address_from(output):
+    """The host and the port, as a server of Microsoft's protocol prints them."""
+    host, port = output.readline().split()
+    return host, int(port)
 
 
 def simulator(*words):
     """A server of Microsoft's protocol, and its address."""
+    program = sys.executable, "-m", "tpmsim.simulator", "--port", "0", *words
+    return running(*program, ready=lambda process: address_from(process.stdout))
 
-    def ready(process):
-        host, port = process.stdout.readline().split()
-        return host, int(port)
 
-    return running(sys.executable, "-m", "tpmsim.simulator", "--port", "0", *words, ready=ready)
+@contextlib.contextmanager
+def forked_simulator(*words):
+    """The same of a process that is forked, and so has all modules from its beginning."""
+    reads, writes = os.pipe()
+    process = FORKS.Process(target=serve, args=(words, writes))
+    process.start()
+    os.close(writes)
+    try:
+        with open(reads, encoding="ascii") as output:
+            yield address_from(output)
+    finally:
+        process.terminate()
+        process.join(60)
+        check_ending(process.exitcode, words)
+        process.close()
+
+
+def serve(words, writes):
+    """What the program of the server does, which prints into a pipe."""
+    sys.argv[1:] = ["--port", "0", *words]
+    sys.stdout = open(writes, "w", encoding="ascii")
+    sys.exit(tpmsim.simulator.main())

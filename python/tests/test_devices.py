@@ -24,7 +24,7 @@ from tpmsim.model.machine import Model
 from tpmsim.model.player import played
 from tpmsim.model.protection import Lockout
 from tpmsim.standard import RH_OWNER
-from programs import running, simulator
+from programs import forked_simulator, running
 from twenty import TwentyTests
 
 SEED = b"seed"
@@ -115,7 +115,7 @@ class OverSimulator(TwentyTests, unittest.TestCase):
     lacks = {"test_lockout": HOSTS_TIME, "test_snapshot": NO_SNAPSHOTS}
 
     def device(self):
-        return SimulatorDevice(*self.enterContext(simulator()))
+        return SimulatorDevice(*self.enterContext(forked_simulator()))
 
 
 def differs(test):

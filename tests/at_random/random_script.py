@@ -472,7 +472,7 @@ class Writer(random.Random):
             given = held.cipher, held.algorithm, key, entry.nonce, held.nonce_tpm
             encrypt = partial(sessions.encrypted, *given)
             command.parameters = sessions.on_first_buffer(encrypt, command.parameters)
-        for place, entry, handle in command.places():
+        for place, entry, handle in command.places:
             entry.hmac = self.hmac_of(command, place, entry, handle)
             if self.happens(0.08 if device.touched(entry, handle) else 0.02):
                 entry.hmac = self.choice((b"", self.some_bytes(32), entry.hmac + b"\0"))

@@ -43,6 +43,10 @@ run_audit() {
     echo "status $status"
 }
 
+# The wrong devices are judged beside all else.
+python3 "$scripts/wrong_devices.py" >wrong_devices &
+wrong_devices=$!
+
 echo 'EACH SCRIPT: what is printed of it agrees.'
 python3 "$scripts/sweep.py" "$program" 0 | grep DIFFERS
 
@@ -137,4 +141,7 @@ run_audit 'The second start, from the image:' after.tpm after --image image
 run_audit 'No words:'
 
 echo 'WRONG DEVICES: what is found of each.'
-python3 "$scripts/wrong_devices.py"
+status=0
+wait "$wrong_devices" || status=$?
+cat wrong_devices
+exit "$status"

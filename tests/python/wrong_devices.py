@@ -7,6 +7,7 @@ it.
 It prints what is found of each, and status 1 where it finds nothing of one.
 """
 
+import functools
 import sys
 from dataclasses import replace
 from unittest import mock
@@ -149,10 +150,16 @@ def fault_of(name):
     return audited(script, printed(script))[1]
 
 
+@functools.cache
+def check_right_device(name):
+    """Nothing is found of the device as it is."""
+    assert fault_of(name) is None
+
+
 def main():
     missed = 0
     for words, name, patch in WRONG:
-        assert fault_of(name) is None
+        check_right_device(name)
         with patch:
             fault = fault_of(name)
         missed += fault is None

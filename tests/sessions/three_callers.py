@@ -63,7 +63,7 @@ def measuring(stage, caller):
     for _ in range(2):
         reading = caller.prepare(CC.PCR_Read, [], selection(*CHOSEN))
         response = caller.says("The first caller reads PCR 10: SUCCESS", reading)
-        assert response.endswith(stage.history.pcrs.values[SHA256, 10])
+        assert response.endswith(stage.history.pcrs.values[SHA256][10])
         yield
         on_null = "The first caller extends TPM_RH_NULL, which changes nothing"
         yield caller.says(f"{on_null}: SUCCESS", extending(caller, RH_NULL))

@@ -91,7 +91,7 @@ class Grounds:
         self.pcrs, self.values = pcr_lines, value_lines
 
     def uses(self, seen: Seen) -> Iterator[Use]:
-        for place, entry, handle in seen.command.places():
+        for place, entry, handle in seen.command.places:
             session = self.history.sessions.live.get(entry.handle)
             if handle is None:
                 yield Use(seen, place, entry, None, None, b"", session)

@@ -12,7 +12,7 @@ from tpmsim.explain.words import command_words
 from tpmsim.model import pcrs, state
 from tpmsim.model.history import Accepted, defined_index, History
 from tpmsim.model.machine import Model
-from tpmsim.standard import CC, HASH_WORDS, is_pcr, nv, RH_ENDORSEMENT, RH_LOCKOUT, RH_OWNER
+from tpmsim.standard import CC, HASH_WORDS, is_pcr, nv, PCRS, RH_ENDORSEMENT, RH_LOCKOUT, RH_OWNER
 from tpmsim.standard import RH_PLATFORM, SE_HMAC, SHA1, SHA256
 from tpmsim.standard.lines import handle_word
 
@@ -31,7 +31,8 @@ class PcrLines:
         self.pcrs, self.updates = history.pcrs, 0
         self.last_change, self.last_words = 0, ""
         self.written: dict[tuple[int, int], str] = {}
-        self.saved = dict.fromkeys(self.pcrs.saved, OF_IMAGE) if has_image else {}
+        saved = [(bank, pcr) for bank in BANKS for pcr in PCRS if has_image]
+        self.saved = dict.fromkeys(saved, OF_IMAGE)
 
     def note(self, seen: Seen) -> None:
         """An event, once the history has it."""
@@ -54,10 +55,10 @@ class PcrLines:
 
     def report(self) -> Iterator[str]:
         title = "PCRs that are not as a startup leaves them, each with the line that wrote it last"
-        values = sorted(self.pcrs.values.items(), key=lambda it: BANKS.index(it[0][0]))
         told = (
             f"    {HASH_WORDS[bank]} PCR {pcr}: {value.hex()}, {self.written[bank, pcr]}"
-            for (bank, pcr), value in values
+            for bank in BANKS
+            for pcr, value in enumerate(self.pcrs.values[bank])
             if value != pcrs.starting_value(bank, pcr)
         )
         return section(title, told, "PCRs: each has the value that a startup gives it.")

@@ -35,7 +35,7 @@ def of_image(text: bytes) -> Start:
     history.counters.largest = device.largest_counter
     if device.saved == state.Saved.STATE:
         for bank, values in device.saved_banks.items():
-            history.pcrs.saved |= {(bank, pcr): value for pcr, value in enumerate(values)}
+            history.pcrs.saved[bank][: len(values)] = values
     digest = hashlib.sha256(text).hexdigest()
     words = f"the device of an image, whose SHA-256 is {digest}"
     return Start(device, history, words, has_image=True)

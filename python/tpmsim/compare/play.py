@@ -198,7 +198,7 @@ class Comparison:
             return []
         if what == COUNTER:
             return [COUNTER, ALL]
-        entries = [entry.handle for _, entry, _ in asked.places()]
+        entries = [entry.handle for _, entry, _ in asked.places]
         touched: list[object] = [it for it in asked.handles + entries if it >> 24 in OWN_KINDS]
         if asked.code in PCR_COMMANDS or what == "pcrValues":
             touched.append("pcrs")
@@ -220,7 +220,7 @@ class Comparison:
             lost.update({it: line for it in kept if it not in self.known()})
         if asked.handles and is_policy(asked.handles[-1]):
             self.translation.tied[asked.handles[-1]] = line
-        for _, entry, handle in asked.places():
+        for _, entry, handle in asked.places:
             if is_session(entry.handle):
                 self.keep_step(entry, handle)
 

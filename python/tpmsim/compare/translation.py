@@ -56,7 +56,7 @@ class Translation:
             raise NotComparable(TIED, self.tied[asked.handles[0]])
         parameters = self.parameters(asked, self.here.plain(asked))
         self.check_hashed(asked, handles, parameters)
-        uses = [self.use(asked, *it) for it in asked.places()]
+        uses = [self.use(asked, *it) for it in asked.places]
         prepared = Prepared(asked.code, handles, parameters, uses, [])
         for place, use in enumerate(uses, 1):
             if isinstance(use, Use) and use.attributes & DECRYPT and use.session.cipher != ALG_NULL:
@@ -64,7 +64,7 @@ class Translation:
                 if asked.code.takes_sized and len(parameters) - 2 >= size > 0:
                     handle = prepared.authorized(place)
                     prepared.parameters = self.known.encrypted(use, handle, parameters)
-        prepared.entries = [self.entry(asked, prepared, *it) for it in asked.places()]
+        prepared.entries = [self.entry(asked, prepared, *it) for it in asked.places]
         return prepared
 
     def check_hashed(self, asked: Command, handles: list[int], parameters: bytes) -> None:
@@ -72,7 +72,7 @@ class Translation:
         names = [self.known.name(it) for it in handles]
         if (names, parameters) == (self.here.model.names(asked), asked.parameters):
             return
-        for _, entry, handle in asked.places():
+        for _, entry, handle in asked.places:
             if entry.handle in self.hashed and handle is not None:
                 raise NotComparable(TIED, self.hashed[entry.handle])
 
@@ -243,7 +243,7 @@ class Translation:
         return frames.on_handles(CC.NV_UndefineSpace, [frames.RH_OWNER, index])
 
     def end_sessions(self, asked: Command) -> None:
-        for _, entry, handle in asked.places():
+        for _, entry, handle in asked.places:
             if not is_session(entry.handle):
                 continue
             if not entry.attributes & CONTINUE_SESSION:

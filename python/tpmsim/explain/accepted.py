@@ -42,7 +42,7 @@ def zeros_words(value: bytes) -> str:
 
 
 def zeros(scene: Scene) -> Iterator[Reason]:
-    for place, entry, handle in scene.command.places():
+    for place, entry, handle in scene.command.places:
         if entry.handle == RS_PW:
             told = zeros_words(entry.hmac)
             if told:
@@ -59,7 +59,7 @@ def zeros(scene: Scene) -> Iterator[Reason]:
 
 
 def nonces(scene: Scene) -> Iterator[Reason]:
-    for place, entry, _ in scene.command.places():
+    for place, entry, _ in scene.command.places:
         begun = scene.past.sessions.get(entry.handle)
         if begun is None or not entry.nonce:
             continue
@@ -90,7 +90,7 @@ def after(scene: Scene) -> Iterator[Reason]:
         scene.past.told_once.add("random")
         words = "The random bytes are zeros, as no entropy line has told others. It is told once."
         yield note("random bytes", "random bytes are zeros", words)
-    for place, entry, _ in scene.command.places():
+    for place, entry, _ in scene.command.places:
         begun = scene.past.sessions.get(entry.handle)
         session = scene.model.sessions.get(entry.handle)
         if begun is None or session is None or not session.nonce_tpm:

@@ -31,7 +31,7 @@ def reason(scene: Scene) -> Reason:
 
 def refused_place(scene: Scene) -> Place:
     """The entry that is refused: the one of the code, or else the first that a check refuses."""
-    places, model = list(scene.command.places()), scene.model
+    places, model = scene.command.places, scene.model
     if scene.place:
         return places[scene.place - 1]
     if scene.name == "LOCKOUT":

@@ -2,7 +2,7 @@
 
 import hmac
 from dataclasses import dataclass
-from typing import Iterator
+from typing import Iterable, Iterator, NamedTuple
 
 from tpmsim.explain.past import Begun, Since
 from tpmsim.explain.reason import Fact, Scene
@@ -13,8 +13,7 @@ from tpmsim.standard import CC, DECRYPT, digest, Entry, Fields, frames, handle_k
 from tpmsim.standard import number, policy, sessions, Short
 
 
-@dataclass(frozen=True)
-class Ingredients:
+class Ingredients(NamedTuple):
     """`code` stands before the Names in cpHash; `auth_value` is empty if not in the key."""
 
     algorithm: int
@@ -38,13 +37,14 @@ class Ingredients:
         return digest(self.hash_algorithm, self.code + b"".join(self.names) + self.parameters)
 
     @property
-    def text(self) -> bytes:
-        nonces = self.newer + self.older + b"".join(self.others)
-        return self.cp_hash + nonces + number(self.attributes, 1)
-
-    @property
     def hmac(self) -> bytes:
-        return hmac.digest(self.key, self.text, HASH_WORDS[self.algorithm])
+        return self.hmacs_by([self.attributes])[0]
+
+    def hmacs_by(self, attributes: Iterable[int]) -> list[bytes]:
+        """The HMACs with each of these attributes."""
+        before = self.cp_hash + self.newer + self.older + b"".join(self.others)
+        key, name = self.key, HASH_WORDS[self.algorithm]
+        return [hmac.digest(key, before + number(it, 1), name) for it in attributes]
 
 
 @dataclass
@@ -133,7 +133,7 @@ class Use:
 
 def use_of(scene: Scene, place: int) -> Use | None:
     """That of an entry's place; None where it is a password's."""
-    for at, entry, handle in scene.command.places():
+    for at, entry, handle in scene.command.places:
         if at == place and entry.handle in scene.model.sessions:
             session = scene.model.sessions[entry.handle]
             return Use(scene, place, entry, handle, session, scene.past.sessions.get(entry.handle))

@@ -181,7 +181,7 @@ class Past:
         self.note_entries(line, command)
         if name.startswith("Policy") and command.code != CC.PolicyGetDigest:
             self.note_policy(line, command, plain, names)
-        for _, entry, handle in command.places():
+        for _, entry, handle in command.places:
             if handle is not None and handle_kinds.is_policy(entry.handle):
                 # A policy session that authorized begins anew.
                 if entry.handle in self.sessions:
@@ -199,7 +199,7 @@ class Past:
             self.untrimmed[answered] = fields.structure(object_rules.read_sensitive_create)[0]
 
     def note_entries(self, line: int, command: Command) -> None:
-        for _, entry, _ in command.places():
+        for _, entry, _ in command.places:
             begun = self.sessions.get(entry.handle)
             if begun is None:
                 continue

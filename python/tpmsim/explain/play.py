@@ -289,7 +289,7 @@ class Play(Watched):
 
 
 def entry_facts(scene: Scene) -> Iterator[tuple[int, list[Fact]]]:
-    for place, entry, _ in scene.command.places():
+    for place, entry, _ in scene.command.places:
         use = ingredients.use_of(scene, place)
         if use is not None and entry.hmac and entry.demand != policy.PASSWORD:
             found = ingredients.facts(use)

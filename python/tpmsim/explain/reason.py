@@ -115,7 +115,7 @@ class Scene:
 
     @property
     def has_entries(self) -> bool:
-        return self.buffer[:2] == frames.number(frames.SESSIONS, 2)
+        return int.from_bytes(self.buffer[:2], "big") == frames.SESSIONS
 
     @property
     def area_at(self) -> int:

@@ -4,7 +4,6 @@ Each slip is a name, a sentence, and the ingredients that it has in place of the
 told only where its HMAC is the one that was given. Two of different groups are tried together, too.
 """
 
-from dataclasses import replace
 from itertools import chain
 from typing import Any, Iterator
 
@@ -25,7 +24,7 @@ class Slip:
         self.changes = changes
 
     def change(self, right: Ingredients) -> Ingredients:
-        return replace(right, **self.changes)
+        return right._replace(**self.changes)
 
 
 def other_hash_words(own: int) -> tuple[int, str]:
@@ -273,13 +272,14 @@ def hashes(use: Use) -> Iterator[Slip]:
 
 
 def other_attributes(use: Use) -> Iterator[Slip]:
-    """Any others than those that were sent; of those before the words say so."""
+    """Those that make the HMAC that was given, if any do; of those before the words say so."""
     last = use.begun.last_attributes if use.begun else None
     sent = f"sent were {attribute_words(use.entry.attributes)}"
-    for value in range(0x100):
-        of_before = ", which are those of the entry before" if value == last else ""
-        words = f"the attributes were {attribute_words(value)}{of_before}; {sent}"
-        yield Slip("other attributes", words, "attributes", attributes=value)
+    for value, made in enumerate(use.right().hmacs_by(range(0x100))):
+        if made == use.entry.hmac:
+            of_before = ", which are those of the entry before" if value == last else ""
+            words = f"the attributes were {attribute_words(value)}{of_before}; {sent}"
+            yield Slip("other attributes", words, "attributes", attributes=value)
 
 
 def others(use: Use) -> Iterator[Slip]:

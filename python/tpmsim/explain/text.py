@@ -12,6 +12,9 @@ from tpmsim.standard import NUMBERED
 
 WIDTH = 100
 INDENT = "    "
+WRAPPER = textwrap.TextWrapper(
+    WIDTH, initial_indent=INDENT, subsequent_indent=INDENT, break_on_hyphens=False
+)
 
 
 @dataclass
@@ -87,9 +90,7 @@ def of_reason(reason: Reason) -> Iterator[str]:
 
 
 def wrapped(words: str) -> list[str]:
-    return textwrap.wrap(
-        words, WIDTH, initial_indent=INDENT, subsequent_indent=INDENT, break_on_hyphens=False
-    )
+    return WRAPPER.wrap(words)
 
 
 def facts_words(facts: Iterable[Fact]) -> Iterator[str]:

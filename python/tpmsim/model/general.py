@@ -3,7 +3,8 @@
 from __future__ import annotations
 
 from dataclasses import dataclass
-from typing import Iterator, TYPE_CHECKING
+from functools import cached_property
+from typing import TYPE_CHECKING
 
 from tpmsim.standard import CC, COMMAND_BYTES, DECRYPT, ENCRYPT, Entry, Fact, Fields, first_byte
 from tpmsim.standard import frames, Handle, HEADER_BYTES, is_index, is_policy, is_session
@@ -40,13 +41,12 @@ class Command:
     entries: list[Entry] | None
     parameters: bytes
 
-    def places(self) -> Iterator[tuple[int, Entry, int | None]]:
+    @cached_property
+    def places(self) -> list[tuple[int, Entry, int | None]]:
         """Each entry with its number and the handle that it authorizes, if any."""
-        if not self.entries:
-            return
-        authorized = self.handles[: self.code.authorized]
-        for place, entry in enumerate(self.entries, 1):
-            yield place, entry, authorized[place - 1] if place <= len(authorized) else None
+        entries = self.entries or []
+        authorized = [*self.handles[: self.code.authorized], *[None for _ in entries]]
+        return [(at, *both) for at, both in enumerate(zip(entries, authorized), 1)]
 
     def others(self, place: int, handle: int | None) -> list[int]:
         """In the first entry, where it authorizes: the other sessions that decrypt and encrypt."""
@@ -57,7 +57,7 @@ class Command:
 
     def with_attribute(self, attribute: int) -> tuple[int, Entry, int | None] | None:
         """The entry that decrypts or encrypts, its number, and the handle that it authorizes."""
-        for place, entry, handle in self.places():
+        for place, entry, handle in self.places:
             if entry.attributes & attribute:
                 return place, entry, handle
         return None
@@ -73,7 +73,7 @@ class Answer:
 def read_header(fields: Fields, length: int) -> tuple[int, CC]:
     if not HEADER_BYTES <= length <= COMMAND_BYTES:
         raise Refusal("COMMAND_SIZE", "G1")
-    tag, size, code = fields.number(2), fields.number(4), fields.number(4)
+    tag, size, code = frames.HEADER.unpack(fields.take(HEADER_BYTES))
     if tag not in (frames.NO_SESSIONS, frames.SESSIONS):
         raise Refusal("BAD_TAG", "G2")
     if size != length:
@@ -162,6 +162,6 @@ def decode(buffer: bytes, device: Held) -> Command:
         raise Refusal("AUTH_MISSING", "G7")
     entries = read_area(fields) if tag == frames.SESSIONS else None
     command = Command(code, handles, entries, fields.data)
-    for place, entry, handle in command.places():
+    for place, entry, handle in command.places:
         check_entry(command, place, entry, handle, device.sessions)
     return command

@@ -63,40 +63,37 @@ class PowerCycle:
     """Power goes off and on again."""
 
 
-# PCRs: a value for each bank and number, and those that the last shutdown found.
-
-
-def started_values() -> dict[tuple[int, int], bytes]:
-    return {(bank, pcr): pcrs.starting_value(bank, pcr) for bank in (SHA1, SHA256) for pcr in PCRS}
+# PCRs: the values of each bank, and those that the last shutdown found.
 
 
 @dataclass
 class Pcrs:
     """`updates` counts writes and TPM2_Clear; `saved` is what the last shutdown found."""
 
-    values: dict[tuple[int, int], bytes] = field(default_factory=started_values)
+    values: dict[int, list[bytes]] = field(default_factory=pcrs.starting_banks)
     updates: int = 0
-    saved: dict[tuple[int, int], bytes] = field(default_factory=started_values)
+    saved: dict[int, list[bytes]] = field(default_factory=pcrs.starting_banks)
 
     def set(self, bank: int, pcr: int, value: bytes) -> None:
-        self.values[bank, pcr] = value
+        self.values[bank][pcr] = value
         self.updates += 1
 
     def extend(self, pcr: int, values: Iterable[tuple[int, bytes]]) -> None:
         for bank, value in values:
-            self.set(bank, pcr, digest(bank, self.values[bank, pcr] + value))
+            self.set(bank, pcr, digest(bank, self.values[bank][pcr] + value))
 
     def power_cycle(self) -> None:
-        self.values, self.updates = started_values(), 0
+        self.values, self.updates = pcrs.starting_banks(), 0
 
     def command(self, it: Accepted) -> None:
         pcr = it.handles[0] if it.handles else None
         if it.code == CC.Startup:
             self.updates = 0
             if it.given["startupType"] == state.STATE:
-                self.values |= {at: was for at, was in self.saved.items() if at[1] < 16}
+                for bank, values in self.saved.items():
+                    self.values[bank][: state.SAVED_PCRS] = values[: state.SAVED_PCRS]
         elif it.code == CC.Shutdown:
-            self.saved = dict(self.values)
+            self.saved = {bank: list(values) for bank, values in self.values.items()}
         elif it.code == CC.Clear:
             self.updates += 1
         elif pcr is None or pcr == RH_NULL:
@@ -111,14 +108,14 @@ class Pcrs:
                 self.set(bank, pcr, bytes(digest_bytes(bank)))
 
     def digest(self, algorithm: int, selection: Iterable[tuple[int, Iterable[int]]]) -> bytes:
-        values = [self.values[bank, pcr] for bank, numbers in selection for pcr in numbers]
+        values = [self.values[bank][pcr] for bank, numbers in selection for pcr in numbers]
         return digest(algorithm, b"".join(values))
 
 
 # Authorization values: the one that was set last for each handle. These are always there, and have
 # none at first.
 
-WITHOUT_VALUES = dict.fromkeys((*HIERARCHIES, RH_NULL, *PCRS), b"")
+ALWAYS_THERE = frozenset((*HIERARCHIES, RH_NULL, *PCRS))
 
 
 @dataclass
@@ -321,7 +318,7 @@ class History:
 
     def pcr_differences(self, device: Model) -> Iterator[str]:
         for bank, values in device.banks.items():
-            told = [self.pcrs.values[bank, pcr] for pcr in range(len(values))]
+            told = self.pcrs.values[bank]
             if values != told:
                 differ = (pcr for pcr, value in enumerate(values) if value != told[pcr])
                 yield from (f"PCR {pcr} of bank {bank:04x}" for pcr in differ)
@@ -329,10 +326,10 @@ class History:
             yield "the count of updates"
 
     def auth_differences(self, device: Model) -> Iterator[str]:
-        held = WITHOUT_VALUES | device.auth_values
+        told = self.auth_values.values
+        held = {handle: b"" for handle in told if handle in ALWAYS_THERE} | device.auth_values
         held |= {handle: it.sensitive.auth_value for handle, it in device.objects.items()}
         held |= {handle: it.auth_value for handle, it in device.indices.items()}
-        told = self.auth_values.values
         for handle, auth_value in held.items():
             if auth_value != told.get(handle, b""):
                 yield f"the authorization value of {handle:08x}"

@@ -151,7 +151,7 @@ class Model(
         goes_on = frames.CONTINUE_SESSION
         uses = [
             history.Use(it.handle, bool(it.attributes & goes_on), handle is not None)
-            for _, it, handle in command.places()
+            for _, it, handle in command.places
         ]
         answered = int.from_bytes(answer.handle, "big") if answer.handle else None
         loaded = None
@@ -270,7 +270,7 @@ class Model(
         entry.demand = session.policy.demand
 
     def authorize(self, command: Command, locality: int) -> None:
-        for place, entry, handle in command.places():
+        for place, entry, handle in command.places:
             check = "G10" if handle is None else "G9"
             if handle is not None and handle_kinds.is_policy(entry.handle):
                 self.check_policy(command, place, entry, handle, locality)
@@ -304,7 +304,7 @@ class Model(
             return frames.success(answer.parameters, handle=answer.handle)
         self.draw_nonces(command, random[answer.drawn :])
         parameters = self.answered_parameters(command, answer.parameters)
-        places = list(command.places())
+        places = command.places
         entries = [self.entry_answer(command, parameters, entry, of) for _, entry, of in places]
         for _, entry, handle in places:
             self.end_use(entry, handle)
@@ -321,7 +321,7 @@ class Model(
             session.policy = policy_state.starting_state(session.algorithm)
 
     def draw_nonces(self, command: Command, random: bytes) -> None:
-        for _, entry, _ in command.places():
+        for _, entry, _ in command.places:
             if entry.handle != RS_PW:
                 session = self.sessions[entry.handle]
                 size = len(session.nonce_tpm)

@@ -41,6 +41,10 @@ INVERSES = inverses()
 S_BOX = bytes(substitute(INVERSES.get(byte, 0)) for byte in range(256))
 
 
+# Where each byte of a block comes from as its rows are shifted.
+SHIFTED = operator.itemgetter(*((at + 4 * (at % 4)) % BLOCK for at in range(BLOCK)))
+
+
 def xor(left: bytes, right: bytes) -> bytes:
     """As many bytes as the shorter has."""
     return bytes(map(operator.xor, left, right))
@@ -61,7 +65,7 @@ def round_keys(key: bytes) -> list[bytes]:
 
 def shift_rows(state: bytes) -> bytes:
     """Byte r + 4c is row r, column c; row r turns by r."""
-    return bytes(state[(at + 4 * (at % 4)) % BLOCK] for at in range(BLOCK))
+    return bytes(SHIFTED(state))
 
 
 def mix_columns(state: bytes) -> bytes:

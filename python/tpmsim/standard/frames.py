@@ -1,5 +1,7 @@
 """Frames of TPM 2.0 commands and responses, byte by byte (TPM 2.0 Library, Part 1, section 18)."""
 
+import functools
+import struct
 from dataclasses import dataclass
 from typing import Iterable, Iterator
 
@@ -58,8 +60,11 @@ def sized(data: bytes) -> bytes:
     return number(len(data), 2) + data
 
 
-# The header of a command, the longest command, and the most entries of one.
-HEADER_BYTES, COMMAND_BYTES, MOST_ENTRIES = 10, 4096, 3
+# The header of a command and of a response: a tag, the size of all, and a code.
+HEADER = struct.Struct(">HII")
+
+# The bytes of a header, the longest command, and the most entries of one.
+HEADER_BYTES, COMMAND_BYTES, MOST_ENTRIES = HEADER.size, 4096, 3
 
 
 @dataclass
@@ -75,8 +80,7 @@ class Entry:
 
 def command(code: int, body: bytes, tag: int = NO_SESSIONS, size: int | None = None) -> bytes:
     """A command; commandSize is right where no other is given."""
-    length = 10 + len(body) if size is None else size
-    return number(tag, 2) + number(length, 4) + number(code, 4) + body
+    return HEADER.pack(tag, HEADER_BYTES + len(body) if size is None else size, code) + body
 
 
 def entry(
@@ -251,7 +255,7 @@ NULL_TICKET = ticket(ST_AUTH_SECRET, RH_NULL, b"")
 def refusal(code: int) -> bytes:
     """Ten bytes: the tag, the size and the code."""
     tag = BAD_TAG_ANSWER if code == CODES["BAD_TAG"] else NO_SESSIONS
-    return number(tag, 2) + number(10, 4) + number(code, 4)
+    return HEADER.pack(tag, HEADER_BYTES, code)
 
 
 def success(answer: bytes, entries: list[bytes] | None = None, handle: bytes = b"") -> bytes:
@@ -261,7 +265,7 @@ def success(answer: bytes, entries: list[bytes] | None = None, handle: bytes = b
         tag, body = NO_SESSIONS, handle + answer
     else:
         tag, body = SESSIONS, handle + number(len(answer), 4) + answer + b"".join(entries)
-    return number(tag, 2) + number(10 + len(body), 4) + number(0, 4) + body
+    return HEADER.pack(tag, HEADER_BYTES + len(body), 0) + body
 
 
 def entry_answer(
@@ -282,6 +286,7 @@ def spelled_code(code: int) -> tuple[str, str]:
     return names.get(code, ""), place
 
 
+@functools.cache
 def code_of(name: str) -> int:
     """The number of a code such as HASH/p1: the code's, and what its place adds."""
     code, slash, place = name.partition("/")

@@ -7,6 +7,7 @@ from __future__ import annotations
 
 import re
 from dataclasses import dataclass
+from functools import cached_property
 from typing import Any, Callable, Iterable, TYPE_CHECKING, TypeVar
 
 from tpmsim.standard import frames
@@ -16,7 +17,7 @@ from tpmsim.standard.frames import SHA256, XOR
 from tpmsim.standard.handle_kinds import HANDLES, PCRS
 from tpmsim.standard.reading import Fields, Short
 from tpmsim.standard.sessions import digest_bytes
-from tpmsim.standard.values import Bank, Cipher, Digest, VALUES
+from tpmsim.standard.values import Bank, Cipher, Digest, VALUES, Values
 
 if TYPE_CHECKING:
     from tpmsim.model.machine import Outcome
@@ -132,14 +133,18 @@ class Words:
     parsed: Callable[[bytes], Any]
     shown: Callable[[Any], str]
 
+    @cached_property
+    def values(self) -> Values:
+        return VALUES[self.kind]
+
     def spelled(self, token: bytes) -> bytes:
         """The bytes of a token; Wrong where it is none of this kind."""
-        return VALUES[self.kind].write(self.parsed(token))
+        return self.values.write(self.parsed(token))
 
     def word(self, fields: Fields) -> str:
         """The token of what stands in front of fields; NoWords where there is none."""
         try:
-            return self.shown(VALUES[self.kind].read(fields))
+            return self.shown(self.values.read(fields))
         except KeyError:
             raise NoWords from None
 

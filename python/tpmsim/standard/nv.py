@@ -4,6 +4,7 @@ from __future__ import annotations
 
 import enum
 from dataclasses import dataclass, replace
+from functools import cached_property
 
 from tpmsim.standard import frames
 from tpmsim.standard.frames import number
@@ -92,7 +93,7 @@ class Public:
         head = self.index, self.name_algorithm, self.attributes
         return frames.nv_public_area(*head, self.auth_policy, self.data_size)
 
-    @property
+    @cached_property
     def name(self) -> bytes:
         return number(self.name_algorithm, 2) + digest(self.name_algorithm, self.text)
 

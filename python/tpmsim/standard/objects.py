@@ -2,6 +2,7 @@
 
 import enum
 from dataclasses import dataclass
+from functools import cached_property
 
 from tpmsim.standard import frames
 from tpmsim.standard.frames import ALG_NULL, KEYEDHASH, number, SYMCIPHER
@@ -53,7 +54,7 @@ class Public:
         head = self.kind, self.name_algorithm, self.attributes
         return frames.public_area(*head, self.auth_policy, details, self.unique)
 
-    @property
+    @cached_property
     def name(self) -> bytes:
         return number(self.name_algorithm, 2) + digest(self.name_algorithm, self.text)
 

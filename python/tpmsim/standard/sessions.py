@@ -13,6 +13,8 @@ from tpmsim.standard.frames import number, SHA1, SHA256, XOR
 HASHES = {SHA1: hashlib.sha1, SHA256: hashlib.sha256}
 HASH_WORDS = {SHA1: "sha1", SHA256: "sha256"}
 
+SIZES = {algorithm: made().digest_size for algorithm, made in HASHES.items()}
+
 # The most bytes of a digest, a nonce and an authorization value.
 DIGEST_BYTES = 32
 
@@ -20,7 +22,7 @@ SUCCESS = 0
 
 
 def digest_bytes(algorithm: int) -> int:
-    return HASHES[algorithm]().digest_size
+    return SIZES[algorithm]
 
 
 def digest(algorithm: int, text: bytes) -> bytes:
@@ -28,7 +30,7 @@ def digest(algorithm: int, text: bytes) -> bytes:
 
 
 def mac(algorithm: int, key: bytes, text: bytes) -> bytes:
-    return hmac.new(key, text, HASHES[algorithm]).digest()
+    return hmac.digest(key, text, HASH_WORDS[algorithm])
 
 
 def trimmed(auth_value: bytes) -> bytes:
