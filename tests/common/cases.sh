@@ -4,8 +4,13 @@ LC_ALL=C
 # shellcheck disable=SC2154 # a test names its folder before it reads this file
 PYTHONPATH=${tests%/*}/python:${tests%/*}
 export LC_ALL PYTHONPATH
-# What Python compiles, tools/scripts.sh has in a folder for all tests; else it is not kept.
-[ -n "${PYTHONPYCACHEPREFIX:-}" ] || export PYTHONDONTWRITEBYTECODE=1
+# What Python compiles, tools/scripts.sh has in a folder for all tests, whatever else the environment
+# says; else it is not kept.
+if [ -n "${PYTHONPYCACHEPREFIX:-}" ]; then
+    unset PYTHONDONTWRITEBYTECODE
+else
+    export PYTHONDONTWRITEBYTECODE=1
+fi
 
 [ "$#" -eq 1 ] || { echo "usage: sh $0 PROGRAM" >&2; exit 2; }
 room=$(mktemp -d) || exit 1
