@@ -12,6 +12,12 @@ else
     export PYTHONDONTWRITEBYTECODE=1
 fi
 
+# Python as it is: it starts sooner where it does not look for what others installed beside it, of which
+# the tests need nothing.
+python3() {
+    command python3 -S "$@"
+}
+
 [ "$#" -eq 1 ] || { echo "usage: sh $0 PROGRAM" >&2; exit 2; }
 room=$(mktemp -d) || exit 1
 trap 'rm -rf "$room"' EXIT
@@ -30,7 +36,7 @@ skip() {
 # needs TOOL..: skips the test where one of these is not there.
 needs() {
     for tool do
-        command -v "$tool" >"$room/found" || skip "there is no $tool"
+        (unset -f "$tool"; command -v "$tool") >"$room/found" || skip "there is no $tool"
     done
 }
 
