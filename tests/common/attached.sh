@@ -41,7 +41,7 @@ attach() {
     [ -f "$source" ] || source=$attached/$2.c
     shift 2
     built=$(parts "$@") || exit 1
-    in_c -o "$caller" "$source" "$built"/*.o "$@" "$archive"
+    in_c -O0 -o "$caller" "$source" "$built"/*.o "$@" "$archive"
 }
 
 # attach_both SOURCE WORDS..: compiles a caller twice: by its name, and with sanitizers as
