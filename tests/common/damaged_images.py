@@ -161,9 +161,9 @@ THREE_WAYS = (
 
 
 def bent(device, seed, count, version=image.VERSION_2):
-    bender = Bender(seed)
+    bender = Bender(seed, device, version)
     for number in range(1, count + 1):
-        words, text = bender.bent(device, version)
+        words, text = bender.bent()
         yield f"{number} of seed {seed}, {words}", text
 
 

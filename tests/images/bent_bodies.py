@@ -3,6 +3,7 @@
 A seed always gives the same: of `random` only that is used which is the same everywhere.
 """
 
+import pickle
 import random
 
 from tests.images import image_fields
@@ -19,7 +20,13 @@ BYTES = 0, 1, 2, 3, 0x80, 0x81, 0xFF
 
 
 class Bender(random.Random):
-    """It bends the body of a device. Some bends are of the text, the others of its fields."""
+    """It bends the body of a device. Some bends are of the text, the others of its fields, of which
+    each bend has a copy of its own.
+    """
+
+    def __init__(self, seed, device, version=VERSION_2):
+        super().__init__(seed)
+        self.fields, self.version = pickle.dumps(image_fields.body_of(device)), version
 
     def below(self, count):
         return int(self.random() * count)
@@ -27,9 +34,9 @@ class Bender(random.Random):
     def one_of(self, values):
         return values[self.below(len(values))]
 
-    def bent(self, device, version=VERSION_2):
+    def bent(self):
         """What was done, and the image; now and then two things are done to the fields."""
-        fields = image_fields.body_of(device)
+        fields = pickle.loads(self.fields)
         text_bends = self.change_byte, self.remove_piece, self.double_piece, self.insert_piece
         field_bends = (
             *(self.change_field, self.copy_field, self.change_number, self.resize),
@@ -37,12 +44,12 @@ class Bender(random.Random):
         )
         bend = self.one_of(text_bends + 2 * field_bends)
         if bend in text_bends:
-            return bend.__name__, framed(bend(text_of(fields)), version)
+            return bend.__name__, framed(bend(text_of(fields)), self.version)
         names = []
         for it in (bend, self.one_of(field_bends))[: 1 + (self.random() < 0.25)]:
             it(fields)
             names.append(it.__name__)
-        return " ".join(names), image_of(fields, version)
+        return " ".join(names), image_of(fields, self.version)
 
     # Bends of the text.
 
@@ -74,14 +81,13 @@ class Bender(random.Random):
     # Bends of the fields. What is behind a size or a count is written with the one it then has.
 
     def within(self, fields):
-        """All lists of fields, from the outermost."""
-        yield fields
-        for it in fields:
-            inner = [it.fields] if isinstance(it, Sized) else []
-            if isinstance(it, Counted):
-                inner = it.groups
-            for more in inner:
-                yield from self.within(more)
+        """All lists of fields, from the outermost, each in front of those within it."""
+        waiting = [fields]
+        while waiting:
+            beside = waiting.pop()
+            yield beside
+            for it in reversed(beside):
+                waiting += reversed(it.lists)
 
     def all_of(self, fields, *kinds):
         return [it for inner in self.within(fields) for it in inner if isinstance(it, kinds)]

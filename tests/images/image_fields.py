@@ -1,10 +1,11 @@
 """An image of a device as its fields: what is sized, what is counted, and what is neither.
 
 They can be changed, and are then written again with the sizes and the counts that they have, or
-with others that are set in their place.
+with others that are set in their place. Each has its bytes, and the lists of fields within it.
 """
 
 from dataclasses import dataclass
+from typing import ClassVar
 
 from tpmsim.model import image, persistent
 from tpmsim.model.state import Saved
@@ -19,6 +20,7 @@ class Plain:
     """Bytes, as many as their field always has."""
 
     text: bytes
+    lists: ClassVar[tuple] = ()
 
 
 @dataclass
@@ -27,6 +29,10 @@ class Sized:
 
     fields: list
     size: int = None
+
+    @property
+    def lists(self):
+        return [self.fields]
 
     @property
     def text(self):
@@ -40,6 +46,10 @@ class Counted:
 
     groups: list
     count: int = None
+
+    @property
+    def lists(self):
+        return self.groups
 
     @property
     def text(self):
