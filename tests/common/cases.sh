@@ -55,13 +55,17 @@ startup='cmd 80010000000c000001440000'
 # told FILE: what a file holds, line by line, each with the number of times that it stands in a row.
 told() {
     [ -s "$1" ] || { printf 'empty'; return; }
-    uniq -c "$1" | awk '{
-        times = $1
-        sub(/^ *[0-9]+ /, "")
-        printf "%s\"%s\"", between, $0
-        if (times > 1) printf " %s times", times
-        between = ", "
-    }'
+    awk '
+        function tell() {
+            printf "%s\"%s\"", between, line
+            if (times > 1) printf " %s times", times
+            between = ", "
+        }
+        NR > 1 && $0 "" == line "" { times++; next }
+        NR > 1 { tell() }
+        { line = $0; times = 1 }
+        END { tell() }
+    ' "$1"
     [ -z "$(tail -c 1 "$1")" ] || printf ' without a line break'
 }
 
