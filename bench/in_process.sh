@@ -21,7 +21,7 @@ compile() {
 }
 
 compile in_process "$top/bench/in_process.c" -ltpms -lcrypto
-compile stack "$top/tests/library/stack.c" -pthread
+compile stack "$top/tests/library/stack.c"
 compile devices "$top/tests/library/devices.c"
 
 "$top/tools/python.sh" "$top/bench/in_process.py" "$folder/in_process" "$@"

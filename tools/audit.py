@@ -4,7 +4,8 @@
 import pathlib
 import sys
 
-sys.dont_write_bytecode = True
+# What Python compiles is not kept in the repository.
+sys.dont_write_bytecode = sys.pycache_prefix is None
 sys.path.insert(0, str(pathlib.Path(__file__).resolve().parents[1] / "python"))
 
 from tpmsim.audit.main import run

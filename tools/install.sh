@@ -32,6 +32,13 @@ put() {
     install -D -m "$1" "$2" "$root/$3" || fail "$root/$3 is not written"
 }
 
+# put_all FOLDER FILE..: files of the mode 644, into a folder by its place in PREFIX.
+put_all() {
+    place=$root/$1
+    shift
+    install -D -m 644 -t "$place" "$@" || fail "$place is not written"
+}
+
 # link TARGET PLACE: a link, which leads from its own place.
 link() {
     if ! { mkdir -p "$root/$(dirname "$2")" && ln -sf "$1" "$root/$2"; }; then
@@ -100,10 +107,10 @@ put_documents() {
         link tpmsim "share/bash-completion/completions/tpmsim-$tool"
     done
     put 644 packaging/_tpmsim "$functions/_tpmsim"
-    for file in README.md CHANGELOG.md docs/* docs/table/* examples/*; do
-        [ ! -f "$file" ] || put 644 "$file" "share/doc/tpmsim/$file"
-    done
-    put 644 "$proved" share/doc/tpmsim/PROVED
+    put_all share/doc/tpmsim README.md CHANGELOG.md "$proved"
+    put_all share/doc/tpmsim/docs docs/*.*
+    put_all share/doc/tpmsim/docs/table docs/table/*.*
+    put_all share/doc/tpmsim/examples examples/*.*
 }
 
 work=$(mktemp -d) || exit 1

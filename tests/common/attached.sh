@@ -13,17 +13,20 @@ in_c() {
 }
 
 # parts WORDS..: the folder with all parts of the kept device, compiled with those of these words that
-# say how; once for all tests that tools/scripts.sh runs, which names the folder TPMSIM_BUILT.
+# say how; once for all tests that tools/scripts.sh runs, which names the folder TPMSIM_BUILT. What is
+# made of the parts, the module for libtss2 and tpmsim-power, is none.
 parts() {
     how=$(printf '%s\n' "$@" | grep '^-[fg]')
     built=${TPMSIM_BUILT:-$room/built}/attached-$(echo "$how" | cksum | tr ' ' -)
     if [ ! -d "$built" ]; then
         mkdir -p "$room/parts" "${built%/*}" || exit 1
         for part in "$attached"/*.c; do
+            case $part in
+            */tcti.c | */power.c) continue ;;
+            esac
             # shellcheck disable=SC2086 # they are words
             in_c $how -c -o "$room/parts/$(basename "$part" .c).o" "$part"
         done
-        rm "$room/parts/tcti.o" "$room/parts/power.o"
         # Another test may have been faster.
         mv -T "$room/parts" "$built" 2>"$room/moved" || rm -r "$room/parts"
     fi
@@ -38,7 +41,7 @@ attach() {
     [ -f "$source" ] || source=$attached/$2.c
     shift 2
     built=$(parts "$@") || exit 1
-    in_c -o "$caller" "$source" "$built"/*.o "$@" "$archive"
+    in_c -O0 -o "$caller" "$source" "$built"/*.o "$@" "$archive"
 }
 
 # attach_both SOURCE WORDS..: compiles a caller twice: by its name, and with sanitizers as

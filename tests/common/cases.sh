@@ -12,6 +12,12 @@ else
     export PYTHONDONTWRITEBYTECODE=1
 fi
 
+# Python as it is: it starts sooner where it does not look for what others installed beside it, of which
+# the tests need nothing.
+python3() {
+    command python3 -S "$@"
+}
+
 [ "$#" -eq 1 ] || { echo "usage: sh $0 PROGRAM" >&2; exit 2; }
 room=$(mktemp -d) || exit 1
 trap 'rm -rf "$room"' EXIT
@@ -30,7 +36,7 @@ skip() {
 # needs TOOL..: skips the test where one of these is not there.
 needs() {
     for tool do
-        command -v "$tool" >"$room/found" || skip "there is no $tool"
+        (unset -f "$tool"; command -v "$tool") >"$room/found" || skip "there is no $tool"
     done
 }
 
@@ -49,13 +55,17 @@ startup='cmd 80010000000c000001440000'
 # told FILE: what a file holds, line by line, each with the number of times that it stands in a row.
 told() {
     [ -s "$1" ] || { printf 'empty'; return; }
-    uniq -c "$1" | awk '{
-        times = $1
-        sub(/^ *[0-9]+ /, "")
-        printf "%s\"%s\"", between, $0
-        if (times > 1) printf " %s times", times
-        between = ", "
-    }'
+    awk '
+        function tell() {
+            printf "%s\"%s\"", between, line
+            if (times > 1) printf " %s times", times
+            between = ", "
+        }
+        NR > 1 && $0 "" == line "" { times++; next }
+        NR > 1 { tell() }
+        { line = $0; times = 1 }
+        END { tell() }
+    ' "$1"
     [ -z "$(tail -c 1 "$1")" ] || printf ' without a line break'
 }
 

@@ -12,5 +12,5 @@ compile() {
     caller=$room/$1
     source=$sources/$2.c
     shift 2
-    cc -std=c11 -O1 -Wall -Wextra -Werror -I"$dist" -pthread -o "$caller" "$source" "$@" || exit 1
+    cc -std=c11 -O0 -Wall -Wextra -Werror -I"$dist" -pthread -o "$caller" "$source" "$@" || exit 1
 }

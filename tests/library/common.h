@@ -28,11 +28,10 @@ static inline void *taken(size_t size) {
     return memory;
 }
 
-/* Whether a room has the byte that filled it before a call, and no other. */
+/* Whether a room has the byte that filled it before a call, and no other: it begins with that, and
+ * each byte is as the next one. */
 static inline int is_filled(const uint8_t *room, size_t size) {
-    for (size_t i = 0; i < size; i++)
-        if (room[i] != FILLED) return 0;
-    return 1;
+    return size == 0 || (room[0] == FILLED && memcmp(room, room + 1, size - 1) == 0);
 }
 
 /* The random bytes of a test: from this one up. */
@@ -47,16 +46,19 @@ static inline uint32_t code_of(const uint8_t *response) {
 }
 
 static inline void put_hex(const uint8_t *bytes, size_t size) {
+    char *digits = taken(2 * size);
     for (size_t i = 0; i < size; i++) {
-        putchar("0123456789abcdef"[bytes[i] >> 4]);
-        putchar("0123456789abcdef"[bytes[i] & 15]);
+        digits[2 * i] = "0123456789abcdef"[bytes[i] >> 4];
+        digits[2 * i + 1] = "0123456789abcdef"[bytes[i] & 15];
     }
+    fwrite(digits, 2, size, stdout);
+    free(digits);
 }
 
 static inline uint8_t digit_of(char digit) {
-    const char *found = digit ? strchr("0123456789abcdef", digit) : NULL;
-    must(found != NULL, "a digit is none of lower-case hex");
-    return (uint8_t)(found - "0123456789abcdef");
+    if ('0' <= digit && digit <= '9') return (uint8_t)(digit - '0');
+    must('a' <= digit && digit <= 'f', "a digit is none of lower-case hex");
+    return (uint8_t)(digit - 'a' + 10);
 }
 
 /* Reads hex, and says how many bytes it has. */

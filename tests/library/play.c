@@ -1,11 +1,11 @@
-/* Plays a script over the library:
+/* Plays scripts over the library, each on a new device:
  *
- *     play <SCRIPT
+ *     play <SCRIPTS
  *
- * The lines are those of a script without words: `cmd HEX`, `loc N`, `wait MS`, `entropy HEX` with
- * 256 bytes, `power`. Of each command it prints the response, the row's code and check, and how
- * many random bytes were drawn; at the end the device's image, and the image of the device that is
- * opened from that.
+ * The lines are those of scripts without words: `begin`, `cmd HEX`, `loc N`, `wait MS`, `entropy HEX`
+ * with 256 bytes, `power`, `end`. Of each command it prints the response, the row's code and check,
+ * and how many random bytes were drawn; at the end of a script the device's image, and the image of
+ * the device that is opened from that.
  *
  * A twin executes the same commands with other bytes behind those that were drawn, and has to
  * answer the same. */
@@ -60,25 +60,6 @@ static void execute(struct player *player, const char *hex) {
            (unsigned)answered.drawn);
 }
 
-static void play(struct player *player, const char *line) {
-    if (strcmp(line, "cmd") == 0)
-        execute(player, "");
-    else if (strncmp(line, "cmd ", 4) == 0)
-        execute(player, line + 4);
-    else if (strncmp(line, "loc ", 4) == 0)
-        player->locality = (uint8_t)atoi(line + 4);
-    else if (strncmp(line, "wait ", 5) == 0)
-        player->elapsed += (uint32_t)strtoul(line + 5, NULL, 10);
-    else if (strncmp(line, "entropy ", 8) == 0 && strlen(line + 8) == 2 * RANDOM_BYTES)
-        hex_bytes(line + 8, player->random);
-    else if (strcmp(line, "power") == 0)
-        must(tpmsim_power_cycle(&player->device) == TPMSIM_DONE &&
-                 tpmsim_power_cycle(&player->twin) == TPMSIM_DONE,
-             "the power does not come back");
-    else
-        must(0, "a line is none");
-}
-
 /* The image of a device, which is written where there is room for all of it alone. */
 static uint8_t *image_of(struct tpmsim *device, size_t *size) {
     uint8_t none = 0;
@@ -109,13 +90,46 @@ static void print_images(struct player *player) {
     free(opened);
 }
 
-int main(void) {
-    struct player player = {0};
+static void begin(struct player *player) {
     uint8_t random[RANDOM_BYTES];
     count_up(random, 0);
-    must(tpmsim_manufacture(&player.device, random) == TPMSIM_DONE &&
-             tpmsim_manufacture(&player.twin, random) == TPMSIM_DONE,
+    memset(player, 0, sizeof *player);
+    must(tpmsim_manufacture(&player->device, random) == TPMSIM_DONE &&
+             tpmsim_manufacture(&player->twin, random) == TPMSIM_DONE,
          "a device is not made");
+}
+
+static void end(struct player *player) {
+    print_images(player);
+    tpmsim_free(&player->device);
+    tpmsim_free(&player->twin);
+}
+
+static void play(struct player *player, const char *line) {
+    if (strcmp(line, "begin") == 0)
+        begin(player);
+    else if (strcmp(line, "end") == 0)
+        end(player);
+    else if (strcmp(line, "cmd") == 0)
+        execute(player, "");
+    else if (strncmp(line, "cmd ", 4) == 0)
+        execute(player, line + 4);
+    else if (strncmp(line, "loc ", 4) == 0)
+        player->locality = (uint8_t)atoi(line + 4);
+    else if (strncmp(line, "wait ", 5) == 0)
+        player->elapsed += (uint32_t)strtoul(line + 5, NULL, 10);
+    else if (strncmp(line, "entropy ", 8) == 0 && strlen(line + 8) == 2 * RANDOM_BYTES)
+        hex_bytes(line + 8, player->random);
+    else if (strcmp(line, "power") == 0)
+        must(tpmsim_power_cycle(&player->device) == TPMSIM_DONE &&
+                 tpmsim_power_cycle(&player->twin) == TPMSIM_DONE,
+             "the power does not come back");
+    else
+        must(0, "a line is none");
+}
+
+int main(void) {
+    struct player player = {0};
     char *line = NULL;
     size_t room = 0;
     while (getline(&line, &room, stdin) >= 0) {
@@ -123,8 +137,5 @@ int main(void) {
         play(&player, line);
     }
     free(line);
-    print_images(&player);
-    tpmsim_free(&player.device);
-    tpmsim_free(&player.twin);
     return 0;
 }

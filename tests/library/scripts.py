@@ -4,17 +4,17 @@
     tools/python.sh scripts.py --figures STACK    tells how much stack each call takes
     tools/python.sh scripts.py --lines SCRIPT     prints a script without words, for play.c
 
-Each script of tests/ and of the examples that is to end well is played by
-each PLAYER, which play.c is the source of. What one prints has to be what stands in the files
-beside the script, and what the device in Python tells of the same commands: each response, row and
-count of random bytes that were drawn, and the images at the end. STACK, of stack.c, plays them too,
-and no call may take more stack than tpmsim.h says.
+Each PLAYER, which play.c is the source of, plays each script of tests/ and of the examples that is
+to end well, one after another. What it prints has to be what stands in the files beside the script,
+and what the device in Python tells of the same commands: each response, row and count of random
+bytes that were drawn, and the images at the end. STACK, of stack.c, plays them too, and no call may
+take more stack than tpmsim.h says.
 """
 
 import pathlib
 import sys
 from collections.abc import Iterator
-from itertools import zip_longest
+from itertools import islice, zip_longest
 
 from tpmsim.model.image import image, open_image
 from tpmsim.model.machine import Model, Outcome
@@ -100,21 +100,14 @@ class Script:
             self.printed += lines.play(line)
         saved = image(lines.device)
         opened = image(open_image(saved))
-        self.plain = "".join(line + "\n" for line in lines.plain)
+        self.plain = "".join(line + "\n" for line in ["begin", *lines.plain, "end"])
         self.wanted = [*lines.wanted, f"image {saved.hex()}", f"opened {opened.hex()}"]
 
     def fail(self, words: str) -> None:
         fail(f"{self.path.name}: {words}")
 
-    def run(self, program: str) -> list[str]:
-        """What a program prints of the script."""
-        given = ran(program, stdin=self.plain.encode("ascii"))
-        if given.status or given.error:
-            self.fail(f"{program}: {given}")
-        return given.output.decode("ascii").splitlines()
-
-    def check(self, player: str) -> None:
-        given = self.run(player)
+    def check(self, given: list[str]) -> None:
+        """Compares what a player printed of the script with what it has to."""
         pairs = zip_longest(self.wanted, given, fillvalue="no more")
         for number, (one, other) in enumerate(pairs, 1):
             if one != other:
@@ -132,17 +125,32 @@ class Script:
             self.fail("the rows are other than those of its file")
 
 
+def printed(program: str, played: list[Script]) -> Iterator[str]:
+    """The lines that a program prints of scripts."""
+    given = ran(program, stdin="".join(script.plain for script in played).encode("ascii"))
+    if given.status or given.error:
+        done = given.output.count(b"\nopened ")
+        fail(f"{program}: {given.status} {given.error!r} behind {done} scripts")
+    return iter(given.output.decode("ascii").splitlines())
+
+
+def check(player: str, played: list[Script]) -> None:
+    lines = printed(player, played)
+    for script in played:
+        script.check(list(islice(lines, len(script.wanted))))
+    for line in lines:
+        fail(f"{player}: more than was wanted: {line}")
+    print(f"{pathlib.Path(player).name}: each script is answered as it is to be")
+
+
 class Stack:
-    """The most stack that each call took so far, with the command where it is an execution."""
+    """The most stack that each call takes, with the command where it is an execution."""
 
-    def __init__(self, program: str) -> None:
-        self.program = program
+    def __init__(self, program: str, played: list[Script]) -> None:
         self.most: dict[str, tuple[int, str]] = {}
-
-    def play(self, script: Script) -> None:
-        for line in script.run(self.program):
+        for line in printed(program, played):
             call, size, *code = line.split(" ")
-            self.most[call] = max(self.most.get(call, (0, "")), (int(size), " ".join(code)))
+            self.most[call] = int(size), " ".join(code)
 
     def figures(self) -> Iterator[str]:
         for call, (size, code) in self.most.items():
@@ -160,37 +168,27 @@ def ends_well(script: pathlib.Path) -> bool:
     return not status.exists() or status.read_text("ascii").strip() == "0"
 
 
-def scripts() -> Iterator[Script]:
-    for path in places.scripts():
-        if ends_well(path):
-            yield Script(path)
+def scripts() -> list[Script]:
+    return [Script(path) for path in places.scripts() if ends_well(path)]
 
 
-def compare(program: str, players: list[str]) -> None:
-    stack, count = Stack(program), 0
-    for script in scripts():
-        for player in players:
-            script.check(player)
-        stack.play(script)
-        count += 1
-    if not count or not players:
+def compare(stack: str, players: list[str]) -> None:
+    played = scripts()
+    if not played or not players:
         fail("nothing is played")
     for player in players:
-        print(f"{pathlib.Path(player).name}: each script is answered as it is to be")
-    stack.check()
+        check(player, played)
+    Stack(stack, played).check()
 
 
 def main() -> None:
     match sys.argv[1:]:
         case ["--lines", path]:
             print(Script(pathlib.Path(path)).plain, end="")
-        case ["--figures", program]:
-            stack = Stack(program)
-            for script in scripts():
-                stack.play(script)
-            print("\n".join(stack.figures()))
-        case [program, *players]:
-            compare(program, players)
+        case ["--figures", stack]:
+            print("\n".join(Stack(stack, scripts()).figures()))
+        case [stack, *players]:
+            compare(stack, players)
 
 
 main()

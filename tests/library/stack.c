@@ -1,20 +1,23 @@
 /* Tells how much stack each call takes at most, and of which command that of an execution is:
  *
- *     stack <SCRIPT
+ *     stack <SCRIPTS
  *
- * The lines are those that play.c reads. Each call runs in a thread whose stack was painted before;
- * what it painted over counts, less what a thread takes that calls nothing. */
+ * The lines are those that play.c reads. Each call runs on a stack that was painted before; what it
+ * painted over counts, less what is so where nothing is called. The stack is twice as large as what a
+ * call may take. At its far end lies a page that nobody may touch, which ends the program. */
 #define _DEFAULT_SOURCE
 #include "common.h"
-#include <pthread.h>
 #include <sys/mman.h>
+#include <ucontext.h>
 
-enum { STACK_BYTES = 512 * 1024, BLOCK_BYTES = 1024 };
+enum { STACK_BYTES = 128 * 1024, BLOCK_BYTES = 1024, PAGE_BYTES = 4096 };
 enum call { NOTHING, MANUFACTURE, EXECUTE, POWER_CYCLE, SAVE, KEPT, OPEN, FREE, CALLS };
 static const char *const NAMES[CALLS] = {"nothing", "manufacture", "execute", "power_cycle",
                                          "save",    "kept",        "open",    "free"};
 
-/* What the thread calls, and the most that each call took so far. */
+/* What is called, from where, and the most that each call took so far. */
+static enum call current;
+static ucontext_t caller;
 static struct tpmsim device;
 static struct tpmsim_answered answered;
 static uint8_t random_bytes[RANDOM_BYTES], response[RESPONSE_BYTES], locality;
@@ -24,8 +27,8 @@ static uint32_t elapsed, most_code;
 static uint8_t *stack;
 static size_t most[CALLS];
 
-static void *called(void *place) {
-    switch (*(enum call *)place) {
+static void called(void) {
+    switch (current) {
     case MANUFACTURE: tpmsim_manufacture(&device, random_bytes); break;
     case EXECUTE:
         tpmsim_execute(&device, buffer, size, locality, elapsed, random_bytes, response, &answered);
@@ -37,7 +40,6 @@ static void *called(void *place) {
     case FREE: tpmsim_free(&device); break;
     default: break;
     }
-    return NULL;
 }
 
 /* How many bytes of the stack are painted still, from its far end on: first whole blocks. */
@@ -52,14 +54,14 @@ static size_t painted_bytes(void) {
 
 /* Runs a call, counts the bytes of its stack, and paints them again. */
 static void run(enum call call) {
-    pthread_t thread;
-    pthread_attr_t attributes;
-    must(pthread_attr_init(&attributes) == 0 &&
-             pthread_attr_setstack(&attributes, stack, STACK_BYTES) == 0 &&
-             pthread_create(&thread, &attributes, called, &call) == 0 &&
-             pthread_join(thread, NULL) == 0,
-         "there is no thread");
-    pthread_attr_destroy(&attributes);
+    ucontext_t context;
+    must(getcontext(&context) == 0, "there is no context");
+    context.uc_stack.ss_sp = stack;
+    context.uc_stack.ss_size = STACK_BYTES;
+    context.uc_link = &caller;
+    makecontext(&context, called, 0);
+    current = call;
+    must(swapcontext(&caller, &context) == 0, "nothing is called");
     size_t at = painted_bytes();
     if (STACK_BYTES - at > most[call]) {
         most[call] = STACK_BYTES - at;
@@ -68,8 +70,29 @@ static void run(enum call call) {
     memset(stack + at, FILLED, STACK_BYTES - at);
 }
 
+static void begin(void) {
+    locality = 0;
+    elapsed = 0;
+    count_up(random_bytes, 0);
+    run(MANUFACTURE);
+}
+
+static void save_and_open(void) {
+    image_size = tpmsim_save(&device, response, 0);
+    image = taken(image_size);
+    run(SAVE);
+    run(KEPT);
+    run(OPEN);
+    run(FREE);
+    free(image);
+}
+
 static void play(const char *line) {
-    if (strncmp(line, "cmd", 3) == 0) {
+    if (strcmp(line, "begin") == 0)
+        begin();
+    else if (strcmp(line, "end") == 0)
+        save_and_open();
+    else if (strncmp(line, "cmd", 3) == 0) {
         const char *hex = line[3] ? line + 4 : "";
         buffer = taken(strlen(hex) / 2);
         size = hex_bytes(hex, buffer);
@@ -86,24 +109,18 @@ static void play(const char *line) {
         run(POWER_CYCLE);
 }
 
-static void save_and_open(void) {
-    image_size = tpmsim_save(&device, response, 0);
-    image = taken(image_size);
-    run(SAVE);
-    run(KEPT);
-    run(OPEN);
-    run(FREE);
-    free(image);
+static void make_stack(void) {
+    uint8_t *pages = mmap(NULL, PAGE_BYTES + STACK_BYTES, PROT_READ | PROT_WRITE,
+                          MAP_PRIVATE | MAP_ANONYMOUS, -1, 0);
+    must(pages != MAP_FAILED && mprotect(pages, PAGE_BYTES, PROT_NONE) == 0, "there is no memory");
+    stack = pages + PAGE_BYTES;
+    memset(stack, FILLED, STACK_BYTES);
 }
 
 int main(void) {
-    stack = mmap(NULL, STACK_BYTES, PROT_READ | PROT_WRITE, MAP_PRIVATE | MAP_ANONYMOUS, -1, 0);
-    must(stack != MAP_FAILED, "there is no memory");
-    memset(stack, FILLED, STACK_BYTES);
-    count_up(random_bytes, 0);
+    make_stack();
     run(NOTHING);
     run(NOTHING);
-    run(MANUFACTURE);
     char *line = NULL;
     size_t room = 0;
     while (getline(&line, &room, stdin) >= 0) {
@@ -111,7 +128,6 @@ int main(void) {
         play(line);
     }
     free(line);
-    save_and_open();
     for (int call = MANUFACTURE; call < CALLS; call++) {
         if (most[call] == 0) continue;
         printf("%s %zu", NAMES[call], most[call] - most[NOTHING]);

@@ -1,5 +1,6 @@
 # tools/release.sh, in a copy of the repository whose dist/ is said to be of its sources: what stands in
-# the way of a release, and what it makes.
+# the way of a release, and what it makes. Of the crates it has three: those that dist/ is made of, and
+# one that the library alone stands on.
 tests=$(cd "$(dirname "$0")/.." && pwd -P)
 . "$tests/common/cases.sh"
 needs git dpkg-deb python3
@@ -9,8 +10,9 @@ mkdir copy none
 printf '#!/bin/sh\nexit 1\n' >none/cc
 chmod +x none/cc
 (cd "$top" && tar cf - --exclude=out --exclude=must-fail --exclude=__pycache__ CHANGELOG.md Makefile \
-    README.md HANDLES crates crates.txt attached dist docs examples library packaging python/pyproject.toml \
-    python/tpmsim tools tpmsim .gitignore) | tar xf - -C copy
+    README.md HANDLES crates/tpmsim crates/tpmsim_library crates/tpm_library crates.txt attached dist \
+    docs examples library packaging python/pyproject.toml python/tpmsim tools tpmsim .gitignore) |
+    tar xf - -C copy
 cd copy || exit 1
 version=$(dist/tpmsim --version | sed 's/.* //')
 for of in '' tpmsim_library; do

@@ -28,6 +28,7 @@ nm --defined-only "$archive" 2>/dev/null | grep -q ' tpmsim_journal_open$' ||
     fail "the archive $archive has no calls for journals"
 echo '#include <tss2/tss2_tcti.h>' | cc -E - >/dev/null 2>&1 ||
     fail 'there is no header tss2/tss2_tcti.h: Debian has it in libtss2-dev'
+mkdir -p "$folder" || fail "the folder $folder is not written"
 
 work=$(mktemp -d) || exit 1
 trap 'rm -rf "$work"' EXIT
@@ -57,5 +58,5 @@ compile || fail 'the sources are not compiled'
 link "$module" tcti -shared -Wl,-soname,"$module" -Wl,-z,defs \
     -Wl,--version-script="$sources/tcti.map" || fail 'the module is not linked'
 link tpmsim-power power || fail 'tpmsim-power is not linked'
-{ mkdir -p "$folder" && mv "$work/$module" "$work/tpmsim-power" "$folder/"; } ||
+mv "$work/$module" "$work/tpmsim-power" "$folder/" ||
     fail "the folder $folder is not written"

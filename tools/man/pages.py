@@ -16,7 +16,8 @@ import tomllib
 from collections.abc import Iterator
 from dataclasses import dataclass, field
 
-sys.dont_write_bytecode = True
+# What Python compiles is not kept in the repository.
+sys.dont_write_bytecode = sys.pycache_prefix is None
 
 import roff  # noqa: E402
 from sources import TOP, Missing, Part, declarations_of, help_parts  # noqa: E402
