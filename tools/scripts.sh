@@ -30,9 +30,28 @@ out=$top/crates/tpmsim/out
 lists=$top/crates/tpmsim_lists/out/tpmsim_lists
 library=$top/dist/libtpmsim.a
 jobs=${JOBS:-$(getconf _NPROCESSORS_ONLN)}
-work=$(mktemp -d) || exit 1
+# Makes a folder in memory, since tests force files to the disk, and names it. It is one in which
+# programs run, where a gigabyte is free.
+in_memory() {
+    [ "$(df -Pk /dev/shm | awk 'NR == 2 { print $4 }')" -ge 1000000 ] || return 1
+    made=$(mktemp -d /dev/shm/tpmsim.XXXXXX) || return 1
+    echo '#!/bin/sh' >"$made/runs" && chmod +x "$made/runs" && "$made/runs" && echo "$made" && return
+    rm -rf "$made"
+    return 1
+}
+
+work=
+[ -n "${TMPDIR:-}" ] || work=$(in_memory 2>&1) || work=
+[ -n "$work" ] || work=$(mktemp -d) || exit 1
 trap 'rm -rf "$work"' EXIT
-mkdir "$work/told" || exit 1
+mkdir "$work/told" "$work/rooms" || exit 1
+export TMPDIR="$work/rooms"
+# Where python3 only starts another one, as pyenv's does, the tests start that one at once.
+started=$(python3 -c 'import sys; print(sys.executable)') || started=
+case $started in
+"" | "$(command -v python3)") ;;
+*) PATH=${started%/*}:$PATH ;;
+esac
 # The tests share what Python compiles, which the environment may forbid it to keep, and what several
 # of them compile of C.
 export PYTHONPYCACHEPREFIX="$work/python" TPMSIM_BUILT="$work/built"

@@ -4,9 +4,9 @@ ghost use Rattle.std.specs.Prelude.{◌≡◌, codes, false, IfOk};
 ghost use Rattle.clap.specs.Words.{app_of, new_app, rule_of, shape_of};
 ghost use Rattle.tpmsim_arguments.specs.CommandLine.{asm_command, bare_program, check_command};
 ghost use Rattle.tpmsim_arguments.specs.CommandLine.{choice, code_command, flag, line_command};
-ghost use Rattle.tpmsim_arguments.specs.CommandLine.{lines_command, optional_operand, power_command};
-ghost use Rattle.tpmsim_arguments.specs.CommandLine.{program, run_command, script_command};
-ghost use Rattle.tpmsim_arguments.specs.CommandLine.{serve_command, setting};
+ghost use Rattle.tpmsim_arguments.specs.CommandLine.{lines_command, operand, optional_operand};
+ghost use Rattle.tpmsim_arguments.specs.CommandLine.{power_command, program, run_command};
+ghost use Rattle.tpmsim_arguments.specs.CommandLine.{script_command, serve_command, setting};
 
 use clap::{Arg, ArgAction, Command};
 use std::alloc::{AllocError, Global};
@@ -66,7 +66,12 @@ fn run_command<'a>(alloc: Global) -> Result<Command<'a>, AllocError>
             "FILE",
             "The random bytes of a new device, its first 256; 00 to ff without this",
         ))?
-        .arg(optional_script(alloc))
+        .arg(optional_operand(
+            alloc,
+            "script",
+            "SCRIPT",
+            "The file of the script, or - for standard input; with --state, - may be left out",
+        ))
 }
 
 /// An option that has no value, and may be left out.
@@ -80,14 +85,27 @@ fn flag<'a>(alloc: Global, name: &'a str, help: &'a str) -> Arg<'a>
         .help(help)
 }
 
-fn optional_script<'a>(alloc: Global) -> Arg<'a>
-    ensures rule { rule_of result ≡ optional_operand (codes "script") }
+/// A value in its place, which has to be given.
+fn operand<'a>(alloc: Global, name: &'a str, value: &'a str, help: &'a str) -> Arg<'a>
+    ensures rule { rule_of result ≡ operand name.entry.now }
     ensures local { result.global ≡ false }
 {
-    Arg::new(alloc, "script")
-        .value_name("SCRIPT")
+    Arg::new(alloc, name)
+        .value_name(value)
+        .required(true)
         .action(ArgAction::Set)
-        .help("The file of the script, or - for standard input; with --state, - may be left out")
+        .help(help)
+}
+
+/// A value in its place, which may be left out.
+fn optional_operand<'a>(alloc: Global, name: &'a str, value: &'a str, help: &'a str) -> Arg<'a>
+    ensures rule { rule_of result ≡ optional_operand name.entry.now }
+    ensures local { result.global ≡ false }
+{
+    Arg::new(alloc, name)
+        .value_name(value)
+        .action(ArgAction::Set)
+        .help(help)
 }
 
 /// An option that has a value, and may be left out.
@@ -105,70 +123,71 @@ fn choice<'a>(alloc: Global, name: &'a str, value: &'a str, help: &'a str) -> Ar
 fn check_command<'a>(alloc: Global) -> Result<Command<'a>, AllocError>
     ensures { IfOk result (λ command. shape_of command ≡ check_command) }
 {
-    let script = Arg::new(alloc, "script")
-        .value_name("SCRIPT")
-        .required(true)
-        .action(ArgAction::Set)
-        .help("The file of the script, or - for standard input");
     Command::new(alloc, "check")
         .about("Reads a script without running it, and prints what is wrong with each bad line")
         .after_help("Example: tpmsim check examples/measured_boot.tpm")
-        .arg(script)
+        .arg(operand(
+            alloc,
+            "script",
+            "SCRIPT",
+            "The file of the script, or - for standard input",
+        ))
 }
 
 fn asm_command<'a>(alloc: Global) -> Result<Command<'a>, AllocError>
     ensures { IfOk result (λ command. shape_of command ≡ asm_command) }
 {
-    let line = Arg::new(alloc, "line")
-        .value_name("LINE")
-        .required(true)
-        .action(ArgAction::Set)
-        .help("The command in words, as it stands behind `do ` in a script");
     Command::new(alloc, "asm")
         .about("Prints the buffer of a command in hex")
         .after_help("Example: tpmsim asm 'PCR_Read sha256:0,4'")
-        .arg(line)
+        .arg(operand(
+            alloc,
+            "line",
+            "LINE",
+            "The command in words, as it stands behind `do ` in a script",
+        ))
 }
 
 fn line_command<'a>(alloc: Global) -> Result<Command<'a>, AllocError>
     ensures { IfOk result (λ command. shape_of command ≡ line_command) }
 {
-    let digits = Arg::new(alloc, "hex")
-        .value_name("HEX")
-        .required(true)
-        .action(ArgAction::Set)
-        .help("The buffer of the command in hex, as it stands behind `cmd ` in a script");
     Command::new(alloc, "line")
         .about("Prints the line in words that spells the buffer of a command")
         .after_help("Example: tpmsim line 80010000000c0000017b0020")
-        .arg(digits)
+        .arg(operand(
+            alloc,
+            "hex",
+            "HEX",
+            "The buffer of the command in hex, as it stands behind `cmd ` in a script",
+        ))
 }
 
 fn lines_command<'a>(alloc: Global) -> Result<Command<'a>, AllocError>
     ensures { IfOk result (λ command. shape_of command ≡ lines_command) }
 {
-    let name = Arg::new(alloc, "name")
-        .value_name("NAME")
-        .action(ArgAction::Set)
-        .help("The command, by the standard's name without TPM2_; all commands without this");
     Command::new(alloc, "lines")
         .about("Prints how a command is said in words, and an example of it")
         .after_help("Example: tpmsim lines NV_Write")
-        .arg(name)
+        .arg(optional_operand(
+            alloc,
+            "name",
+            "NAME",
+            "The command, by the standard's name without TPM2_; all commands without this",
+        ))
 }
 
 fn code_command<'a>(alloc: Global) -> Result<Command<'a>, AllocError>
     ensures { IfOk result (λ command. shape_of command ≡ code_command) }
 {
-    let number = Arg::new(alloc, "number")
-        .value_name("HEX")
-        .required(true)
-        .action(ArgAction::Set)
-        .help("The response code in hex, of at most eight digits");
     Command::new(alloc, "code")
         .about("Prints the name of a response code, and the place of the fault that it tells of")
         .after_help("Example: tpmsim code 98e")
-        .arg(number)
+        .arg(operand(
+            alloc,
+            "number",
+            "HEX",
+            "The response code in hex, of at most eight digits",
+        ))
 }
 
 /// The command `serve`, with its help around its options, and without the options.
@@ -234,27 +253,17 @@ fn setting<'a>(alloc: Global, name: &'a str, value: &'a str, help: &'a str) -> A
 fn power_command<'a>(alloc: Global) -> Result<Command<'a>, AllocError>
     ensures { IfOk result (λ command. shape_of command ≡ power_command) }
 {
-    let state = Arg::new(alloc, "state")
-        .value_name("DIR")
-        .required(true)
-        .action(ArgAction::Set)
-        .help("The folder of the device's state");
     Command::new(alloc, "power")
         .about("Cycles the power of a device whose state is in a folder")
         .after_help("Example: tpmsim power tpm")
-        .arg(state)
+        .arg(operand(alloc, "state", "DIR", "The folder of the device's state"))
 }
 
 fn script_command<'a>(alloc: Global) -> Result<Command<'a>, AllocError>
     ensures { IfOk result (λ command. shape_of command ≡ script_command) }
 {
-    let state = Arg::new(alloc, "state")
-        .value_name("DIR")
-        .required(true)
-        .action(ArgAction::Set)
-        .help("The folder of the device's state");
     Command::new(alloc, "script")
         .about("Prints what happened to a device since its power came on, as a script")
         .after_help("Example: tpmsim script tpm")
-        .arg(state)
+        .arg(operand(alloc, "state", "DIR", "The folder of the device's state"))
 }

@@ -17,4 +17,4 @@ returns c =
     let third = argument_added c.in_ok-arg-3.ensures c.choice-2.ensures.local second state_is in
     let fourth = argument_added c.in_ok-arg-4.ensures c.choice-3.ensures.local third entropy_is in
     IfOk-weaker c.arg-5.result _ _ (λ command added.
-    ap (λ (app : App). app.top) (argument_added added c.optional_script.ensures.local fourth c.optional_script.ensures.rule)) c.arg-5.ensures
+    ap (λ (app : App). app.top) (argument_added added c.optional_operand.ensures.local fourth c.optional_operand.ensures.rule)) c.arg-5.ensures
