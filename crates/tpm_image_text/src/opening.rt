@@ -12,7 +12,8 @@ use crate::fault::{FillFault, ImageFault};
 use crate::frame::framed_body;
 use crate::version::Version;
 use std::alloc::Global;
-use tpm_record::{Keep, SlotKeep};
+use tpm_record::Keep;
+use tpm_slots::SlotKeep;
 
 /// The state that a body of a version spells, in a new `Keep`.
 pub fn fill<K: Keep>(alloc: Global, version: Version, body: &[u8]) -> Result<K, FillFault>

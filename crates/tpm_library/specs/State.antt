@@ -1,14 +1,14 @@
 -- The record of a device, and the effect of an event on it.
 use Rattle.std.specs.Prelude.{List, [], take, ℕ}
-use Rattle.tpm_record.specs.Kept.{kept_record}
 use Rattle.tpm_record.specs.Record.{Record}
+use Rattle.tpm_slots.specs.SlotRecord.{slot_record}
 use Rattle.tpm_step.specs.Step.{Stepped}
 use Rattle.tpm_library.specs.declared.device.Answered.{Answered}
 use Rattle.tpm_library.specs.declared.device.Device.{Device}
 
 -- the record of a device; its containers are seen as their contents
 abbrev pub record_of : Device → Record
-record_of device = kept_record (λ s. s) (λ o. o) (λ p. p) (λ n. n) device.machine.keep
+record_of device = slot_record device.machine.keep
 
 -- the effect of a command: the response at the front of the room for it, the row, and the record
 -- after it

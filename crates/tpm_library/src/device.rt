@@ -28,7 +28,7 @@ use tpm_image::{ImageFault, fault_of, kept_into, open_into, save_into};
 use tpm_journal::opening::open;
 use tpm_journal::{Followed, Journal, OpenFault};
 use tpm_machine::Machine;
-use tpm_record::SlotKeep;
+use tpm_slots::SlotKeep;
 use tpm_step::{Event, Outcome};
 use tpm_types::Locality;
 

@@ -3,7 +3,8 @@
 use std::alloc::Global;
 use std::process::Abort;
 use std::test::Fail;
-use tpm_record::{Keep, ListKeep, SlotKeep};
+use tpm_record::{Keep, ListKeep};
+use tpm_slots::SlotKeep;
 
 /// What a test does with any type that implements `Keep`.
 pub trait Trial {

@@ -1,16 +1,16 @@
-//! The types that implement `Keep`: one holds the device's state in lists that grow, and one in
-//! fixed places, which never takes memory.
+//! A type that implements `Keep` over containers of any kind, as over lists that grow. The state in
+//! fixed places, which never takes memory, is in tpm_slots.
 
 ghost use Rattle.std.specs.Prelude.{◌≡◌};
 
 use crate::fixed::Fixed;
 use crate::keep::Keep;
 use crate::objects::Objects;
-use crate::persistent::{ListObjects, PersistentObjects, SlotObjects};
+use crate::persistent::{ListObjects, PersistentObjects};
 use std::alloc::Global;
 use tpm_bytes::NoMemory;
-use tpm_containers::{FixedSlots, ListSlots, Slots};
-use tpm_nv::{Indices, ListIndices, SlotIndices};
+use tpm_containers::{ListSlots, Slots};
+use tpm_nv::{Indices, ListIndices};
 use tpm_object::Object;
 use tpm_session::{Session, Sessions};
 use tpm_types::{OBJECT_LIMIT, SESSION_LIMIT};
@@ -38,15 +38,6 @@ pub type ListKeep = Kept<
     ListSlots<Object, OBJECT_LIMIT>,
     ListObjects,
     ListIndices,
->;
-
-/// The device's state in fixed places, one for each thing that there can be. No memory is ever
-/// taken, so none can be refused. The type has some 40,300 bytes: a value is made once, and lent.
-pub type SlotKeep = Kept<
-    FixedSlots<Session, SESSION_LIMIT>,
-    FixedSlots<Object, OBJECT_LIMIT>,
-    SlotObjects,
-    SlotIndices,
 >;
 
 impl<

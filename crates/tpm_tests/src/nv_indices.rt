@@ -6,9 +6,10 @@ use std::alloc::Global;
 use std::process::Abort;
 use tpm_bytes::{Cursor, Sink};
 use tpm_nv::{
-    DefineFault, DefinitionFault, Indices, ListIndices, LockFault, ReadFault, SlotIndices,
-    WriteFault, auth, check_definition, public,
+    DefineFault, DefinitionFault, Indices, ListIndices, LockFault, ReadFault, WriteFault, auth,
+    check_definition, public,
 };
+use tpm_slots::IndexPlaces;
 use tpm_types::{AuthValue, Handle};
 use tpm_types_nv::NvPublic;
 
@@ -225,5 +226,5 @@ fn in_lists(rt: HostRuntime) {
 
 #[test]
 fn in_fixed_places(rt: HostRuntime) {
-    exercise::<SlotIndices, HostRuntime>(&rt, rt.alloc());
+    exercise::<IndexPlaces, HostRuntime>(&rt, rt.alloc());
 }

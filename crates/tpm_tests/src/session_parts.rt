@@ -7,21 +7,20 @@ use super::comparison::check;
 use std::alloc::Global;
 use std::process::Abort;
 use tpm_bytes::Sink;
-use tpm_containers::{FixedSlots, ListSlots, Slots};
+use tpm_containers::{ListSlots, Slots};
 use tpm_mac::{HashAlg, KeyedMac};
 use tpm_policy::PolicyState;
 use tpm_session::{
     Binding, CommandText, Nonce, Protection, Session, SessionKey, Sessions, Start, StartFault,
     SymmetricFault, command_hash, is_nonce_size, response_hash,
 };
+use tpm_slots::SessionPlaces;
 use tpm_types::{
     AuthValue, Handle, SESSION_LIMIT, SessionAttributes, SessionType, SymmetricDefinition,
 };
 use tpm_types_name::Name;
 
 type InList = ListSlots<Session, SESSION_LIMIT>;
-
-type InSlots = FixedSlots<Session, SESSION_LIMIT>;
 
 const NONCE_CALLER: &[u8] = &[0xaa; 16];
 
@@ -104,7 +103,7 @@ fn nonce_of<S: Slots<Session, SESSION_LIMIT>>(
 #[test]
 fn sessions_are_found_by_their_handles(rt: HostRuntime) {
     find_sessions::<InList, HostRuntime>(&rt, rt.alloc());
-    find_sessions::<InSlots, HostRuntime>(&rt, rt.alloc());
+    find_sessions::<SessionPlaces, HostRuntime>(&rt, rt.alloc());
 }
 
 fn find_sessions<S: Slots<Session, SESSION_LIMIT>, R: Abort>(rt: &R, alloc: Global) {
@@ -157,7 +156,7 @@ fn find_sessions<S: Slots<Session, SESSION_LIMIT>, R: Abort>(rt: &R, alloc: Glob
 #[test]
 fn sixteen_sessions_start(rt: HostRuntime) {
     fill_sessions::<InList, HostRuntime>(&rt, rt.alloc());
-    fill_sessions::<InSlots, HostRuntime>(&rt, rt.alloc());
+    fill_sessions::<SessionPlaces, HostRuntime>(&rt, rt.alloc());
 }
 
 fn fill_sessions<S: Slots<Session, SESSION_LIMIT>, R: Abort>(rt: &R, alloc: Global) {

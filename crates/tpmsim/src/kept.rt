@@ -5,7 +5,7 @@ use std::fs;
 use std::io::Read;
 use tpm_bytes::Tap;
 use tpm_machine::Machine;
-use tpm_record::SlotKeep;
+use tpm_slots::SlotKeep;
 use tpm_step::Outcome;
 use tpmsim_folder::{Force, Place, Said};
 use tpmsim_image::Entropy;

@@ -5,7 +5,7 @@ use std::fs::File;
 use std::io::{BufReader, ErrorKind, Read};
 use std::{fs, io};
 use tpm_machine::Machine;
-use tpm_record::SlotKeep;
+use tpm_slots::SlotKeep;
 
 /// How many random bytes are read at once: those of sixteen commands.
 const READ_SIZE: usize = 16 * 256;

@@ -11,7 +11,8 @@ use std::{fs, io};
 use tpm_bytes::Tap;
 use tpm_image::{open, save};
 use tpm_machine::Machine;
-use tpm_record::{Keep, SlotKeep};
+use tpm_record::Keep;
+use tpm_slots::SlotKeep;
 
 /// The permissions of an image: its owner alone reads and writes it, since it has the device's
 /// seeds and every authorization value.

@@ -13,8 +13,8 @@ use Rattle.tpm_journal.specs.declared.following.FollowFault.{FollowFault}
 use Rattle.tpm_journal.specs.declared.opening.OpenFault.{OpenFault}
 use Rattle.tpm_journal_text.specs.Entry.{entry_text}
 use Rattle.tpm_record.specs.Cycle.{cycled}
-use Rattle.tpm_record.specs.Kept.{kept_record}
 use Rattle.tpm_record.specs.Record.{Record}
+use Rattle.tpm_slots.specs.SlotRecord.{slot_record}
 use Rattle.tpm_step.specs.Events.{Cycled}
 use Rattle.tpm_step.specs.Execution.{Executes}
 use Rattle.tpm_step.specs.Step.{outcome_step}
@@ -27,7 +27,7 @@ use Rattle.tpmsim_folder.specs.declared.fault.Said.TheVariants.{WantsMemory}
 
 -- the record of a device; its containers are seen as their contents
 abbrev pub record_of : Device → Record
-record_of device = kept_record (λ s. s) (λ o. o) (λ p. p) (λ n. n) device.machine.keep
+record_of device = slot_record device.machine.keep
 
 -- the effect of a device's latest event, which has this outcome
 abbrev pub seen_by : Device → Outcome → Seen

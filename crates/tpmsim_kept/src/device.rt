@@ -15,7 +15,7 @@ use tpm_journal::opening::open;
 use tpm_journal::{Journal, OpenFault};
 use tpm_journal_text::ENTRY_ROOM;
 use tpm_machine::Machine;
-use tpm_record::SlotKeep;
+use tpm_slots::SlotKeep;
 use tpm_step::Outcome;
 use tpm_types::Locality;
 use tpmsim_folder::Said;

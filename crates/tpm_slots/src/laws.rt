@@ -2,12 +2,11 @@
 
 ghost use Rattle.std.specs.Prelude.{◌≡◌, false};
 
-use crate::keep::Keep;
-use crate::kept::SlotKeep;
-use crate::persistent::PersistentObjects;
+use crate::keep::SlotKeep;
 use tpm_containers::Slots;
 use tpm_nv::Indices;
 use tpm_object::Object;
+use tpm_record::{Keep, PersistentObjects};
 use tpm_session::Session;
 use tpm_types::{OBJECT_LIMIT, SESSION_LIMIT};
 

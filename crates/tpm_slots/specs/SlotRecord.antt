@@ -1,0 +1,17 @@
+-- The record that is kept in fixed places.
+use Rattle.tpm_record.specs.Objects.{objects_of}
+use Rattle.tpm_record.specs.Record.{Record}
+use Rattle.tpm_session.specs.Sessions.{places_of}
+use Rattle.tpm_slots.specs.declared.keep.SlotKeep.{SlotKeep}
+use Rattle.tpm_slots.specs.declared.objects.ObjectPlaces.{ObjectPlaces}
+use Rattle.tpm_slots.specs.declared.sessions.SessionPlaces.{SessionPlaces}
+
+-- the record of a state in fixed places; its containers are seen as their contents
+abbrev pub slot_record : SlotKeep → Record
+slot_record keep = record {
+  fixed = keep.fixed;
+  sessions = places_of (λ (all : SessionPlaces). all.slots) keep.sessions;
+  objects = objects_of (λ (all : ObjectPlaces). all.slots) keep.objects;
+  persistent = keep.persistent.stored;
+  nv = keep.nv.stored;
+}
