@@ -12,6 +12,8 @@
 #   tools/scripts.sh 'nv/*' 'torn*'    those of the folder tests/nv, and those whose names begin so
 #   JOBS=1 tools/scripts.sh            one after another, and not one on each processor
 #
+# The tests work in folders in memory, where there is room for them, or in TMPDIR, where that is set.
+#
 # NAME.tpm is run as `PROGRAM run NAME.tpm`, or as `tpmsim_lists <NAME.tpm`, and NAME.sh as `sh
 # NAME.sh PROGRAM`. A shell test whose name begins with lists_ is run with tpmsim_lists alone, one
 # whose name begins with library_ or attached_ with dist/libtpmsim.a, and all others with the
@@ -30,6 +32,7 @@ out=$top/crates/tpmsim/out
 lists=$top/crates/tpmsim_lists/out/tpmsim_lists
 library=$top/dist/libtpmsim.a
 jobs=${JOBS:-$(getconf _NPROCESSORS_ONLN)}
+
 # Makes a folder in memory, since tests force files to the disk, and names it. It is one in which
 # programs run, where a gigabyte is free.
 in_memory() {
@@ -45,13 +48,14 @@ work=
 [ -n "$work" ] || work=$(mktemp -d) || exit 1
 trap 'rm -rf "$work"' EXIT
 mkdir "$work/told" "$work/rooms" || exit 1
+# A test may be played as another user, who has to reach its folder.
+chmod a+x "$work" "$work/rooms"
 export TMPDIR="$work/rooms"
 # Where python3 only starts another one, as pyenv's does, the tests start that one at once.
-started=$(python3 -c 'import sys; print(sys.executable)') || started=
-case $started in
-"" | "$(command -v python3)") ;;
-*) PATH=${started%/*}:$PATH ;;
-esac
+if found=$(command -v python3); then
+    started=$(python3 -c 'import sys; print(sys.executable)')
+    [ "${started:-$found}" = "$found" ] || PATH=${started%/*}:$PATH
+fi
 # The tests share what Python compiles, which the environment may forbid it to keep, and what several
 # of them compile of C.
 export PYTHONPYCACHEPREFIX="$work/python" TPMSIM_BUILT="$work/built"
@@ -60,7 +64,7 @@ unset PYTHONDONTWRITEBYTECODE
 number=0
 
 # The tests that take longest begin first, then the other shell tests, and then the scripts.
-longest=' starved library_scripts audit bent_lines images policy_audit torn launcher '
+longest=' audit python policy_audit images bent_lines starved library_scripts launcher torn '
 
 # say WORDS: a line that stands between what is said of tests.
 say() {
