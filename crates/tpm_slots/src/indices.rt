@@ -21,6 +21,7 @@ impl Indices for IndexPlaces {
 
     ghost can_refuse = { false };
 
+    #[inline(always)]
     fn new(alloc: Global) -> IndexPlaces {
         IndexPlaces {
             stored: SlotIndices::new(alloc),

@@ -50,6 +50,8 @@ impl Keep for SlotKeep {
 
     ghost empty_can_refuse = { false };
 
+    // In a call of its own the value would be made on the stack, and moved.
+    #[inline(always)]
     fn empty(alloc: Global) -> Result<SlotKeep, NoMemory> {
         Ok(SlotKeep {
             fixed: Fixed::manufactured(&[0; 256]),

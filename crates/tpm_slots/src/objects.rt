@@ -21,6 +21,7 @@ impl Slots<Object, OBJECT_LIMIT> for ObjectPlaces {
 
     ghost can_refuse = { false };
 
+    #[inline(always)]
     fn new(alloc: Global) -> ObjectPlaces {
         ObjectPlaces {
             slots: FixedSlots::new(alloc),

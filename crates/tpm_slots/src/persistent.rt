@@ -20,6 +20,7 @@ impl PersistentObjects for PersistentPlaces {
 
     ghost can_refuse = { false };
 
+    #[inline(always)]
     fn new(alloc: Global) -> PersistentPlaces {
         PersistentPlaces {
             stored: SlotObjects::new(alloc),

@@ -21,6 +21,7 @@ impl Slots<Session, SESSION_LIMIT> for SessionPlaces {
 
     ghost can_refuse = { false };
 
+    #[inline(always)]
     fn new(alloc: Global) -> SessionPlaces {
         SessionPlaces {
             slots: FixedSlots::new(alloc),
