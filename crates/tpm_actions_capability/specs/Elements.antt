@@ -13,9 +13,9 @@ use Rattle.tpm_session.specs.Sessions.{handle_of}
 use Rattle.tpm_session.specs.declared.session.Session.{Session}
 use Rattle.tpm_types.specs.Handle.{endorsement_handle, lockout_handle, null_handle, numbered, owner_handle, password_handle, platform_handle}
 use Rattle.tpm_types.specs.declared.handle.Handle.{Handle}
-use Rattle.tpm_types_command.specs.CommandCode.{code_number, shape_of}
-use Rattle.tpm_types_command.specs.CommandFacts.{all_codes}
-use Rattle.tpm_types_command.specs.declared.command_code.CommandCode.{CommandCode}
+use Rattle.tpm_commands.specs.CommandCode.{code_number, shape_of}
+use Rattle.tpm_commands.specs.CommandFacts.{all_codes}
+use Rattle.tpm_commands.specs.declared.command_code.CommandCode.{CommandCode}
 use Rattle.tpm_record.specs.Objects.{object_at}
 use Rattle.tpm_record.specs.Record.{Record}
 use Rattle.tpm_actions_capability.specs.Element.{by_itself, if_there}

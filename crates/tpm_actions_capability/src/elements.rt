@@ -9,13 +9,13 @@ ghost use Rattle.tpm_actions_capability.specs.Elements.{index_elements, object_e
 ghost use Rattle.tpm_actions_capability.specs.Elements.{pcr_elements, permanent_elements, property_elements, session_element, session_elements};
 
 use crate::element::{Element, Elements};
+use tpm_commands::CommandCode;
 use tpm_containers::numbered;
 use tpm_lockout::Lockout;
 use tpm_nv::Indices;
 use tpm_record::{Keep, PersistentObjects};
 use tpm_session::handle_of;
 use tpm_types::{Handle, OBJECT_LIMIT, PCR_COUNT, SESSION_LIMIT};
-use tpm_types_command::CommandCode;
 
 /// Lists the PCRs.
 #[tactic(auto, using(crate::proofs::Listing::one_more))]

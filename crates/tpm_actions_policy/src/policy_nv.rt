@@ -2,7 +2,7 @@
 
 ghost use Rattle.tpm_bytes.specs.Reading.{Gives};
 ghost use Rattle.std.specs.Prelude.{◌≡◌, IfOk, length};
-ghost use Rattle.tpm_types_command.specs.declared.command_code.CommandCode.TheVariants as command;
+ghost use Rattle.tpm_commands.specs.declared.command_code.CommandCode.TheVariants as command;
 ghost use Rattle.tpm_nv.specs.IsContents.{IsContents};
 ghost use Rattle.tpm_record.specs.Record.{Record};
 ghost use Rattle.tpm_actions_base.specs.Answer.{IsEmpty};

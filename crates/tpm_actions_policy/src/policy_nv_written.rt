@@ -2,7 +2,7 @@
 //! `specs/PolicyNvWritten`.
 
 ghost use Rattle.std.specs.Prelude.{◌≡◌};
-ghost use Rattle.tpm_types_command.specs.declared.command_code.CommandCode.TheVariants as command;
+ghost use Rattle.tpm_commands.specs.declared.command_code.CommandCode.TheVariants as command;
 ghost use Rattle.tpm_actions_base.specs.Answer.{IsEmpty};
 ghost use Rattle.tpm_actions_base.specs.Request.{request_of};
 ghost use Rattle.tpm_actions_base.specs.Rows.{Acts};

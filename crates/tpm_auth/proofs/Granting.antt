@@ -13,7 +13,7 @@ use Rattle.tpm_types.specs.declared.check.Check.TheVariants as check
 use Rattle.tpm_types.specs.declared.rc.Rc.{Rc}
 use Rattle.tpm_types_command.specs.AuthEntry.{Entry}
 use Rattle.tpm_types_command.specs.Command.{Whole}
-use Rattle.tpm_types_command.specs.CommandCode.{authorized_handles}
+use Rattle.tpm_commands.specs.CommandCode.{authorized_handles}
 use Rattle.tpm_record.specs.Record.{Record}
 use Rattle.tpm_auth.specs.Entries.{decrypts, entries_pass}
 use Rattle.tpm_auth.specs.Grant.{authorize, authorized, grant, grants_pass}

@@ -6,7 +6,7 @@ use Rattle.std.specs.Option.{option_map_or}
 use Rattle.tpm_bytes.specs.Reading.{◌>>=◌, refused_if}
 use Rattle.tpm_session.specs.declared.session.Session.{Session}
 use Rattle.tpm_session.specs.Sessions.{session_at}
-use Rattle.tpm_types_command.specs.declared.command_code.CommandCode.{CommandCode}
+use Rattle.tpm_commands.specs.declared.command_code.CommandCode.{CommandCode}
 use Rattle.tpm_types.specs.declared.handle.SessionKind.{SessionKind}
 use Rattle.tpm_types.specs.declared.handle.SessionKind.TheVariants as kind
 use Rattle.tpm_types.specs.declared.rc.Rc.{Rc}
@@ -15,7 +15,7 @@ use Rattle.tpm_types.specs.Symmetric.{is_null}
 use Rattle.tpm_types_command.specs.AuthEntry.{Entry}
 use Rattle.tpm_types.specs.SessionAttributes as of_session
 use Rattle.tpm_types.specs.SessionAttributes.{audits, has_reserved_bits, uses_cipher}
-use Rattle.tpm_types_command.specs.CommandCode.{authorized_handles, has_sized_parameter, shape_of}
+use Rattle.tpm_commands.specs.CommandCode.{authorized_handles, has_sized_parameter, shape_of}
 use Rattle.tpm_types.specs.Handle.{password_handle, session_kind}
 use Rattle.tpm_types.specs.Rc.{entry_fault, plain}
 use Rattle.tpm_record.specs.Record.{Record}

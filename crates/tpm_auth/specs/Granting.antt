@@ -6,7 +6,7 @@ use Rattle.std.specs.List.{list_any}
 use Rattle.tpm_session.specs.FirstBuffer.{has_first_buffer}
 use Rattle.tpm_types_command.specs.AuthEntry.{Entry}
 use Rattle.tpm_types_command.specs.Command.{Whole}
-use Rattle.tpm_types_command.specs.CommandCode.{authorized_handles}
+use Rattle.tpm_commands.specs.CommandCode.{authorized_handles}
 use Rattle.tpm_record.specs.Record.{Record}
 use Rattle.tpm_auth.specs.Entries.{decrypts, entries_pass}
 use Rattle.tpm_auth.specs.Grant.{authorized, grant}

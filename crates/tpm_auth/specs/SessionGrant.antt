@@ -20,7 +20,7 @@ use Rattle.tpm_types.specs.declared.session_type.SessionType.{SessionType}
 use Rattle.tpm_types.specs.declared.session_type.SessionType.TheVariants as type
 use Rattle.tpm_types_command.specs.AuthEntry.{Entry}
 use Rattle.tpm_types_command.specs.Command.{Whole}
-use Rattle.tpm_types_command.specs.CommandCode.{authorized_handles, code_number, nv_use_at, role_at}
+use Rattle.tpm_commands.specs.CommandCode.{authorized_handles, code_number, nv_use_at, role_at}
 use Rattle.tpm_types.specs.Rc.{plain}
 use Rattle.tpm_record.specs.declared.entity.Means.TheVariants as means
 use Rattle.tpm_record.specs.Entity.{auth_value_of, is_available, name_of, policy_of, protection_of, written_of}

@@ -7,9 +7,10 @@ ghost use Rattle.tpm_types_command.specs.AuthEntry.{entry_of};
 ghost use Rattle.tpm_types.specs.Handle.{session_kind};
 ghost use Rattle.tpm_auth.specs.Entries.{decrypts, encrypts, entries_pass, entry_passes, has_wrong_attributes, is_misplaced, kind_passes, lacks_cipher, reference_of};
 
+use tpm_commands::CommandCode;
 use tpm_record::Keep;
 use tpm_types::{DIGEST_LIMIT, Handle, Rc, ResponseCode, SessionKind, SymmetricDefinition};
-use tpm_types_command::{AuthEntry, CommandCode};
+use tpm_types_command::AuthEntry;
 
 /// Whether the entry's session decrypts the command's first parameter.
 pub fn decrypts(entry: &AuthEntry) -> bool

@@ -22,12 +22,13 @@ use crate::entries::{any_decrypts, check_entries, reference_of};
 use crate::session_grant::{Grant, check_session};
 use crate::used::{Sent, Used, used_at};
 use arrayvec::ArrayVec;
+use tpm_commands::CommandCode;
 use tpm_mac::KeyedMac;
 use tpm_policy::Demand;
 use tpm_record::{Keep, Means, Resolved, resolve};
 use tpm_session::{HashedParameters, ParameterHashes, Protection, first_size};
 use tpm_types::{Check, Handle, Locality, Refused, ResponseCode, SessionKind};
-use tpm_types_command::{AuthEntry, Command, CommandCode};
+use tpm_types_command::{AuthEntry, Command};
 use tpm_types_name::Name;
 
 /// The grants of a command's entries: each authorizes a handle or nothing.

@@ -4,7 +4,7 @@
 ghost use Rattle.std.specs.Prelude.{◌≡◌, ◌≤◌, length, map, slice_get, take};
 ghost use Rattle.std.specs.Str.{bytes_eq};
 ghost use Rattle.tpm_types_command.specs.Command.{whole_of};
-ghost use Rattle.tpm_types_command.specs.CommandCode.{authorized_handles};
+ghost use Rattle.tpm_commands.specs.CommandCode.{authorized_handles};
 ghost use Rattle.tpm_record.specs.Entity.{name_of};
 ghost use Rattle.tpm_record.specs.Record.{Record};
 ghost use Rattle.tpm_auth.specs.Grant.{authorized};

@@ -9,9 +9,9 @@ use Rattle.tpm_bytes.specs.Reading.{◌>>=◌, number_at, refused_if, too_short}
 use Rattle.tpm_bytes.specs.declared.cursor.Short.{Short}
 use Rattle.tpm_lockout.specs.Lockout.{LockoutState}
 use Rattle.tpm_types.specs.Limits.{object_limit, session_limit}
-use Rattle.tpm_types_command.specs.CommandFacts.{all_codes}
-use Rattle.tpm_types_command.specs.declared.command_code.CommandCode.{CommandCode}
-use Rattle.tpm_types_command.specs.declared.command_code.CommandCode.TheVariants as command
+use Rattle.tpm_commands.specs.CommandFacts.{all_codes}
+use Rattle.tpm_commands.specs.declared.command_code.CommandCode.{CommandCode}
+use Rattle.tpm_commands.specs.declared.command_code.CommandCode.TheVariants as command
 use Rattle.tpm_record.specs.Record.{Record}
 use Rattle.tpm_actions_capability.specs.Elements.{command_element, object_element, session_element}
 use Rattle.tpm_actions_capability.specs.declared.element.Element.{Element}

@@ -16,12 +16,12 @@ use crate::listing::{Elements, Form, LISTING_LIMIT, list};
 use arrayvec::ArrayVec;
 use tpm_actions_capability::element::Element;
 use tpm_bytes::{Cursor, Short, Sink};
+use tpm_commands::CommandCode;
 use tpm_containers::numbered;
 use tpm_lockout::Lockout;
 use tpm_record::Keep;
 use tpm_session::handle_of;
 use tpm_types::{Handle, OBJECT_LIMIT, SESSION_LIMIT};
-use tpm_types_command::CommandCode;
 
 /// The text of a list that TPM2_GetCapability answers.
 pub type Listing = Sink<LISTING_LIMIT>;

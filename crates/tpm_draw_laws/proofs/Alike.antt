@@ -3,7 +3,7 @@ use Rattle.std.proofs.Common.{◌≡◌, ◌∙◌, ℕ, List, take, Result, Ok,
 use Rattle.tpm_bytes.specs.Reading.{◌>>=◌}
 use Rattle.tpm_step.specs.General.{in_command}
 use Rattle.tpm_types.specs.declared.refused.Refused.{Refused}
-use Rattle.tpm_types_command.specs.declared.command_code.CommandCode.{CommandCode}
+use Rattle.tpm_commands.specs.declared.command_code.CommandCode.{CommandCode}
 
 -- Two results are alike: a success says how many bytes it draws, and where these are the same, the
 -- other result is the success moved to the other bytes; a refusal is the same.

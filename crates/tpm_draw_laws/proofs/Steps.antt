@@ -5,7 +5,7 @@ use Rattle.std.proofs.lemmas.List.{length-drop}
 use Rattle.std.specs.Prelude.{if◌then◌else◌}
 use Rattle.tpm_types_command.specs.AuthEntry.{Entry}
 use Rattle.tpm_types_command.specs.Command.{Whole}
-use Rattle.tpm_types_command.specs.CommandCode.{shape_of}
+use Rattle.tpm_commands.specs.CommandCode.{shape_of}
 use Rattle.tpm_session.specs.Sessions.{rolled}
 use Rattle.tpm_record.specs.Record.{Record}
 use Rattle.tpm_auth.specs.Grant.{authorize}

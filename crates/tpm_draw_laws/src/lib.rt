@@ -16,8 +16,8 @@ ghost use Rattle.tpm_step.specs.Events.{Given, PlainEvent};
 ghost use Rattle.tpm_step.specs.Execution.{Executes};
 ghost use Rattle.tpm_step.specs.Step.{Stepped, step_where};
 ghost use Rattle.tpm_step.specs.Table.{row_of};
-ghost use Rattle.tpm_types_command.specs.declared.command_code.CommandCode.{CommandCode};
-ghost use Rattle.tpm_types_command.specs.declared.command_code.CommandCode.TheVariants as command;
+ghost use Rattle.tpm_commands.specs.declared.command_code.CommandCode.{CommandCode};
+ghost use Rattle.tpm_commands.specs.declared.command_code.CommandCode.TheVariants as command;
 
 /// The row of a command acts alike with other random bytes, where those that it draws are the same.
 #[inline(always)]

@@ -5,7 +5,7 @@ use Rattle.std.specs.Int.{w16, w32, to_be_bytes}
 use Rattle.tpm_types.specs.declared.handle.Handle.{Handle}
 use Rattle.tpm_session.specs.ParameterHash.{OfResponse}
 use Rattle.tpm_types_command.specs.AuthEntry.{Entry}
-use Rattle.tpm_types_command.specs.CommandCode.{code_number}
+use Rattle.tpm_commands.specs.CommandCode.{code_number}
 use Rattle.tpm_types_command.specs.Command.{Whole}
 use Rattle.tpm_record.specs.Record.{Record}
 use Rattle.tpm_auth.specs.declared.session_grant.Grant.{Grant}

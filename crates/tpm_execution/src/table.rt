@@ -6,7 +6,7 @@ ghost use Rattle.std.specs.Prelude.{◌≡◌, ◌≤◌, ◌&&◌, Ok, length, 
 ghost use Rattle.std.specs.List.{zip};
 ghost use Rattle.tpm_types_command.specs.AuthEntry.{entry_of};
 ghost use Rattle.tpm_types_command.specs.Command.{whole_of};
-ghost use Rattle.tpm_types_command.specs.CommandCode.{shape_of};
+ghost use Rattle.tpm_commands.specs.CommandCode.{shape_of};
 ghost use Rattle.tpm_types.specs.Locality.{locality_number};
 ghost use Rattle.tpm_auth.specs.Grant.{authorize};
 ghost use Rattle.tpm_actions_base.specs.Answer.{IsEmpty};
@@ -22,14 +22,15 @@ use tpm_actions_base::answer::Answer;
 use tpm_actions_base::call::Call;
 use tpm_auth::{Grant, Grants, any_decrypts};
 use tpm_bytes::copied;
+use tpm_commands::CommandCode;
 use tpm_record::Keep;
 use tpm_step::Direction;
 use tpm_types::{BUFFER_LIMIT, Locality, Refused};
-use tpm_types_command::{AuthEntry, Command, CommandCode};
+use tpm_types_command::{AuthEntry, Command};
 
 /// Does what the command's row says; only a command that grows something can be refused memory.
 #[inline(always)]
-#[tactic(auto, unfolding(tpm_step::specs::Table::row_of, tpm_types_command::specs::CommandCode::shape_of))]
+#[tactic(auto, unfolding(tpm_step::specs::Table::row_of, tpm_commands::specs::CommandCode::shape_of))]
 fn act<K: Keep>(
     keep: &mut K,
     code: CommandCode,

@@ -1,13 +1,13 @@
 -- How a command is said in words: its name, and a word for each of its handles and parameters.
 use Rattle.std.specs.Prelude.{ℕ, is_some, List, ◌++◌, codes, if◌then◌else◌}
 use Rattle.std.specs.List.{flat_map}
-use Rattle.tpm_types_command.specs.CommandCode.{code_name, shape_of}
-use Rattle.tpm_types_command.specs.declared.command_code.CommandCode.{CommandCode}
-use Rattle.tpm_types_command.specs.declared.shape.HandleKind.{HandleKind}
-use Rattle.tpm_types_command.specs.declared.shape.HandleKind.TheVariants as kind
-use Rattle.tpm_types_command.specs.declared.shape.HandleRule.{HandleRule}
-use Rattle.tpm_types_command.specs.declared.shape.ParameterKind.{ParameterKind}
-use Rattle.tpm_types_command.specs.declared.shape.ParameterKind.TheVariants as parameter
+use Rattle.tpm_commands.specs.CommandCode.{code_name, shape_of}
+use Rattle.tpm_commands.specs.declared.command_code.CommandCode.{CommandCode}
+use Rattle.tpm_commands.specs.declared.shape.HandleKind.{HandleKind}
+use Rattle.tpm_commands.specs.declared.shape.HandleKind.TheVariants as kind
+use Rattle.tpm_commands.specs.declared.shape.HandleRule.{HandleRule}
+use Rattle.tpm_commands.specs.declared.shape.ParameterKind.{ParameterKind}
+use Rattle.tpm_commands.specs.declared.shape.ParameterKind.TheVariants as parameter
 
 -- the word for a handle of a kind
 unfoldable pub handle_word : HandleKind → List ℕ

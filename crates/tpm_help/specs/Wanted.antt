@@ -2,8 +2,8 @@
 use Rattle.std.specs.Prelude.{ℕ, ◌+◌, ◌-◌, ◌==◌, List, [], ◌++◌, length, map, take, drop, replicate, codes, get_or}
 use Rattle.std.specs.Prelude.{Option, Some, None}
 use Rattle.std.specs.List.{count_by, take_while}
-use Rattle.tpm_types_command.specs.CommandCode.{code_called, handle_count, shape_of}
-use Rattle.tpm_types_command.specs.declared.command_code.CommandCode.{CommandCode}
+use Rattle.tpm_commands.specs.CommandCode.{code_called, handle_count, shape_of}
+use Rattle.tpm_commands.specs.declared.command_code.CommandCode.{CommandCode}
 use Rattle.tpm_text.specs.Entry.{begins_entry}
 use Rattle.tpm_text.specs.Pieces.{pieces_of, space}
 use Rattle.tpm_text.specs.declared.fault.AsmFault.{AsmFault}

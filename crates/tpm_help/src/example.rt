@@ -1,6 +1,6 @@
 //! An example of each command in words.
 
-use tpm_types_command::CommandCode;
+use tpm_commands::CommandCode;
 
 /// An example of a command in words: what follows its name and a space in a line, for a device that
 /// has the first objects, sessions and indices.

@@ -6,7 +6,7 @@ ghost use Rattle.tpm_help.specs.Form.{form_of, handle_form, handle_word, paramet
 ghost use Rattle.tpm_help.specs.Form.{parameter_word};
 
 use std::alloc::{AllocError, Global};
-use tpm_types_command::{CommandCode, HandleKind, HandleRule, ParameterKind};
+use tpm_commands::{CommandCode, HandleKind, HandleRule, ParameterKind};
 
 /// The word for a handle of this kind.
 #[tactic(auto, unfolding(crate::specs::Form::handle_word))]

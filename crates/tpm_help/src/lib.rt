@@ -4,7 +4,7 @@
 //! each ([`example`]), what is wanted where words are at fault ([`wanted`]), and what a response
 //! code says ([`response_code`]).
 //!
-//! The crate uses `tpm_types_command` for the shapes of commands, and `tpm_text` for faults. Each
+//! The crate uses `tpm_commands` for the shapes of commands, and `tpm_text` for faults. Each
 //! call equals its definition in `specs/`. The crate says nothing of the examples; a test assembles
 //! each of them.
 

@@ -6,8 +6,8 @@ ghost use Rattle.tpm_help.specs.Wanted.{entry_count, space_count, tokens_in, wor
 ghost use Rattle.tpm_help.specs.Wanted.{words_behind};
 
 use crate::form::{handle_word, parameter_word};
+use tpm_commands::CommandCode;
 use tpm_text::{AsmFault, position_of};
-use tpm_types_command::CommandCode;
 
 /// The word for what is wanted where words have this fault.
 #[tactic(auto, unfolding(crate::specs::Wanted::word_at))]

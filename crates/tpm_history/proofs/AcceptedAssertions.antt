@@ -36,10 +36,10 @@ use Rattle.tpm_types.specs.declared.action_fault.ActionFault.{ActionFault}
 use Rattle.tpm_types.specs.declared.handle.Handle.{Handle}
 use Rattle.tpm_types.specs.declared.rc.ResponseCode.TheVariants as code
 use Rattle.tpm_types.specs.declared.refused.Refused.{Refused}
-use Rattle.tpm_types_command.proofs.Codes.{code_named-number, code_number-small}
-use Rattle.tpm_types_command.specs.CommandCode.{code_named, code_number, is_served}
-use Rattle.tpm_types_command.specs.declared.command_code.CommandCode.{CommandCode as Code}
-use Rattle.tpm_types_command.specs.declared.command_code.CommandCode.TheVariants as command
+use Rattle.tpm_commands.proofs.Codes.{code_named-number, code_number-small}
+use Rattle.tpm_commands.specs.CommandCode.{code_named, code_number, is_served}
+use Rattle.tpm_commands.specs.declared.command_code.CommandCode.{CommandCode as Code}
+use Rattle.tpm_commands.specs.declared.command_code.CommandCode.TheVariants as command
 use Rattle.tpm_record.specs.Entity.{name_of}
 use Rattle.tpm_record.specs.Record.{Record}
 use Rattle.tpm_actions_base.specs.Request.{Request, first_handle}

@@ -4,9 +4,9 @@ use Rattle.tpm_policy.specs.Assertion.{Assertion}
 use Rattle.tpm_policy_meaning.specs.Asserted.{IsAmong}
 use Rattle.tpm_types.specs.declared.handle.Handle.{Handle}
 use Rattle.tpm_types.specs.declared.refused.Refused.{Refused}
-use Rattle.tpm_types_command.specs.CommandCode.{authorized_handles, shape_of}
-use Rattle.tpm_types_command.specs.declared.command_code.CommandCode.{CommandCode as Code}
-use Rattle.tpm_types_command.specs.declared.command_code.CommandCode.TheVariants as command
+use Rattle.tpm_commands.specs.CommandCode.{authorized_handles, shape_of}
+use Rattle.tpm_commands.specs.declared.command_code.CommandCode.{CommandCode as Code}
+use Rattle.tpm_commands.specs.declared.command_code.CommandCode.TheVariants as command
 use Rattle.tpm_actions_policy.specs.Assertions.{session_handle}
 use Rattle.tpm_history.specs.AcceptedAssertions.{AllAskForTheirHandles}
 use Rattle.tpm_history.specs.AssertedBy.{IsAssertedBy, IsFirstAuthorized, Stands}

@@ -27,11 +27,11 @@ use Rattle.tpm_types.specs.declared.rc.ResponseCode.TheVariants as code
 use Rattle.tpm_types.specs.declared.refused.Refused.{Refused}
 use Rattle.tpm_types.specs.declared.startup_type.StartupType.{StartupType}
 use Rattle.tpm_types.specs.declared.startup_type.StartupType.TheVariants as type
-use Rattle.tpm_types_command.specs.CommandCode.{part_of, shape_of}
-use Rattle.tpm_types_command.specs.Shape.{admin, unauthorized, user}
-use Rattle.tpm_types_command.specs.declared.command_code.CommandCode.{CommandCode}
-use Rattle.tpm_types_command.specs.declared.command_code.CommandCode.TheVariants as command
-use Rattle.tpm_types_command.specs.declared.shape.HandleKind.TheVariants as kind
+use Rattle.tpm_commands.specs.CommandCode.{part_of, shape_of}
+use Rattle.tpm_commands.specs.Shape.{admin, unauthorized, user}
+use Rattle.tpm_commands.specs.declared.command_code.CommandCode.{CommandCode}
+use Rattle.tpm_commands.specs.declared.command_code.CommandCode.TheVariants as command
+use Rattle.tpm_commands.specs.declared.shape.HandleKind.TheVariants as kind
 use Rattle.tpm_nv.specs.Access.{incremented, index_or_fault, undefined, with_auth_value}
 use Rattle.tpm_nv.specs.Clear.{cleared, is_by_platform}
 use Rattle.tpm_nv.specs.Definition.{defined_index}
@@ -72,8 +72,8 @@ use Rattle.tpm_nvactions.specs.NvChangeAuth.{nv_change_auth_row}
 use Rattle.tpm_nvactions.specs.NvDefineSpace as definition
 use Rattle.tpm_step.specs.Table.{row_of}
 use Rattle.tpm_laws.specs.Footprint.{Touches, emptied}
-use Rattle.tpm_types_command.specs.Part.{Part, Nothing, Sessions, NvData, NvCounter, NvUndefined, Lockout, Banks}
-use Rattle.tpm_types_command.specs.Part.{Saved, DisableClear, Cleared}
+use Rattle.tpm_commands.specs.Part.{Part, Nothing, Sessions, NvData, NvCounter, NvUndefined, Lockout, Banks}
+use Rattle.tpm_commands.specs.Part.{Saved, DisableClear, Cleared}
 use Rattle.tpm_laws.specs.IndexChanges.{ChangesIndices, Defines, Writes}
 use Rattle.tpm_laws.specs.Handles.{FitsRule, HandlesFit}
 use Rattle.tpm_step.proofs.Binding.{asked, ok_at, ok_bind, ok_bind_is, ok_then, ok_weaker, some_is}

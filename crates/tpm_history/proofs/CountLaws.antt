@@ -3,8 +3,8 @@ use Rattle.std.proofs.Common.{arith, ◌≡◌, ◌⊎◌, ℕ, ◌+◌, ◌<◌
 use Rattle.std.proofs.lemmas.Bool.{cases_eq, eq-eqb, eqb-true, false≢true}
 use Rattle.tpm_types.specs.declared.handle.Handle.{Handle}
 use Rattle.tpm_types.specs.declared.refused.Refused.{Refused}
-use Rattle.tpm_types_command.specs.declared.command_code.CommandCode.{CommandCode}
-use Rattle.tpm_types_command.specs.declared.command_code.CommandCode.TheVariants as command
+use Rattle.tpm_commands.specs.declared.command_code.CommandCode.{CommandCode}
+use Rattle.tpm_commands.specs.declared.command_code.CommandCode.TheVariants as command
 use Rattle.tpm_actions_base.specs.Request.{Request, second_handle}
 use Rattle.tpm_history.specs.Counters.{AllBelow, CountLaws, Counters, HasNoDefinition, IsDefinition, begun_at, count_at, counted_at, counters_by, counters_of, counts_of, defined_handle, defines, defines_by, is_named, largest, next_count}
 use Rattle.tpm_history.specs.HandleMap.{by_handle}

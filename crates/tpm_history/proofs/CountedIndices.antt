@@ -8,8 +8,8 @@ use Rattle.std.proofs.lemmas.Bool.Decides.{nat_tests}
 use Rattle.std.proofs.lemmas.Nat.{from_be_bytes-to_be_bytes_8}
 use Rattle.tpm_containers.specs.SortedMap.{Ascends}
 use Rattle.tpm_types.specs.declared.handle.Handle.{Handle}
-use Rattle.tpm_types_command.specs.declared.command_code.CommandCode.{CommandCode}
-use Rattle.tpm_types_command.specs.declared.command_code.CommandCode.TheVariants as command
+use Rattle.tpm_commands.specs.declared.command_code.CommandCode.{CommandCode}
+use Rattle.tpm_commands.specs.declared.command_code.CommandCode.TheVariants as command
 use Rattle.tpm_types_nv.proofs.AttributeLaws.{are_attributes}
 use Rattle.tpm_types_nv.specs.NvAttributes.{attribute_bit, has, index_type, is_of, type_number, without_attribute}
 use Rattle.tpm_types_nv.specs.NvType.{nv_type_named}
@@ -29,9 +29,9 @@ use Rattle.tpm_step.specs.Table.{row_of}
 use Rattle.tpm_step.proofs.Binding.{ok_at, ok_weaker}
 use Rattle.tpm_laws.proofs.Table.{row_changes}
 use Rattle.tpm_laws.specs.Footprint.{StartsNv}
-use Rattle.tpm_types_command.specs.Part.{Part, NvData, NvCounter, NvAuthValue, NvDefined, NvUndefined, Beginning}
-use Rattle.tpm_types_command.specs.Part.{Cleared}
-use Rattle.tpm_types_command.specs.CommandCode.{part_of}
+use Rattle.tpm_commands.specs.Part.{Part, NvData, NvCounter, NvAuthValue, NvDefined, NvUndefined, Beginning}
+use Rattle.tpm_commands.specs.Part.{Cleared}
+use Rattle.tpm_commands.specs.CommandCode.{part_of}
 use Rattle.tpm_laws.specs.IndexChanges.{ChangesAuth, ChangesIndices, Defines, Increments, IsCounter, KeepsCount}
 use Rattle.tpm_laws.specs.IndexChanges.{Undefines, Writes, stored_count}
 use Rattle.tpm_history.specs.Counters.{Counters, begun_at, counted_at, counters_by, defined_handle, largest, next_count}

@@ -16,8 +16,8 @@ use Rattle.tpm_types.specs.Limits.{object_limit}
 use Rattle.tpm_types.specs.declared.handle.Handle.{Handle}
 use Rattle.tpm_types.specs.declared.handle.HierarchyAuth.{HierarchyAuth}
 use Rattle.tpm_types.specs.declared.handle.HierarchyAuth.TheVariants as auth
-use Rattle.tpm_types_command.specs.CommandCode.{shape_of}
-use Rattle.tpm_types_command.specs.declared.shape.HandleRule.{HandleRule}
+use Rattle.tpm_commands.specs.CommandCode.{shape_of}
+use Rattle.tpm_commands.specs.declared.shape.HandleRule.{HandleRule}
 use Rattle.tpm_record.specs.Cycle.{cycled}
 use Rattle.tpm_record.specs.Entity.{AnIndex, AnObject, Entity, Permanent, auth_value_of, entity_at, entity_auth_value, hierarchy_auth_value, index_of, is_kept, is_present, names_kept, object_of, permanent_auth_value}
 use Rattle.tpm_record.specs.Hierarchy.{manufactured_hierarchies}

@@ -10,9 +10,9 @@ use Rattle.tpm_pcr.specs.Values.{BankValues}
 use Rattle.tpm_types.specs.StartupType.{startup_type_at}
 use Rattle.tpm_types.specs.declared.startup_type.StartupType.{StartupType}
 use Rattle.tpm_types.specs.declared.startup_type.StartupType.TheVariants as type
-use Rattle.tpm_types_command.specs.CommandCode.{part_of, shape_of}
-use Rattle.tpm_types_command.specs.declared.command_code.CommandCode.{CommandCode}
-use Rattle.tpm_types_command.specs.declared.command_code.CommandCode.TheVariants as command
+use Rattle.tpm_commands.specs.CommandCode.{part_of, shape_of}
+use Rattle.tpm_commands.specs.declared.command_code.CommandCode.{CommandCode}
+use Rattle.tpm_commands.specs.declared.command_code.CommandCode.TheVariants as command
 use Rattle.tpm_record.specs.Cycle.{cycled}
 use Rattle.tpm_record.specs.Record.{Record, manufactured, with_saved}
 use Rattle.tpm_record.specs.Saved.{Nothing, SavedState, saved_by as saved_with}
@@ -24,7 +24,7 @@ use Rattle.tpm_step.specs.Step.{Accepted, success_step}
 use Rattle.tpm_step.specs.Table.{row_of}
 use Rattle.tpm_laws.specs.Acceptance.{IsAcceptance}
 use Rattle.tpm_laws.specs.Footprint.{Touches}
-use Rattle.tpm_types_command.specs.Part.{Part, AuthValues, Beginning, Saved}
+use Rattle.tpm_commands.specs.Part.{Part, AuthValues, Beginning, Saved}
 use Rattle.tpm_step.proofs.Binding.{ok_at, ok_bind, ok_weaker}
 use Rattle.tpm_laws.proofs.Table.{row_touches}
 use Rattle.tpm_laws.proofs.Leaving.{answered_only, success_leaves}

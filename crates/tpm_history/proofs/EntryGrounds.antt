@@ -27,7 +27,7 @@ use Rattle.tpm_types.specs.declared.session_type.SessionType.TheVariants as type
 use Rattle.tpm_types.specs.declared.nv_use.NvUse.{NvUse}
 use Rattle.tpm_types_command.specs.AuthEntry.{Entry}
 use Rattle.tpm_types_command.specs.Command.{Whole}
-use Rattle.tpm_types_command.specs.CommandCode.{authorized_handles, code_number, nv_use_at, role_at}
+use Rattle.tpm_commands.specs.CommandCode.{authorized_handles, code_number, nv_use_at, role_at}
 use Rattle.tpm_record.specs.Entity.{AnIndex, AnObject, Entity, Permanent, auth_value_of, entity_at, is_available, is_kept, is_present, name_of, names_kept, policy_of, protection_of, written_of}
 use Rattle.tpm_record.specs.Record.{Record}
 use Rattle.tpm_record.specs.declared.entity.Means.{Means}

@@ -18,7 +18,7 @@ use Rattle.tpm_session.specs.declared.session.Session.{Session}
 use Rattle.tpm_types.specs.AuthValue.{trimmed}
 use Rattle.tpm_types.specs.declared.handle.Handle.{Handle}
 use Rattle.tpm_types_command.specs.AuthEntry.{Entry}
-use Rattle.tpm_types_command.specs.CommandCode.{authorized_handles, code_number}
+use Rattle.tpm_commands.specs.CommandCode.{authorized_handles, code_number}
 use Rattle.tpm_record.specs.Entity.{auth_value_of, name_of}
 use Rattle.tpm_record.specs.Record.{Record}
 use Rattle.tpm_auth.specs.Comparison.{is_password_of}

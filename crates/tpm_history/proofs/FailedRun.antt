@@ -21,9 +21,9 @@ use Rattle.tpm_session.specs.declared.session.Protection.TheVariants as protecti
 use Rattle.tpm_auth.specs.Comparison.{failure}
 use Rattle.tpm_types_command.specs.AuthArea.{area_at}
 use Rattle.tpm_types_command.specs.AuthEntry.{entry_at}
-use Rattle.tpm_types_command.specs.CommandCode.{code_named, code_number as code_number_of, shape_of}
-use Rattle.tpm_types_command.specs.declared.command_code.CommandCode.TheVariants as command
-use Rattle.tpm_types_command.specs.HandleArea.{allowed_handle_at}
+use Rattle.tpm_commands.specs.CommandCode.{code_named, code_number as code_number_of, shape_of}
+use Rattle.tpm_commands.specs.declared.command_code.CommandCode.TheVariants as command
+use Rattle.tpm_commands.specs.HandleArea.{allowed_handle_at}
 use Rattle.tpm_types_command.specs.Header.{header_at}
 use Rattle.tpm_auth.specs.Entries.{entry_passes}
 use Rattle.tpm_auth.specs.Grant.{authorize, grant, password_grant}

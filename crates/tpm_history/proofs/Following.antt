@@ -8,7 +8,7 @@ use Rattle.tpm_nv.specs.IsContents.{AreIndices}
 use Rattle.tpm_pcr.specs.Banks.{HaveAll}
 use Rattle.tpm_pcr.specs.Values.{BankValues, IsBanks}
 use Rattle.tpm_types.specs.declared.refused.Counted.{Counted}
-use Rattle.tpm_types_command.specs.CommandCode.{shape_of}
+use Rattle.tpm_commands.specs.CommandCode.{shape_of}
 use Rattle.tpm_record.specs.Cycle.{cycled}
 use Rattle.tpm_record.specs.Entity.{auth_value_of}
 use Rattle.tpm_record.specs.IsRecord.{IsRecord}

@@ -3,8 +3,8 @@ use Rattle.std.proofs.Common.{arith, ◌≡◌, ◌≢◌, ℕ, Bool, true, fals
 use Rattle.std.proofs.lemmas.Bool.{false≢true}
 use Rattle.tpm_lockout.specs.Lockout.{LockoutState}
 use Rattle.tpm_types.specs.declared.refused.Counted.{Counted}
-use Rattle.tpm_types_command.specs.declared.command_code.CommandCode.{CommandCode}
-use Rattle.tpm_types_command.specs.declared.command_code.CommandCode.TheVariants as command
+use Rattle.tpm_commands.specs.declared.command_code.CommandCode.{CommandCode}
+use Rattle.tpm_commands.specs.declared.command_code.CommandCode.TheVariants as command
 use Rattle.tpm_record.specs.Cycle.{cycled}
 use Rattle.tpm_record.specs.Record.{Record, manufactured}
 use Rattle.tpm_record.specs.Tick.{ticked}
@@ -19,8 +19,8 @@ use Rattle.tpm_laws.proofs.Table.{row_touches}
 use Rattle.tpm_laws.proofs.Leaving.{success_leaves}
 use Rattle.tpm_laws.specs.Acceptance.{IsAcceptance}
 use Rattle.tpm_laws.specs.Footprint.{Touches}
-use Rattle.tpm_types_command.specs.Part.{Part, AuthValues, Lockout, Beginning, Cleared}
-use Rattle.tpm_types_command.specs.CommandCode.{part_of}
+use Rattle.tpm_commands.specs.Part.{Part, AuthValues, Lockout, Beginning, Cleared}
+use Rattle.tpm_commands.specs.CommandCode.{part_of}
 use Rattle.tpm_history.specs.Potential.{IsForgiving}
 use Rattle.tpm_history.specs.Tries.{resets_tries}
 use Rattle.tpm_history.proofs.Balance.{SameTries, closed_same, refusal_forgives, same_forgives, tick_forgives}

@@ -23,8 +23,8 @@ use Rattle.tpm_types.specs.declared.handle.Handle.{Handle}
 use Rattle.tpm_types.specs.declared.refused.Refused.{Refused}
 use Rattle.tpm_types.specs.declared.startup_type.StartupType.{StartupType}
 use Rattle.tpm_types.specs.declared.startup_type.StartupType.TheVariants as type
-use Rattle.tpm_types_command.specs.declared.command_code.CommandCode.{CommandCode}
-use Rattle.tpm_types_command.specs.declared.command_code.CommandCode.TheVariants as command
+use Rattle.tpm_commands.specs.declared.command_code.CommandCode.{CommandCode}
+use Rattle.tpm_commands.specs.declared.command_code.CommandCode.TheVariants as command
 use Rattle.tpm_record.specs.Record.{Record}
 use Rattle.tpm_record.specs.Saved.{Clear, Nothing, SavedState, State, kind_of, restored_from}
 use Rattle.tpm_actions_base.specs.Request.{Request, first_handle}
@@ -38,8 +38,8 @@ use Rattle.tpm_actions_device.specs.declared.startup.Start.{Start}
 use Rattle.tpm_actions_device.specs.declared.startup.Start.TheVariants.{Reset, Restart, Resume}
 use Rattle.tpm_step.specs.Table.{row_of}
 use Rattle.tpm_laws.specs.Footprint.{Touches}
-use Rattle.tpm_types_command.specs.Part.{Part, AuthValues, Banks, Beginning, Cleared}
-use Rattle.tpm_types_command.specs.CommandCode.{part_of}
+use Rattle.tpm_commands.specs.Part.{Part, AuthValues, Banks, Beginning, Cleared}
+use Rattle.tpm_commands.specs.CommandCode.{part_of}
 use Rattle.tpm_step.proofs.Binding.{ok_bind, ok_bind_is, ok_then, ok_weaker}
 use Rattle.tpm_laws.proofs.Table.{row_touches}
 use Rattle.tpm_history.specs.DevicePcrs.{AreSaved, IsSavedAs}

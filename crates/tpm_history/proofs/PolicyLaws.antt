@@ -8,7 +8,7 @@ use Rattle.tpm_policy.specs.Use.{EntityParts}
 use Rattle.tpm_types.specs.SessionType.{is_trial}
 use Rattle.tpm_types.specs.declared.session_type.SessionType.{SessionType}
 use Rattle.tpm_types.specs.declared.session_type.SessionType.TheVariants as type
-use Rattle.tpm_types_command.specs.CommandCode.{code_number}
+use Rattle.tpm_commands.specs.CommandCode.{code_number}
 use Rattle.tpm_policy_meaning.specs.Asserted.{evaluated}
 use Rattle.tpm_history.specs.Grounds.{IsPolicyOf, policy_at, written_at}
 use Rattle.tpm_history.specs.PolicyLaws.{HasPolicyOf, KeepsQuietValues, UsesItsCommand, UsesPcrsAsTheyAre, pcrs_as_in, UsesAsWritten}

@@ -12,8 +12,8 @@ use Rattle.tpm_types.specs.Handle.{is_session, null_handle}
 use Rattle.tpm_types.specs.Limits.{session_limit}
 use Rattle.tpm_types.specs.declared.handle.Handle.{Handle}
 use Rattle.tpm_types.specs.declared.refused.Refused.{Refused}
-use Rattle.tpm_types_command.specs.declared.command_code.CommandCode.{CommandCode}
-use Rattle.tpm_types_command.specs.declared.command_code.CommandCode.TheVariants as command
+use Rattle.tpm_commands.specs.declared.command_code.CommandCode.{CommandCode}
+use Rattle.tpm_commands.specs.declared.command_code.CommandCode.TheVariants as command
 use Rattle.tpm_record.specs.Entity.{auth_value_of, name_of, protection_of}
 use Rattle.tpm_record.specs.Record.{Record}
 use Rattle.tpm_actions_base.specs.Answer.{AnswerParts}
@@ -25,7 +25,7 @@ use Rattle.tpm_actions_device.specs.StartAuthSession.{Parameters, binding_of, pa
 use Rattle.tpm_actions_policy.specs.Assertions.{assertion_in, assertion_row, asserts, policy_after, policy_session, session_handle, with_assertion}
 use Rattle.tpm_actions_policy.specs.PolicyRestart.{policy_restart_row}
 use Rattle.tpm_step.specs.Table.{row_of}
-use Rattle.tpm_types_command.specs.CommandCode.{part_of}
+use Rattle.tpm_commands.specs.CommandCode.{part_of}
 use Rattle.tpm_step.proofs.Binding.{ok_bind, ok_bind_is, ok_then, ok_weaker, some_is}
 use Rattle.tpm_laws.proofs.Parts.{leaves_sessions}
 use Rattle.tpm_laws.proofs.Table.{row_same}

@@ -7,7 +7,7 @@ use Rattle.tpm_policy.specs.Assertion.{Assertion, NvParts, SecretParts}
 use Rattle.tpm_types.specs.declared.handle.Handle.{Handle}
 use Rattle.tpm_types.specs.declared.operation.Operation.{Operation}
 use Rattle.tpm_types_command.specs.AuthEntry.{Entry}
-use Rattle.tpm_types_command.specs.declared.command_code.CommandCode.TheVariants as command
+use Rattle.tpm_commands.specs.declared.command_code.CommandCode.TheVariants as command
 use Rattle.tpm_policy_meaning.specs.Asserted.{IsAmong}
 use Rattle.tpm_actions_policy.specs.Assertions.{session_handle}
 use Rattle.tpm_history.specs.EntryHmacs.{used_in}

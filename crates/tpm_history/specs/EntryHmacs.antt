@@ -16,7 +16,7 @@ use Rattle.tpm_types.specs.declared.handle.SessionKind.TheVariants as kind
 use Rattle.tpm_types.specs.declared.session_type.SessionType.TheVariants as type
 use Rattle.tpm_types_command.specs.AuthEntry.{Entry}
 use Rattle.tpm_types_command.specs.Command.{Whole}
-use Rattle.tpm_types_command.specs.CommandCode.{code_number}
+use Rattle.tpm_commands.specs.CommandCode.{code_number}
 use Rattle.tpm_auth.specs.Entries.{decrypts}
 use Rattle.tpm_auth.specs.Grant.{authorized}
 use Rattle.tpm_auth.specs.SessionGrant.{has_value_in_key, only_encrypts, other_entries}

@@ -12,7 +12,7 @@ use Rattle.tpm_types.specs.declared.role.Role.{Role}
 use Rattle.tpm_types.specs.declared.role.Role.TheVariants as role
 use Rattle.tpm_types.specs.declared.session_type.SessionType.TheVariants as type
 use Rattle.tpm_types_command.specs.AuthEntry.{Entry}
-use Rattle.tpm_types_command.specs.CommandCode.{code_number, nv_use_at, role_at}
+use Rattle.tpm_commands.specs.CommandCode.{code_number, nv_use_at, role_at}
 use Rattle.tpm_record.specs.declared.entity.Means.{Means}
 use Rattle.tpm_record.specs.declared.entity.Means.TheVariants as means
 use Rattle.tpm_auth.specs.SessionGrant.{is_password_demand}

@@ -12,8 +12,8 @@ use Rattle.tpm_types.specs.Rc.{plain}
 use Rattle.tpm_types.specs.YesNo.{yes_no_at}
 use Rattle.tpm_types.specs.declared.rc.ResponseCode.TheVariants as code
 use Rattle.tpm_types.specs.declared.refused.Refused.{Refused}
-use Rattle.tpm_types_command.specs.declared.command_code.CommandCode.{CommandCode as Code}
-use Rattle.tpm_types_command.specs.declared.command_code.CommandCode.TheVariants as command
+use Rattle.tpm_commands.specs.declared.command_code.CommandCode.{CommandCode as Code}
+use Rattle.tpm_commands.specs.declared.command_code.CommandCode.TheVariants as command
 use Rattle.tpm_actions_base.specs.Refusals.{handle_refusal}
 use Rattle.tpm_actions_base.specs.Rows.{only}
 use Rattle.tpm_actions_policy.specs.PolicyNv.{nv_parameters}

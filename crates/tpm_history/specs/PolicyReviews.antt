@@ -12,7 +12,7 @@ use Rattle.tpm_types.specs.declared.operation.Operation.TheVariants as operation
 use Rattle.tpm_types.specs.declared.pcr_selection.BankSelection.{BankSelection}
 use Rattle.tpm_types.specs.declared.session_type.SessionType.TheVariants as type
 use Rattle.tpm_types_command.specs.AuthEntry.{Entry}
-use Rattle.tpm_types_command.specs.CommandCode.{nv_use_at}
+use Rattle.tpm_commands.specs.CommandCode.{nv_use_at}
 use Rattle.tpm_types_nv.specs.NvAttributes.{has as index_has}
 use Rattle.tpm_types_nv.specs.declared.nv_attributes.NvAttribute.TheVariants as mark
 use Rattle.tpm_types_nv.specs.declared.nv_public.NvPublic.{NvPublic}

@@ -7,14 +7,14 @@ use Rattle.tpm_types.specs.Refused.{checked, refusal}
 use Rattle.tpm_types.specs.declared.check.Check.TheVariants as check
 use Rattle.tpm_types.specs.declared.rc.ResponseCode.TheVariants as code
 use Rattle.tpm_types_command.specs.Command.{Whole, sessions_at}
-use Rattle.tpm_types_command.specs.CommandCode.{shape_of}
+use Rattle.tpm_commands.specs.CommandCode.{shape_of}
 use Rattle.tpm_types_command.specs.AuthArea.{area_at}
 use Rattle.tpm_types_command.specs.Header.{header_at}
 use Rattle.tpm_types_command.specs.declared.tag.Tag.{Tag}
 use Rattle.tpm_types_command.specs.declared.tag.Tag.TheVariants.{NoSessions, Sessions}
 use Rattle.tpm_types_command.specs.declared.header.Header.{Header}
-use Rattle.tpm_types_command.specs.declared.command_code.CommandCode.{CommandCode}
-use Rattle.tpm_types_command.specs.declared.command_code.CommandCode.TheVariants as command
+use Rattle.tpm_commands.specs.declared.command_code.CommandCode.{CommandCode}
+use Rattle.tpm_commands.specs.declared.command_code.CommandCode.TheVariants as command
 use Rattle.tpm_record.specs.Record.{Record}
 use Rattle.tpm_auth.specs.Grant.{authorize}
 use Rattle.tpm_step.specs.General.{body_of, both_or_neither, general, in_header, is_startup, present_handles_at, sessions_pass}

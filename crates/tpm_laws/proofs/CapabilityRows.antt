@@ -1,8 +1,8 @@
 -- The laws of the row of TPM2_GetCapability.
 use Rattle.std.specs.Prelude.{◌/◌}
 use Rattle.std.proofs.Common.{◌^◌, arith, ℕ}
-use Rattle.tpm_types_command.specs.CommandCode.{shape_of}
-use Rattle.tpm_types_command.specs.declared.command_code.CommandCode.TheVariants as command
+use Rattle.tpm_commands.specs.CommandCode.{shape_of}
+use Rattle.tpm_commands.specs.declared.command_code.CommandCode.TheVariants as command
 use Rattle.tpm_record.specs.Record.{Record}
 use Rattle.tpm_actions_capability.specs.GetCapability.{capability_of, capability_parameters}
 use Rattle.tpm_actions_capability.specs.GetCapability.{get_capability_row, handle_elements, told_of}

@@ -15,8 +15,8 @@ use Rattle.tpm_types.specs.declared.handle.HierarchyAuth.TheVariants as auth
 use Rattle.tpm_types.specs.declared.handle.HierarchyHandle.TheVariants as hierarchy
 use Rattle.tpm_types.specs.declared.rc.ResponseCode.TheVariants as code
 use Rattle.tpm_types.specs.declared.startup_type.StartupType.{StartupType}
-use Rattle.tpm_types_command.specs.CommandCode.{shape_of}
-use Rattle.tpm_types_command.specs.declared.command_code.CommandCode.TheVariants as command
+use Rattle.tpm_commands.specs.CommandCode.{shape_of}
+use Rattle.tpm_commands.specs.declared.command_code.CommandCode.TheVariants as command
 use Rattle.tpm_containers.proofs.NumberedLaws.{put_taken, removed_taken}
 use Rattle.tpm_object.specs.Object.{transient_byte}
 use Rattle.tpm_session.specs.Key.{is_nonce_size}
@@ -55,7 +55,7 @@ use Rattle.tpm_actions_device.specs.declared.startup.Start.{Start}
 use Rattle.tpm_actions_device.specs.declared.startup.Start.TheVariants.{Reset, Restart, Resume}
 use Rattle.tpm_laws.specs.Draws.{bytes_requested}
 use Rattle.tpm_laws.specs.Footprint.{KeepsSecrets, Touches}
-use Rattle.tpm_types_command.specs.Part.{Beginning, SessionsAndObjects}
+use Rattle.tpm_commands.specs.Part.{Beginning, SessionsAndObjects}
 use Rattle.tpm_laws.specs.Order.{Late, Plain}
 use Rattle.tpm_laws.specs.RowLaws.{RowLaws, SuccessLaws}
 use Rattle.tpm_laws.specs.Shapes.{Grows, taken_in}

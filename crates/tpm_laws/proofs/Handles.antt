@@ -10,12 +10,12 @@ use Rattle.tpm_types.specs.declared.check.Check.TheVariants as check
 use Rattle.tpm_types.specs.declared.refused.Refused.{Refused}
 use Rattle.tpm_types.specs.Refused.{checked}
 use Rattle.tpm_types_command.specs.declared.header.Header.{Header}
-use Rattle.tpm_types_command.specs.declared.shape.HandleRule.{HandleRule}
+use Rattle.tpm_commands.specs.declared.shape.HandleRule.{HandleRule}
 use Rattle.tpm_types_command.specs.Command.{Whole, sessions_at}
-use Rattle.tpm_types_command.specs.CommandCode.{shape_of}
-use Rattle.tpm_types_command.specs.HandleArea.{allowed_handle_at}
+use Rattle.tpm_commands.specs.CommandCode.{shape_of}
+use Rattle.tpm_commands.specs.HandleArea.{allowed_handle_at}
 use Rattle.tpm_types_command.specs.Header.{header_at}
-use Rattle.tpm_types_command.specs.Shape.{is_of_kind}
+use Rattle.tpm_commands.specs.Shape.{is_of_kind}
 use Rattle.tpm_record.specs.Entity.{is_present}
 use Rattle.tpm_record.specs.Record.{Record}
 use Rattle.tpm_auth.specs.Entries.{entries_pass}

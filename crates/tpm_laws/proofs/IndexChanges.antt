@@ -38,7 +38,7 @@ use Rattle.tpm_actions_base.specs.Refusals.{or_refusal}
 use Rattle.tpm_actions_base.specs.Request.{Request, first_handle, second_handle}
 use Rattle.tpm_actions_base.specs.Target.{attributes_of, target_of}
 use Rattle.tpm_nvactions.specs.NvDefineSpace.{definition_refusal}
-use Rattle.tpm_types_command.specs.Part.{NvAuthValue, NvCounter, NvData, Part}
+use Rattle.tpm_commands.specs.Part.{NvAuthValue, NvCounter, NvData, Part}
 use Rattle.tpm_laws.specs.IndexChanges.{ChangesAuth, ChangesIndices, HasNoConflict}
 use Rattle.tpm_laws.specs.IndexChanges.{Increments, Writes}
 use Rattle.tpm_step.proofs.Binding.{ok_at, ok_bind, ok_bind_is, some_is}

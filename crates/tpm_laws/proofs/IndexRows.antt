@@ -17,12 +17,12 @@ use Rattle.tpm_types.specs.declared.role.Role.{Role}
 use Rattle.tpm_types.specs.declared.role.Role.TheVariants as role
 use Rattle.tpm_types.specs.Filled.{filled_by}
 use Rattle.tpm_types_nv.specs.NvPublic.{nv_public_at}
-use Rattle.tpm_types_command.specs.CommandCode.{part_of, shape_of}
-use Rattle.tpm_types_command.specs.Shape.{admin, unauthorized}
-use Rattle.tpm_types_command.specs.declared.command_code.CommandCode.{CommandCode}
-use Rattle.tpm_types_command.specs.declared.command_code.CommandCode.TheVariants as command
-use Rattle.tpm_types_command.specs.declared.shape.HandleKind.TheVariants as handle_kind
-use Rattle.tpm_types_command.specs.declared.shape.ParameterKind.TheVariants as kind
+use Rattle.tpm_commands.specs.CommandCode.{part_of, shape_of}
+use Rattle.tpm_commands.specs.Shape.{admin, unauthorized}
+use Rattle.tpm_commands.specs.declared.command_code.CommandCode.{CommandCode}
+use Rattle.tpm_commands.specs.declared.command_code.CommandCode.TheVariants as command
+use Rattle.tpm_commands.specs.declared.shape.HandleKind.TheVariants as handle_kind
+use Rattle.tpm_commands.specs.declared.shape.ParameterKind.TheVariants as kind
 use Rattle.tpm_containers.proofs.SortedMapLaws.{put_length, removed_few}
 use Rattle.tpm_nv.specs.Access.{bits_set, extended, incremented, index_or_fault, read_locked}
 use Rattle.tpm_nv.specs.Access.{with_auth_value, write_locked, written}

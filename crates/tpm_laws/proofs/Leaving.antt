@@ -7,7 +7,7 @@ use Rattle.tpm_types.specs.declared.session_type.SessionType.{SessionType}
 use Rattle.tpm_types.specs.declared.session_type.SessionType.TheVariants as type
 use Rattle.tpm_types_command.specs.AuthEntry.{Entry}
 use Rattle.tpm_types_command.specs.Command.{Whole}
-use Rattle.tpm_types_command.specs.CommandCode.{shape_of}
+use Rattle.tpm_commands.specs.CommandCode.{shape_of}
 use Rattle.tpm_record.specs.Record.{Record, with_saved}
 use Rattle.tpm_record.specs.Saved.{Nothing}
 use Rattle.tpm_auth.specs.Entries.{session_of}

@@ -21,13 +21,13 @@ use Rattle.tpm_types_object.specs.declared.public.KeyedHashScheme.TheVariants.{H
 use Rattle.tpm_types_object.specs.declared.public.Public.{Public}
 use Rattle.tpm_types_object.specs.declared.public.PublicParameters.{PublicParameters}
 use Rattle.tpm_types_object.specs.declared.public.PublicParameters.TheVariants as parameters_of
-use Rattle.tpm_types_command.specs.CommandCode.{part_of, shape_of}
-use Rattle.tpm_types_command.specs.Shape.{user}
-use Rattle.tpm_types_command.specs.declared.command_code.CommandCode.{CommandCode}
-use Rattle.tpm_types_command.specs.declared.command_code.CommandCode.TheVariants as command
-use Rattle.tpm_types_command.specs.declared.shape.HandleKind.TheVariants as handle_kind
-use Rattle.tpm_types_command.specs.declared.shape.HandleRule.{HandleRule}
-use Rattle.tpm_types_command.specs.declared.shape.ParameterKind.{ParameterKind}
+use Rattle.tpm_commands.specs.CommandCode.{part_of, shape_of}
+use Rattle.tpm_commands.specs.Shape.{user}
+use Rattle.tpm_commands.specs.declared.command_code.CommandCode.{CommandCode}
+use Rattle.tpm_commands.specs.declared.command_code.CommandCode.TheVariants as command
+use Rattle.tpm_commands.specs.declared.shape.HandleKind.TheVariants as handle_kind
+use Rattle.tpm_commands.specs.declared.shape.HandleRule.{HandleRule}
+use Rattle.tpm_commands.specs.declared.shape.ParameterKind.{ParameterKind}
 use Rattle.tpm_containers.proofs.NumberedLaws.{put_taken}
 use Rattle.tpm_containers.specs.SortedMap.{Entries}
 use Rattle.tpm_containers.proofs.SortedMapLaws.{put_length, removed_length}
@@ -60,7 +60,7 @@ use Rattle.tpm_actions_object.specs.ReadPublic.{read_public_row}
 use Rattle.tpm_actions_object.specs.Unseal.{unseal_row}
 use Rattle.tpm_laws.specs.Draws.{DrawsAsSaid}
 use Rattle.tpm_laws.specs.Footprint.{Touches}
-use Rattle.tpm_types_command.specs.Part.{Objects, Part}
+use Rattle.tpm_commands.specs.Part.{Objects, Part}
 use Rattle.tpm_laws.specs.Handles.{FitsRule, HandlesFit}
 use Rattle.tpm_laws.specs.IndexChanges.{ChangesIndices}
 use Rattle.tpm_laws.specs.Order.{Late, Orders, Plain}

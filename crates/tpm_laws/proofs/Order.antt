@@ -15,10 +15,10 @@ use Rattle.tpm_types.specs.declared.rc.Rc.{Rc}
 use Rattle.tpm_types.specs.declared.refused.Refused.{Refused}
 use Rattle.tpm_types.specs.declared.role.Role.{Role}
 use Rattle.tpm_types_nv.specs.declared.nv_attributes.NvAttributes.{NvAttributes}
-use Rattle.tpm_types_command.specs.Shape.{unauthorized}
-use Rattle.tpm_types_command.specs.declared.shape.HandleKind.TheVariants as handle_kind
-use Rattle.tpm_types_command.specs.declared.shape.HandleRule.{HandleRule}
-use Rattle.tpm_types_command.specs.declared.shape.ParameterKind.{ParameterKind}
+use Rattle.tpm_commands.specs.Shape.{unauthorized}
+use Rattle.tpm_commands.specs.declared.shape.HandleKind.TheVariants as handle_kind
+use Rattle.tpm_commands.specs.declared.shape.HandleRule.{HandleRule}
+use Rattle.tpm_commands.specs.declared.shape.ParameterKind.{ParameterKind}
 use Rattle.tpm_session.specs.Sessions.{session_at}
 use Rattle.tpm_nv.specs.Head.{head_of}
 use Rattle.tpm_nv.specs.Index.{NvIndex, index_at}

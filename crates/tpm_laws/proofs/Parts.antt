@@ -16,8 +16,8 @@ use Rattle.tpm_record.specs.Clear.{outlasts}
 use Rattle.tpm_record.specs.Record.{Record}
 use Rattle.tpm_record.proofs.ClearLaws.{cleared_few}
 use Rattle.tpm_laws.specs.Footprint.{StartsNv, Touches}
-use Rattle.tpm_types_command.specs.Part.{AuthValues, Banks, Beginning, Cleared, DisableClear, Lockout, Nothing, Part}
-use Rattle.tpm_types_command.specs.Part.{Saved, Sessions, SessionsAndObjects}
+use Rattle.tpm_commands.specs.Part.{AuthValues, Banks, Beginning, Cleared, DisableClear, Lockout, Nothing, Part}
+use Rattle.tpm_commands.specs.Part.{Saved, Sessions, SessionsAndObjects}
 use Rattle.tpm_laws.specs.Sessions.{SessionsStay}
 use Rattle.tpm_laws.specs.Shapes.{Grows, taken_in}
 

@@ -10,11 +10,11 @@ use Rattle.tpm_types.specs.Rc.{plain}
 use Rattle.tpm_types.specs.SessionType.{is_trial}
 use Rattle.tpm_types.specs.declared.action_fault.ActionFault.{ActionFault}
 use Rattle.tpm_types.specs.declared.handle.Handle.{Handle}
-use Rattle.tpm_types_command.specs.CommandCode.{part_of, shape_of}
-use Rattle.tpm_types_command.specs.Shape.{unauthorized}
-use Rattle.tpm_types_command.specs.declared.command_code.CommandCode.{CommandCode}
-use Rattle.tpm_types_command.specs.declared.command_code.CommandCode.TheVariants as command
-use Rattle.tpm_types_command.specs.declared.shape.HandleKind.TheVariants as handle_kind
+use Rattle.tpm_commands.specs.CommandCode.{part_of, shape_of}
+use Rattle.tpm_commands.specs.Shape.{unauthorized}
+use Rattle.tpm_commands.specs.declared.command_code.CommandCode.{CommandCode}
+use Rattle.tpm_commands.specs.declared.command_code.CommandCode.TheVariants as command
+use Rattle.tpm_commands.specs.declared.shape.HandleKind.TheVariants as handle_kind
 use Rattle.tpm_containers.specs.Slots.{AreAll, taken_count}
 use Rattle.tpm_policy.specs.Assertion.{Assertion, asserted}
 use Rattle.tpm_policy.specs.State.{Policy, starting}
@@ -34,7 +34,7 @@ use Rattle.tpm_actions_policy.specs.PolicyRestart.{policy_restart_row}
 use Rattle.tpm_actions_policy.specs.PolicySecret.{secret_parameters}
 use Rattle.tpm_laws.specs.Draws.{DrawsAsSaid}
 use Rattle.tpm_laws.specs.Footprint.{Touches}
-use Rattle.tpm_types_command.specs.Part.{Part, Sessions}
+use Rattle.tpm_commands.specs.Part.{Part, Sessions}
 use Rattle.tpm_laws.specs.Handles.{FitsRule}
 use Rattle.tpm_laws.specs.IndexChanges.{ChangesIndices}
 use Rattle.tpm_laws.specs.Order.{Late}

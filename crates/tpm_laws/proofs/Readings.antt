@@ -2,7 +2,7 @@
 use Rattle.std.proofs.Common.{◌≡◌, ℕ, List, [], ◌∷◌, Result, Ok, Err, refl, ap, ◌∙◌}
 use Rattle.tpm_bytes.specs.Reading.{◌>>=◌}
 use Rattle.tpm_types.specs.declared.rc.Rc.{Rc}
-use Rattle.tpm_types_command.specs.declared.shape.ParameterKind.{ParameterKind}
+use Rattle.tpm_commands.specs.declared.shape.ParameterKind.{ParameterKind}
 use Rattle.tpm_types.specs.AuthValue.{auth_value_at, trimmed}
 use Rattle.tpm_types.specs.Buffer.{buffer_at}
 use Rattle.tpm_types.specs.declared.refused.Refused.{Refused}

@@ -12,7 +12,7 @@ use Rattle.tpm_types.specs.declared.session_type.SessionType.{SessionType}
 use Rattle.tpm_types.specs.declared.session_type.SessionType.TheVariants as type
 use Rattle.tpm_types_command.specs.AuthEntry.{Entry}
 use Rattle.tpm_types_command.specs.Command.{Whole}
-use Rattle.tpm_types_command.specs.CommandCode.{shape_of}
+use Rattle.tpm_commands.specs.CommandCode.{shape_of}
 use Rattle.tpm_record.specs.Cycle.{cycled}
 use Rattle.tpm_record.specs.Record.{Record, manufactured, with_saved}
 use Rattle.tpm_record.specs.Tick.{ticked}
@@ -35,7 +35,7 @@ use Rattle.tpm_step.specs.declared.event.Outcome.{Outcome}
 use Rattle.tpm_actions_base.specs.Request.{Request}
 use Rattle.tpm_actions_base.specs.Rows.{Success}
 use Rattle.tpm_record.specs.Saved.{Nothing}
-use Rattle.tpm_types_command.specs.declared.command_code.CommandCode.{CommandCode}
+use Rattle.tpm_commands.specs.declared.command_code.CommandCode.{CommandCode}
 use Rattle.tpm_laws.proofs.Draws.{general_few}
 use Rattle.tpm_laws.specs.Sizes.{AreSized, IsSized}
 use Rattle.tpm_laws.proofs.AllPlaces.{all_changed, all_found, all_free}

@@ -1,8 +1,8 @@
 -- After an accepted command a device is started.
 use Rattle.std.proofs.Common.{◌≡◌, ℕ, Bool, true, false, List, IfOk, refl, ap, ◌∙◌}
 use Rattle.tpm_types.specs.StartupType.{startup_type_at}
-use Rattle.tpm_types_command.specs.declared.command_code.CommandCode.{CommandCode}
-use Rattle.tpm_types_command.specs.declared.command_code.CommandCode.TheVariants as command
+use Rattle.tpm_commands.specs.declared.command_code.CommandCode.{CommandCode}
+use Rattle.tpm_commands.specs.declared.command_code.CommandCode.TheVariants as command
 use Rattle.tpm_record.specs.Record.{Record}
 use Rattle.tpm_record.specs.Saved.{kind_of}
 use Rattle.tpm_actions_base.specs.Request.{Request}
@@ -14,8 +14,8 @@ use Rattle.tpm_step.specs.Step.{Accepted, success_step}
 use Rattle.tpm_step.specs.Table.{row_of}
 use Rattle.tpm_laws.specs.Acceptance.{IsAcceptance, IsDue}
 use Rattle.tpm_laws.specs.Footprint.{Touches}
-use Rattle.tpm_types_command.specs.Part.{Part, AuthValues, Beginning}
-use Rattle.tpm_types_command.specs.CommandCode.{part_of}
+use Rattle.tpm_commands.specs.Part.{Part, AuthValues, Beginning}
+use Rattle.tpm_commands.specs.CommandCode.{part_of}
 use Rattle.tpm_step.proofs.Binding.{ok_at, ok_bind, ok_weaker}
 use Rattle.tpm_laws.proofs.Table.{row_touches}
 use Rattle.tpm_laws.proofs.Leaving.{success_leaves}

@@ -1,14 +1,14 @@
 -- The laws of a success, from the part of the state that it touches.
 use Rattle.std.proofs.Common.{◌≡◌, ◌≤◌, Ok, Result, ap, arith, false, rules, subst, sym, true, ℕ}
 use Rattle.tpm_types.specs.declared.refused.Refused.{Refused}
-use Rattle.tpm_types_command.specs.declared.command_code.CommandCode.{CommandCode}
+use Rattle.tpm_commands.specs.declared.command_code.CommandCode.{CommandCode}
 use Rattle.tpm_containers.specs.Slots.{AreAll}
 use Rattle.tpm_record.specs.Record.{Record}
 use Rattle.tpm_actions_base.specs.Request.{Request}
 use Rattle.tpm_actions_base.specs.Rows.{Success}
 use Rattle.tpm_laws.specs.Draws.{DrawsAsSaid, read_or_none}
 use Rattle.tpm_laws.specs.Footprint.{Touches}
-use Rattle.tpm_types_command.specs.CommandCode.{part_of}
+use Rattle.tpm_commands.specs.CommandCode.{part_of}
 use Rattle.tpm_laws.specs.IndexChanges.{ChangesIndices}
 use Rattle.tpm_laws.specs.RowLaws.{SuccessLaws}
 use Rattle.tpm_laws.specs.Shapes.{AnswersItsShape, Grows, GrowsAsShaped}

@@ -1,9 +1,9 @@
 -- Every command has the laws of its row, and so each law holds of all commands.
 use Rattle.std.proofs.Common.{◌≡◌, ◌≤◌, IfOk, false, length, true}
 use Rattle.tpm_types.specs.declared.check.Check.TheVariants as check
-use Rattle.tpm_types_command.specs.CommandCode.{part_of, shape_of}
-use Rattle.tpm_types_command.specs.declared.command_code.CommandCode.{CommandCode}
-use Rattle.tpm_types_command.specs.declared.command_code.CommandCode.TheVariants as command
+use Rattle.tpm_commands.specs.CommandCode.{part_of, shape_of}
+use Rattle.tpm_commands.specs.declared.command_code.CommandCode.{CommandCode}
+use Rattle.tpm_commands.specs.declared.command_code.CommandCode.TheVariants as command
 use Rattle.tpm_record.specs.Record.{Record}
 use Rattle.tpm_actions_base.specs.Request.{Request}
 use Rattle.tpm_actions_base.specs.Rows.{Success}

@@ -1,9 +1,9 @@
 -- A general check counts nothing against dictionary attacks.
 use Rattle.std.proofs.Common.{Err, IfErr, List, Ok, Result, refl, rules, ℕ}
 use Rattle.tpm_types.specs.declared.refused.Refused.{Refused}
-use Rattle.tpm_types_command.specs.CommandCode.{code_number}
+use Rattle.tpm_commands.specs.CommandCode.{code_number}
 use Rattle.tpm_types_command.specs.Header.{header_at}
-use Rattle.tpm_types_command.specs.declared.command_code.CommandCode.{CommandCode}
+use Rattle.tpm_commands.specs.declared.command_code.CommandCode.{CommandCode}
 use Rattle.tpm_types_command.specs.declared.header.Header.{Header}
 use Rattle.tpm_types_command.specs.declared.header.HeaderFault.{HeaderFault}
 use Rattle.tpm_types_command.specs.declared.tag.Tag.{Tag}

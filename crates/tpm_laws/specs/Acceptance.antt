@@ -1,8 +1,8 @@
 -- What an accepted command is, and what happens to sessions after its row.
 use Rattle.std.specs.Prelude.{◌≡◌, ℕ, true, false, List, [], Ok}
-use Rattle.tpm_types_command.specs.CommandCode.{shape_of}
-use Rattle.tpm_types_command.specs.declared.command_code.CommandCode.{CommandCode}
-use Rattle.tpm_types_command.specs.declared.command_code.CommandCode.TheVariants as command
+use Rattle.tpm_commands.specs.CommandCode.{shape_of}
+use Rattle.tpm_commands.specs.declared.command_code.CommandCode.{CommandCode}
+use Rattle.tpm_commands.specs.declared.command_code.CommandCode.TheVariants as command
 use Rattle.tpm_record.specs.Record.{Record}
 use Rattle.tpm_auth.specs.Grant.{authorize}
 use Rattle.tpm_step.specs.Step.{Accepted, request_in}

@@ -8,8 +8,8 @@ use Rattle.tpm_object.specs.Creation.{drawn_by}
 use Rattle.tpm_types.specs.Rc.{plain}
 use Rattle.tpm_types.specs.declared.rc.ResponseCode.TheVariants as code
 use Rattle.tpm_types.specs.declared.refused.Refused.{Refused}
-use Rattle.tpm_types_command.specs.declared.command_code.CommandCode.{CommandCode}
-use Rattle.tpm_types_command.specs.declared.command_code.CommandCode.TheVariants as command
+use Rattle.tpm_commands.specs.declared.command_code.CommandCode.{CommandCode}
+use Rattle.tpm_commands.specs.declared.command_code.CommandCode.TheVariants as command
 use Rattle.tpm_actions_base.specs.Draws.{draw_limit}
 use Rattle.tpm_actions_base.specs.Request.{Request}
 use Rattle.tpm_actions_base.specs.Rows.{Success, only}

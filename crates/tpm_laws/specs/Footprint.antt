@@ -10,9 +10,9 @@ use Rattle.tpm_record.specs.declared.fixed.Fixed.{Fixed}
 use Rattle.tpm_record.specs.declared.hierarchy.Hierarchies.{Hierarchies}
 use Rattle.tpm_record.specs.Hierarchy.{secrets_of}
 use Rattle.tpm_record.specs.Record.{Record}
-use Rattle.tpm_types_command.specs.Part.{Part, Nothing, Sessions, Objects, SessionsAndObjects, Persistent, NvData}
-use Rattle.tpm_types_command.specs.Part.{NvCounter, NvAuthValue, NvDefined, NvUndefined, AuthValues, Lockout, Banks}
-use Rattle.tpm_types_command.specs.Part.{Beginning, Saved, DisableClear, Cleared}
+use Rattle.tpm_commands.specs.Part.{Part, Nothing, Sessions, Objects, SessionsAndObjects, Persistent, NvData}
+use Rattle.tpm_commands.specs.Part.{NvCounter, NvAuthValue, NvDefined, NvUndefined, AuthValues, Lockout, Banks}
+use Rattle.tpm_commands.specs.Part.{Beginning, Saved, DisableClear, Cleared}
 
 -- Every hierarchy has the seed and the proof that it had.
 abbrev pub KeepsSecrets : Hierarchies → Hierarchies → Type 0

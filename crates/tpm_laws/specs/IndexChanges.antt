@@ -16,8 +16,8 @@ use Rattle.tpm_nv.specs.Index.{without_index}
 use Rattle.tpm_actions_base.specs.Request.{Request, second_handle}
 use Rattle.tpm_nvactions.specs.NvDefineSpace.{Parameters, parameters_in}
 use Rattle.tpm_laws.specs.Footprint.{StartsNv}
-use Rattle.tpm_types_command.specs.Part.{Part, NvData, NvCounter, NvAuthValue, NvDefined, NvUndefined, Beginning}
-use Rattle.tpm_types_command.specs.Part.{Cleared}
+use Rattle.tpm_commands.specs.Part.{Part, NvData, NvCounter, NvAuthValue, NvDefined, NvUndefined, Beginning}
+use Rattle.tpm_commands.specs.Part.{Cleared}
 
 abbrev pub IsCounter : NvIndex → Type 0
 IsCounter index = index_type index.public.attributes ≡ Some type.Counter

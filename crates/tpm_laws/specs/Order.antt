@@ -5,8 +5,8 @@ use Rattle.tpm_types.specs.declared.check.Check.TheVariants as check
 use Rattle.tpm_types.specs.declared.handle.Handle.{Handle}
 use Rattle.tpm_types.specs.declared.refused.Counted.TheVariants as counted
 use Rattle.tpm_types.specs.declared.refused.Refused.{Refused}
-use Rattle.tpm_types_command.specs.declared.shape.HandleRule.{HandleRule}
-use Rattle.tpm_types_command.specs.declared.shape.ParameterKind.{ParameterKind}
+use Rattle.tpm_commands.specs.declared.shape.HandleRule.{HandleRule}
+use Rattle.tpm_commands.specs.declared.shape.ParameterKind.{ParameterKind}
 use Rattle.tpm_record.specs.Record.{Record}
 use Rattle.tpm_laws.specs.Handles.{HandlesFit}
 use Rattle.tpm_laws.specs.Shapes.{spelled}

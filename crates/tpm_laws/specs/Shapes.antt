@@ -3,15 +3,15 @@ use Rattle.std.specs.Prelude.{◌≡◌, ◌≤◌, ◌⊎◌, ℕ, ◌+◌, Boo
 use Rattle.std.specs.Int.{w8, w16, w32, w64}
 use Rattle.tpm_bytes.specs.Reading.{◌>>=◌, number_at, or_fault}
 use Rattle.tpm_containers.specs.Slots.{taken_count}
-use Rattle.tpm_types_command.specs.declared.command_code.CommandCode.{CommandCode}
-use Rattle.tpm_types_command.specs.declared.command_code.CommandCode.TheVariants as command
+use Rattle.tpm_commands.specs.declared.command_code.CommandCode.{CommandCode}
+use Rattle.tpm_commands.specs.declared.command_code.CommandCode.TheVariants as command
 use Rattle.tpm_types.specs.declared.rc.Rc.{Rc}
 use Rattle.tpm_types.specs.declared.rc.ResponseCode.TheVariants as code
-use Rattle.tpm_types_command.specs.declared.shape.ParameterKind.{ParameterKind}
-use Rattle.tpm_types_command.specs.declared.shape.ParameterKind.TheVariants as kind
+use Rattle.tpm_commands.specs.declared.shape.ParameterKind.{ParameterKind}
+use Rattle.tpm_commands.specs.declared.shape.ParameterKind.TheVariants as kind
 use Rattle.tpm_types.specs.Algorithm.{hash_at, hash_or_null_at}
 use Rattle.tpm_types.specs.Buffer.{buffer_at}
-use Rattle.tpm_types_command.specs.CommandCode.{shape_of}
+use Rattle.tpm_commands.specs.CommandCode.{shape_of}
 use Rattle.tpm_types.specs.DigestList.{digest_list_at}
 use Rattle.tpm_types.specs.DigestValues.{digest_values_at}
 use Rattle.tpm_types.specs.Filled.{filled_by}

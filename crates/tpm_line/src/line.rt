@@ -9,8 +9,9 @@ use crate::fault::SpellFault;
 use crate::parameter::put_parameters;
 use std::alloc::Global;
 use tpm_bytes::Cursor;
+use tpm_commands::CommandCode;
 use tpm_text::{Draft, assemble_in};
-use tpm_types_command::{CommandCode, Tag};
+use tpm_types_command::Tag;
 
 /// A line that spells this buffer. NoLine says that none was found, and the contract does not say
 /// when.

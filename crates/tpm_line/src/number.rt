@@ -2,7 +2,7 @@
 
 use std::alloc::AllocError;
 use std::fmt::Write;
-use tpm_types_command::CommandCode;
+use tpm_commands::CommandCode;
 
 /// The form in which a number is written.
 #[derive(Clone, Copy, Debug, PartialEq, Eq)]

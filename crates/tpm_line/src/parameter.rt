@@ -5,7 +5,7 @@ use crate::list::{Element, put_list};
 use crate::number::{Form, put_number};
 use crate::word::{put_buffer, put_hash, put_symmetric};
 use tpm_bytes::Cursor;
-use tpm_types_command::{CommandCode, ParameterKind};
+use tpm_commands::{CommandCode, ParameterKind};
 
 /// Adds the parameters of a command to the line.
 pub fn put_parameters(

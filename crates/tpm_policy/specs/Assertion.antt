@@ -3,9 +3,9 @@
 -- trial session TPM2_PolicyPCR compares nothing with the PCRs, TPM2_PolicyOR nothing with the
 -- digest so far, TPM2_PolicySecret nothing with nonceTPM and a recorded cpHash, and TPM2_PolicyNV
 -- nothing with the index. The order of the checks is this device's own.
-use Rattle.tpm_types_command.specs.declared.command_code.CommandCode.{CommandCode as ServedCommand}
-use Rattle.tpm_types_command.specs.CommandCode.{code_number, is_served}
-use Rattle.tpm_types_command.specs.declared.command_code.CommandCode.TheVariants as served
+use Rattle.tpm_commands.specs.declared.command_code.CommandCode.{CommandCode as ServedCommand}
+use Rattle.tpm_commands.specs.CommandCode.{code_number, is_served}
+use Rattle.tpm_commands.specs.declared.command_code.CommandCode.TheVariants as served
 use Rattle.std.specs.Prelude.{◌≡◌, ℕ, ◌==◌, ◌&&◌, ◌||◌, not, nat_lt, bit_and, if◌then◌else◌}
 use Rattle.std.specs.Prelude.{Bool, true, false, List, [], ◌∷◌, ◌++◌, length, replicate}
 use Rattle.std.specs.Prelude.{Option, Some, None, Result, Ok, Err}

@@ -4,7 +4,7 @@ pub mod Assertion
 pub mod Made
 pub mod Use
 pub use Rattle.tpm_types_name.specs.Name
-pub use Rattle.tpm_types_command.specs.CommandCode
+pub use Rattle.tpm_commands.specs.CommandCode
 pub use Rattle.tpm_types.specs.DigestList
 pub use Rattle.tpm_types.specs.Locality
 pub use Rattle.tpm_types.specs.PcrSelection

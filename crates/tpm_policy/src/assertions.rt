@@ -1,7 +1,7 @@
 //! The assertions of a policy that speak of no other part of the device: PolicyOR, PolicyAuthValue,
 //! PolicyPassword, PolicyCommandCode, PolicyCpHash, PolicyNvWritten and PolicyLocality.
 
-ghost use Rattle.tpm_types_command.specs.CommandCode.{code_number};
+ghost use Rattle.tpm_commands.specs.CommandCode.{code_number};
 ghost use Rattle.std.specs.Prelude.{◌≡◌, ◌++◌, ◌≤◌, length, map};
 ghost use Rattle.std.specs.Int.{w32, to_be_bytes};
 ghost use Rattle.std.specs.List.{list_any};
@@ -14,9 +14,9 @@ ghost use Rattle.tpm_policy.specs.Assertion.{cp_hash_asserted, nv_written_assert
 use crate::state::{Demand, PolicyState};
 use arrayvec::ArrayVec;
 use tpm_bytes::{copied, is_equal};
+use tpm_commands::CommandCode;
 use tpm_mac::{Digest, HashAlg, digest_parts};
 use tpm_types::{ActionCheck, ActionFault, DigestList, ResponseCode};
-use tpm_types_command::CommandCode;
 
 /// The most that TPM2_PolicyLocality may name: localities 0 to 4, each by its bit.
 const LOCALITIES_LIMIT: u8 = 31;

@@ -1,7 +1,7 @@
 //! The assertion of TPM2_PolicyPCR, that selected PCRs have the values of a digest.
 
-ghost use Rattle.tpm_types_command.specs.CommandCode.{code_number};
-ghost use Rattle.tpm_types_command.specs.declared.command_code.CommandCode.TheVariants as served;
+ghost use Rattle.tpm_commands.specs.CommandCode.{code_number};
+ghost use Rattle.tpm_commands.specs.declared.command_code.CommandCode.TheVariants as served;
 ghost use Rattle.std.specs.Prelude.{◌≡◌, ◌++◌};
 ghost use Rattle.std.specs.Int.{w32, to_be_bytes};
 ghost use Rattle.tpm_mac.specs.Digest.{hash_of};
@@ -11,9 +11,9 @@ ghost use Rattle.tpm_policy.specs.Assertion.{Asserts, asserted, is_other, pcr_pa
 
 use crate::state::PolicyState;
 use tpm_bytes::{Sink, is_equal};
+use tpm_commands::CommandCode;
 use tpm_mac::{Digest, HashAlg, digest_parts};
 use tpm_types::{ActionCheck, ActionFault, PcrSelection, ResponseCode};
-use tpm_types_command::CommandCode;
 
 /// The parts of the assertion of TPM2_PolicyPCR.
 #[derive(Clone, Copy)]

@@ -6,9 +6,9 @@ ghost use Rattle.tpm_policy.specs.Assertion.{Asserts, asserted, is_other_hash, s
 
 use crate::state::PolicyState;
 use tpm_bytes::{copied, is_equal};
+use tpm_commands::CommandCode;
 use tpm_mac::{Digest, HashAlg, digest_parts};
 use tpm_types::{ActionCheck, ActionFault, ResponseCode};
-use tpm_types_command::CommandCode;
 use tpm_types_name::Name;
 
 /// The parts of the assertion of TPM2_PolicySecret. An empty buffer gives nothing.

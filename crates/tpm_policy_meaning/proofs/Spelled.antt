@@ -7,9 +7,9 @@ use Rattle.tpm_mac.specs.Digest.{hash_of}
 use Rattle.tpm_mac.specs.declared.algorithm.HashAlg.{HashAlg}
 use Rattle.tpm_policy.specs.Assertion as assertion
 use Rattle.tpm_policy.specs.Assertion.{Assertion, auth_value_asserted, nv_arguments, or_digest, password_asserted, yes_no_text}
-use Rattle.tpm_types_command.specs.CommandCode.{code_number}
-use Rattle.tpm_types_command.specs.declared.command_code.CommandCode.{CommandCode}
-use Rattle.tpm_types_command.specs.declared.command_code.CommandCode.TheVariants as command
+use Rattle.tpm_commands.specs.CommandCode.{code_number}
+use Rattle.tpm_commands.specs.declared.command_code.CommandCode.{CommandCode}
+use Rattle.tpm_commands.specs.declared.command_code.CommandCode.TheVariants as command
 use Rattle.tpm_policy_meaning.specs.Asserted.{IsAmong, SessionHashesTexts, digest_before, session_digest, session_texts, update_by}
 use Rattle.tpm_policy_meaning.specs.Expression.{PolicyAssertion, PolicySecret, PolicyExpression, Nothing, Then, PolicyOr}
 use Rattle.tpm_policy_meaning.specs.PolicyDigest.{PolicyUpdate, branch_digests, digest_after, or_update, policy_digest, policy_texts, texts_after, update_of, update_text, with_reference, zeros}

@@ -5,7 +5,7 @@ use Rattle.std.proofs.lemmas.Bool.{not-false}
 use Rattle.tpm_bytes.proofs.Fields.{ok_is, passed}
 use Rattle.tpm_bytes.specs.Reading.{◌>>=◌, or_fault, refused_if}
 use Rattle.tpm_types.specs.Refused.{checked, refusal}
-use Rattle.tpm_types_command.specs.declared.command_code.CommandCode.{CommandCode}
+use Rattle.tpm_commands.specs.declared.command_code.CommandCode.{CommandCode}
 use Rattle.tpm_step.specs.General.{in_command}
 use Rattle.tpm_types.specs.declared.check.Check.{Check}
 use Rattle.tpm_types.specs.declared.rc.Rc.{Rc}

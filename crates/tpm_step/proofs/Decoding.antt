@@ -13,13 +13,13 @@ use Rattle.tpm_types.specs.declared.handle.Handle.{Handle}
 use Rattle.tpm_types.specs.declared.rc.Rc.{Rc}
 use Rattle.tpm_types.specs.declared.rc.ResponseCode.TheVariants as code
 use Rattle.tpm_types_command.specs.Command.{Whole, command_at, handles_at, sessions_at}
-use Rattle.tpm_types_command.specs.CommandCode.{shape_of}
-use Rattle.tpm_types_command.specs.HandleArea.{allowed_handle_at, handle_fault}
+use Rattle.tpm_commands.specs.CommandCode.{shape_of}
+use Rattle.tpm_commands.specs.HandleArea.{allowed_handle_at, handle_fault}
 use Rattle.tpm_types_command.specs.Header.{header_at}
-use Rattle.tpm_types_command.specs.Shape.{is_of_kind}
+use Rattle.tpm_commands.specs.Shape.{is_of_kind}
 use Rattle.tpm_types_command.specs.declared.header.Header.{Header}
 use Rattle.tpm_types_command.specs.declared.header.HeaderFault.{HeaderFault}
-use Rattle.tpm_types_command.specs.declared.shape.HandleRule.{HandleRule}
+use Rattle.tpm_commands.specs.declared.shape.HandleRule.{HandleRule}
 use Rattle.tpm_record.specs.Entity.{is_present}
 use Rattle.tpm_record.specs.Record.{Record}
 use Rattle.tpm_step.specs.General.{both_or_neither, body_of, general, in_header, is_startup, present_handle_at, present_handles_at, sessions_pass}

@@ -3,8 +3,8 @@
 use Rattle.std.specs.Prelude.{◌≡◌, ℕ, Bool, true, false, List, [], Option, Result, Ok, Err, if◌then◌else◌}
 use Rattle.tpm_bytes.specs.Reading.{◌>>=◌}
 use Rattle.tpm_types_command.specs.Command.{Whole}
-use Rattle.tpm_types_command.specs.CommandCode.{code_number}
-use Rattle.tpm_types_command.specs.CommandCode.{shape_of}
+use Rattle.tpm_commands.specs.CommandCode.{code_number}
+use Rattle.tpm_commands.specs.CommandCode.{shape_of}
 use Rattle.tpm_record.specs.Cycle.{cycled}
 use Rattle.tpm_record.specs.Record.{Record, with_lockout, with_saved}
 use Rattle.tpm_record.specs.Tick.{ticked}
@@ -23,7 +23,7 @@ use Rattle.tpm_actions_base.specs.declared.answer.Answer.{Answer}
 use Rattle.tpm_actions_base.specs.Refusals.{memory_refusal}
 use Rattle.tpm_actions_base.specs.Rows.{Success}
 use Rattle.tpm_record.specs.Saved.{Nothing}
-use Rattle.tpm_types_command.specs.declared.command_code.CommandCode.{CommandCode}
+use Rattle.tpm_commands.specs.declared.command_code.CommandCode.{CommandCode}
 use Rattle.tpm_step.specs.Answer.{Answered, answer_to, refusal_text, written_of}
 use Rattle.tpm_step.specs.Events.{PlainEvent, Given, Cycled}
 use Rattle.tpm_step.specs.General.{general, in_command}

@@ -1,10 +1,10 @@
 //! A refusal together with the code of the command that is refused.
 
 ghost use Rattle.std.specs.Prelude.{◌≡◌};
-ghost use Rattle.tpm_types_command.specs.CommandCode.{code_number};
+ghost use Rattle.tpm_commands.specs.CommandCode.{code_number};
 
+use tpm_commands::CommandCode;
 use tpm_types::Refused;
-use tpm_types_command::CommandCode;
 
 /// A refusal, and the code of the command that is refused, or 0 where none was found.
 #[derive(Clone, Copy, Debug, PartialEq, Eq)]

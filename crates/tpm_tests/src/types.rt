@@ -4,12 +4,13 @@
 use super::comparison::check;
 use arrayvec::ArrayVec;
 use tpm_bytes::{Cursor, Sink};
+use tpm_commands::{CommandCode, HandleKind, ParameterKind, read_handles};
 use tpm_mac::HashAlg;
 use tpm_types::{
     BankSelection, DigestList, DigestValue, DigestValues, Handle, PcrSelect, PcrSelection,
     ResponseCode, SessionAttributes, SessionType, StartupType, read_buffer, read_yes_no,
 };
-use tpm_types_command::{AuthEntry, Command, CommandCode, HandleKind, ParameterKind, read_handles};
+use tpm_types_command::{AuthEntry, Command};
 use tpm_types_name::Name;
 
 /// The buffer of PCR_Reset of PCR 16, with a nonce of two bytes and the password "abc": the header,

@@ -5,7 +5,7 @@ use Rattle.std.specs.Option.{ForSome, option_map}
 use Rattle.std.proofs.lemmas.Grind.{common_steps}
 use Rattle.tpm_bytes.specs.Reading.{◌>>=◌}
 use Rattle.tpm_types.specs.declared.handle.Handle.{Handle}
-use Rattle.tpm_types_command.specs.declared.shape.ParameterKind.{ParameterKind}
+use Rattle.tpm_commands.specs.declared.shape.ParameterKind.{ParameterKind}
 use Rattle.tpm_types_command.specs.AuthEntry.{Entry, auth_entry_text}
 use Rattle.tpm_types_command.specs.Command.{handle_text, handles_text}
 use Rattle.tpm_text.specs.declared.draft.Draft.{Draft}

@@ -12,7 +12,7 @@ use Rattle.tpm_types.specs.Handle.{endorsement_handle, lockout_handle, null_hand
 use Rattle.tpm_types_command.specs.AuthArea.{entries_text}
 use Rattle.tpm_types_command.specs.AuthEntry.{Entry, IsEntry, auth_entry_text}
 use Rattle.tpm_types_command.specs.Command.{IsCommand, IsHandle, Whole, command_at, command_size, command_text, sessions_text}
-use Rattle.tpm_types_command.specs.CommandCode.{handle_count, shape_of}
+use Rattle.tpm_commands.specs.CommandCode.{handle_count, shape_of}
 use Rattle.tpm_types_command.proofs.CommandLaws.{command_again, command_size-is, length-body}
 use Rattle.tpm_types_command.proofs.EntryLaws.{length-auth_entry_text}
 use Rattle.tpm_text.specs.declared.fault.TokenFault.{TokenFault}

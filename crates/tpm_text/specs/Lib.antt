@@ -11,4 +11,4 @@ pub mod Draft
 pub mod TokenReading
 pub mod Trace
 pub use Rattle.tpm_types_command.specs.Command
-pub use Rattle.tpm_types_command.specs.CommandCode
+pub use Rattle.tpm_commands.specs.CommandCode

@@ -14,8 +14,8 @@ use Rattle.tpm_types.specs.Algorithm.{hash_number, hash_or_null_number}
 use Rattle.tpm_types.specs.Pcr.{with_pcr}
 use Rattle.tpm_types.specs.PcrSelection.{bank_text}
 use Rattle.tpm_types.specs.Symmetric.{symmetric_text}
-use Rattle.tpm_types_command.specs.declared.shape.ParameterKind.{ParameterKind}
-use Rattle.tpm_types_command.specs.declared.shape.ParameterKind.TheVariants as kind
+use Rattle.tpm_commands.specs.declared.shape.ParameterKind.{ParameterKind}
+use Rattle.tpm_commands.specs.declared.shape.ParameterKind.TheVariants as kind
 use Rattle.tpm_text.specs.declared.element.Element.{Element}
 use Rattle.tpm_text.specs.declared.element.Element.TheVariants as element
 use Rattle.tpm_text.specs.declared.fault.TokenFault.{TokenFault}

@@ -7,8 +7,8 @@ use Rattle.std.specs.Fmt.{decimal}
 use Rattle.hex.specs.Hex.{encode_lower}
 use Rattle.tpm_types.specs.Check.{check_number}
 use Rattle.tpm_types.specs.declared.check.Check.{Check}
-use Rattle.tpm_types_command.specs.CommandCode.{code_name, code_named, code_number}
-use Rattle.tpm_types_command.specs.declared.command_code.CommandCode.{CommandCode}
+use Rattle.tpm_commands.specs.CommandCode.{code_name, code_named, code_number}
+use Rattle.tpm_commands.specs.declared.command_code.CommandCode.{CommandCode}
 use Rattle.tpm_step.specs.Events.{PlainEvent, Given, Cycled}
 use Rattle.tpm_step.specs.Step.{Stepped}
 use Rattle.tpm_step.specs.declared.event.Row.{Row}

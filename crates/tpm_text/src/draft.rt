@@ -9,8 +9,9 @@ ghost use Rattle.tpm_types_command.specs.Header.{header_text};
 use crate::digits::{check_hex, digits_of};
 use crate::fault::{AsmFault, TokenFault};
 use tpm_bytes::Sink;
+use tpm_commands::CommandCode;
 use tpm_types::BUFFER_LIMIT;
-use tpm_types_command::{CommandCode, HEADER_SIZE, Tag};
+use tpm_types_command::{HEADER_SIZE, Tag};
 
 /// A command's text that is being written, which remembers whether it has become too long.
 #[derive(Drop)]

@@ -10,7 +10,7 @@
 //! told with its column ([`fault`]). A trace ([`trace`]) tells of an event in one line which
 //! command came from which locality, which row of the table it took, and what was answered.
 //!
-//! The crate uses `tpm_types_command` for the shapes of commands, and `tpm_step` for events. Each
+//! The crate uses `tpm_commands` for the shapes of commands, and `tpm_step` for events. Each
 //! call equals its definition in `specs/`: a line gives the buffer of the command that it spells,
 //! which is read back as that command, or the line's first fault.
 

@@ -18,7 +18,8 @@ use crate::fault::AsmFault;
 use crate::parameter::put_parameter;
 use crate::token::Tokens;
 use std::alloc::Global;
-use tpm_types_command::{CommandCode, ParameterKind, Tag};
+use tpm_commands::{CommandCode, ParameterKind};
+use tpm_types_command::Tag;
 
 /// Writes a number of handles, one from each token.
 fn put_handles(count: usize, tokens: &mut Tokens, draft: &mut Draft) -> Result<(), AsmFault>

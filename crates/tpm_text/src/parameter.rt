@@ -13,7 +13,7 @@ use crate::fault::TokenFault;
 use crate::list::{put_list, put_list_or_none};
 use crate::number::{is_word, number_in};
 use crate::word::{hash_in, put_hash, put_symmetric};
-use tpm_types_command::ParameterKind;
+use tpm_commands::ParameterKind;
 
 /// Writes a parameter of this kind, given as a token.
 #[tactic(auto, unfolding(crate::specs::Parameter::parameter_text))]

@@ -19,8 +19,8 @@ use itoa::Buffer;
 use std::alloc::Global;
 use std::str;
 use tpm_bytes::NoMemory;
+use tpm_commands::CommandCode;
 use tpm_step::{Event, Outcome, Row};
-use tpm_types_command::CommandCode;
 
 /// A line that traces an event.
 pub type Trace = ArrayString<64>;

@@ -14,7 +14,7 @@ use Rattle.tpm_types_command.specs.AuthArea.{area_text, entries_text}
 use Rattle.tpm_types_command.specs.AuthEntry.{Entry, IsEntry}
 use Rattle.tpm_types_command.specs.Command.{IsCommand, Whole, command_body_text, command_at, command_size, command_text, handle_text, handles_at, handles_text, header_or_rc, sessions_at, sessions_text, tag_for, whole_of}
 use Rattle.tpm_types_command.specs.Header.{header_at, header_text}
-use Rattle.tpm_types_command.specs.CommandCode.{handle_count}
+use Rattle.tpm_commands.specs.CommandCode.{handle_count}
 use Rattle.tpm_types_command.proofs.EntryLaws.{area_again, area_takes}
 use Rattle.tpm_types_command.proofs.HandleLemmas.{handles_again, handles_take, handles_text-is, length-handles}
 use Rattle.tpm_types_command.proofs.HeaderLaws.{header_again, header_takes}

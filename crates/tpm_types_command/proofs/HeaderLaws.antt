@@ -11,12 +11,12 @@ use Rattle.tpm_bytes.proofs.Fields.{AreBytes, IsWide, Takes, Takes-then, bind_ok
 use Rattle.tpm_types_command.specs.declared.header.Header.{Header}
 use Rattle.tpm_types_command.specs.declared.header.HeaderFault.{HeaderFault}
 use Rattle.tpm_types_command.specs.declared.header.HeaderFault.TheVariants as fault
-use Rattle.tpm_types_command.specs.declared.command_code.CommandCode.{CommandCode}
+use Rattle.tpm_commands.specs.declared.command_code.CommandCode.{CommandCode}
 use Rattle.tpm_types_command.specs.declared.tag.Tag.{Tag}
-use Rattle.tpm_types_command.specs.CommandCode.{code_named, code_number}
+use Rattle.tpm_commands.specs.CommandCode.{code_named, code_number}
 use Rattle.tpm_types_command.specs.Header.{code_field, header_at, header_text, size_field, tag_field}
 use Rattle.tpm_types_command.specs.Tag.{tag_named, tag_number}
-use Rattle.tpm_types_command.proofs.Codes.{code_named-again, code_named-is, code_number-small}
+use Rattle.tpm_commands.proofs.Codes.{code_named-again, code_named-is, code_number-small}
 use Rattle.tpm_types_command.proofs.Tags.{tag_named-again, tag_named-is, tag_number-small}
 use Rattle.tpm_types.proofs.SelectionLaws.{is_equal}
 

@@ -1,4 +1,3 @@
-pub mod Codes
 pub mod Tags
 pub mod HeaderLaws
 pub mod EntryLaws

@@ -8,7 +8,7 @@ use Rattle.std.specs.List.{flat_map, AllByRecursion}
 use Rattle.std.specs.Int.{w32, to_be_bytes}
 use Rattle.tpm_bytes.specs.Reading.{◌>>=◌, number_at, or_fault}
 use Rattle.tpm_types_command.specs.declared.header.HeaderFault.{HeaderFault}
-use Rattle.tpm_types_command.specs.declared.command_code.CommandCode.{CommandCode}
+use Rattle.tpm_commands.specs.declared.command_code.CommandCode.{CommandCode}
 use Rattle.tpm_types.specs.declared.handle.Handle.{Handle}
 use Rattle.tpm_types.specs.declared.rc.Rc.{Rc}
 use Rattle.tpm_types.specs.declared.rc.ResponseCode.TheVariants as code
@@ -20,7 +20,7 @@ use Rattle.tpm_types_command.specs.AuthArea.{area_at, area_text}
 use Rattle.tpm_types_command.specs.AuthEntry.{Entry, HasSizes, IsEntry, entry_of}
 use Rattle.tpm_types_command.specs.Header.{header_at, header_fault_rc, header_text}
 use Rattle.tpm_types.specs.Rc.{at, plain}
-use Rattle.tpm_types_command.specs.CommandCode.{handle_count}
+use Rattle.tpm_commands.specs.CommandCode.{handle_count}
 
 -- a command, wherever its bytes lie in memory
 pub record Whole : Type 0 where

@@ -7,13 +7,13 @@ use Rattle.tpm_bytes.specs.Reading.{◌>>=◌, refused_if}
 use Rattle.tpm_types_command.specs.declared.header.Header.{Header}
 use Rattle.tpm_types_command.specs.declared.header.HeaderFault.{HeaderFault}
 use Rattle.tpm_types_command.specs.declared.header.HeaderFault.TheVariants as fault
-use Rattle.tpm_types_command.specs.declared.command_code.CommandCode.{CommandCode}
+use Rattle.tpm_commands.specs.declared.command_code.CommandCode.{CommandCode}
 use Rattle.tpm_types.specs.declared.rc.Rc.{Rc}
 use Rattle.tpm_types.specs.declared.rc.ResponseCode.TheVariants as code
 use Rattle.tpm_types_command.specs.declared.tag.Tag.{Tag}
 use Rattle.tpm_types.specs.Rc.{plain}
 use Rattle.tpm_types_command.specs.Tag.{tag_named, tag_number}
-use Rattle.tpm_types_command.specs.CommandCode.{code_named, code_number}
+use Rattle.tpm_commands.specs.CommandCode.{code_named, code_number}
 
 abbrev pub header_fault_rc : HeaderFault → Rc
 header_fault_rc fault.Length = plain code.CommandSize

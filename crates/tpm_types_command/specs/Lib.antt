@@ -1,9 +1,4 @@
 pub mod Tag
-pub mod Shape
-pub mod Part
-pub mod CommandFacts
-pub mod CommandCode
-pub mod HandleArea
 pub mod AuthEntry
 pub mod AuthArea
 pub mod Header
@@ -12,3 +7,4 @@ pub use Rattle.tpm_bytes.specs.Reading
 pub use Rattle.tpm_bytes.specs.Writing
 pub use Rattle.tpm_types.specs.Handle
 pub use Rattle.tpm_types.specs.SessionAttributes
+pub use Rattle.tpm_commands.specs.CommandCode

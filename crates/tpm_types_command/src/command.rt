@@ -2,11 +2,11 @@
 //! 1, section 18). Its reader and its writer are submodules.
 
 ghost use Rattle.std.specs.Prelude.{◌≡◌, length};
-ghost use Rattle.tpm_types_command.specs.CommandCode.{handle_count};
+ghost use Rattle.tpm_commands.specs.CommandCode.{handle_count};
 
 use crate::auth_entry::AuthEntry;
-use crate::command_code::CommandCode;
 use arrayvec::ArrayVec;
+use tpm_commands::CommandCode;
 use tpm_types::Handle;
 
 pub mod reading;

@@ -5,10 +5,10 @@ ghost use Rattle.std.specs.Prelude.{◌≡◌};
 ghost use Rattle.tpm_bytes.specs.Reading.{Reads};
 
 use crate::auth_entry::AuthEntry;
-use crate::command_code::CommandCode;
 use crate::tag::Tag;
 use arrayvec::ArrayVec;
 use tpm_bytes::Cursor;
+use tpm_commands::CommandCode;
 use tpm_types::{BUFFER_LIMIT, Handle, Rc, ResponseCode};
 
 /// How many bytes a command's header has.

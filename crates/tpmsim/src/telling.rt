@@ -1,8 +1,8 @@
 //! What the program tells of commands in words and of response codes.
 
 use crate::fault::Fault;
+use tpm_commands::CommandCode;
 use tpm_help::{example_of, form_of, hex_number, meaning_of};
-use tpm_types_command::CommandCode;
 
 /// Prints how a command is said in words, and an example of it; of each command where no name is
 /// given. A name of no command is bad usage.

@@ -12,10 +12,10 @@ ghost use Rattle.tpm_types_command.specs.Header.{header_text};
 
 use crate::auth_entry::AuthEntry;
 use crate::command::Command;
-use crate::command_code::CommandCode;
 use crate::header::HEADER_SIZE;
 use crate::tag::Tag;
 use tpm_bytes::{Full, Sink};
+use tpm_commands::CommandCode;
 use tpm_types::Handle;
 
 impl Command<'_> {

@@ -1,7 +1,7 @@
 use Rattle.std.proofs.Common.{length, refl, ap, sym, ◌∙◌, slice_get}
 use Rattle.std.proofs.lemmas.Option.{slice_get_read, slice_get_past}
 use Rattle.tpm_types_command.specs.Command.{whole_of}
-use Rattle.tpm_types_command.specs.CommandCode.{authorized_handles}
+use Rattle.tpm_commands.specs.CommandCode.{authorized_handles}
 use Rattle.tpm_auth.proofs.Resolving.{name_read, nothing_in, used_in}
 use Rattle.tpm_auth.proofs.used.used_at.Goals as goal
 

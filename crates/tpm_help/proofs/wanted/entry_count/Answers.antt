@@ -6,7 +6,7 @@ use Rattle.std.proofs.lemmas.Iterator.Search.{YieldsList-from_take_while}
 use Rattle.std.proofs.lemmas.Iterator.Splits.{YieldsList-from_slice_split}
 use Rattle.tpm_text.specs.Entry.{begins_entry}
 use Rattle.tpm_text.specs.Pieces.{space}
-use Rattle.tpm_types_command.specs.CommandCode.{handle_count}
+use Rattle.tpm_commands.specs.CommandCode.{handle_count}
 use Rattle.tpm_help.proofs.wanted.entry_count.Goals as goal
 
 pub returns : goal.returns

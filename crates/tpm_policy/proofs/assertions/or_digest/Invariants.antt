@@ -1,5 +1,5 @@
-use Rattle.tpm_types_command.specs.CommandCode.{code_number}
-use Rattle.tpm_types_command.specs.declared.command_code.CommandCode.TheVariants as served
+use Rattle.tpm_commands.specs.CommandCode.{code_number}
+use Rattle.tpm_commands.specs.declared.command_code.CommandCode.TheVariants as served
 use Rattle.std.proofs.Common.{◌≡◌, ◌+◌, ◌++◌, length, replicate, take}
 use Rattle.std.specs.Int.{w32, to_be_bytes}
 use Rattle.std.specs.List.{flat_map}

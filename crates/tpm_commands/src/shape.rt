@@ -2,7 +2,7 @@
 //! holds every fact of a command but its number and what it does.
 
 ghost use Rattle.std.specs.Prelude.{◌≡◌};
-ghost use Rattle.tpm_types_command.specs.Shape.{is_entity, is_provision};
+ghost use Rattle.tpm_commands.specs.Shape.{is_entity, is_provision};
 
 use tpm_types::{Handle, Role};
 
@@ -57,7 +57,7 @@ fn is_provision(handle: Handle) -> bool
 }
 
 impl HandleKind {
-    ghost use Rattle.tpm_types_command.specs.Shape.{is_of_kind};
+    ghost use Rattle.tpm_commands.specs.Shape.{is_of_kind};
 
     /// Whether the handle is of this kind.
     pub fn allows(self, handle: Handle) -> bool
@@ -134,7 +134,7 @@ pub enum ParameterKind {
 }
 
 impl ParameterKind {
-    ghost use Rattle.tpm_types_command.specs.Shape.{is_sized};
+    ghost use Rattle.tpm_commands.specs.Shape.{is_sized};
 
     /// Whether a parameter of this kind is a sized buffer, a TPM2B.
     pub fn is_sized(self) -> bool

@@ -3,8 +3,8 @@
 
 ghost use Rattle.std.specs.Prelude.{◌≡◌, IfOk, length};
 ghost use Rattle.tpm_bytes.specs.Reading.{Reads};
-ghost use Rattle.tpm_types_command.specs.HandleArea.{allowed_handle_at, allowed_handles_at};
-ghost use Rattle.tpm_types_command.specs.CommandCode.{handle_count};
+ghost use Rattle.tpm_commands.specs.HandleArea.{allowed_handle_at, allowed_handles_at};
+ghost use Rattle.tpm_commands.specs.CommandCode.{handle_count};
 
 use crate::command_code::CommandCode;
 use crate::shape::HandleRule;

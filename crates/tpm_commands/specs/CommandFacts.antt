@@ -4,16 +4,16 @@
 use Rattle.tpm_types.specs.Limits.{data_limit}
 use Rattle.std.specs.Prelude.{ℕ, true, List, [], ◌∷◌, codes}
 use Prim.Native.String.{String}
-use Rattle.tpm_types_command.specs.declared.command_code.CommandCode.{CommandCode}
-use Rattle.tpm_types_command.specs.declared.command_code.CommandCode.TheVariants as code
-use Rattle.tpm_types_command.specs.declared.shape.HandleKind.TheVariants as kind
-use Rattle.tpm_types_command.specs.declared.shape.HandleRule.{HandleRule}
-use Rattle.tpm_types_command.specs.declared.shape.ParameterKind.{ParameterKind}
-use Rattle.tpm_types_command.specs.declared.shape.ParameterKind.TheVariants as parameter
-use Rattle.tpm_types_command.specs.Part.{Part, Nothing, Sessions, Objects, SessionsAndObjects, Persistent, NvData}
-use Rattle.tpm_types_command.specs.Part.{NvCounter, NvAuthValue, NvDefined, NvUndefined, AuthValues, Lockout, Banks}
-use Rattle.tpm_types_command.specs.Part.{Beginning, Saved, DisableClear, Cleared}
-use Rattle.tpm_types_command.specs.Shape.{Facts, admin, shape_with, unauthorized, user}
+use Rattle.tpm_commands.specs.declared.command_code.CommandCode.{CommandCode}
+use Rattle.tpm_commands.specs.declared.command_code.CommandCode.TheVariants as code
+use Rattle.tpm_commands.specs.declared.shape.HandleKind.TheVariants as kind
+use Rattle.tpm_commands.specs.declared.shape.HandleRule.{HandleRule}
+use Rattle.tpm_commands.specs.declared.shape.ParameterKind.{ParameterKind}
+use Rattle.tpm_commands.specs.declared.shape.ParameterKind.TheVariants as parameter
+use Rattle.tpm_commands.specs.Part.{Part, Nothing, Sessions, Objects, SessionsAndObjects, Persistent, NvData}
+use Rattle.tpm_commands.specs.Part.{NvCounter, NvAuthValue, NvDefined, NvUndefined, AuthValues, Lockout, Banks}
+use Rattle.tpm_commands.specs.Part.{Beginning, Saved, DisableClear, Cleared}
+use Rattle.tpm_commands.specs.Shape.{Facts, admin, shape_with, unauthorized, user}
 
 pub record CommandFacts : Type 0 where
   pub number : ℕ

@@ -3,13 +3,13 @@
 -- may have sessions.
 use Rattle.std.specs.Prelude.{◌==◌, ◌||◌, ◌&&◌, not, is_some, Bool, true, false, List, Some, None}
 use Rattle.tpm_types.specs.declared.handle.Handle.{Handle}
-use Rattle.tpm_types_command.specs.declared.shape.HandleKind.{HandleKind}
-use Rattle.tpm_types_command.specs.declared.shape.HandleKind.TheVariants as kind
-use Rattle.tpm_types_command.specs.declared.shape.HandleRule.{HandleRule}
-use Rattle.tpm_types_command.specs.declared.shape.ParameterKind.{ParameterKind}
-use Rattle.tpm_types_command.specs.declared.shape.ParameterKind.TheVariants as parameter
+use Rattle.tpm_commands.specs.declared.shape.HandleKind.{HandleKind}
+use Rattle.tpm_commands.specs.declared.shape.HandleKind.TheVariants as kind
+use Rattle.tpm_commands.specs.declared.shape.HandleRule.{HandleRule}
+use Rattle.tpm_commands.specs.declared.shape.ParameterKind.{ParameterKind}
+use Rattle.tpm_commands.specs.declared.shape.ParameterKind.TheVariants as parameter
 use Rattle.tpm_types.specs.declared.role.Role.TheVariants as role
-use Rattle.tpm_types_command.specs.declared.shape.Shape.{Shape}
+use Rattle.tpm_commands.specs.declared.shape.Shape.{Shape}
 use Rattle.tpm_types.specs.Handle.{hierarchy_auth_of, hierarchy_of, is_nv_index, is_persistent, is_policy_session, is_transient, lockout_handle, null_handle, owner_handle, pcr_of, platform_handle}
 
 -- whether a handle's type is that of something with an authorization value, whether it names

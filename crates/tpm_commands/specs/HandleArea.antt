@@ -4,17 +4,17 @@ use Rattle.std.specs.Prelude.{ℕ, not, List, Result, Ok}
 use Rattle.std.specs.Int.{w32}
 use Rattle.tpm_bytes.specs.Many.{each_at}
 use Rattle.tpm_bytes.specs.Reading.{◌>>=◌, number_at, or_fault, refused_if}
-use Rattle.tpm_types_command.specs.declared.command_code.CommandCode.{CommandCode}
+use Rattle.tpm_commands.specs.declared.command_code.CommandCode.{CommandCode}
 use Rattle.tpm_types.specs.declared.handle.Handle.{Handle}
 use Rattle.tpm_types.specs.declared.rc.Place.TheVariants as place
 use Rattle.tpm_types.specs.declared.rc.Rc.{Rc}
 use Rattle.tpm_types.specs.declared.rc.ResponseCode.{ResponseCode}
 use Rattle.tpm_types.specs.declared.rc.ResponseCode.TheVariants as code
-use Rattle.tpm_types_command.specs.declared.shape.HandleRule.{HandleRule}
+use Rattle.tpm_commands.specs.declared.shape.HandleRule.{HandleRule}
 use Rattle.tpm_types.specs.Handle.{numbered}
 use Rattle.tpm_types.specs.Rc.{at, plain}
-use Rattle.tpm_types_command.specs.CommandCode.{shape_of}
-use Rattle.tpm_types_command.specs.Shape.{is_of_kind}
+use Rattle.tpm_commands.specs.CommandCode.{shape_of}
+use Rattle.tpm_commands.specs.Shape.{is_of_kind}
 
 -- the fault of the command's n-th handle
 abbrev pub handle_fault : ℕ → ResponseCode → Rc

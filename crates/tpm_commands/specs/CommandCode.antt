@@ -4,16 +4,16 @@ use Rattle.std.specs.Prelude.{ℕ, ◌==◌, nat_eq, is_some, count_by, Bool, tr
 use Rattle.std.specs.Cmp.Lexicographic.{pointwise}
 use Rattle.std.specs.List.{find}
 use Rattle.std.specs.Option.{option_map_or, unwrap_or}
-use Rattle.tpm_types_command.specs.declared.command_code.CommandCode.{CommandCode}
-use Rattle.tpm_types_command.specs.declared.shape.HandleRule.{HandleRule}
-use Rattle.tpm_types_command.specs.declared.shape.ParameterKind.{ParameterKind}
+use Rattle.tpm_commands.specs.declared.command_code.CommandCode.{CommandCode}
+use Rattle.tpm_commands.specs.declared.shape.HandleRule.{HandleRule}
+use Rattle.tpm_commands.specs.declared.shape.ParameterKind.{ParameterKind}
 use Rattle.tpm_types.specs.declared.nv_use.NvUse.{NvUse}
 use Rattle.tpm_types.specs.declared.nv_use.NvUse.TheVariants as does
 use Rattle.tpm_types.specs.declared.role.Role.{Role}
 use Rattle.tpm_types.specs.declared.role.Role.TheVariants as role
-use Rattle.tpm_types_command.specs.CommandFacts.{all_codes, command_facts}
-use Rattle.tpm_types_command.specs.Part.{Part}
-use Rattle.tpm_types_command.specs.Shape.{Facts, is_sized}
+use Rattle.tpm_commands.specs.CommandFacts.{all_codes, command_facts}
+use Rattle.tpm_commands.specs.Part.{Part}
+use Rattle.tpm_commands.specs.Shape.{Facts, is_sized}
 
 -- the number of a command on the wire
 abbrev pub code_number : CommandCode → ℕ

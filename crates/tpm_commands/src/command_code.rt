@@ -267,8 +267,8 @@ macro_rules! facts {
 }
 
 impl CommandCode {
-    ghost use Rattle.tpm_types_command.specs.CommandCode.{authorized_handles, code_called, code_name, code_named, code_number, handle_count, has_sized_parameter, is_served, nv_use_at, role_at, shape_of};
-    ghost use Rattle.tpm_types_command.specs.Shape.{facts_of};
+    ghost use Rattle.tpm_commands.specs.CommandCode.{authorized_handles, code_called, code_name, code_named, code_number, handle_count, has_sized_parameter, is_served, nv_use_at, role_at, shape_of};
+    ghost use Rattle.tpm_commands.specs.Shape.{facts_of};
 
     /// All commands that are served, ascending by number.
     pub const ALL: &'static [CommandCode] = &facts!(all);
