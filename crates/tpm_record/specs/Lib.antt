@@ -17,7 +17,7 @@ pub use Rattle.tpm_pcr.specs.Values
 pub use Rattle.tpm_pcr.specs.Banks
 pub use Rattle.tpm_pcr.specs.Saved as SavedPcrs
 pub use Rattle.tpm_session.specs.Sessions
-pub use Rattle.tpm_types_name.specs.Name
+pub use Rattle.tpm_session.specs.Name
 pub use Rattle.tpm_object.specs.Object
 pub use Rattle.tpm_containers.specs.Numbered
 pub use Rattle.tpm_containers.specs.SortedMap

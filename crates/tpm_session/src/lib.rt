@@ -29,3 +29,4 @@ pub use parameter_hash::{HashedParameters, command_hash, response_hash};
 pub use parameter_hashes::ParameterHashes;
 pub use session::{Binding, Protection, Session};
 pub use sessions::{Sessions, Start, StartFault, handle_of};
+pub use tpm_policy::EntityPolicy;
