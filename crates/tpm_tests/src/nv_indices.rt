@@ -98,39 +98,40 @@ fn has_public<N: Indices>(indices: &N, handle: Handle, text: &[u8]) -> bool {
     }
 }
 
-fn ordinary<N: Indices>(rt: &impl Abort, mut indices: N) {
+/// Definitions that are refused, and one that is not.
+fn definitions<N: Indices>(rt: &impl Abort, indices: &mut N) {
     check(
         rt,
-        defined_unchecked(&mut indices, WRITTEN),
+        defined_unchecked(indices, WRITTEN),
         Some(Err(DefineFault::Written)),
     );
     check(
         rt,
-        defined_unchecked(&mut indices, SHORT_COUNTER),
+        defined_unchecked(indices, SHORT_COUNTER),
         Some(Err(DefineFault::DataSize)),
     );
     check(rt, indices.next(Handle::default()), None);
+    check(rt, defined(indices, ORDINARY), Outcome::Answered(Ok(())));
     check(
         rt,
-        defined(&mut indices, ORDINARY),
-        Outcome::Answered(Ok(())),
-    );
-    check(
-        rt,
-        defined(&mut indices, ORDINARY),
+        defined(indices, ORDINARY),
         Outcome::Answered(Err(DefineFault::Defined)),
     );
-    check(rt, has_public(&indices, FIRST, ORDINARY), true);
-    check(rt, has_public(&indices, SECOND, ORDINARY), false);
+    check(rt, has_public(indices, FIRST, ORDINARY), true);
+    check(rt, has_public(indices, SECOND, ORDINARY), false);
+}
+
+/// What is written to an ordinary index, and what is refused.
+fn writes<N: Indices>(rt: &impl Abort, indices: &mut N) {
     check(
         rt,
-        read_fault(&indices, FIRST),
+        read_fault(indices, FIRST),
         Some(ReadFault::Uninitialized),
     );
     check(rt, indices.write(FIRST, 2, b"\x5a"), Ok(()));
     check(
         rt,
-        is_read(&indices, FIRST, 8, b"\xff\xff\x5a\xff\xff\xff\xff\xff"),
+        is_read(indices, FIRST, 8, b"\xff\xff\x5a\xff\xff\xff\xff\xff"),
         true,
     );
     check(
@@ -145,70 +146,73 @@ fn ordinary<N: Indices>(rt: &impl Abort, mut indices: N) {
         indices.write(SECOND, 0, b"a"),
         Err(WriteFault::Undefined),
     );
-    check(rt, has_auth(&indices, FIRST, b"a"), true);
+}
+
+/// Another authorization value of an index, and its end.
+fn changes<N: Indices>(rt: &impl Abort, indices: &mut N) {
+    check(rt, has_auth(indices, FIRST, b"a"), true);
     check(rt, indices.change_auth(FIRST, AuthValue::of(b"bc")), Ok(()));
-    check(rt, has_auth(&indices, FIRST, b"bc"), true);
+    check(rt, has_auth(indices, FIRST, b"bc"), true);
     check(rt, indices.next(Handle::default()), Some(FIRST.number));
     check(rt, indices.undefine(FIRST), true);
     check(rt, indices.undefine(FIRST), false);
 }
 
-fn counters<N: Indices>(rt: &impl Abort, mut indices: N) {
-    check(
-        rt,
-        defined(&mut indices, COUNTER),
-        Outcome::Answered(Ok(())),
-    );
+/// A counter from the largest count on, and bits.
+fn counts<N: Indices>(rt: &impl Abort, indices: &mut N) {
+    check(rt, defined(indices, COUNTER), Outcome::Answered(Ok(())));
     indices.set_max_count(7);
     check(rt, indices.increment(SECOND), Ok(()));
-    check(rt, defined(&mut indices, BITS), Outcome::Answered(Ok(())));
+    check(rt, defined(indices, BITS), Outcome::Answered(Ok(())));
     check(rt, indices.increment(SECOND), Ok(()));
-    check(
-        rt,
-        is_read(&indices, SECOND, 8, b"\0\0\0\0\0\0\0\x09"),
-        true,
-    );
+    check(rt, is_read(indices, SECOND, 8, b"\0\0\0\0\0\0\0\x09"), true);
     check(rt, indices.max_count(), 9);
     check(rt, indices.set_bits(FIRST, 0x0102), Ok(()));
     check(rt, indices.set_bits(FIRST, 0x0201), Ok(()));
     check(
         rt,
-        is_read(&indices, FIRST, 8, b"\0\0\0\0\0\0\x03\x03"),
+        is_read(indices, FIRST, 8, b"\0\0\0\0\0\0\x03\x03"),
         true,
     );
+}
+
+/// Locks until the next startup, which leaves a counter and clears bits.
+fn locks<N: Indices>(rt: &impl Abort, indices: &mut N) {
     check(rt, indices.lock_write(FIRST), Ok(()));
     check(rt, indices.set_bits(FIRST, 1), Err(WriteFault::Locked));
     check(rt, indices.lock_read(SECOND), Ok(()));
-    check(rt, read_fault(&indices, SECOND), Some(ReadFault::Locked));
+    check(rt, read_fault(indices, SECOND), Some(ReadFault::Locked));
     indices.startup();
     check(
         rt,
-        read_fault(&indices, FIRST),
+        read_fault(indices, FIRST),
         Some(ReadFault::Uninitialized),
     );
     check(rt, indices.set_bits(FIRST, 1), Ok(()));
-    check(
-        rt,
-        is_read(&indices, SECOND, 8, b"\0\0\0\0\0\0\0\x09"),
-        true,
-    );
+    check(rt, is_read(indices, SECOND, 8, b"\0\0\0\0\0\0\0\x09"), true);
     check(rt, indices.undefine(FIRST), true);
-    check(
-        rt,
-        is_read(&indices, SECOND, 8, b"\0\0\0\0\0\0\0\x09"),
-        true,
-    );
+    check(rt, is_read(indices, SECOND, 8, b"\0\0\0\0\0\0\0\x09"), true);
     indices.read_sizes();
 }
 
-fn extended<N: Indices>(rt: &impl Abort, mut indices: N) {
-    check(
-        rt,
-        defined(&mut indices, EXTENDED),
-        Outcome::Answered(Ok(())),
-    );
+/// An index that is extended.
+fn extends<N: Indices>(rt: &impl Abort, indices: &mut N) {
+    check(rt, defined(indices, EXTENDED), Outcome::Answered(Ok(())));
     check(rt, indices.extend(FIRST, b"abc"), Ok(()));
-    check(rt, is_read(&indices, FIRST, 20, DIGEST), true);
+    check(rt, is_read(indices, FIRST, 20, DIGEST), true);
+}
+
+/// An ordinary index from its definition to its end.
+fn ordinary<N: Indices>(rt: &impl Abort, mut indices: N) {
+    definitions(rt, &mut indices);
+    writes(rt, &mut indices);
+    changes(rt, &mut indices);
+}
+
+/// A counter and bits.
+fn counters<N: Indices>(rt: &impl Abort, mut indices: N) {
+    counts(rt, &mut indices);
+    locks(rt, &mut indices);
 }
 
 /// Makes each call on indices that are kept in one way. A function that names the way is slow to
@@ -216,7 +220,7 @@ fn extended<N: Indices>(rt: &impl Abort, mut indices: N) {
 fn exercise<N: Indices, R: Abort>(rt: &R, alloc: Global) {
     ordinary(rt, N::new(alloc));
     counters(rt, N::new(alloc));
-    extended(rt, N::new(alloc));
+    extends(rt, &mut N::new(alloc));
 }
 
 #[test]

@@ -1,5 +1,6 @@
 -- The arguments and subcommands of a command after one is added.
-use Rattle.std.proofs.Common.{◌≡◌, ◌∙◌, ap, ap₂, refl, true, false, not, ◌&&◌, Bool}
+use Rattle.std.proofs.Common.{◌≡◌, ◌∙◌, ap, ap₂, refl, true, false, not, ◌&&◌, Bool, Result, Ok, Err}
+use Rattle.std.specs.Prelude.{IfOk, IsOkAnd}
 use Rattle.clap.specs.Words.{AddsArg, AddsSubcommand, App, Rule, Shape, app_of, rule_of, shape_of, with_rule, with_subcommand}
 use Rattle.clap.specs.declared.builder.arg.Arg.{Arg}
 use Rattle.clap.specs.declared.builder.command.Command.{Command}
@@ -18,3 +19,9 @@ pub subcommand_added : {old sub new : Command} {app : App} {shape : Shape} → A
     → shape.is_plain ≡ true → app_of old ≡ app → shape_of sub ≡ shape → app_of new ≡ with_subcommand app shape
 subcommand_added added plain old_is shape_is =
     added.shape (third_is_false _ _ _ _ (ap (λ s. s.is_plain) shape_is ∙ plain)) ∙ ap₂ with_subcommand old_is shape_is
+
+pub command_added : {E : Type 0} {app : App} (old new : Command) (shape : Shape) (command : Result Command E)
+    → IsOkAnd command (λ sub. AddsSubcommand old sub new) → IfOk command (λ sub. shape_of sub ≡ shape)
+    → shape.is_plain ≡ true → app_of old ≡ app → app_of new ≡ with_subcommand app shape
+command_added old new shape (Ok sub) added shape_is plain old_is = subcommand_added added plain old_is shape_is
+command_added old new shape (Err error) added shape_is plain old_is = absurd added

@@ -1,7 +1,7 @@
 //! The command line in the words of clap: the program's subcommands, with their options and helps.
 
-ghost use Rattle.std.specs.Prelude.{◌≡◌, codes, false, IfOk};
-ghost use Rattle.clap.specs.Words.{app_of, new_app, rule_of, shape_of};
+ghost use Rattle.std.specs.Prelude.{◌≡◌, codes, false, IfOk, IsOkAnd};
+ghost use Rattle.clap.specs.Words.{AddsSubcommand, app_of, new_app, rule_of, shape_of};
 ghost use Rattle.tpmsim_arguments.specs.CommandLine.{asm_command, bare_program, check_command};
 ghost use Rattle.tpmsim_arguments.specs.CommandLine.{choice, code_command, flag, line_command};
 ghost use Rattle.tpmsim_arguments.specs.CommandLine.{lines_command, operand, optional_operand};
@@ -25,16 +25,27 @@ fn program_without_commands<'a>(alloc: Global) -> Command<'a>
 pub fn command<'a>(alloc: Global) -> Result<Command<'a>, AllocError>
     ensures { IfOk result (λ command. app_of command ≡ program) }
 {
-    program_without_commands(alloc)
-        .subcommand(run_command(alloc)?)?
-        .subcommand(check_command(alloc)?)?
-        .subcommand(asm_command(alloc)?)?
-        .subcommand(line_command(alloc)?)?
-        .subcommand(lines_command(alloc)?)?
-        .subcommand(code_command(alloc)?)?
-        .subcommand(serve_command(alloc)?)?
-        .subcommand(power_command(alloc)?)?
-        .subcommand(script_command(alloc)?)
+    let program = program_without_commands(alloc);
+    let program = with_command(program, run_command(alloc))?;
+    let program = with_command(program, check_command(alloc))?;
+    let program = with_command(program, asm_command(alloc))?;
+    let program = with_command(program, line_command(alloc))?;
+    let program = with_command(program, lines_command(alloc))?;
+    let program = with_command(program, code_command(alloc))?;
+    let program = with_command(program, serve_command(alloc))?;
+    let program = with_command(program, power_command(alloc))?;
+    with_command(program, script_command(alloc))
+}
+
+/// The program with one command more, where that could be made.
+fn with_command<'a>(
+    program: Command<'a>,
+    command: Result<Command<'a>, AllocError>,
+) -> Result<Command<'a>, AllocError>
+    ensures { IfOk result (λ whole.
+        IsOkAnd command.entry (λ added. AddsSubcommand program.entry added whole)) }
+{
+    program.subcommand(command?)
 }
 
 fn run_command<'a>(alloc: Global) -> Result<Command<'a>, AllocError>

@@ -207,6 +207,8 @@ pub fn decode<'a>(digits: &[u8], room: &'a mut [u8]) -> Result<&'a [u8], Unfit>
     ensures { Tells (λ bytes. bytes.now) result (bytes_of digits.now) }
 {
     let bytes = &mut room[..digits.len() / 2];
-    tpm_hex::decode(digits, bytes).map_err(|_| Unfit)?;
-    Ok(bytes)
+    match tpm_hex::decode(digits, bytes) {
+        Ok(()) => Ok(bytes),
+        Err(_) => Err(Unfit),
+    }
 }

@@ -106,7 +106,10 @@ impl<K: Keep> Player<K> {
             (printout (W.contents (device_of writer.old)) self.old.answers)
             (printout (W.contents (device_of writer.new)) self.new.answers)) }
     {
-        self.answers.flush(writer).map_err(|_| ScriptFault::Write)
+        match self.answers.flush(writer) {
+            Ok(()) => Ok(()),
+            Err(_) => Err(ScriptFault::Write),
+        }
     }
 
     /// Does what a line says.
@@ -217,8 +220,9 @@ impl<K: Keep> Player<K> {
             return Ok(());
         }
         let text = trace_text(event, self.outcome.row, self.outcome.response.as_slice());
-        self.answers
-            .put_text(writer, text.as_str().as_bytes())
-            .map_err(|_| LineFault::Write)
+        match self.answers.put_text(writer, text.as_str().as_bytes()) {
+            Ok(()) => Ok(()),
+            Err(_) => Err(LineFault::Write),
+        }
     }
 }
