@@ -47,7 +47,7 @@ work=
 [ -n "${TMPDIR:-}" ] || work=$(in_memory 2>&1) || work=
 [ -n "$work" ] || work=$(mktemp -d) || exit 1
 trap 'rm -rf "$work"' EXIT
-mkdir "$work/told" "$work/rooms" || exit 1
+mkdir "$work/told" "$work/rooms" "$work/queue" || exit 1
 # A test may be played as another user, who has to reach its folder.
 chmod a+x "$work" "$work/rooms"
 export TMPDIR="$work/rooms"
@@ -60,7 +60,6 @@ fi
 # of them compile of C.
 export PYTHONPYCACHEPREFIX="$work/python" TPMSIM_BUILT="$work/built"
 unset PYTHONDONTWRITEBYTECODE
-: >"$work/queue"
 number=0
 
 # The tests that take longest begin first, then the other shell tests, and then the scripts.
@@ -69,14 +68,13 @@ longest=' audit python policy_audit images bent_lines starved library_scripts la
 # say WORDS: a line that stands between what is said of tests.
 say() {
     number=$((number + 1))
-    echo >>"$work/queue"
     echo "$1" >"$work/told/$number"
 }
 
 # check TEST PROGRAM WANTED [OPTION]: a test that is to be played.
 check() {
     number=$((number + 1))
-    printf '%s\t%s\t%s\t%s\n' "$1" "$2" "$3" "${4:-}" >>"$work/queue"
+    printf '%s\t%s\t%s\t%s\n' "$1" "$2" "$3" "${4:-}" >"$work/queue/$number"
     name=${1##*/}
     case $1,$longest in
     *.sh,*" ${name%.sh} "*) echo "$number" >>"$work/longest" ;;
@@ -213,10 +211,10 @@ show() {
     done
 }
 
-# The shell tests begin first, which take longest.
+# The shell tests begin first, which take longest; of the scripts a process plays several.
 touch "$work/longest" "$work/long" "$work/short"
-cat "$work/longest" "$work/long" "$work/short" |
-    xargs -r -P "$jobs" -n 1 sh "$top/tools/lib/one_test.sh" "$work" |
+{ cat "$work/longest" "$work/long" && xargs -r -n 12 <"$work/short"; } |
+    xargs -r -P "$jobs" -L 1 sh "$top/tools/lib/play_tests.sh" "$work" |
     {
         show
         while read -r _; do show; done

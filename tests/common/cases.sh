@@ -53,8 +53,45 @@ script() {
 startup='cmd 80010000000c000001440000'
 
 # told FILE: what a file holds, line by line, each with the number of times that it stands in a row.
+# The shell reads a file of few lines itself, as that starts no other program.
 told() {
     [ -s "$1" ] || { printf 'empty'; return; }
+    text='' before='' times=0 lines=0
+    while IFS= read -r line; do
+        lines=$((lines + 1))
+        [ "$lines" -le 30 ] || { told_at_length "$1"; return; }
+        add_line
+    done <"$1"
+    if [ -n "$line" ]; then
+        add_line
+    fi
+    end_line
+    printf '%s' "${text#, }"
+    [ -z "$line" ] || printf ' without a line break'
+}
+
+# add_line: adds `line` to those that are told.
+add_line() {
+    if [ "$times" -gt 0 ] && [ "$line" = "$before" ]; then
+        times=$((times + 1))
+        return
+    fi
+    end_line
+    before=$line
+    times=1
+}
+
+# end_line: tells the line before, with its number.
+end_line() {
+    case $times in
+    0) ;;
+    1) text="$text, \"$before\"" ;;
+    *) text="$text, \"$before\" $times times" ;;
+    esac
+}
+
+# told_at_length FILE: the same for a file of many lines.
+told_at_length() {
     awk '
         function tell() {
             printf "%s\"%s\"", between, line

@@ -1,20 +1,18 @@
 #!/bin/sh
-# Plays one test for tools/scripts.sh, which says of each test what it is:
+# Plays tests, one after another, for tools/scripts.sh, which says of each test what it is:
 #
-#   one_test.sh WORK NUMBER
+#   play_tests.sh WORK NUMBER..
 #
-# WORK/queue has the test in the line of this number: the script or the shell test, the program, the
-# file of what standard output must be, and perhaps an option, with a tab between each two. What is
-# to be said of it is left in WORK/told/NUMBER, whose first word is `ok:`, `FAILED:` or `skipped:`.
-# Then the number is printed.
+# WORK/queue/NUMBER has a test in one line: the script or the shell test, the program, the file of
+# what standard output must be, and perhaps an option, with a tab between each two. What is to be
+# said of it is left in WORK/told/NUMBER, whose first word is `ok:`, `FAILED:` or `skipped:`. Then
+# the number is printed.
 set -u
 
 top=$(CDPATH='' cd "$(dirname "$0")/../.." && pwd -P) || exit 1
 lists=$top/crates/tpmsim_lists/out/tpmsim_lists
-number=$2
-room=$1/$number
-mkdir "$room" || exit 1
-: >"$room/empty"
+work=$1
+shift
 
 # first_difference TEST WANTED: the first line of standard output that differs from what is wanted,
 # and of a script the line that it comes of. Each cmd and do line prints a line, in a trace two, and
@@ -38,21 +36,21 @@ first_difference() {
             print "        wanted: " (n <= wanted_lines ? wanted[n] : "no more")
             print "        given:  " (n <= given_lines ? given[n] : "no more")
         }
-    ' "$1" "$2" "$room/output"
+    ' "$1" "$2" "$output"
 }
 
-# name_of PROGRAM: by what it is told, which is its path for the one in dist/.
-name_of() {
+# name_program PATH: names the program, by its path where it is the one in dist/.
+name_program() {
     case $1 in
-    */dist/*) echo "${1#"$top/"}" ;;
-    *) echo "${1##*/}" ;;
+    */dist/*) program_name=${1#"$top/"} ;;
+    *) program_name=${1##*/} ;;
     esac
 }
 
 # is_skipped TEST STATUS: whether a test that ended so was skipped, and gave its reason.
 is_skipped() {
     case $1,$2 in
-    *.sh,77) [ "$(grep -c . "$room/output")" -eq 1 ] && [ "$(wc -l <"$room/output")" -eq 1 ] ;;
+    *.sh,77) [ "$(grep -c . "$output")" -eq 1 ] && [ "$(wc -l <"$output")" -eq 1 ] ;;
     *) false ;;
     esac
 }
@@ -66,45 +64,58 @@ run() {
     esac
 }
 
+# has_error FILE: whether standard error is what is in the file; nothing, where there is no file.
+has_error() {
+    if [ -f "$1" ]; then
+        cmp -s "$1" "$error"
+    else
+        [ ! -s "$error" ]
+    fi
+}
+
+# tell_difference TEST WANTED STATUS WANTED_STATUS ERROR: says in what a test differs from the files of
+# what is wanted.
+tell_difference() {
+    cmp -s "$2" "$output" || first_difference "$1" "$2"
+    [ "$3" = "$4" ] || echo "    status wanted: $4, given: $3"
+    has_error "$5" || {
+        echo "    standard error wanted: $([ ! -f "$5" ] || cat "$5")"
+        echo "    standard error given:  $(cat "$error")"
+    }
+}
+
 # check TEST PROGRAM WANTED [OPTION]: plays a test, and says what differs from the files of what is
 # wanted.
 check() {
-    named="${1#"$top/"} with $(name_of "$2")${4:+ $4}"
+    name_program "$2"
+    named="${1#"$top/"} with $program_name${4:+ $4}"
     base=${1%.*}
     if [ ! -f "$3" ]; then
         echo "FAILED: $named: ${3#"$top/"} is not there"
         return
     fi
     status=0
-    run "$1" "$2" "${4:-}" >"$room/output" 2>"$room/error" || status=$?
+    run "$1" "$2" "${4:-}" >"$output" 2>"$error" || status=$?
     if is_skipped "$1" "$status"; then
-        echo "skipped: $named: $(cat "$room/output")"
+        echo "skipped: $named: $(cat "$output")"
         return
     fi
     wanted_status=0
-    wanted_error=$room/empty
-    [ ! -f "$base.status" ] || wanted_status=$(cat "$base.status")
-    [ ! -f "$base.err" ] || wanted_error=$base.err
-
-    if [ "$status" = "$wanted_status" ] && cmp -s "$3" "$room/output" &&
-        cmp -s "$wanted_error" "$room/error"; then
+    [ ! -f "$base.status" ] || read -r wanted_status <"$base.status"
+    if [ "$status" = "$wanted_status" ] && cmp -s "$3" "$output" && has_error "$base.err"; then
         echo "ok: $named"
         return
     fi
     echo "FAILED: $named"
-    cmp -s "$3" "$room/output" || first_difference "$1" "$3"
-    [ "$status" = "$wanted_status" ] || echo "    status wanted: $wanted_status, given: $status"
-    cmp -s "$wanted_error" "$room/error" || {
-        echo "    standard error wanted: $(cat "$wanted_error")"
-        echo "    standard error given:  $(cat "$room/error")"
-    }
+    tell_difference "$1" "$3" "$status" "$wanted_status" "$base.err"
 }
 
 tab=$(printf '\t')
-IFS=$tab read -r test program wanted option <<END
-$(sed -n "${number}p" "$1/queue")
-END
-check "$test" "$program" "$wanted" "$option" >"$room/told"
-mv "$room/told" "$1/told/$number"
-rm -r "$room"
-echo "$number"
+for number do
+    output=$work/output.$number
+    error=$work/error.$number
+    IFS=$tab read -r test program wanted option <"$work/queue/$number"
+    check "$test" "$program" "$wanted" "$option" >"$work/telling.$number"
+    mv "$work/telling.$number" "$work/told/$number"
+    echo "$number"
+done
