@@ -11,10 +11,11 @@ on this machine before; then those of each crate are tried, as many crates at a 
 processors, or JOBS says.
 
 The prover checks each function against the contracts of those that it calls, and says which
-functions have goals of their own that fail. So wrong bodies of different functions share one check:
-each is refused where a function that it turns has such a goal. A wrong body is tried alone where
-that does not tell, and where it turns a constant or a definition. Each check goes on from one of the
-crate as it stands, which is made once where there are several.
+functions have goals of their own that fail. So wrong bodies of different functions share one check,
+of these functions alone: each is refused where a function that it turns has such a goal. A wrong
+body is tried by itself where that does not tell, and where it turns a constant or a definition; then
+the whole crate is checked. Each check goes on from the crate's first one, which is of the crate as it
+stands where a constant or a definition is turned.
 
 It prints a line for each, and at last `N of M wrong bodies refused`. The status is 0 where all are,
 and 1 where one is not, or is bad: it cannot be applied, compiled or read. It needs rt.
@@ -27,6 +28,7 @@ import collections
 import concurrent.futures
 import dataclasses
 import functools
+import itertools
 import os
 import pathlib
 import re
@@ -97,11 +99,18 @@ class Function:
         own = file.startswith(proofs) and file.endswith(f"/{self.name}/Answers.antt")
         return self.is_alone and own and "error" in words
 
+    def module(self) -> str:
+        """The path of its file's module below the crate; nothing for the root."""
+        return re.sub(r"src/(lib$|main$)?", "", self.file[: -len(".rt")]).replace("/", "::")
+
+    def told_in(self, said: list[str]) -> dict[str, str]:
+        """What is said of each function of this name in this file, by its path below the crate."""
+        told = re.compile(rf"fn \w+::({self.module()}\S*\b{self.name}): (.*)")
+        return {match[1]: match[2] for line in said if (match := told.match(line))}
+
     def is_proved_in(self, said: list[str]) -> bool:
         """Whether all functions of this name in this file are proved."""
-        module = re.sub(r"src/(lib$|main$)?", "", self.file[: -len(".rt")]).replace("/", "::")
-        told = re.compile(rf"fn \w+::{module}\S*\b{self.name}: (.*)")
-        words = [match[1] for line in said if (match := told.match(line))]
+        words = self.told_in(said).values()
         return bool(words) and all(it == "proved" for it in words)
 
 
@@ -161,17 +170,18 @@ class Crate:
     def __init__(self, proved: pathlib.Path, name: str, room: pathlib.Path) -> None:
         self.name, self.proved, self.room = name, proved, room / name
         self.folder = proved / "crates" / name
-        self.kept: pathlib.Path | None = None
+        # what the first check kept, from which the others go on, and what it said
+        self.kept = self.room / "kept"
+        self.said: list[str] = []
         self.room.mkdir()
 
     def keep(self) -> None:
         """Checks the crate as it stands; the checks of turned ones go on from there."""
-        kept = self.room / "kept"
-        status, said = self._checked_in(self.folder, kept)
+        status, said = self._checked_in(self.folder, self.kept, [])
         if status:
             print("\n".join(said))
             raise SystemExit(f"{self.name} is not proved as it stands.")
-        self.kept = kept
+        self.said = said
 
     def _words(self) -> list[str]:
         """The command that checks the crate."""
@@ -187,9 +197,22 @@ class Crate:
         words += ["--antt-project", str(kit() / "rattle" / "logic" / "antt-project.json")]
         return [*words, "--logic-built", str(kit() / "logic_built"), "--jobs", "1"]
 
-    def _checked_in(self, folder: pathlib.Path, kept: pathlib.Path) -> tuple[int, list[str]]:
-        """Checks the text of the crate that a folder has: the status, and the lines that were said."""
-        ran = said_by(folder, *self._words(), "--incremental", str(kept))
+    def _only(self, bodies: list[WrongBody]) -> list[str]:
+        """The words that have a check look at the functions of wrong bodies alone: by the paths that
+        the first check told, or in it by those of modules. None where that cannot be said."""
+        if not all(body.functions for body in bodies):
+            return []
+        functions: set[Function] = set().union(*(body.functions for body in bodies))
+        paths = [[*it.told_in(self.said)] or [it.module()] for it in functions]
+        found = sorted(set(itertools.chain(*paths)))
+        return [word for path in found for word in ("--only", path)] if all(found) else []
+
+    def _checked_in(
+        self, folder: pathlib.Path, kept: pathlib.Path, only: list[str]
+    ) -> tuple[int, list[str]]:
+        """Checks the text of the crate that a folder has, or some functions of it: the status, and
+        the lines that were said."""
+        ran = said_by(folder, *self._words(), *only, "--incremental", str(kept))
         return ran.returncode, ran.stdout.split("\n")
 
     def wrong_body(self, edit: pathlib.Path) -> WrongBody:
@@ -204,17 +227,22 @@ class Crate:
             functions.update(of_it)
         return WrongBody(edit.stem, turns, frozenset(functions))
 
-    def check(self, turns: list[Turn]) -> tuple[int, list[str]]:
-        """Checks a copy of the crate with these turns: the status, and the lines that were said."""
-        texts = self._turned(turns)
+    def check(self, bodies: list[WrongBody], is_whole: bool) -> tuple[int, list[str]]:
+        """Checks a copy of the crate with these wrong bodies, whole or the functions that they turn
+        alone: the status, and the lines that were said."""
+        texts = self._turned([turn for body in bodies for turn in body.turns])
         with tempfile.TemporaryDirectory(dir=self.room) as place:
             folder, kept = pathlib.Path(place) / "turned", pathlib.Path(place) / "kept"
             copy_parts(self.folder, folder)
             for file, text in texts.items():
                 (folder / file).write_text(text, encoding="utf-8")
-            if self.kept:
+            if self.said:
                 shutil.copytree(self.kept, kept, copy_function=linked)
-            return self._checked_in(folder, kept)
+            status, said = self._checked_in(folder, kept, [] if is_whole else self._only(bodies))
+            if not self.said and kept.exists():
+                kept.rename(self.kept)
+                self.said = said
+            return status, said
 
     def _turned(self, turns: list[Turn]) -> dict[str, str]:
         texts: dict[str, str] = {}
@@ -259,14 +287,14 @@ def unread_in(said: list[str]) -> str | None:
 
 def is_not_proved(status: int, said: list[str]) -> bool:
     """Whether a check ended since something is not proved, with all texts read."""
-    is_told = any(it.startswith("logic=not-proved") for it in said)
+    is_told = any(it.startswith(("logic=not-proved", "only=")) for it in said)
     return status == 1 and is_told and not unread_in(said)
 
 
 def groups_of(bodies: list[WrongBody]) -> list[list[WrongBody]]:
     """The same in groups: no two of one turn the same function."""
     groups: list[tuple[set[Function], list[WrongBody]]] = []
-    for body in bodies:
+    for body in sorted(bodies, key=lambda it: not it.functions):
         open_to_it = (it for it in groups if it[0] and not it[0] & body.functions)
         group = next(open_to_it, None) if body.functions else None
         if group is None:
@@ -279,7 +307,9 @@ def groups_of(bodies: list[WrongBody]) -> list[list[WrongBody]]:
 
 def refusal_alone(crate: Crate, body: WrongBody) -> str:
     """How a wrong body is refused that is tried by itself."""
-    status, said = crate.check(list(body.turns))
+    status, said = crate.check([body], is_whole=False)
+    if body.functions and not is_not_proved(status, said):
+        status, said = crate.check([body], is_whole=True)
     told = next((line for line in said if PLACE.match(line)), "")
     if is_not_proved(status, said):
         return told
@@ -291,7 +321,7 @@ def refusal_alone(crate: Crate, body: WrongBody) -> str:
 def refusals_together(crate: Crate, group: list[WrongBody]) -> dict[WrongBody, str] | None:
     """Which of a group one check refuses, and how; or nothing, where it does not tell."""
     try:
-        status, said = crate.check([turn for body in group for turn in body.turns])
+        status, said = crate.check(group, is_whole=False)
     except BadEdit:
         return None
     if not is_not_proved(status, said):
@@ -380,11 +410,12 @@ def parsed() -> argparse.Namespace:
     return parser.parse_args()
 
 
-def begin(crate: Crate, groups: list[list[WrongBody]]) -> list[list[WrongBody]]:
-    """Makes ready to try these groups of a crate's wrong bodies, and gives them."""
-    if len(groups) > 1:
+def begin(crate: Crate, groups: list[list[WrongBody]]) -> tuple[int, list[list[WrongBody]]]:
+    """Makes the first check of a crate: how many wrong bodies were refused, and what is left."""
+    if not all(group[0].functions for group in groups):
         crate.keep()
-    return groups
+        return 0, groups
+    return try_group(crate, groups[0]), groups[1:]
 
 
 def tried(folder: pathlib.Path, names: list[str], jobs: int) -> int:
@@ -401,9 +432,10 @@ def tried(folder: pathlib.Path, names: list[str], jobs: int) -> int:
         trials = [
             pool.submit(try_group, begun[ready], group)
             for ready in concurrent.futures.as_completed(begun)
-            for group in ready.result()
+            for group in ready.result()[1]
         ]
-        return sum(trial.result() for trial in trials)
+        refused = sum(ready.result()[0] for ready in begun)
+        return refused + sum(trial.result() for trial in trials)
 
 
 def main() -> int:
