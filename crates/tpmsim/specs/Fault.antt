@@ -1,6 +1,8 @@
 -- How the program ends where it fails.
-use Rattle.std.specs.Prelude.{ℕ, List, ◌++◌, codes, if◌then◌else◌}
+use Rattle.std.specs.Prelude.{ℕ, List, Result, Ok, Err, ◌++◌, codes, if◌then◌else◌}
 use Rattle.std.specs.Fmt.{decimal}
+use Rattle.std.specs.IoError.{error_kind}
+use Rattle.std.specs.declared.io.Error.{Error}
 use Rattle.std.specs.declared.io.ErrorKind.{ErrorKind}
 use Rattle.std.specs.declared.io.ErrorKind.TheVariants.{OutOfMemory}
 use Rattle.tpmsim.specs.declared.fault.Fault.{Fault}
@@ -25,6 +27,11 @@ use Rattle.tpmsim_script.specs.declared.fault.ScriptFault.TheVariants.{Line, Rea
 abbrev pub fault_or : Fault → ErrorKind → Fault
 fault_or otherwise OutOfMemory = Memory
 fault_or otherwise _ = otherwise
+
+-- what was given, and that fault where it is an error
+abbrev pub given_or : {A : Type 0} → Fault → Result A Error → Result A Fault
+given_or otherwise (Ok value) = Ok value
+given_or otherwise (Err error) = Err (fault_or otherwise (error_kind error))
 
 -- the fault of words that are refused: they are not the program's, or memory ran out
 abbrev pub fault_of_arguments : ArgumentFault → Fault

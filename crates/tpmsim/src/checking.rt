@@ -8,10 +8,10 @@ use tpmsim_check::report_of;
 /// Prints what is wrong with each bad line of a script, from a file or from standard input, and
 /// ends as a run of the script would.
 pub fn check_script(rt: &HostRuntime, script: &str) -> Result<(), Fault> {
-    let text = read(rt, script).map_err(|error| Fault::of_io(error, Fault::File))?;
+    let text = Fault::File.unless(read(rt, script))?;
     let report = report_of(rt.alloc(), text.as_slice())?;
     let told = report.text.as_str();
-    print!(rt; "{told}").map_err(|error| Fault::of_io(error, Fault::File))?;
+    Fault::File.unless(print!(rt; "{told}"))?;
     Ok(report.end?)
 }
 

@@ -42,10 +42,20 @@ pub enum Fault {
 
 impl Fault {
     ghost use Rattle.std.specs.IoError.{error_kind};
-    ghost use Rattle.tpmsim.specs.Fault.{fault_or, status_of};
+    ghost use Rattle.tpmsim.specs.Fault.{fault_or, given_or, status_of};
+
+    /// What was given; where it is an error, `Memory` if memory ran out, and otherwise this fault.
+    pub fn unless<T>(self, given: io::Result<T>) -> Result<T, Fault>
+        ensures { result ≡ given_or self given }
+    {
+        match given {
+            Ok(value) => Ok(value),
+            Err(error) => Err(Fault::of_io(error, self)),
+        }
+    }
 
     /// `Memory` where memory ran out, and otherwise `otherwise`.
-    pub fn of_io(error: io::Error, otherwise: Fault) -> Fault
+    fn of_io(error: io::Error, otherwise: Fault) -> Fault
         ensures { result ≡ fault_or otherwise (error_kind error) }
     {
         match error.kind() {

@@ -46,7 +46,7 @@ pub fn play_script(
     if script == "-" {
         return play_text(rt, rt.stdin(), trace, folder, entropy);
     }
-    let file = fs::open(rt, script).map_err(|error| Fault::of_io(error, Fault::File))?;
+    let file = Fault::File.unless(fs::open(rt, script))?;
     play_text(rt, file, trace, folder, entropy)
 }
 
@@ -89,7 +89,5 @@ fn random_of(rt: &HostRuntime, entropy: Option<&str>) -> Result<[u8; 256], Fault
         return Ok(first_bytes());
     };
     let mut entropy = Entropy::open(rt, path)?;
-    entropy
-        .random()
-        .map_err(|error| Fault::of_io(error, Fault::Entropy))
+    Fault::Entropy.unless(entropy.random())
 }

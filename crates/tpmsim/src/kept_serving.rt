@@ -30,9 +30,7 @@ pub fn serve_kept(rt: &HostRuntime, service: &Service, folder: &str) -> Result<(
     let mut kept = Kept::at(rt, folder, true, force_of(service))?;
     let mut entropy = Entropy::open(rt, service.entropy)?;
     if !kept.is_there()? {
-        let random = entropy
-            .random()
-            .map_err(|error| Fault::of_io(error, Fault::Entropy))?;
+        let random = Fault::Entropy.unless(entropy.random())?;
         kept.manufacture(&random)?;
     }
     kept.open()?;
@@ -60,9 +58,7 @@ fn serve_connections(
     bytes: &mut FileBytes,
 ) -> Result<(), Fault> {
     for _ in 0..service.connections {
-        let stream = socket
-            .accept()
-            .map_err(|error| Fault::of_io(error, Fault::Socket))?;
+        let stream = Fault::Socket.unless(socket.accept())?;
         let reader = &mut Tap::new(&stream);
         let writer = &mut Tap::new(&stream);
         match serve(kept, service.locality, bytes, reader, writer) {

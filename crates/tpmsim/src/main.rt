@@ -50,9 +50,7 @@ fn main(rt: HostRuntime) -> ExitCode {
 }
 
 fn try_main(rt: &HostRuntime) -> Result<(), Fault> {
-    let words: Vec<String> = env::args(rt)
-        .map_err(|error| Fault::of_io(error, Fault::Usage))?
-        .collect(rt.alloc())?;
+    let words: Vec<String> = Fault::Usage.unless(env::args(rt))?.collect(rt.alloc())?;
     match Arguments::parse(rt.alloc(), words.as_slice())? {
         Arguments::Run {
             script,
@@ -67,20 +65,18 @@ fn try_main(rt: &HostRuntime) -> Result<(), Fault> {
         Arguments::Check { script } => check_script(rt, script),
         Arguments::Assemble { line } => {
             let text = hex::encode(rt.alloc(), assemble(rt.alloc(), line)?)?;
-            println!(rt; "{text}").map_err(|error| Fault::of_io(error, Fault::File))
+            Fault::File.unless(println!(rt; "{text}"))
         }
         Arguments::Spell { digits } => {
             let text = line_of(rt.alloc(), buffer_of(rt, digits)?.as_slice())?;
-            println!(rt; "{text}").map_err(|error| Fault::of_io(error, Fault::File))
+            Fault::File.unless(println!(rt; "{text}"))
         }
         Arguments::Forms { name } => print_forms(rt, name),
         Arguments::Code { digits } => print_code(rt, digits),
         Arguments::Serve(service) => serve_in_place(rt, &service),
         Arguments::Power { state } => cycle_power(rt, state),
         Arguments::Retell { state } => print_script(rt, state),
-        Arguments::Tell(text) => {
-            print!(rt; "{text}").map_err(|error| Fault::of_io(error, Fault::File))
-        }
+        Arguments::Tell(text) => Fault::File.unless(print!(rt; "{text}")),
     }
 }
 

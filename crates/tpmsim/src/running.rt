@@ -15,7 +15,7 @@ pub fn run_alone(rt: &HostRuntime, script: &str, trace: bool) -> Result<(), Faul
     if script == "-" {
         run_script::<SlotKeep, _, _>(rt.alloc(), &mut Tap::new(rt.stdin()), output, trace)?;
     } else {
-        let file = fs::open(rt, script).map_err(|error| Fault::of_io(error, Fault::File))?;
+        let file = Fault::File.unless(fs::open(rt, script))?;
         run_script::<SlotKeep, _, _>(rt.alloc(), &mut Tap::new(file), output, trace)?;
     }
     Ok(())
@@ -76,7 +76,7 @@ fn play<S: Saver>(
         let input = &mut Tap::new(rt.stdin());
         run_device(rt.alloc(), machine, saver, input, output, trace)?;
     } else {
-        let file = fs::open(rt, script).map_err(|error| Fault::of_io(error, Fault::File))?;
+        let file = Fault::File.unless(fs::open(rt, script))?;
         run_device(
             rt.alloc(),
             machine,

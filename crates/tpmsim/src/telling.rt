@@ -29,10 +29,7 @@ fn print_form(rt: &HostRuntime, code: CommandCode) -> Result<(), Fault> {
     let name = code.name();
     let example = example_of(code);
     let space = if example.is_empty() { "" } else { " " };
-    println!(rt; "{form}\n    {name}{space}{example}").map_err(|error| Fault::of_io(
-        error,
-        Fault::File,
-    ))
+    Fault::File.unless(println!(rt; "{form}\n    {name}{space}{example}"))
 }
 
 /// Prints the name of the response code that hex digits write, and its place. A number that is no
@@ -40,5 +37,5 @@ fn print_form(rt: &HostRuntime, code: CommandCode) -> Result<(), Fault> {
 pub fn print_code(rt: &HostRuntime, digits: &str) -> Result<(), Fault> {
     let number = hex_number(digits.as_bytes()).ok_or(Fault::Usage)?;
     let meaning = meaning_of(number).ok_or(Fault::Usage)?;
-    println!(rt; "{meaning}").map_err(|error| Fault::of_io(error, Fault::File))
+    Fault::File.unless(println!(rt; "{meaning}"))
 }

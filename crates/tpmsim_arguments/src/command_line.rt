@@ -25,27 +25,26 @@ fn program_without_commands<'a>(alloc: Global) -> Command<'a>
 pub fn command<'a>(alloc: Global) -> Result<Command<'a>, AllocError>
     ensures { IfOk result (λ command. app_of command ≡ program) }
 {
-    let program = program_without_commands(alloc);
-    let program = with_command(program, run_command(alloc))?;
-    let program = with_command(program, check_command(alloc))?;
-    let program = with_command(program, asm_command(alloc))?;
-    let program = with_command(program, line_command(alloc))?;
-    let program = with_command(program, lines_command(alloc))?;
-    let program = with_command(program, code_command(alloc))?;
-    let program = with_command(program, serve_command(alloc))?;
-    let program = with_command(program, power_command(alloc))?;
+    let program = with_command(Ok(program_without_commands(alloc)), run_command(alloc));
+    let program = with_command(program, check_command(alloc));
+    let program = with_command(program, asm_command(alloc));
+    let program = with_command(program, line_command(alloc));
+    let program = with_command(program, lines_command(alloc));
+    let program = with_command(program, code_command(alloc));
+    let program = with_command(program, serve_command(alloc));
+    let program = with_command(program, power_command(alloc));
     with_command(program, script_command(alloc))
 }
 
-/// The program with one command more, where that could be made.
+/// The program with one command more, where both could be made.
 fn with_command<'a>(
-    program: Command<'a>,
+    program: Result<Command<'a>, AllocError>,
     command: Result<Command<'a>, AllocError>,
 ) -> Result<Command<'a>, AllocError>
-    ensures { IfOk result (λ whole.
-        IsOkAnd command.entry (λ added. AddsSubcommand program.entry added whole)) }
+    ensures { IfOk result (λ whole. IsOkAnd program.entry (λ given.
+        IsOkAnd command.entry (λ added. AddsSubcommand given added whole))) }
 {
-    program.subcommand(command?)
+    program?.subcommand(command?)
 }
 
 fn run_command<'a>(alloc: Global) -> Result<Command<'a>, AllocError>

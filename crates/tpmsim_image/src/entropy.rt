@@ -19,14 +19,11 @@ pub struct Entropy {
 impl Entropy {
     /// Opens the file at this path, which may be a device or a pipe, but not a folder.
     pub fn open(rt: &HostRuntime, path: &str) -> Result<Entropy, DeviceFault> {
-        let file = open_bytes(rt, path).map_err(|error| DeviceFault::of_io(
-            error,
-            DeviceFault::Entropy,
-        ))?;
-        let reader = BufReader::with_capacity(rt.alloc(), READ_SIZE, file).map_err(
-            |error| DeviceFault::of_io(error, DeviceFault::Entropy),
-        )?;
-        Ok(Entropy { reader })
+        let file = DeviceFault::Entropy.unless(open_bytes(rt, path))?;
+        let reader = BufReader::with_capacity(rt.alloc(), READ_SIZE, file);
+        Ok(Entropy {
+            reader: DeviceFault::Entropy.unless(reader)?,
+        })
     }
 
     /// The next 256 random bytes.
@@ -38,9 +35,7 @@ impl Entropy {
 
     /// A new device, manufactured with the next random bytes.
     pub fn manufacture(&mut self, rt: &HostRuntime) -> Result<Machine<SlotKeep>, DeviceFault> {
-        let random = self
-            .random()
-            .map_err(|error| DeviceFault::of_io(error, DeviceFault::Entropy))?;
+        let random = DeviceFault::Entropy.unless(self.random())?;
         Ok(Machine::manufacture(rt.alloc(), &random)?)
     }
 }

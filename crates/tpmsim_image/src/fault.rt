@@ -24,10 +24,20 @@ pub enum DeviceFault {
 
 impl DeviceFault {
     ghost use Rattle.std.specs.IoError.{error_kind};
-    ghost use Rattle.tpmsim_image.specs.Fault.{fault_or};
+    ghost use Rattle.tpmsim_image.specs.Fault.{fault_or, given_or};
+
+    /// What was given; where it is an error, `Memory` if memory ran out, and otherwise this fault.
+    pub(crate) fn unless<T>(self, given: io::Result<T>) -> Result<T, DeviceFault>
+        ensures { result ≡ given_or self given }
+    {
+        match given {
+            Ok(value) => Ok(value),
+            Err(error) => Err(DeviceFault::of_io(error, self)),
+        }
+    }
 
     /// `Memory` where memory ran out, and otherwise `otherwise`.
-    pub fn of_io(error: io::Error, otherwise: DeviceFault) -> DeviceFault
+    pub(crate) fn of_io(error: io::Error, otherwise: DeviceFault) -> DeviceFault
         ensures { result ≡ fault_or otherwise (error_kind error) }
     {
         match error.kind() {

@@ -44,7 +44,7 @@ impl<'a> ImageFile<'a> {
             path,
             new,
             folder,
-            _lock: locked.map_err(|error| DeviceFault::of_io(error, DeviceFault::File))?,
+            _lock: DeviceFault::File.unless(locked)?,
         })
     }
 
@@ -62,9 +62,8 @@ impl<'a> ImageFile<'a> {
     /// before that, the old image stays.
     pub fn save<K: Keep>(&self, rt: &HostRuntime, machine: &Machine<K>) -> Result<(), DeviceFault> {
         write_image(rt, self.new.as_str(), machine)?;
-        put_in_place(rt, self.new.as_str(), self.path, self.folder.as_str()).map_err(
-            |error| DeviceFault::of_io(error, DeviceFault::File),
-        )
+        let placed = put_in_place(rt, self.new.as_str(), self.path, self.folder.as_str());
+        DeviceFault::File.unless(placed)
     }
 }
 
@@ -87,12 +86,11 @@ fn write_image<K: Keep>(
     path: &str,
     machine: &Machine<K>,
 ) -> Result<(), DeviceFault> {
-    let file = create_anew(rt, path).map_err(|error| DeviceFault::of_io(error, DeviceFault::File))?;
+    let file = DeviceFault::File.unless(create_anew(rt, path))?;
     let mut tap = Tap::new(file);
     save(machine, &mut tap).map_err(|_| DeviceFault::File)?;
     let file = tap.into_inner();
-    file.sync_all()
-        .map_err(|error| DeviceFault::of_io(error, DeviceFault::File))
+    DeviceFault::File.unless(file.sync_all())
 }
 
 /// Makes a new file that only its owner may use. What is at the path is removed: a file that a

@@ -20,8 +20,8 @@ pub fn begin_log<K: Keep>(
     path: &str,
     machine: &Machine<K>,
 ) -> Result<Log<File>, DeviceFault> {
-    let now_ms = clock_ms(rt).map_err(|error| DeviceFault::of_io(error, DeviceFault::File))?;
-    let file = create(rt, path).map_err(|error| DeviceFault::of_io(error, DeviceFault::File))?;
+    let now_ms = DeviceFault::File.unless(clock_ms(rt))?;
+    let file = DeviceFault::File.unless(create(rt, path))?;
     Log::begin(file, machine, now_ms).map_err(|_| DeviceFault::File)
 }
 

@@ -86,9 +86,7 @@ fn serve_connections<K: Keep>(
     witness: &mut Logged<File, CommandSaver<'_>>,
 ) -> Result<(), DeviceFault> {
     for _ in 0..connections {
-        let stream = socket
-            .accept()
-            .map_err(|error| DeviceFault::of_io(error, DeviceFault::Socket))?;
+        let stream = DeviceFault::Socket.unless(socket.accept())?;
         let served = exchange(rt, &stream, mux, source, witness);
         save_behind(served, mux, &mut witness.next)?;
     }

@@ -52,8 +52,7 @@ fn identity_at(rt: &HostRuntime, path: &str) -> io::Result<Identity> {
 /// A socket at this path, which only its owner may use, from the moment it is there. A socket that
 /// is there already and at which nobody answers is replaced.
 pub fn bind(rt: &HostRuntime, path: &str) -> Result<Socket, DeviceFault> {
-    let bound = bind_aside(rt, path);
-    bound.map_err(|error| DeviceFault::of_io(error, DeviceFault::Socket))
+    DeviceFault::Socket.unless(bind_aside(rt, path))
 }
 
 /// Binds a socket in a folder beside the path that nobody else may enter, and puts it at the path
