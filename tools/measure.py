@@ -4,7 +4,8 @@
 `tools/measure.py` runs .ci/run at the top of the repository, prints what that prints, and adds up the
 processor seconds of every process of the toolchain by crate and kind; `tools/measure.py --proofs` does
 so with `rt ci` alone, and `tools/measure.py WORDS..` with another command, of which it prints the figures
-and writes nothing. Linux alone.
+and writes nothing. Under `taskset` the figures are those of so many processors, and are written beside
+those of all. Linux alone.
 
 `tools/measure.py --wrong REFUSED TRIED` writes how many wrong bodies outside the gate were refused.
 """
@@ -149,8 +150,9 @@ def main(words: list[str]) -> int:
     key, command = kept.get(tuple(words), ("", words))
     lines, status, minutes, uses = run(command)
     told = figures(lines, minutes, uses)
+    number = len(os.sched_getaffinity(0))
     if key:
-        write(key, told)
+        write(key if number == os.cpu_count() else f"{key}_on_{number}_processors", told)
     else:
         print(json.dumps(told, indent=1))
     return status

@@ -13,9 +13,9 @@ processors, or JOBS says.
 The prover checks each function against the contracts of those that it calls, and says which
 functions have goals of their own that fail. So wrong bodies of different functions share one check,
 of these functions alone: each is refused where a function that it turns has such a goal. A wrong
-body is tried by itself where that does not tell, and where it turns a constant or a definition; then
-the whole crate is checked. Each check goes on from the crate's first one, which is of the crate as it
-stands where a constant or a definition is turned.
+body is tried by itself where that does not tell, and where it turns a constant or a definition: over
+the functions that name the constant, and over the whole crate where these are proved all the same.
+Each check goes on from an earlier one of its crate, and the first from what is kept in its out/.
 
 It prints a line for each, and at last `N of M wrong bodies refused`. The status is 0 where all are,
 and 1 where one is not, or is bad: it cannot be applied, compiled or read. It needs rt.
@@ -24,8 +24,8 @@ and 1 where one is not, or is bad: it cannot be applied, compiled or read. It ne
 from __future__ import annotations
 
 import argparse
-import collections
 import concurrent.futures
+import contextlib
 import dataclasses
 import functools
 import itertools
@@ -36,11 +36,16 @@ import shutil
 import subprocess
 import sys
 import tempfile
+import threading
+from collections.abc import Iterable, Iterator
+
+from functions import PLACE, Function, functions_of, is_fault
 
 TOP = pathlib.Path(__file__).resolve().parents[2]
 SOURCES = ["src", "specs", "proofs"]
-FUNCTION = re.compile(r"\s*(pub(\([a-z ]+\))? )?(const )?(unsafe )?fn (\w+)")
-PLACE = re.compile(r"(?:note: )?(?:\./)?(\S+?\.(?:rt|antt)):(\d+):\d+: (.*)")
+ITEM = re.compile(
+    r"\s*(?:pub(?:\([a-z ]+\))? )?(?:const|static|struct|enum|type|macro_rules!) (\w+)"
+)
 # what the prover says of a text that it cannot read, names in quotes left out
 UNREAD = re.compile(
     r"is not in scope|has no field|is no name|operand is missing|expected the end|cannot continue"
@@ -74,47 +79,6 @@ class BadEdit(Exception):
 
 
 @dataclasses.dataclass(frozen=True)
-class Function:
-    """A function, by its file, its lines (from first to before end), and its name."""
-
-    file: str
-    first: int
-    end: int
-    name: str
-    # whether no other function of the file has this name
-    is_alone: bool
-
-    def fails_in(self, said: list[str]) -> str | None:
-        """The line that tells of a goal of this function which fails."""
-        return next((line for line in said if self._is_told(line)), None)
-
-    def _is_told(self, line: str) -> bool:
-        place = PLACE.match(line)
-        if not place:
-            return False
-        file, number, words = place[1], int(place[2]) - 1, place[3]
-        if file == self.file:
-            return self.first <= number < self.end and ("error" in words or "not proved" in words)
-        proofs = re.sub(r"src/(lib$|main$)?", "proofs/", self.file[: -len(".rt")])
-        own = file.startswith(proofs) and file.endswith(f"/{self.name}/Answers.antt")
-        return self.is_alone and own and "error" in words
-
-    def module(self) -> str:
-        """The path of its file's module below the crate; nothing for the root."""
-        return re.sub(r"src/(lib$|main$)?", "", self.file[: -len(".rt")]).replace("/", "::")
-
-    def told_in(self, said: list[str]) -> dict[str, str]:
-        """What is said of each function of this name in this file, by its path below the crate."""
-        told = re.compile(rf"fn \w+::({self.module()}\S*\b{self.name}): (.*)")
-        return {match[1]: match[2] for line in said if (match := told.match(line))}
-
-    def is_proved_in(self, said: list[str]) -> bool:
-        """Whether all functions of this name in this file are proved."""
-        words = self.told_in(said).values()
-        return bool(words) and all(it == "proved" for it in words)
-
-
-@dataclasses.dataclass(frozen=True)
 class Turn:
     """One line of a file in place of another."""
 
@@ -129,25 +93,17 @@ class WrongBody:
     turns: tuple[Turn, ...]
     # what it turns; none where one of its turns stands outside of functions
     functions: frozenset[Function]
+    # then the functions that name a constant or a type that it turns
+    naming: frozenset[Function]
+
+    def to_check(self) -> frozenset[Function]:
+        """The functions over which it is tried first; none where that is the whole crate."""
+        return self.functions or self.naming
 
 
-def functions_of(file: str, text: str) -> list[Function]:
-    """Those of a file, each with the comments and attributes above it."""
-    lines = text.split("\n")
-    found = [(at, match[5]) for at, line in enumerate(lines) if (match := FUNCTION.match(line))]
-    names = collections.Counter(name for _, name in found)
-    firsts = [head_of(lines, at) for at, _ in found]
-    return [
-        Function(file, first, end, name, names[name] == 1)
-        for first, end, (_, name) in zip(firsts, [*firsts[1:], len(lines)], found)
-    ]
-
-
-def head_of(lines: list[str], at: int) -> int:
-    """The first line of the comments and attributes above a line."""
-    while at > 0 and lines[at - 1].lstrip().startswith(("///", "#[")):
-        at -= 1
-    return at
+Group = list[WrongBody]
+# how many were refused, and the groups that are left to try
+Tried = tuple[int, list[Group]]
 
 
 def turns_in(text: str) -> tuple[Turn, ...]:
@@ -170,18 +126,30 @@ class Crate:
     def __init__(self, proved: pathlib.Path, name: str, room: pathlib.Path) -> None:
         self.name, self.proved, self.room = name, proved, room / name
         self.folder = proved / "crates" / name
-        # what the first check kept, from which the others go on, and what it said
-        self.kept = self.room / "kept"
+        # where the toolchain keeps what it checked of the crate, from one command to the next
+        self.place = TOP / "crates" / name / "out" / "incremental"
+        # what the latest check of some functions kept, from which others go on, and what the first said
+        self.kept = self.place
         self.said: list[str] = []
+        # what a check of the whole crate as it stands kept, once one was wanted
+        self.whole = self.room / "whole"
+        self.is_keeping = threading.Lock()
+        self.texts = self._texts_of_functions()
         self.room.mkdir()
 
-    def keep(self) -> None:
-        """Checks the crate as it stands; the checks of turned ones go on from there."""
-        status, said = self._checked_in(self.folder, self.kept, [])
-        if status:
-            print("\n".join(said))
-            raise SystemExit(f"{self.name} is not proved as it stands.")
-        self.said = said
+    def size(self) -> int:
+        """The bytes of its text."""
+        files = itertools.chain(*((self.folder / part).rglob("*.*") for part in SOURCES))
+        return sum(it.stat().st_size for it in files)
+
+    def _texts_of_functions(self) -> dict[Function, str]:
+        texts = {}
+        for path in sorted(self.folder.glob("src/**/*.rt")):
+            text = path.read_text(encoding="utf-8")
+            file = path.relative_to(self.folder).as_posix()
+            lines = text.split("\n")
+            texts.update({it: it.text_in(lines) for it in functions_of(file, text)})
+        return texts
 
     def _words(self) -> list[str]:
         """The command that checks the crate."""
@@ -197,54 +165,132 @@ class Crate:
         words += ["--antt-project", str(kit() / "rattle" / "logic" / "antt-project.json")]
         return [*words, "--logic-built", str(kit() / "logic_built"), "--jobs", "1"]
 
-    def _only(self, bodies: list[WrongBody]) -> list[str]:
-        """The words that have a check look at the functions of wrong bodies alone: by the paths that
-        the first check told, or in it by those of modules. None where that cannot be said."""
-        if not all(body.functions for body in bodies):
-            return []
-        functions: set[Function] = set().union(*(body.functions for body in bodies))
-        paths = [[*it.told_in(self.said)] or [it.module()] for it in functions]
-        found = sorted(set(itertools.chain(*paths)))
-        return [word for path in found for word in ("--only", path)] if all(found) else []
-
     def _checked_in(
-        self, folder: pathlib.Path, kept: pathlib.Path, only: list[str]
+        self, folder: pathlib.Path, kept: pathlib.Path, paths: Iterable[str]
     ) -> tuple[int, list[str]]:
-        """Checks the text of the crate that a folder has, or some functions of it: the status, and
-        the lines that were said."""
+        """Checks the text of the crate that a folder has, or what some paths name of it: the status,
+        and the lines that were said."""
+        only = [word for path in sorted(set(paths)) for word in ("--only", path)]
         ran = said_by(folder, *self._words(), *only, "--incremental", str(kept))
         return ran.returncode, ran.stdout.split("\n")
+
+    def _paths(self, bodies: list[WrongBody]) -> list[str]:
+        """Those of the functions over which wrong bodies are tried, as an earlier check told them where
+        one did. None is the whole crate."""
+        functions: set[Function] = set().union(*(body.to_check() for body in bodies))
+        paths = [*itertools.chain(*([*it.told_in(self.said)] or [it.path()] for it in functions))]
+        return paths if all(paths) and all(body.to_check() for body in bodies) else []
 
     def wrong_body(self, edit: pathlib.Path) -> WrongBody:
         turns = turns_in(edit.read_text(encoding="utf-8"))
         functions: set[Function] = set()
+        naming: set[Function] = set()
+        is_in_functions = True
         for turn in turns:
             text = (self.folder / turn.file).read_text(encoding="utf-8")
             row = text.count("\n", 0, max(text.find(turn.old), 0))
-            of_it = [it for it in functions_of(turn.file, text) if it.first <= row < it.end]
-            if not of_it or not turn.file.startswith("src/"):
-                return WrongBody(edit.stem, turns, frozenset())
+            of_it = [it for it in self.texts if it.file == turn.file and it.first <= row < it.end]
             functions.update(of_it)
-        return WrongBody(edit.stem, turns, frozenset(functions))
+            if not of_it:
+                is_in_functions = False
+                naming |= self._naming(turn.file, text.split("\n")[: row + 1])
+        if is_in_functions:
+            return WrongBody(edit.stem, turns, frozenset(functions), frozenset())
+        return WrongBody(edit.stem, turns, frozenset(), frozenset(naming))
+
+    def _naming(self, file: str, lines: list[str]) -> set[Function]:
+        """The functions that name what these first lines of a file end in: an item of src/, or the
+        definitions of a file of specs/ that are brought into clauses."""
+        if file.startswith("src/"):
+            names = [match[1] for line in lines if (match := ITEM.match(line))][-1:]
+        else:
+            module = file.removeprefix("specs/").removesuffix(".antt").replace("/", ".")
+            brought = re.compile(rf"ghost use Rattle\.{self.name}\.specs\.{module}\.{{([^}}]*)}}")
+            files = {it.file for it in self.texts}
+            texts = [(self.folder / it).read_text(encoding="utf-8") for it in sorted(files)]
+            names = ", ".join(it for text in texts for it in brought.findall(text)).split(", ")
+        words = "|".join(re.escape(it) for it in names if it)
+        named = re.compile(rf"(?<!\w)(?:{words})(?!\w)")
+        owned = tuple(it for it in names if it)
+        return {
+            it
+            for it, text in self.texts.items()
+            if words and (named.search(text) or (it.owner or "").startswith(owned))
+        }
+
+    def begin(self, group: list[WrongBody], others: list[WrongBody]) -> tuple[int, list[str]]:
+        """Makes the first check, of a copy with the wrong bodies of a group, over the functions of the
+        others too: the status, and the lines that were said."""
+        every = [*group, *others]
+        with self._turned(group) as folder:
+            kept = self._copied(self.kept, folder.parent / "kept")
+            status, said = self._checked_in(folder, kept, self._paths(every))
+            if status == 2:  # A name fits more than one function.
+                modules = {it.module() for body in every for it in body.to_check()}
+                paths = modules if all(modules) else set()
+                status, said = self._checked_in(folder, kept, paths)
+            self._go_on_from(kept)
+        self.said = said
+        return status, said
 
     def check(self, bodies: list[WrongBody], is_whole: bool) -> tuple[int, list[str]]:
-        """Checks a copy of the crate with these wrong bodies, whole or the functions that they turn
-        alone: the status, and the lines that were said."""
-        texts = self._turned([turn for body in bodies for turn in body.turns])
+        """Checks a copy of the crate with these wrong bodies, whole or over their functions alone: the
+        status, and the lines that were said."""
+        start = self.keep() if is_whole else self.kept
+        with self._turned(bodies) as folder:
+            kept = self._copied(start, folder.parent / "kept")
+            paths = [] if is_whole else self._paths(bodies)
+            status, said = self._checked_in(folder, kept, paths)
+            if all(body.functions for body in bodies):
+                # It may have proved functions that the check before it had turned.
+                self._go_on_from(kept)
+            return status, said
+
+    def keep(self) -> pathlib.Path:
+        """Checks the whole crate as it stands, once: what that kept."""
+        with self.is_keeping:
+            if not self.whole.exists():
+                kept = self._copied(self.kept, self.room / "as-it-stands")
+                status, said = self._checked_in(self.folder, kept, [])
+                if status:
+                    print("\n".join(said))
+                    raise SystemExit(f"{self.name} is not proved as it stands.")
+                kept.rename(self.whole)
+                self.said = self.said or said
+        return self.whole
+
+    def leave(self) -> None:
+        """Leaves what the latest check kept to the commands of the toolchain, and to the next run."""
+        if self.kept != self.place and self.kept.exists():
+            self.place.parent.mkdir(exist_ok=True)
+            made = self._copied(self.kept, self.place.with_name(f"{self.place.name}-{os.getpid()}"))
+            shutil.rmtree(self.place, ignore_errors=True)
+            made.rename(self.place)
+
+    def _go_on_from(self, kept: pathlib.Path) -> None:
+        """Has the next check begin with what one kept, if it kept something."""
+        if kept.exists():
+            self.kept = kept.rename(self.room / f"kept-by-{kept.parent.name}")
+
+    @staticmethod
+    def _copied(start: pathlib.Path, kept: pathlib.Path) -> pathlib.Path:
+        """A copy of what a check kept, if it is there."""
+        if start.exists():
+            shutil.copytree(start, kept, copy_function=linked)
+        return kept
+
+    @contextlib.contextmanager
+    def _turned(self, bodies: list[WrongBody]) -> Iterator[pathlib.Path]:
+        """A copy of the crate with these wrong bodies."""
+        texts = self._texts_with([turn for body in bodies for turn in body.turns])
         with tempfile.TemporaryDirectory(dir=self.room) as place:
-            folder, kept = pathlib.Path(place) / "turned", pathlib.Path(place) / "kept"
+            folder = pathlib.Path(place) / "turned"
             copy_parts(self.folder, folder)
             for file, text in texts.items():
                 (folder / file).write_text(text, encoding="utf-8")
-            if self.said:
-                shutil.copytree(self.kept, kept, copy_function=linked)
-            status, said = self._checked_in(folder, kept, [] if is_whole else self._only(bodies))
-            if not self.said and kept.exists():
-                kept.rename(self.kept)
-                self.said = said
-            return status, said
+            yield folder
 
-    def _turned(self, turns: list[Turn]) -> dict[str, str]:
+    def _texts_with(self, turns: list[Turn]) -> dict[str, str]:
         texts: dict[str, str] = {}
         for turn in turns:
             text = texts.get(turn.file) or (self.folder / turn.file).read_text(encoding="utf-8")
@@ -267,11 +313,13 @@ def copy_parts(start: pathlib.Path, folder: pathlib.Path) -> None:
 
 
 def linked(one: str, other: str) -> None:
-    """Copies a file of what a check kept: what was proved by a link, as a check replaces such a file."""
+    """Copies a file of what a check kept: what was proved by a link, as a check replaces such a file,
+    where one can be made."""
     if one.endswith(".oantt"):
-        os.link(one, other)
-    else:
-        shutil.copy2(one, other)
+        with contextlib.suppress(OSError):
+            os.link(one, other)
+            return
+    shutil.copy2(one, other)
 
 
 def unread_in(said: list[str]) -> str | None:
@@ -291,9 +339,9 @@ def is_not_proved(status: int, said: list[str]) -> bool:
     return status == 1 and is_told and not unread_in(said)
 
 
-def groups_of(bodies: list[WrongBody]) -> list[list[WrongBody]]:
+def groups_of(bodies: list[WrongBody]) -> list[Group]:
     """The same in groups: no two of one turn the same function."""
-    groups: list[tuple[set[Function], list[WrongBody]]] = []
+    groups: list[tuple[set[Function], Group]] = []
     for body in sorted(bodies, key=lambda it: not it.functions):
         open_to_it = (it for it in groups if it[0] and not it[0] & body.functions)
         group = next(open_to_it, None) if body.functions else None
@@ -307,10 +355,10 @@ def groups_of(bodies: list[WrongBody]) -> list[list[WrongBody]]:
 
 def refusal_alone(crate: Crate, body: WrongBody) -> str:
     """How a wrong body is refused that is tried by itself."""
-    status, said = crate.check([body], is_whole=False)
-    if body.functions and not is_not_proved(status, said):
+    status, said = crate.check([body], is_whole=not body.to_check())
+    if body.to_check() and not is_not_proved(status, said):
         status, said = crate.check([body], is_whole=True)
-    told = next((line for line in said if PLACE.match(line)), "")
+    told = next((line for line in said if is_fault(line)), "")
     if is_not_proved(status, said):
         return told
     if status == 3 and any(LIMIT.search(line) for line in said):
@@ -318,43 +366,49 @@ def refusal_alone(crate: Crate, body: WrongBody) -> str:
     raise BadEdit("NOT REFUSED" if status == 0 else unread_in(said) or f"status {status}")
 
 
-def refusals_together(crate: Crate, group: list[WrongBody]) -> dict[WrongBody, str] | None:
-    """Which of a group one check refuses, and how; or nothing, where it does not tell."""
-    try:
-        status, said = crate.check(group, is_whole=False)
-    except BadEdit:
-        return None
+def refusals_told(group: Group, status: int, said: list[str]) -> dict[WrongBody, str]:
+    """Which of a group a check of all of it refuses, and how; none where it does not tell."""
     if not is_not_proved(status, said):
-        return None
+        return {}
     # A function that is proved all the same may have no contract, and others may fail for it.
     if any(it.is_proved_in(said) for body in group for it in body.functions):
-        return None
+        return {}
     told = {body: [it.fails_in(said) for it in body.functions] for body in group}
     return {body: next(filter(None, lines)) for body, lines in told.items() if any(lines)}
 
 
-def try_group(crate: Crate, group: list[WrongBody]) -> int:
-    """Tries a group, prints a line for each of it, and tells how many were refused."""
+def tell(crate: Crate, body: WrongBody, line: str) -> None:
+    print(f"{crate.name}/{body.name}: refused, as it must be: {line[:160]}", flush=True)
+
+
+def left_of(crate: Crate, group: Group, refused: dict[WrongBody, str]) -> Tried:
+    """Tells those of a group that one check refused, and what it leaves."""
+    for body, line in refused.items():
+        tell(crate, body, line)
+    left = [body for body in group if body not in refused]
+    half = 0 if refused else len(left) // 2
+    return len(refused), [it for it in (left[:half], left[half:]) if it]
+
+
+def try_group(crate: Crate, group: Group) -> Tried:
+    """Tries a group by one check."""
     if len(group) == 1:
         return try_alone(crate, group[0])
-    refused = refusals_together(crate, group)
-    if not refused:
-        half = len(group) // 2
-        return try_group(crate, group[:half]) + try_group(crate, group[half:])
-    for body, line in refused.items():
-        print(f"{crate.name}/{body.name}: refused, as it must be: {line[:160]}", flush=True)
-    left = [body for body in group if body not in refused]
-    return len(refused) + (try_group(crate, left) if left else 0)
+    try:
+        refused = refusals_told(group, *crate.check(group, is_whole=False))
+    except BadEdit:
+        refused = {}
+    return left_of(crate, group, refused)
 
 
-def try_alone(crate: Crate, body: WrongBody) -> int:
+def try_alone(crate: Crate, body: WrongBody) -> Tried:
     try:
         line = refusal_alone(crate, body)
     except BadEdit as why:
         print(f"{crate.name}/{body.name}: NOT REFUSED OR BAD: {why}", flush=True)
-        return 0
-    print(f"{crate.name}/{body.name}: refused, as it must be: {line[:160]}", flush=True)
-    return 1
+        return 0, []
+    tell(crate, body, line)
+    return 1, []
 
 
 def name_in(line: str) -> str:
@@ -410,12 +464,34 @@ def parsed() -> argparse.Namespace:
     return parser.parse_args()
 
 
-def begin(crate: Crate, groups: list[list[WrongBody]]) -> tuple[int, list[list[WrongBody]]]:
-    """Makes the first check of a crate: how many wrong bodies were refused, and what is left."""
-    if not all(group[0].functions for group in groups):
-        crate.keep()
+def begin(crate: Crate, groups: list[Group]) -> Tried:
+    """Makes the first check of a crate: of its first group, where that turns functions and all wrong
+    bodies have functions over which they are tried, and else of the crate as it stands."""
+    first, *others = groups
+    has_functions = all(body.to_check() for group in groups for body in group)
+    if not has_functions or not first[0].functions:
+        crate.kept = crate.keep()
         return 0, groups
-    return try_group(crate, groups[0]), groups[1:]
+    try:
+        refused = refusals_told(first, *crate.begin(first, [*itertools.chain(*others)]))
+    except BadEdit:
+        return 0, groups
+    refused_now, left = left_of(crate, first, refused)
+    return refused_now, [*left, *others]
+
+
+def try_crate(crate: Crate, groups: list[Group]) -> Tried:
+    """Tries the groups of a crate that turn functions one after another, as each check goes on from the
+    one before. What turns constants and definitions is left."""
+    refused, left = begin(crate, groups)
+    others = [group for group in left if not group[0].functions]
+    left = [group for group in left if group[0].functions]
+    while left:
+        refused_now, parts = try_group(crate, left.pop(0))
+        refused += refused_now
+        left = [*parts, *left]
+    crate.leave()
+    return refused, others
 
 
 def tried(folder: pathlib.Path, names: list[str], jobs: int) -> int:
@@ -423,19 +499,20 @@ def tried(folder: pathlib.Path, names: list[str], jobs: int) -> int:
     proved = folder / "proved"
     lay(proved, with_below(names))
     prove(proved)
-    groups = {
-        crate: groups_of([crate.wrong_body(it) for it in edits_of(crate.name)])
-        for crate in (Crate(proved, name, folder) for name in names)
-    }
+    crates = [Crate(proved, name, folder) for name in names]
+    groups = {it: groups_of([it.wrong_body(edit) for edit in edits_of(it.name)]) for it in crates}
+    refused = 0
     with concurrent.futures.ThreadPoolExecutor(jobs) as pool:
-        begun = {pool.submit(begin, crate, found): crate for crate, found in groups.items()}
-        trials = [
-            pool.submit(try_group, begun[ready], group)
-            for ready in concurrent.futures.as_completed(begun)
-            for group in ready.result()[1]
-        ]
-        refused = sum(ready.result()[0] for ready in begun)
-        return refused + sum(trial.result() for trial in trials)
+        # Those with most to check are begun first, so that none is left alone at the end.
+        crates.sort(key=lambda it: it.size() * len(groups[it]), reverse=True)
+        running = {pool.submit(try_crate, it, groups[it]): it for it in crates}
+        while running:
+            ready = next(concurrent.futures.as_completed(running))
+            crate = running.pop(ready)
+            refused_now, left = ready.result()
+            refused += refused_now
+            running.update({pool.submit(try_group, crate, group): crate for group in left})
+    return refused
 
 
 def main() -> int:
