@@ -199,8 +199,8 @@ class Crate:
         return WrongBody(edit.stem, turns, frozenset(), frozenset(naming))
 
     def _naming(self, file: str, lines: list[str]) -> set[Function]:
-        """The functions that name what these first lines of a file end in: an item of src/, or the
-        definitions of a file of specs/ that are brought into clauses."""
+        """The functions that name, or belong to, what these first lines of a file end in: an item of
+        src/, or the definitions of a file of specs/ that are brought into clauses."""
         if file.startswith("src/"):
             names = [match[1] for line in lines if (match := ITEM.match(line))][-1:]
         else:
@@ -208,14 +208,14 @@ class Crate:
             brought = re.compile(rf"ghost use Rattle\.{self.name}\.specs\.{module}\.{{([^}}]*)}}")
             files = {it.file for it in self.texts}
             texts = [(self.folder / it).read_text(encoding="utf-8") for it in sorted(files)]
-            names = ", ".join(it for text in texts for it in brought.findall(text)).split(", ")
-        words = "|".join(re.escape(it) for it in names if it)
-        named = re.compile(rf"(?<!\w)(?:{words})(?!\w)")
-        owned = tuple(it for it in names if it)
+            names = [it for text in texts for row in brought.findall(text) for it in row.split(", ")]
+        if not names:
+            return set()
+        named = re.compile(rf"(?<!\w)(?:{'|'.join(map(re.escape, names))})(?!\w)")
         return {
             it
             for it, text in self.texts.items()
-            if words and (named.search(text) or (it.owner or "").startswith(owned))
+            if named.search(text) or (it.owner or "").startswith(tuple(names))
         }
 
     def begin(self, group: list[WrongBody], others: list[WrongBody]) -> tuple[int, list[str]]:
