@@ -146,7 +146,7 @@ def main(words: list[str]) -> int:
         write("wrong_bodies", {**where, "refused": int(words[1]), "tried": int(words[2])})
         return 0
     kept: dict[tuple[str, ...], tuple[str, list[str]]]
-    kept = {(): ("gate", ["sh", ".ci/run"]), ("--proofs",): ("proofs", ["rt", "ci"])}
+    kept = {(): ("gate", ["sh", ".ci/run"]), ("--proofs",): ("proofs", ["sh", "tools/lib/rt_ci.sh"])}
     key, command = kept.get(tuple(words), ("", words))
     lines, status, minutes, uses = run(command)
     told = figures(lines, minutes, uses)

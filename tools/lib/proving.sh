@@ -1,6 +1,6 @@
 # What the scripts share that prove crates in a copy, build.sh and library.sh. They read it by `.`
-# in the repository's folder, and set `crates`, the crates to be proved, `total`, their number, and
-# `log`, a file.
+# in the repository's folder, and set `crates`, the crates to be proved, `total`, their number, `log`,
+# a file, and `top`, that folder.
 # shellcheck shell=sh disable=SC2154 # the names above
 
 # copy_crates FOLDER: copies these crates to a folder, without the wrong bodies, which only the gate
@@ -33,5 +33,5 @@ tell() {
 # Proves the crates in this folder, side by side where they do not stand on each other. What it
 # leaves says whether it could.
 prove_all() {
-    git init --quiet && rt ci </dev/null 2>&1 | tell
+    git init --quiet && sh "$top/tools/lib/rt_ci.sh" </dev/null 2>&1 | tell
 }

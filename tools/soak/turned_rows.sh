@@ -61,7 +61,7 @@ turn() {
 
 # prove CRATE..: `rt ci` of these crates in the copy, whose words are in the log.
 prove() {
-    (cd "$room/copy" && rt ci "$@") >"$room/log" 2>&1
+    (cd "$room/copy" && sh "$top/tools/lib/rt_ci.sh" "$@") >"$room/log" 2>&1
 }
 
 # law_at CRATE FILE LINE: the law in which a line of a proof stands.

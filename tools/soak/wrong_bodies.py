@@ -448,7 +448,7 @@ def lay(room: pathlib.Path, names: list[str]) -> None:
 
 def prove(room: pathlib.Path) -> None:
     """Proves all crates of a repository. What `rt ci` proved on this machine before is taken from there."""
-    ran = said_by(room, "rt", "ci")
+    ran = said_by(room, "sh", str(TOP / "tools" / "lib" / "rt_ci.sh"))
     if ran.returncode:
         print(ran.stdout)
         raise SystemExit("A crate is not proved as it stands, so no wrong body says anything.")
