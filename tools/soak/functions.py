@@ -95,8 +95,9 @@ def owner_of(lines: list[str], at: int) -> str | None:
     """The type or the trait in whose block the function of a line stands, as the prover writes it."""
     if not lines[at].startswith(" "):
         return ""
-    first = next((it for it in range(at, -1, -1) if BLOCK.match(lines[it])), None)
-    match = HEAD.match(without_parameters(" ".join(lines[first:at]))) if first is not None else None
+    first = next((it for it in range(at, -1, -1) if BLOCK.match(lines[it])), at)
+    head, _, _ = " ".join(lines[first:at]).partition("{")
+    match = HEAD.match(without_parameters(head))
     if not match:
         return None
     trait, arguments = match["trait"] or "", match["arguments"] or ""

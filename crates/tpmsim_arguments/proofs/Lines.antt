@@ -8,7 +8,7 @@ use Rattle.clap.proofs.OnLiterals.{clap_on_literals}
 use Rattle.tpm_text.specs.Number.{decimal_of, locality_of}
 use Rattle.tpmsim_arguments.specs.Answers.{AreTaken}
 use Rattle.tpmsim_arguments.specs.Invocation.{Invocation, Kept, asked_by, assemble, check, cycle_power, forms, in_image, in_state, name_code, retell, run, serve, spell}
-use Rattle.tpmsim_arguments.specs.Lines.{AskFor, AskForDevice, AskForSavedDevice, AskForService, IsScript, asm_line, begins_with_hyphen, check_line, code_line, form_line, forms_line, kept_line, line_line, logging_line, played_line, power_line, run_line, joined_line, saving_line, script_line, state_line, trace_line}
+use Rattle.tpmsim_arguments.specs.Lines.{AskFor, AskForDevice, AskForSavedDevice, AskForService, IsScript, asm_line, begins_with_hyphen, check_line, code_line, form_line, forms_line, line_line, logging_line, played_line, power_line, joined_line, saving_line, script_line, state_line}
 
 -- a word that begins with no hyphen is not the name of an argument
 no_hyphen : (word : Text) → begins_with_hyphen word ≡ false → strip_byte 45 word ≡ None
@@ -45,16 +45,6 @@ pub code_is_named : (name digits : Text) → begins_with_hyphen digits ≡ false
 unfolding clap_on_literals
 code_is_named name digits e = rw (no_end digits e, no_long digits e, no_short digits e) (refl, refl)
 
-pub script_is_run : (name script : Text) → IsScript script → AskFor (run_line name script) (run script false None)
-unfolding clap_on_literals
-script_is_run name script (inl e) = rw (no_end script e, no_long script e, no_short script e) (refl, refl)
-script_is_run name script (inr e) = rw e (refl, refl)
-
-pub script_is_traced : (name script : Text) → IsScript script → AskFor (trace_line name script) (run script true None)
-unfolding clap_on_literals
-script_is_traced name script (inl e) = rw (no_end script e, no_long script e, no_short script e) (refl, refl)
-script_is_traced name script (inr e) = rw e (refl, refl)
-
 pub script_is_checked : (name script : Text) → IsScript script → AskFor (check_line name script) (check script)
 unfolding clap_on_literals
 script_is_checked name script (inl e) = rw (no_end script e, no_long script e, no_short script e) (refl, refl)
@@ -71,12 +61,6 @@ script_is_retold name state e = rw (no_end state e, no_long state e, no_short st
 pub state_is_played : (name state : Text) → AskFor (played_line name state) (run (codes "-") false (Some (record { place = in_state state; entropy = None })))
 unfolding clap_on_literals
 state_is_played name state = (refl, refl)
-
-pub device_is_kept : (name image entropy script : Text) → IsScript script
-    → AskFor (kept_line name image entropy script) (run script true (Some (record { place = in_image image; entropy = Some entropy })))
-unfolding clap_on_literals
-device_is_kept name image entropy script (inl e) = rw (no_end script e, no_long script e, no_short script e) (refl, refl)
-device_is_kept name image entropy script (inr e) = rw e (refl, refl)
 
 locality_is : (number : ℕ) → number ≤ 4 → locality_of number ≡ Some number
 locality_is number small = rw (le-leb number 4 small) refl

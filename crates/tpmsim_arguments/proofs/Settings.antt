@@ -39,12 +39,12 @@ value_turn : (s : Shape) (rows : List Row) (id word : Text) → begins_with_hyph
     → turn_fault s [] (walk_at rows id [] (option id)) word ≡ []
 value_turn s rows id word e = rw (no_end word e, no_long word e, no_short word e) refl
 
-step : (s : Shape) (names : Names) (w v : Walk) (word : Text) (rest : List Text) → turn_fault s names w word ≡ []
+pub step : (s : Shape) (names : Names) (w v : Walk) (word : Text) (rest : List Text) → turn_fault s names w word ≡ []
     → walked s.rules names w word ≡ v → walk_fault s names w (word ∷ rest) ≡ walk_fault s names v rest
 unfolding walk_fault
 step s names w v word rest t e = rw (t, e) refl
 
-level : (s : Shape) (names : Names) (words : List Text) (sub : Bool) (below : Kinds) (w : Walk)
+pub level : (s : Shape) (names : Names) (words : List Text) (sub : Bool) (below : Kinds) (w : Walk)
     → walk_fault s names (walk_from nothing_held) words ≡ [] → walk s.rules names nothing_held words ≡ w → below ≡ []
     → or_else (settle_fault s.rules s.args_override_self w.held) (or_else (defaults_fault (settled s.rules w.held).rows s.rules) (check_fault s (finished s.rules w.held) sub)) ≡ []
     → level_fault s names nothing_held words sub below ≡ []
@@ -53,7 +53,7 @@ level s names words sub below w f e b r = rw (f, e, b) r
 -- ---- the words before the settings
 
 -- a walk that has met a subcommand keeps the words after it
-abbrev stopped_at : Text → List Text → Walk
+abbrev pub stopped_at : Text → List Text → Walk
 stopped_at name words = record (walk_from nothing_held) { stopped = Some (name, words) }
 
 one : (c : List Rule) (names : Names) (name : Text) (words : List Text) (word : Text)
@@ -61,27 +61,27 @@ one : (c : List Rule) (names : Names) (name : Text) (words : List Text) (word : 
 unfolding walked
 one c names name words word = refl
 
-none : (s : Shape) (names : Names) (w : Walk) → walk_fault s names w [] ≡ []
+pub none : (s : Shape) (names : Names) (w : Walk) → walk_fault s names w [] ≡ []
 unfolding walk_fault
 none s names w = refl
 
-stopped_walk : (c : List Rule) (names : Names) (name : Text) (words rest : List Text)
+pub stopped_walk : (c : List Rule) (names : Names) (name : Text) (words rest : List Text)
     → fold (walked c names) (stopped_at name words) rest ≡ stopped_at name (words ++ rest)
 stopped_walk c names name words [] = ap (stopped_at name) (sym (append-nil words))
 stopped_walk c names name words (word ∷ rest) =
     ap (λ w. fold (walked c names) w rest) (one c names name words word) ∙ stopped_walk c names name (words ++ word ∷ []) rest
     ∙ ap (stopped_at name) (append_assoc words (word ∷ []) rest)
 
-stopped_fault : (s : Shape) (names : Names) (name : Text) (words rest : List Text) → walk_fault s names (stopped_at name words) rest ≡ []
+pub stopped_fault : (s : Shape) (names : Names) (name : Text) (words rest : List Text) → walk_fault s names (stopped_at name words) rest ≡ []
 stopped_fault s names name words [] = none s names (stopped_at name words)
 stopped_fault s names name words (word ∷ rest) =
     step s names (stopped_at name words) (stopped_at name (words ++ word ∷ [])) word rest refl (one s.rules names name words word)
     ∙ stopped_fault s names name (words ++ word ∷ []) rest
 
-abbrev top : Shape
+abbrev pub top : Shape
 top = (built program).top
 
-abbrev top_names : Names
+abbrev pub top_names : Names
 top_names = names_of (built program)
 
 abbrev serve_shape : Shape
@@ -122,7 +122,7 @@ rows₄ s i e l = rows₃ s i e ++ row (codes "locality") l ∷ []
 abbrev W : Walk → Text → Walk
 W = walked serve_shape.rules []
 
-abbrev begun : Walk
+abbrev pub begun : Walk
 begun = walk_from nothing_held
 
 named₁ : W begun (codes "--socket") ≡ walk_at [] (codes "socket") [] (option (codes "socket"))
@@ -227,7 +227,7 @@ end_fault s i e l n = refl
 below_is : (s i e l n : Text) → Plain s i e l n → entered_fault (built program) (Some (codes "serve", words s i e l n)) ≡ []
 below_is s i e l n p = level serve_shape [] (words s i e l n) false [] (ended s i e l n) (faultless s i e l n p) (walk_is s i e l n p) refl (end_fault s i e l n)
 
-top_end : or_else (settle_fault top.rules top.args_override_self nothing_held)
+pub top_end : or_else (settle_fault top.rules top.args_override_self nothing_held)
     (or_else (defaults_fault (settled top.rules nothing_held).rows top.rules)
     (check_fault top (finished top.rules nothing_held) true)) ≡ []
 unfolding clap_on_literals
