@@ -51,6 +51,7 @@ fn add_answer<K: Keep>(
     Ok(())
 }
 
+#[derive(Drop)]
 struct TwoInTurn;
 
 impl Trial for TwoInTurn {
@@ -72,7 +73,7 @@ impl Trial for TwoInTurn {
 
 #[test]
 fn two_connections_are_fed_a_byte_in_turn(rt: HostRuntime) -> Result<(), Fail> {
-    run_over_both::<TwoInTurn, HostRuntime>(&rt, rt.alloc())
+    run_over_both(TwoInTurn, &rt, rt.alloc())
 }
 
 /// Whether a turn of a connection gives its end.
@@ -93,6 +94,7 @@ fn end_by<K: Keep, R: Abort>(rt: &R, mux: &mut Mux<K>, size: [u8; 4]) -> Result<
     Ok(())
 }
 
+#[derive(Drop)]
 struct WrongSizes;
 
 impl Trial for WrongSizes {
@@ -107,7 +109,7 @@ impl Trial for WrongSizes {
 
 #[test]
 fn a_size_that_no_command_has_ends_a_connection(rt: HostRuntime) -> Result<(), Fail> {
-    run_over_both::<WrongSizes, HostRuntime>(&rt, rt.alloc())
+    run_over_both(WrongSizes, &rt, rt.alloc())
 }
 
 /// Serves a connection on which nothing comes.
@@ -117,6 +119,7 @@ fn serve_nothing<K: Keep>(alloc: Global, mux: &mut Mux<K>) -> Result<u64, ServeF
     serve(mux, &mut reader, &mut writer, &mut || Ok(host()))
 }
 
+#[derive(Drop)]
 struct NinthConnection;
 
 impl Trial for NinthConnection {
@@ -137,9 +140,10 @@ impl Trial for NinthConnection {
 
 #[test]
 fn a_ninth_connection_is_refused(rt: HostRuntime) -> Result<(), Fail> {
-    run_over_both::<NinthConnection, HostRuntime>(&rt, rt.alloc())
+    run_over_both(NinthConnection, &rt, rt.alloc())
 }
 
+#[derive(Drop)]
 struct PowerCycle;
 
 impl Trial for PowerCycle {
@@ -157,5 +161,5 @@ impl Trial for PowerCycle {
 
 #[test]
 fn a_power_cycle_keeps_bytes(rt: HostRuntime) -> Result<(), Fail> {
-    run_over_both::<PowerCycle, HostRuntime>(&rt, rt.alloc())
+    run_over_both(PowerCycle, &rt, rt.alloc())
 }

@@ -26,6 +26,7 @@ fn set(fixed: &mut Fixed) {
     fixed.reset_count = u32::MAX;
 }
 
+#[derive(Drop)]
 struct CountersAtTheirEnds;
 
 impl Trial for CountersAtTheirEnds {
@@ -44,5 +45,5 @@ impl Trial for CountersAtTheirEnds {
 
 #[test]
 fn counters_stop_at_their_ends(rt: HostRuntime) -> Result<(), Fail> {
-    run_over_both::<CountersAtTheirEnds, HostRuntime>(&rt, rt.alloc())
+    run_over_both(CountersAtTheirEnds, &rt, rt.alloc())
 }

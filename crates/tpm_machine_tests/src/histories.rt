@@ -152,6 +152,7 @@ fn measure<K: Keep, R: Abort>(
     Ok(())
 }
 
+#[derive(Drop)]
 struct AllOrders;
 
 impl Trial for AllOrders {
@@ -164,5 +165,5 @@ impl Trial for AllOrders {
 
 #[test]
 fn a_read_is_the_fold_of_what_three_connections_measured(rt: HostRuntime) -> Result<(), Fail> {
-    run_over_both::<AllOrders, HostRuntime>(&rt, rt.alloc())
+    run_over_both(AllOrders, &rt, rt.alloc())
 }

@@ -3,7 +3,8 @@
 use std::alloc::Global;
 use std::process::Abort;
 use std::test::Fail;
-use tpm_record::{Keep, ListKeep};
+use tpm_lists::{Task, run_over_lists};
+use tpm_record::Keep;
 use tpm_slots::SlotKeep;
 
 /// What a test does with any type that implements `Keep`.
@@ -11,9 +12,28 @@ pub trait Trial {
     fn run<K: Keep, R: Abort>(rt: &R, alloc: Global) -> Result<(), Fail>;
 }
 
-/// Runs a trial with the state in lists, and with the state in fixed places. No other function here
-/// names a type that implements `Keep`: a function that does is slow to prove, whatever it does.
-pub fn run_over_both<T: Trial, R: Abort>(rt: &R, alloc: Global) -> Result<(), Fail> {
-    T::run::<ListKeep, R>(rt, alloc)?;
-    T::run::<SlotKeep, R>(rt, alloc)
+/// A trial, and what it is given.
+#[derive(Drop)]
+struct Given<'a, T, R> {
+    trial: T,
+    rt: &'a R,
+    alloc: Global,
+}
+
+impl<T: Trial + Drop, R: Abort> Task<Fail> for Given<'_, T, R> {
+    ghost may_give = { λ _ _. Unit {0} };
+
+    fn run<K: Keep>(self) -> Result<(), Fail> {
+        T::run::<K, R>(self.rt, self.alloc)
+    }
+}
+
+/// Runs a trial with the state in fixed places, and with the state in lists.
+pub fn run_over_both<T: Trial + Drop, R: Abort>(
+    trial: T,
+    rt: &R,
+    alloc: Global,
+) -> Result<(), Fail> {
+    T::run::<SlotKeep, R>(rt, alloc)?;
+    run_over_lists(Given { trial, rt, alloc })
 }

@@ -56,6 +56,7 @@ fn row(code: u32, check: u8) -> Row {
     Row { code, check }
 }
 
+#[derive(Drop)]
 struct RunOfThree;
 
 impl Trial for RunOfThree {
@@ -72,5 +73,5 @@ impl Trial for RunOfThree {
 
 #[test]
 fn a_run_tells_each_outcome_once(rt: HostRuntime) -> Result<(), Fail> {
-    run_over_both::<RunOfThree, HostRuntime>(&rt, rt.alloc())
+    run_over_both(RunOfThree, &rt, rt.alloc())
 }

@@ -15,8 +15,9 @@ use std::process::ExitCode;
 use std::{env, fs};
 use tpm_bytes::Tap;
 use tpm_image::{open, save};
+use tpm_lists::{Task, run_over_lists};
 use tpm_machine::Machine;
-use tpm_record::{Keep, ListKeep};
+use tpm_record::Keep;
 use tpm_step::Event;
 use tpm_text::{assemble, trace_line, traceable_laws};
 use tpm_types::Locality;
@@ -32,11 +33,26 @@ fn main(rt: HostRuntime) -> ExitCode {
     }
 }
 
-/// Does what the command line says, with the state in lists. No other function here names the type
-/// of the state: a function that does is slow to prove, whatever it does.
+/// Does what the command line says, with the state in lists.
 fn try_main(rt: &HostRuntime) -> Result<(), Fault> {
     let words: Vec<String> = env::args(rt)?.collect(rt.alloc())?;
-    perform::<ListKeep>(rt, words.as_slice())
+    let words = words.as_slice();
+    run_over_lists(CommandLine { rt, words })
+}
+
+/// The words of the command line, and what the host gives.
+#[derive(Drop)]
+struct CommandLine<'a> {
+    rt: &'a HostRuntime,
+    words: &'a [String],
+}
+
+impl Task<Fault> for CommandLine<'_> {
+    ghost may_give = { λ _ _. Unit {0} };
+
+    fn run<K: Keep>(self) -> Result<(), Fault> {
+        perform::<K>(self.rt, self.words)
+    }
 }
 
 /// Does what the words of the command line say.
