@@ -18,8 +18,8 @@ use Rattle.tpmsim_arguments.specs.declared.fault.ArgumentFault.TheVariants as wo
 use Rattle.tpmsim_folder.specs.Fault.{is_of_contents, kept_fault_text}
 use Rattle.tpmsim_image.specs.declared.fault.DeviceFault.{DeviceFault}
 use Rattle.tpmsim_image.specs.declared.fault.DeviceFault.TheVariants as device
-use Rattle.tpmsim_kept.specs.declared.stop.PlayFault.{PlayFault}
-use Rattle.tpmsim_kept.specs.declared.stop.PlayFault.TheVariants as play
+use Rattle.tpmsim.specs.declared.kept.stop.PlayFault.{PlayFault}
+use Rattle.tpmsim.specs.declared.kept.stop.PlayFault.TheVariants as play
 use Rattle.tpmsim_script.specs.declared.fault.ScriptFault.{ScriptFault}
 use Rattle.tpmsim_script.specs.declared.fault.ScriptFault.TheVariants.{Line, Read, TooManyLines, Write, Save, NoMemory}
 

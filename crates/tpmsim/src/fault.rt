@@ -3,6 +3,7 @@
 ghost use Rattle.std.specs.Prelude.{◌≡◌, if◌then◌else◌};
 ghost use Rattle.tpmsim_folder.specs.Fault.{is_of_contents};
 
+use crate::kept::PlayFault;
 use std::alloc::AllocError;
 use std::io::ErrorKind;
 use std::{fmt, io};
@@ -13,7 +14,6 @@ use tpm_text::AsmFault;
 use tpmsim_arguments::ArgumentFault;
 use tpmsim_folder::KeptFault;
 use tpmsim_image::DeviceFault;
-use tpmsim_kept::PlayFault;
 use tpmsim_script::ScriptFault;
 
 /// Why the program failed. The fault prints as the line on standard error says it.

@@ -1,93 +1,26 @@
-//! What the program does with a device that is kept in a folder.
+//! A device that is kept in a folder: its journal has the device as its power came on, and each
+//! command that was answered since. Opening the device executes the journal again. A command's
+//! entry is in the file before its response goes out, so that no answered command is lost with a
+//! process.
+//!
+//! [`Kept`] is a kept device. Several processes may hold one at once: each locks the folder for a
+//! command, executes the others' new entries, and then its own command. [`playing`] plays a script
+//! on it, and [`serving`] serves it on a connection. Its parts are a device with its journal in
+//! memory ([`device`]), for which contracts say what tpm_journal says, and the journal's file
+//! ([`journal_file`], [`beginning`]). The folder, its lock and what faults say of it are in
+//! tpmsim_folder; no contract can say what a file holds.
 
-use crate::fault::Fault;
-use std::fs;
-use std::io::Read;
-use tpm_bytes::Tap;
-use tpm_machine::Machine;
-use tpm_slots::SlotKeep;
-use tpm_step::Outcome;
-use tpmsim_folder::{Force, Place, Said};
-use tpmsim_image::Entropy;
-use tpmsim_journal_script::{RetellFault, retell};
-use tpmsim_kept::said::said_of_opening;
-use tpmsim_kept::{Kept, play};
-use tpmsim_script::first_bytes;
+mod beginning;
+mod device;
+mod folder;
+mod journal_file;
+mod playing;
+mod said;
+mod serving;
+mod stop;
 
-/// Takes power away from the device in a folder, and gives it back.
-pub fn cycle_power(rt: &HostRuntime, folder: &str) -> Result<(), Fault> {
-    open_there(rt, folder)?.cycle_power()?;
-    Ok(())
-}
-
-/// Prints what happened to the device in a folder since its power came on, as a script.
-pub fn print_script(rt: &HostRuntime, folder: &str) -> Result<(), Fault> {
-    let text = open_there(rt, folder)?.text()?;
-    let mut machine: Machine<SlotKeep> = Machine::manufacture(rt.alloc(), &[0; 256])?;
-    let mut outcome = Outcome::empty();
-    let output = &mut Tap::new(rt.stdout());
-    match retell(&mut machine, text.as_slice(), &mut outcome, output) {
-        Ok(()) => Ok(()),
-        Err(RetellFault::Open(fault)) => {
-            Err(Fault::Kept(Place::Journal.that(said_of_opening(fault))))
-        }
-        Err(RetellFault::Write) => Err(Fault::File),
-    }
-}
-
-/// Plays a script, from a file or from standard input, on the device in a folder.
-pub fn play_script(
-    rt: &HostRuntime,
-    script: &str,
-    trace: bool,
-    folder: &str,
-    entropy: Option<&str>,
-) -> Result<(), Fault> {
-    if script == "-" {
-        return play_text(rt, rt.stdin(), trace, folder, entropy);
-    }
-    let file = Fault::File.unless(fs::open(rt, script))?;
-    play_text(rt, file, trace, folder, entropy)
-}
-
-/// Plays the script that a reader gives on the device in a folder. Where none is there a new one
-/// begins, manufactured with the first random bytes of a file, or else with the bytes 00 to ff.
-fn play_text<R: Read + Drop>(
-    rt: &HostRuntime,
-    reader: R,
-    trace: bool,
-    folder: &str,
-    entropy: Option<&str>,
-) -> Result<(), Fault> {
-    let mut kept = Kept::at(rt, folder, true, Force::Power)?;
-    if !kept.is_there()? {
-        kept.manufacture(&random_of(rt, entropy)?)?;
-    }
-    play(
-        rt.alloc(),
-        &mut kept,
-        &mut Tap::new(reader),
-        &mut Tap::new(rt.stdout()),
-        trace,
-    )?;
-    Ok(())
-}
-
-/// The device in a folder, which has to be there.
-fn open_there<'a>(rt: &'a HostRuntime, folder: &str) -> Result<Kept<'a>, Fault> {
-    let kept = Kept::at(rt, folder, false, Force::Power)?;
-    if kept.is_there()? {
-        Ok(kept)
-    } else {
-        Err(Fault::Kept(Place::Journal.that(Said::IsNotThere)))
-    }
-}
-
-/// The random bytes of a new device.
-fn random_of(rt: &HostRuntime, entropy: Option<&str>) -> Result<[u8; 256], Fault> {
-    let Some(path) = entropy else {
-        return Ok(first_bytes());
-    };
-    let mut entropy = Entropy::open(rt, path)?;
-    Fault::Entropy.unless(entropy.random())
-}
+pub use folder::Kept;
+pub use playing::play;
+pub use said::said_of_opening;
+pub use serving::{RandomBytes, ServeFault, serve};
+pub use stop::PlayFault;

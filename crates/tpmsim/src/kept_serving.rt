@@ -2,12 +2,11 @@
 //! two commands of a connection other processes may have theirs.
 
 use crate::fault::Fault;
+use crate::kept::{Kept, RandomBytes, ServeFault, serve};
 use tpm_bytes::Tap;
 use tpmsim_arguments::Service;
 use tpmsim_folder::Force;
 use tpmsim_image::{Entropy, Socket, bind};
-use tpmsim_kept::serving::{RandomBytes, ServeFault};
-use tpmsim_kept::{Kept, serve};
 
 /// The random bytes of a served device, which are those of a file.
 #[derive(Drop)]

@@ -13,14 +13,15 @@
 //!
 //! The program uses tpmsim_arguments for its words, tpmsim_script for scripts and tpmsim_check for
 //! their check, `tpm_text` and `tpm_line` for lines, `tpm_help` for what it tells of these,
-//! tpmsim_image and tpmsim_kept for a device that is kept in an image or a folder, and
-//! tpmsim_journal_script for what happened to the latter. All that touches files, sockets and
-//! clocks is here, in tpmsim_image, in tpmsim_folder or in tpmsim_kept; what the device answers is
-//! proved in the crates below.
+//! tpmsim_image for a device that is kept in an image, tpmsim_folder for the folder of one that is
+//! kept there ([`kept`]), and tpmsim_journal_script for what happened to the latter. All that
+//! touches files, sockets and clocks is here, in tpmsim_image or in tpmsim_folder; what the device
+//! answers is proved in the crates below.
 
 mod checking;
 mod fault;
 mod kept;
+mod kept_playing;
 mod kept_serving;
 mod running;
 mod telling;
@@ -28,7 +29,7 @@ mod telling;
 use checking::check_script;
 use fault::Fault;
 use hex::FromHexError;
-use kept::{cycle_power, play_script, print_script};
+use kept_playing::{cycle_power, play_script, print_script};
 use kept_serving::serve_kept;
 use running::{run_alone, run_kept};
 use std::env;

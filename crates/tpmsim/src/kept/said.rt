@@ -1,7 +1,7 @@
 //! What the faults of a journal say of it.
 
 ghost use Rattle.std.specs.Prelude.{◌≡◌};
-ghost use Rattle.tpmsim_kept.specs.Fault.{said_of_following, said_of_opening};
+ghost use Rattle.tpmsim.specs.kept.Fault.{said_of_following, said_of_opening};
 
 use tpm_journal::{FollowFault, OpenFault};
 use tpmsim_folder::Said;

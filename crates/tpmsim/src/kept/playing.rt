@@ -2,10 +2,10 @@
 //! processes may execute commands between two of the script's.
 
 ghost use Rattle.std.specs.Prelude.{◌≤◌, length};
-ghost use Rattle.tpmsim_kept.specs.Device.{IsAnswer};
+ghost use Rattle.tpmsim.specs.kept.Device.{IsAnswer};
 
 use crate::kept::Kept;
-use crate::stop::{PlayFault, Stop};
+use crate::kept::stop::{PlayFault, Stop};
 use std::alloc::Global;
 use std::io::{Read, Write};
 use tpm_bytes::Tap;

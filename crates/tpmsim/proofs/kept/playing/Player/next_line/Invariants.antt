@@ -1,5 +1,5 @@
 use Rattle.tpmsim_script.specs.Lines.{IsUnbroken, line_of}
-use Rattle.tpmsim_kept.proofs.playing.Player.next_line.Given as goal
+use Rattle.tpmsim.proofs.kept.playing.Player.next_line.Given as goal
 
 -- The line so far contains no line end.
 abbrev pub invariant-loop : goal.invariant-loop

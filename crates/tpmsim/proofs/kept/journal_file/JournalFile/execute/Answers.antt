@@ -1,5 +1,5 @@
-use Rattle.tpmsim_kept.proofs.Answering.{is_answer}
-use Rattle.tpmsim_kept.proofs.journal_file.JournalFile.execute.Goals as goal
+use Rattle.tpmsim.proofs.kept.Answering.{is_answer}
+use Rattle.tpmsim.proofs.kept.journal_file.JournalFile.execute.Goals as goal
 
 pub returns : goal.returns
 returns c =

@@ -1,7 +1,7 @@
 //! How a journal begins: with the head of a device whose power was cycled.
 
-use crate::device::Device;
-use crate::journal_file::JournalFile;
+use crate::kept::device::Device;
+use crate::kept::journal_file::JournalFile;
 use tpm_step::Outcome;
 use tpmsim_folder::replacing::replace;
 use tpmsim_folder::{Folder, Force, KeptFault, Place, Said};

@@ -1,8 +1,8 @@
 //! The file of a journal, and the device that executed its entries.
 
-ghost use Rattle.tpmsim_kept.specs.Device.{IsAnswer};
+ghost use Rattle.tpmsim.specs.kept.Device.{IsAnswer};
 
-use crate::device::Device;
+use crate::kept::device::Device;
 use std::fs::File;
 use std::os::unix::fs::FileExt;
 use tpm_journal_text::ENTRY_ROOM;

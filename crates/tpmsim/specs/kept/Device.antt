@@ -20,8 +20,8 @@ use Rattle.tpm_step.specs.Execution.{Executes}
 use Rattle.tpm_step.specs.Step.{outcome_step}
 use Rattle.tpm_step.specs.declared.event.Outcome.{Outcome}
 use Rattle.tpm_text.specs.Trace.{IsRow}
-use Rattle.tpmsim_kept.specs.Fault.{said_of_following, said_of_opening}
-use Rattle.tpmsim_kept.specs.declared.device.Device.{Device}
+use Rattle.tpmsim.specs.kept.Fault.{said_of_following, said_of_opening}
+use Rattle.tpmsim.specs.declared.kept.device.Device.{Device}
 use Rattle.tpmsim_folder.specs.declared.fault.Said.{Said}
 use Rattle.tpmsim_folder.specs.declared.fault.Said.TheVariants.{WantsMemory}
 

@@ -27,7 +27,7 @@ pub enum Stop {
 }
 
 impl Stop {
-    ghost use Rattle.tpmsim_kept.specs.Stop.{fault_at};
+    ghost use Rattle.tpmsim.specs.kept.Stop.{fault_at};
 
     /// The fault of a script that stops at the line of this number.
     pub fn at(self, number: u32) -> PlayFault
@@ -42,7 +42,7 @@ impl Stop {
 }
 
 impl From<BadLine> for Stop {
-    ghost use Rattle.tpmsim_kept.specs.declared.stop.Stop.TheVariants.{Bad};
+    ghost use Rattle.tpmsim.specs.declared.kept.stop.Stop.TheVariants.{Bad};
 
     ghost from_gives = { λ _ stop. stop ≡ Bad };
 
@@ -52,7 +52,7 @@ impl From<BadLine> for Stop {
 }
 
 impl From<Unfit> for Stop {
-    ghost use Rattle.tpmsim_kept.specs.declared.stop.Stop.TheVariants.{Bad};
+    ghost use Rattle.tpmsim.specs.declared.kept.stop.Stop.TheVariants.{Bad};
 
     ghost from_gives = { λ _ stop. stop ≡ Bad };
 
@@ -62,7 +62,7 @@ impl From<Unfit> for Stop {
 }
 
 impl From<AsmFault> for Stop {
-    ghost use Rattle.tpmsim_kept.specs.declared.stop.Stop.TheVariants.{Bad};
+    ghost use Rattle.tpmsim.specs.declared.kept.stop.Stop.TheVariants.{Bad};
 
     ghost from_gives = { λ _ stop. stop ≡ Bad };
 
@@ -72,7 +72,7 @@ impl From<AsmFault> for Stop {
 }
 
 impl From<KeptFault> for Stop {
-    ghost use Rattle.tpmsim_kept.specs.declared.stop.Stop.TheVariants.{Kept};
+    ghost use Rattle.tpmsim.specs.declared.kept.stop.Stop.TheVariants.{Kept};
 
     ghost from_gives = { λ fault stop. stop ≡ Kept fault };
 
@@ -82,7 +82,7 @@ impl From<KeptFault> for Stop {
 }
 
 impl From<AllocError> for PlayFault {
-    ghost use Rattle.tpmsim_kept.specs.declared.stop.PlayFault.TheVariants.{Script};
+    ghost use Rattle.tpmsim.specs.declared.kept.stop.PlayFault.TheVariants.{Script};
     ghost use Rattle.tpmsim_script.specs.declared.fault.ScriptFault.TheVariants.{NoMemory};
 
     ghost from_gives = { λ _ fault. fault ≡ Script NoMemory };

@@ -1,9 +1,9 @@
 -- Why a script that is played on a kept device ends at a line.
 use Rattle.std.specs.Prelude.{ℕ}
-use Rattle.tpmsim_kept.specs.declared.stop.PlayFault.{PlayFault}
-use Rattle.tpmsim_kept.specs.declared.stop.PlayFault.TheVariants.{Script, Kept}
-use Rattle.tpmsim_kept.specs.declared.stop.Stop.{Stop}
-use Rattle.tpmsim_kept.specs.declared.stop.Stop.TheVariants as stop
+use Rattle.tpmsim.specs.declared.kept.stop.PlayFault.{PlayFault}
+use Rattle.tpmsim.specs.declared.kept.stop.PlayFault.TheVariants.{Script, Kept}
+use Rattle.tpmsim.specs.declared.kept.stop.Stop.{Stop}
+use Rattle.tpmsim.specs.declared.kept.stop.Stop.TheVariants as stop
 use Rattle.tpmsim_script.specs.declared.fault.ScriptFault.TheVariants.{Line, Write}
 
 -- the fault of a script that stops at the line of this number

@@ -5,10 +5,10 @@ ghost use Rattle.tpm_image_text.specs.Saving.{PutsFront};
 ghost use Rattle.tpm_journal_text.specs.Head.{head_text};
 ghost use Rattle.tpm_record.specs.Record.{manufactured};
 ghost use Rattle.tpm_types.specs.Locality.{locality_number};
-ghost use Rattle.tpmsim_kept.specs.Device.{BeginsJournal, FollowsText, HasFault, IsOfJournal, IsSaidOf, Records};
-ghost use Rattle.tpmsim_kept.specs.Device.{command_by, image_at_power, record_of};
+ghost use Rattle.tpmsim.specs.kept.Device.{BeginsJournal, FollowsText, HasFault, IsOfJournal, IsSaidOf, Records};
+ghost use Rattle.tpmsim.specs.kept.Device.{command_by, image_at_power, record_of};
 
-use crate::said::{said_of_following, said_of_opening};
+use crate::kept::said::{said_of_following, said_of_opening};
 use std::alloc::Global;
 use tpm_bytes::NoMemory;
 use tpm_journal::opening::open;

@@ -14,8 +14,8 @@ use Rattle.tpm_step.specs.Events.{Cycled}
 use Rattle.tpm_step.specs.Execution.{Executes}
 use Rattle.tpm_step.specs.Step.{outcome_step}
 use Rattle.tpm_step.specs.declared.event.Outcome.{Outcome}
-use Rattle.tpmsim_kept.specs.Device.{BeginsJournal, image_at_power, record_of}
-use Rattle.tpmsim_kept.specs.declared.device.Device.{Device}
+use Rattle.tpmsim.specs.kept.Device.{BeginsJournal, image_at_power, record_of}
+use Rattle.tpmsim.specs.declared.kept.device.Device.{Device}
 
 one_more : (byte : ℕ) (rest : List ℕ) → 0 < length (byte ∷ rest)
 one_more byte rest = omega arith

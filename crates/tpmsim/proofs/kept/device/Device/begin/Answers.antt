@@ -1,7 +1,7 @@
 use Rattle.std.proofs.Common.{arith}
-use Rattle.tpmsim_kept.specs.Device.{image_at_power}
-use Rattle.tpmsim_kept.proofs.Begun.{begins_of_same, head_has_bytes, head_size_same}
-use Rattle.tpmsim_kept.proofs.device.Device.begin.Goals as goal
+use Rattle.tpmsim.specs.kept.Device.{image_at_power}
+use Rattle.tpmsim.proofs.kept.Begun.{begins_of_same, head_has_bytes, head_size_same}
+use Rattle.tpmsim.proofs.kept.device.Device.begin.Goals as goal
 
 pub returns-in_default-clause-nothing : goal.returns-in_default-clause-nothing
 returns-in_default-clause-nothing c =

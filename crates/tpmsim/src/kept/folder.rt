@@ -1,11 +1,11 @@
 //! A device that is kept in a folder.
 
 ghost use Rattle.std.specs.Prelude.{OnOk};
-ghost use Rattle.tpmsim_kept.specs.Device.{IsAnswer};
+ghost use Rattle.tpmsim.specs.kept.Device.{IsAnswer};
 
-use crate::beginning::begin;
-use crate::device::Device;
-use crate::journal_file::JournalFile;
+use crate::kept::beginning::begin;
+use crate::kept::device::Device;
+use crate::kept::journal_file::JournalFile;
 use tpm_step::Outcome;
 use tpm_types::Locality;
 use tpmsim_folder::folder::{Folder, identity_of};
