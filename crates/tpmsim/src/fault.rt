@@ -42,7 +42,7 @@ pub enum Fault {
 
 impl Fault {
     ghost use Rattle.std.specs.IoError.{error_kind};
-    ghost use Rattle.tpmsim.specs.Fault.{fault_or, given_or, status_of};
+    ghost use Rattle.tpmsim.specs.Fault.{fault_or, given_or, image_text, status_of};
 
     /// What was given; where it is an error, `Memory` if memory ran out, and otherwise this fault.
     pub fn unless<T>(self, given: io::Result<T>) -> Result<T, Fault>
@@ -76,6 +76,21 @@ impl Fault {
             Fault::Kept(fault) => kept_status(fault),
         }
     }
+
+    /// The name of an image's fault.
+    fn image_name(fault: ImageFault) -> &'static str
+        ensures { result.now ≡ image_text fault }
+    {
+        match fault {
+            ImageFault::Short => "Short",
+            ImageFault::Magic => "Magic",
+            ImageFault::Version => "Version",
+            ImageFault::Length => "Length",
+            ImageFault::Digest => "Digest",
+            ImageFault::Body => "Body",
+            ImageFault::NoMemory => "NoMemory",
+        }
+    }
 }
 
 impl fmt::Display for Fault {
@@ -95,13 +110,10 @@ impl fmt::Display for Fault {
             Fault::Asm(AsmFault::TooLong) => write!(f, "asm TooLong"),
             Fault::Asm(AsmFault::NoMemory) => write!(f, "asm NoMemory"),
             Fault::NoLine => write!(f, "line NoLine"),
-            Fault::Image(ImageFault::Short) => write!(f, "image Short"),
-            Fault::Image(ImageFault::Magic) => write!(f, "image Magic"),
-            Fault::Image(ImageFault::Version) => write!(f, "image Version"),
-            Fault::Image(ImageFault::Length) => write!(f, "image Length"),
-            Fault::Image(ImageFault::Digest) => write!(f, "image Digest"),
-            Fault::Image(ImageFault::Body) => write!(f, "image Body"),
-            Fault::Image(ImageFault::NoMemory) => write!(f, "image NoMemory"),
+            Fault::Image(fault) => {
+                let name = Fault::image_name(*fault);
+                write!(f, "image {name}")
+            }
             Fault::File => write!(f, "file"),
             Fault::Socket => write!(f, "socket"),
             Fault::Entropy => write!(f, "entropy"),

@@ -15,22 +15,37 @@ use tpmsim_script::first_bytes;
 
 /// Takes power away from the device in a folder, and gives it back.
 pub fn cycle_power(rt: &HostRuntime, folder: &str) -> Result<(), Fault> {
-    open_there(rt, folder)?.cycle_power()?;
-    Ok(())
+    let mut kept = open_there(rt, folder)?;
+    Ok(kept.cycle_power()?)
 }
 
 /// Prints what happened to the device in a folder since its power came on, as a script.
 pub fn print_script(rt: &HostRuntime, folder: &str) -> Result<(), Fault> {
-    let text = open_there(rt, folder)?.text()?;
+    let text = journal_of(rt, folder)?;
+    print_journal(rt, text.as_slice())
+}
+
+/// The journal of the device in a folder.
+fn journal_of(rt: &HostRuntime, folder: &str) -> Result<Vec<u8>, Fault> {
+    let mut kept = open_there(rt, folder)?;
+    Ok(kept.text()?)
+}
+
+/// Prints a journal as a script.
+fn print_journal(rt: &HostRuntime, text: &[u8]) -> Result<(), Fault> {
     let mut machine: Machine<SlotKeep> = Machine::manufacture(rt.alloc(), &[0; 256])?;
     let mut outcome = Outcome::empty();
     let output = &mut Tap::new(rt.stdout());
-    match retell(&mut machine, text.as_slice(), &mut outcome, output) {
+    match retell(&mut machine, text, &mut outcome, output) {
         Ok(()) => Ok(()),
-        Err(RetellFault::Open(fault)) => {
-            Err(Fault::Kept(Place::Journal.that(said_of_opening(fault))))
-        }
-        Err(RetellFault::Write) => Err(Fault::File),
+        Err(fault) => Err(fault_of_retelling(fault)),
+    }
+}
+
+fn fault_of_retelling(fault: RetellFault) -> Fault {
+    match fault {
+        RetellFault::Open(fault) => Fault::Kept(Place::Journal.that(said_of_opening(fault))),
+        RetellFault::Write => Fault::File,
     }
 }
 
@@ -43,33 +58,48 @@ pub fn play_script(
     entropy: Option<&str>,
 ) -> Result<(), Fault> {
     if script == "-" {
-        return play_text(rt, rt.stdin(), trace, folder, entropy);
+        return play_text(rt, &mut Tap::new(rt.stdin()), trace, folder, entropy);
     }
     let file = Fault::File.unless(fs::open(rt, script))?;
-    play_text(rt, file, trace, folder, entropy)
+    play_text(rt, &mut Tap::new(file), trace, folder, entropy)
 }
 
-/// Plays the script that a reader gives on the device in a folder. Where none is there a new one
-/// begins, manufactured with the first random bytes of a file, or else with the bytes 00 to ff.
-fn play_text<R: Read + Drop>(
+/// Plays the script that a reader gives on the device in a folder, a new one where none is there.
+fn play_text<R: Read>(
     rt: &HostRuntime,
-    reader: R,
+    reader: &mut Tap<R>,
     trace: bool,
     folder: &str,
     entropy: Option<&str>,
 ) -> Result<(), Fault> {
     let mut kept = Kept::at(rt, folder, true, Force::Power)?;
-    if !kept.is_there()? {
-        kept.manufacture(&random_of(rt, entropy)?)?;
+    begin_missing(rt, &mut kept, entropy)?;
+    play_on(rt, &mut kept, reader, trace)
+}
+
+/// Begins a new device where none is in the folder, with the first random bytes of a file, or else
+/// with the bytes 00 to ff.
+fn begin_missing(
+    rt: &HostRuntime,
+    kept: &mut Kept<'_>,
+    entropy: Option<&str>,
+) -> Result<(), Fault> {
+    if kept.is_there()? {
+        return Ok(());
     }
-    play(
-        rt.alloc(),
-        &mut kept,
-        &mut Tap::new(reader),
-        &mut Tap::new(rt.stdout()),
-        trace,
-    )?;
-    Ok(())
+    let random = random_of(rt, entropy)?;
+    Ok(kept.manufacture(&random)?)
+}
+
+/// Plays the script that a reader gives on a device.
+fn play_on<R: Read>(
+    rt: &HostRuntime,
+    kept: &mut Kept<'_>,
+    reader: &mut Tap<R>,
+    trace: bool,
+) -> Result<(), Fault> {
+    let output = &mut Tap::new(rt.stdout());
+    Ok(play(rt.alloc(), kept, reader, output, trace)?)
 }
 
 /// The device in a folder, which has to be there.

@@ -27,16 +27,31 @@ impl RandomBytes for FileBytes {
 /// file in the end, if it is still at its path.
 pub fn serve_kept(rt: &HostRuntime, service: &Service, folder: &str) -> Result<(), Fault> {
     let mut kept = Kept::at(rt, folder, true, force_of(service))?;
-    let mut entropy = Entropy::open(rt, service.entropy)?;
+    let entropy = Entropy::open(rt, service.entropy)?;
+    serve_with(rt, service, &mut kept, &mut FileBytes { entropy })
+}
+
+/// Opens the device, or begins it, and serves it with these random bytes.
+fn serve_with(
+    rt: &HostRuntime,
+    service: &Service,
+    kept: &mut Kept<'_>,
+    bytes: &mut FileBytes,
+) -> Result<(), Fault> {
+    open_or_begin(kept, &mut bytes.entropy)?;
+    let socket = bind(rt, service.socket)?;
+    let served = serve_connections(service, &socket, kept, bytes);
+    socket.remove(rt, service.socket);
+    served
+}
+
+/// Opens the device in the folder. Where none is there a new one begins, with the next random bytes.
+fn open_or_begin(kept: &mut Kept<'_>, entropy: &mut Entropy) -> Result<(), Fault> {
     if !kept.is_there()? {
         let random = Fault::Entropy.unless(entropy.random())?;
         kept.manufacture(&random)?;
     }
-    kept.open()?;
-    let socket = bind(rt, service.socket)?;
-    let served = serve_connections(service, &socket, &mut kept, &mut FileBytes { entropy });
-    socket.remove(rt, service.socket);
-    served
+    Ok(kept.open()?)
 }
 
 /// When the disk is forced: before each response too, where the device is to be saved then.

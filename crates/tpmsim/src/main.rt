@@ -28,15 +28,12 @@ mod telling;
 
 use checking::check_script;
 use fault::Fault;
-use hex::FromHexError;
 use kept_playing::{cycle_power, play_script, print_script};
 use kept_serving::serve_kept;
 use running::{run_alone, run_kept};
 use std::env;
 use std::process::ExitCode;
-use telling::{print_code, print_forms};
-use tpm_line::line_of;
-use tpm_text::assemble;
+use telling::{print_assembled, print_code, print_forms, print_spelled};
 use tpmsim_arguments::{Arguments, Place, Service, Storage};
 use tpmsim_image::serve_device;
 
@@ -52,29 +49,29 @@ fn main(rt: HostRuntime) -> ExitCode {
 
 fn try_main(rt: &HostRuntime) -> Result<(), Fault> {
     let words: Vec<String> = Fault::Usage.unless(env::args(rt))?.collect(rt.alloc())?;
-    match Arguments::parse(rt.alloc(), words.as_slice())? {
+    let arguments = Arguments::parse(rt.alloc(), words.as_slice())?;
+    perform(rt, &arguments)
+}
+
+/// Does what the command line asks for.
+fn perform(rt: &HostRuntime, arguments: &Arguments<'_>) -> Result<(), Fault> {
+    match arguments {
         Arguments::Run {
             script,
             trace,
             storage: None,
-        } => run_alone(rt, script, trace),
+        } => run_alone(rt, script, *trace),
         Arguments::Run {
             script,
             trace,
             storage: Some(storage),
-        } => run_in_place(rt, script, trace, &storage),
+        } => run_in_place(rt, script, *trace, storage),
         Arguments::Check { script } => check_script(rt, script),
-        Arguments::Assemble { line } => {
-            let text = hex::encode(rt.alloc(), assemble(rt.alloc(), line)?)?;
-            Fault::File.unless(println!(rt; "{text}"))
-        }
-        Arguments::Spell { digits } => {
-            let text = line_of(rt.alloc(), buffer_of(rt, digits)?.as_slice())?;
-            Fault::File.unless(println!(rt; "{text}"))
-        }
-        Arguments::Forms { name } => print_forms(rt, name),
+        Arguments::Assemble { line } => print_assembled(rt, line),
+        Arguments::Spell { digits } => print_spelled(rt, digits),
+        Arguments::Forms { name } => print_forms(rt, *name),
         Arguments::Code { digits } => print_code(rt, digits),
-        Arguments::Serve(service) => serve_in_place(rt, &service),
+        Arguments::Serve(service) => serve_in_place(rt, service),
         Arguments::Power { state } => cycle_power(rt, state),
         Arguments::Retell { state } => print_script(rt, state),
         Arguments::Tell(text) => Fault::File.unless(print!(rt; "{text}")),
@@ -99,14 +96,5 @@ fn serve_in_place(rt: &HostRuntime, service: &Service) -> Result<(), Fault> {
     match service.place {
         Place::Image(image) => Ok(serve_device(rt, service, image)?),
         Place::State(folder) => serve_kept(rt, service, folder),
-    }
-}
-
-/// The buffer that hex digits of either case write.
-fn buffer_of(rt: &HostRuntime, digits: &str) -> Result<Vec<u8>, Fault> {
-    match hex::decode(rt.alloc(), digits) {
-        Ok(buffer) => Ok(buffer),
-        Err(FromHexError::OutOfMemory) => Err(Fault::Memory),
-        Err(_) => Err(Fault::Usage),
     }
 }

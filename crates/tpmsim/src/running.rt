@@ -2,6 +2,7 @@
 
 use crate::fault::Fault;
 use std::fs;
+use std::io::Read;
 use tpm_bytes::Tap;
 use tpm_machine::Machine;
 use tpm_saver::Saver;
@@ -11,14 +12,17 @@ use tpmsim_script::{new_machine, run_device, run_script};
 
 /// Runs a script, from a file or from standard input, on a new device that nobody keeps.
 pub fn run_alone(rt: &HostRuntime, script: &str, trace: bool) -> Result<(), Fault> {
-    let output = &mut Tap::new(rt.stdout());
     if script == "-" {
-        run_script::<SlotKeep, _, _>(rt.alloc(), &mut Tap::new(rt.stdin()), output, trace)?;
-    } else {
-        let file = Fault::File.unless(fs::open(rt, script))?;
-        run_script::<SlotKeep, _, _>(rt.alloc(), &mut Tap::new(file), output, trace)?;
+        return run_new(rt, &mut Tap::new(rt.stdin()), trace);
     }
-    Ok(())
+    let file = Fault::File.unless(fs::open(rt, script))?;
+    run_new(rt, &mut Tap::new(file), trace)
+}
+
+/// Runs the script that a reader gives on a new device that nobody keeps.
+fn run_new<R: Read>(rt: &HostRuntime, reader: &mut Tap<R>, trace: bool) -> Result<(), Fault> {
+    let output = &mut Tap::new(rt.stdout());
+    Ok(run_script::<SlotKeep, _, _>(rt.alloc(), reader, output, trace)?)
 }
 
 /// Runs the script on the device whose image is in a file, or on a new one where there is no such
@@ -31,34 +35,65 @@ pub fn run_kept(
     entropy: Option<&str>,
 ) -> Result<(), Fault> {
     let file = ImageFile::take(rt, image)?;
-    let opened = file.open(rt)?;
-    let mut entropy = match entropy {
-        Some(path) => Some(Entropy::open(rt, path)?),
-        None => None,
-    };
+    let device = device_of(rt, &file, entropy)?;
     let mut saver = ImageSaver::new(rt, file);
-    let machine = match opened {
-        Some(machine) => {
-            saver.opened(&machine);
-            machine
-        }
-        None => manufacture(rt, &mut entropy)?,
-    };
-    let played = play(rt, machine, &mut saver, script, trace);
+    if device.was_kept {
+        saver.opened(&device.machine);
+    }
+    let played = play(rt, device.machine, &mut saver, script, trace);
     match saver.fault() {
         Some(fault) => Err(Fault::from(fault)),
         None => played,
     }
 }
 
+/// A device to run a script on.
+#[derive(Drop)]
+struct Device {
+    machine: Machine<SlotKeep>,
+    /// Whether its image was in the file.
+    was_kept: bool,
+}
+
+/// The device whose image is in a file, or a new one where there is no such file. A file of random
+/// bytes is opened for either.
+fn device_of(
+    rt: &HostRuntime,
+    file: &ImageFile<'_>,
+    entropy: Option<&str>,
+) -> Result<Device, Fault> {
+    match file.open(rt)? {
+        Some(machine) => with_entropy(rt, machine, entropy),
+        None => Ok(Device {
+            machine: manufacture(rt, entropy)?,
+            was_kept: false,
+        }),
+    }
+}
+
+/// A device whose image was in a file, once the file of random bytes was opened.
+fn with_entropy(
+    rt: &HostRuntime,
+    machine: Machine<SlotKeep>,
+    entropy: Option<&str>,
+) -> Result<Device, Fault> {
+    if let Some(path) = entropy {
+        Entropy::open(rt, path)?;
+    }
+    Ok(Device {
+        machine,
+        was_kept: true,
+    })
+}
+
 /// A new device, manufactured with the first random bytes of a file, or else with the bytes 00 to
 /// ff.
-fn manufacture(
-    rt: &HostRuntime,
-    entropy: &mut Option<Entropy>,
-) -> Result<Machine<SlotKeep>, Fault> {
+fn manufacture(rt: &HostRuntime, entropy: Option<&str>) -> Result<Machine<SlotKeep>, Fault> {
     match entropy {
-        Some(entropy) => Ok(entropy.manufacture(rt)?),
+        Some(path) => {
+            let mut entropy = Entropy::open(rt, path)?;
+            Ok(entropy.manufacture(rt)?)
+        }
         None => Ok(new_machine(rt.alloc())?),
     }
 }
@@ -71,20 +106,21 @@ fn play<S: Saver>(
     script: &str,
     trace: bool,
 ) -> Result<(), Fault> {
-    let output = &mut Tap::new(rt.stdout());
     if script == "-" {
-        let input = &mut Tap::new(rt.stdin());
-        run_device(rt.alloc(), machine, saver, input, output, trace)?;
-    } else {
-        let file = Fault::File.unless(fs::open(rt, script))?;
-        run_device(
-            rt.alloc(),
-            machine,
-            saver,
-            &mut Tap::new(file),
-            output,
-            trace,
-        )?;
+        return play_text(rt, machine, saver, &mut Tap::new(rt.stdin()), trace);
     }
-    Ok(())
+    let file = Fault::File.unless(fs::open(rt, script))?;
+    play_text(rt, machine, saver, &mut Tap::new(file), trace)
+}
+
+/// Plays the script that a reader gives on a device.
+fn play_text<S: Saver, R: Read>(
+    rt: &HostRuntime,
+    machine: Machine<SlotKeep>,
+    saver: &mut S,
+    reader: &mut Tap<R>,
+    trace: bool,
+) -> Result<(), Fault> {
+    let output = &mut Tap::new(rt.stdout());
+    Ok(run_device(rt.alloc(), machine, saver, reader, output, trace)?)
 }

@@ -1,8 +1,34 @@
-//! What the program tells of commands in words and of response codes.
+//! What the program tells of commands, in hex and in words, and of response codes.
 
 use crate::fault::Fault;
+use hex::FromHexError;
 use tpm_commands::CommandCode;
 use tpm_help::{example_of, form_of, hex_number, meaning_of};
+use tpm_line::line_of;
+use tpm_text::assemble;
+
+/// Prints the command that a line in words spells, in hex.
+pub fn print_assembled(rt: &HostRuntime, line: &str) -> Result<(), Fault> {
+    let buffer = assemble(rt.alloc(), line)?;
+    let text = hex::encode(rt.alloc(), buffer)?;
+    Fault::File.unless(println!(rt; "{text}"))
+}
+
+/// Prints the line in words that spells the command of these hex digits.
+pub fn print_spelled(rt: &HostRuntime, digits: &str) -> Result<(), Fault> {
+    let buffer = buffer_of(rt, digits)?;
+    let text = line_of(rt.alloc(), buffer.as_slice())?;
+    Fault::File.unless(println!(rt; "{text}"))
+}
+
+/// The buffer that hex digits of either case write.
+fn buffer_of(rt: &HostRuntime, digits: &str) -> Result<Vec<u8>, Fault> {
+    match hex::decode(rt.alloc(), digits) {
+        Ok(buffer) => Ok(buffer),
+        Err(FromHexError::OutOfMemory) => Err(Fault::Memory),
+        Err(_) => Err(Fault::Usage),
+    }
+}
 
 /// Prints how a command is said in words, and an example of it; of each command where no name is
 /// given. A name of no command is bad usage.
