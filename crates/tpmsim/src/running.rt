@@ -3,8 +3,7 @@
 use crate::fault::Fault;
 use std::fs;
 use tpm_bytes::Tap;
-use tpm_machine::Machine;
-use tpm_saver::Saver;
+use tpm_machine::{Machine, Saver};
 use tpm_slots::SlotKeep;
 use tpmsim_image::{Entropy, ImageFile, ImageSaver};
 use tpmsim_script::{new_machine, run_device, run_script};
