@@ -6,7 +6,8 @@
 //! sessions.
 //!
 //! The crate uses tpm_step, whose definitions say the same, tpm_auth for the entries' grants, and
-//! tpm_actions for the rows. tpm_machine puts these parts together.
+//! for the rows tpm_actions_device, tpm_actions_policy, tpm_actions_object, tpm_actions_capability
+//! and tpm_nvactions. tpm_machine puts these parts together.
 
 pub mod decoding;
 mod draws;

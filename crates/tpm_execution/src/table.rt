@@ -20,9 +20,56 @@ use crate::parameters::pass_parameters;
 use arrayvec::ArrayVec;
 use tpm_actions_base::answer::Answer;
 use tpm_actions_base::call::Call;
+use tpm_actions_capability::get_capability::get_capability;
+use tpm_actions_device::clear::clear;
+use tpm_actions_device::clear_control::clear_control;
+use tpm_actions_device::dictionary_attack_lock_reset::dictionary_attack_lock_reset;
+use tpm_actions_device::dictionary_attack_parameters::dictionary_attack_parameters;
+use tpm_actions_device::flush_context::flush_context;
+use tpm_actions_device::get_random::get_random;
+use tpm_actions_device::hierarchy_change_auth::hierarchy_change_auth;
+use tpm_actions_device::pcr_event::pcr_event;
+use tpm_actions_device::pcr_extend::pcr_extend;
+use tpm_actions_device::pcr_read::pcr_read;
+use tpm_actions_device::pcr_reset::pcr_reset;
+use tpm_actions_device::read_clock::read_clock;
+use tpm_actions_device::self_test::self_test;
+use tpm_actions_device::shutdown::shutdown;
+use tpm_actions_device::start_auth_session::start_auth_session;
+use tpm_actions_device::startup::startup;
+use tpm_actions_object::create::create;
+use tpm_actions_object::create_primary::create_primary;
+use tpm_actions_object::evict_control::evict_control;
+use tpm_actions_object::hmac::hmac;
+use tpm_actions_object::load::load;
+use tpm_actions_object::read_public::read_public;
+use tpm_actions_object::unseal::unseal;
+use tpm_actions_policy::policy_auth_value::policy_auth_value;
+use tpm_actions_policy::policy_command_code::policy_command_code;
+use tpm_actions_policy::policy_cp_hash::policy_cp_hash;
+use tpm_actions_policy::policy_get_digest::policy_get_digest;
+use tpm_actions_policy::policy_locality::policy_locality;
+use tpm_actions_policy::policy_nv::policy_nv;
+use tpm_actions_policy::policy_nv_written::policy_nv_written;
+use tpm_actions_policy::policy_or::policy_or;
+use tpm_actions_policy::policy_password::policy_password;
+use tpm_actions_policy::policy_pcr::policy_pcr;
+use tpm_actions_policy::policy_restart::policy_restart;
+use tpm_actions_policy::policy_secret::policy_secret;
 use tpm_auth::{Grant, Grants, any_decrypts};
 use tpm_bytes::copied;
 use tpm_commands::CommandCode;
+use tpm_nvactions::nv_change_auth::nv_change_auth;
+use tpm_nvactions::nv_define_space::nv_define_space;
+use tpm_nvactions::nv_extend::nv_extend;
+use tpm_nvactions::nv_increment::nv_increment;
+use tpm_nvactions::nv_read::nv_read;
+use tpm_nvactions::nv_read_lock::nv_read_lock;
+use tpm_nvactions::nv_read_public::nv_read_public;
+use tpm_nvactions::nv_set_bits::nv_set_bits;
+use tpm_nvactions::nv_undefine_space::nv_undefine_space;
+use tpm_nvactions::nv_write::nv_write;
+use tpm_nvactions::nv_write_lock::nv_write_lock;
 use tpm_record::Keep;
 use tpm_step::Direction;
 use tpm_types::{BUFFER_LIMIT, Locality, Refused};
@@ -43,57 +90,53 @@ fn act<K: Keep>(
         (K.record_of keep.old) result answer.new (K.record_of keep.new) }
 {
     match code {
-        CommandCode::EvictControl => tpm_actions::evict_control(keep, call, answer),
-        CommandCode::NvUndefineSpace => tpm_actions::nv_undefine_space(keep, call, answer),
-        CommandCode::Clear => tpm_actions::clear(keep, call, answer),
-        CommandCode::ClearControl => tpm_actions::clear_control(keep, call, answer),
-        CommandCode::HierarchyChangeAuth => tpm_actions::hierarchy_change_auth(keep, call, answer),
-        CommandCode::NvDefineSpace => tpm_actions::nv_define_space(keep, call, answer),
-        CommandCode::CreatePrimary => tpm_actions::create_primary(keep, call, answer),
-        CommandCode::NvIncrement => tpm_actions::nv_increment(keep, call, answer),
-        CommandCode::NvSetBits => tpm_actions::nv_set_bits(keep, call, answer),
-        CommandCode::NvExtend => tpm_actions::nv_extend(keep, call, answer),
-        CommandCode::NvWrite => tpm_actions::nv_write(keep, call, answer),
-        CommandCode::NvWriteLock => tpm_actions::nv_write_lock(keep, call, answer),
-        CommandCode::DictionaryAttackLockReset => tpm_actions::dictionary_attack_lock_reset(
-            keep, call, answer,
-        ),
-        CommandCode::DictionaryAttackParameters => tpm_actions::dictionary_attack_parameters(
-            keep, call, answer,
-        ),
-        CommandCode::NvChangeAuth => tpm_actions::nv_change_auth(keep, call, answer),
-        CommandCode::PcrEvent => tpm_actions::pcr_event(keep, call, answer),
-        CommandCode::PcrReset => tpm_actions::pcr_reset(keep, call, answer),
-        CommandCode::SelfTest => tpm_actions::self_test(keep, call, answer),
-        CommandCode::Startup => tpm_actions::startup(keep, call, answer),
-        CommandCode::Shutdown => tpm_actions::shutdown(keep, call, answer),
-        CommandCode::PolicyNv => tpm_actions::policy_nv(keep, call, answer),
-        CommandCode::NvRead => tpm_actions::nv_read(keep, call, answer),
-        CommandCode::NvReadLock => tpm_actions::nv_read_lock(keep, call, answer),
-        CommandCode::PolicySecret => tpm_actions::policy_secret(keep, call, answer),
-        CommandCode::Create => tpm_actions::create(keep, call, answer),
-        CommandCode::Hmac => tpm_actions::hmac(keep, call, answer),
-        CommandCode::Load => tpm_actions::load(keep, call, answer),
-        CommandCode::Unseal => tpm_actions::unseal(keep, call, answer),
-        CommandCode::FlushContext => tpm_actions::flush_context(keep, call, answer),
-        CommandCode::NvReadPublic => tpm_actions::nv_read_public(keep, call, answer),
-        CommandCode::PolicyAuthValue => tpm_actions::policy_auth_value(keep, call, answer),
-        CommandCode::PolicyCommandCode => tpm_actions::policy_command_code(keep, call, answer),
-        CommandCode::PolicyCpHash => tpm_actions::policy_cp_hash(keep, call, answer),
-        CommandCode::PolicyNvWritten => tpm_actions::policy_nv_written(keep, call, answer),
-        CommandCode::PolicyLocality => tpm_actions::policy_locality(keep, call, answer),
-        CommandCode::PolicyOr => tpm_actions::policy_or(keep, call, answer),
-        CommandCode::ReadPublic => tpm_actions::read_public(keep, call, answer),
-        CommandCode::StartAuthSession => tpm_actions::start_auth_session(keep, call, answer),
-        CommandCode::GetCapability => tpm_actions::get_capability(keep, call, answer),
-        CommandCode::GetRandom => tpm_actions::get_random(keep, call, answer),
-        CommandCode::PcrRead => tpm_actions::pcr_read(keep, call, answer),
-        CommandCode::PolicyPcr => tpm_actions::policy_pcr(keep, call, answer),
-        CommandCode::PolicyRestart => tpm_actions::policy_restart(keep, call, answer),
-        CommandCode::ReadClock => tpm_actions::read_clock(keep, call, answer),
-        CommandCode::PcrExtend => tpm_actions::pcr_extend(keep, call, answer),
-        CommandCode::PolicyGetDigest => tpm_actions::policy_get_digest(keep, call, answer),
-        CommandCode::PolicyPassword => tpm_actions::policy_password(keep, call, answer),
+        CommandCode::EvictControl => evict_control(keep, call, answer),
+        CommandCode::NvUndefineSpace => nv_undefine_space(keep, call, answer),
+        CommandCode::Clear => clear(keep, call, answer),
+        CommandCode::ClearControl => clear_control(keep, call, answer),
+        CommandCode::HierarchyChangeAuth => hierarchy_change_auth(keep, call, answer),
+        CommandCode::NvDefineSpace => nv_define_space(keep, call, answer),
+        CommandCode::CreatePrimary => create_primary(keep, call, answer),
+        CommandCode::NvIncrement => nv_increment(keep, call, answer),
+        CommandCode::NvSetBits => nv_set_bits(keep, call, answer),
+        CommandCode::NvExtend => nv_extend(keep, call, answer),
+        CommandCode::NvWrite => nv_write(keep, call, answer),
+        CommandCode::NvWriteLock => nv_write_lock(keep, call, answer),
+        CommandCode::DictionaryAttackLockReset => dictionary_attack_lock_reset(keep, call, answer),
+        CommandCode::DictionaryAttackParameters => dictionary_attack_parameters(keep, call, answer),
+        CommandCode::NvChangeAuth => nv_change_auth(keep, call, answer),
+        CommandCode::PcrEvent => pcr_event(keep, call, answer),
+        CommandCode::PcrReset => pcr_reset(keep, call, answer),
+        CommandCode::SelfTest => self_test(keep, call, answer),
+        CommandCode::Startup => startup(keep, call, answer),
+        CommandCode::Shutdown => shutdown(keep, call, answer),
+        CommandCode::PolicyNv => policy_nv(keep, call, answer),
+        CommandCode::NvRead => nv_read(keep, call, answer),
+        CommandCode::NvReadLock => nv_read_lock(keep, call, answer),
+        CommandCode::PolicySecret => policy_secret(keep, call, answer),
+        CommandCode::Create => create(keep, call, answer),
+        CommandCode::Hmac => hmac(keep, call, answer),
+        CommandCode::Load => load(keep, call, answer),
+        CommandCode::Unseal => unseal(keep, call, answer),
+        CommandCode::FlushContext => flush_context(keep, call, answer),
+        CommandCode::NvReadPublic => nv_read_public(keep, call, answer),
+        CommandCode::PolicyAuthValue => policy_auth_value(keep, call, answer),
+        CommandCode::PolicyCommandCode => policy_command_code(keep, call, answer),
+        CommandCode::PolicyCpHash => policy_cp_hash(keep, call, answer),
+        CommandCode::PolicyNvWritten => policy_nv_written(keep, call, answer),
+        CommandCode::PolicyLocality => policy_locality(keep, call, answer),
+        CommandCode::PolicyOr => policy_or(keep, call, answer),
+        CommandCode::ReadPublic => read_public(keep, call, answer),
+        CommandCode::StartAuthSession => start_auth_session(keep, call, answer),
+        CommandCode::GetCapability => get_capability(keep, call, answer),
+        CommandCode::GetRandom => get_random(keep, call, answer),
+        CommandCode::PcrRead => pcr_read(keep, call, answer),
+        CommandCode::PolicyPcr => policy_pcr(keep, call, answer),
+        CommandCode::PolicyRestart => policy_restart(keep, call, answer),
+        CommandCode::ReadClock => read_clock(keep, call, answer),
+        CommandCode::PcrExtend => pcr_extend(keep, call, answer),
+        CommandCode::PolicyGetDigest => policy_get_digest(keep, call, answer),
+        CommandCode::PolicyPassword => policy_password(keep, call, answer),
     }
 }
 

@@ -6,7 +6,7 @@ use Rattle.tpm_log.specs.Executed.{entry_by, entry_in}
 use Rattle.tpm_log.specs.Log.{Adds, AddsEntry, AddsSome, Written}
 use Rattle.tpm_machine.specs.Drawn.{drawn_by}
 use Rattle.tpm_record.specs.Record.{Record}
-use Rattle.tpm_saver.specs.Latest.{IsLatest}
+use Rattle.tpm_machine.specs.Latest.{IsLatest}
 use Rattle.tpm_step.specs.Events.{PlainEvent}
 use Rattle.tpm_step.specs.Step.{Stepped}
 use Rattle.tpm_step.specs.declared.event.Outcome.{Outcome}

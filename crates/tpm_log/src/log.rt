@@ -13,9 +13,8 @@ use tpm_bytes::Tap;
 use tpm_image::save_into;
 use tpm_image_text::laws::image_laws;
 use tpm_journal_text::{ENTRY_ROOM, IMAGE_ROOM, head_size, write_head};
-use tpm_machine::Machine;
+use tpm_machine::{Machine, Unsaved, Witness};
 use tpm_record::Keep;
-use tpm_saver::{Unsaved, Witness};
 use tpm_step::{Event, Outcome};
 
 /// Room for a head.

@@ -4,14 +4,13 @@ ghost use Rattle.std.specs.Prelude.{◌≡◌, OnErr, OnOk, true};
 ghost use Rattle.tpm_machine.specs.Executions.{Execution};
 ghost use Rattle.tpm_log.specs.Log.{AddsWhereKept, log_failed};
 ghost use Rattle.tpm_machine.specs.State.{latest_drawn, state_of};
-ghost use Rattle.tpm_saver.specs.Latest.{IsLatest};
+ghost use Rattle.tpm_machine.specs.Latest.{IsLatest};
 ghost use Rattle.tpm_step.specs.Events.{plain_event};
 
 use crate::log::Log;
 use std::io::Write;
-use tpm_machine::Machine;
+use tpm_machine::{Machine, Unsaved, Witness};
 use tpm_record::Keep;
-use tpm_saver::{Unsaved, Witness};
 use tpm_step::{Event, Outcome};
 
 /// A log, if there is one, and another witness, which is told each command once it is in the log.

@@ -1,4 +1,5 @@
 pub mod State
+pub mod Latest
 pub use Rattle.tpm_step.specs.Events
 pub use Rattle.tpm_step.specs.Step
 pub use Rattle.tpm_step.specs.Run

@@ -4,14 +4,18 @@
 //! says.
 //!
 //! A command is executed in these steps: its bytes are read and pass the general checks, its entries
-//! authorize its handles (tpm_auth), its row acts (tpm_actions), and the answer is written;
+//! authorize its handles (tpm_auth), its row acts (tpm_actions_device, tpm_actions_policy,
+//! tpm_actions_object, tpm_actions_capability, tpm_nvactions), and the answer is written;
 //! tpm_execution has these steps but the second.
 //!
 //! The crate uses tpm_step, whose definitions say the same: General, Table, Answer, the step of an
 //! event (Step) and runs of events (Run). [`machine::Machine::execute`] and
-//! [`machine::Machine::run`] are proved to be these, for each way of keeping the record.
+//! [`machine::Machine::run`] are proved to be these, for each way of keeping the record. A [`Saver`]
+//! saves a device while it is used, and a [`Witness`] is told what it executed.
 
 pub mod machine;
+mod saver;
 
 pub use machine::Machine;
+pub use saver::{Saver, SavesNothing, Unsaved, Witness};
 pub use tpm_step::{Event, Outcome, Row};

@@ -22,9 +22,8 @@ use crate::mux::{Mux, execute_front, free_place};
 use crate::reading::fill;
 use std::io::{Read, Write};
 use tpm_bytes::Tap;
-use tpm_machine::Machine;
+use tpm_machine::{Machine, SavesNothing, Witness};
 use tpm_record::Keep;
-use tpm_saver::{SavesNothing, Witness};
 use tpm_step::Outcome;
 use tpm_types::BUFFER_LIMIT;
 

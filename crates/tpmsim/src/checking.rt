@@ -3,7 +3,7 @@
 use crate::fault::Fault;
 use std::io::Read;
 use std::{fs, io};
-use tpmsim_check::report_of;
+use tpmsim_script::report_of;
 
 /// Prints what is wrong with each bad line of a script, from a file or from standard input, and
 /// ends as a run of the script would.

@@ -11,8 +11,8 @@
 //! that fails says why in one line on standard error, and its exit status says which kind of fault
 //! it is ([`fault`]).
 //!
-//! The program uses tpmsim_arguments for its words, tpmsim_script for scripts and tpmsim_check for
-//! their check, `tpm_text` and `tpm_line` for lines, `tpm_help` for what it tells of these,
+//! The program uses tpmsim_arguments for its words, tpmsim_script for scripts and their check,
+//! `tpm_text` and `tpm_line` for lines, `tpm_help` for what it tells of these,
 //! tpmsim_image for a device that is kept in an image, tpmsim_folder for the folder of one that is
 //! kept there ([`kept`]), and tpmsim_journal_script for what happened to the latter. All that
 //! touches files, sockets and clocks is here, in tpmsim_image or in tpmsim_folder; what the device

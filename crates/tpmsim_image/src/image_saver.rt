@@ -7,9 +7,8 @@ ghost use Rattle.tpm_machine.specs.State.{state_of};
 use crate::fault::DeviceFault;
 use crate::image_file::ImageFile;
 use tpm_image::KeptText;
-use tpm_machine::Machine;
+use tpm_machine::{Machine, Saver, Unsaved};
 use tpm_record::Keep;
-use tpm_saver::{Saver, Unsaved};
 
 /// A saver of a script's device. It notes what it wrote last, so that a command that changes
 /// nothing but the clock costs no save, and a device that is in the file already is not written

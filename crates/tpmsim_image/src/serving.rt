@@ -14,9 +14,8 @@ use std::fs::File;
 use std::os::unix::net::UnixStream;
 use tpm_bytes::Tap;
 use tpm_log::Logged;
-use tpm_machine::Machine;
+use tpm_machine::{Machine, Saver};
 use tpm_record::Keep;
-use tpm_saver::Saver;
 use tpm_wire::{HostFault, Mux, ServeFault, serve_saving};
 use tpmsim_arguments::Service;
 

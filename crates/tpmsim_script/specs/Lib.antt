@@ -9,3 +9,4 @@ pub mod Run
 pub mod Keeping
 pub mod Checking
 pub mod Checker
+pub mod Report

@@ -24,9 +24,8 @@ use crate::script::Script;
 use std::alloc::{AllocError, Global};
 use std::io::Write;
 use tpm_bytes::Tap;
-use tpm_machine::Machine;
+use tpm_machine::{Machine, Saver};
 use tpm_record::Keep;
-use tpm_saver::Saver;
 use tpm_step::{Event, Outcome};
 use tpm_text::{trace_text, traceable_laws};
 

@@ -22,9 +22,8 @@ use std::alloc::{AllocError, Global};
 use std::array;
 use std::io::{Read, Write};
 use tpm_bytes::{NoMemory, Tap};
-use tpm_machine::Machine;
+use tpm_machine::{Machine, Saver, SavesNothing};
 use tpm_record::Keep;
-use tpm_saver::{Saver, SavesNothing};
 
 /// How many lines a script may have.
 pub const SCRIPT_LINES: u32 = 1_048_576;

@@ -6,12 +6,13 @@ ghost use Rattle.std.specs.Option.{option_or};
 ghost use Rattle.tpmsim_script.specs.Checker.{waited_of};
 ghost use Rattle.tpmsim_script.specs.Checking.{fault_at, first_number, line_check, waited_behind};
 ghost use Rattle.tpmsim_script.specs.Line.{lines_of};
-ghost use Rattle.tpmsim_check.specs.Report.{fault_text, report_text, script_faults, told};
+ghost use Rattle.tpmsim_script.specs.Report.{fault_text, report_text, script_faults, told};
 
+use crate::checker::Checker;
+use crate::run::SCRIPT_LINES;
 use crate::told_fault::ToldFault;
 use std::alloc::{AllocError, Global};
 use tpm_text::position_of;
-use tpmsim_script::{Checker, SCRIPT_LINES};
 
 /// The bad lines that were found in a script.
 #[derive(Drop)]

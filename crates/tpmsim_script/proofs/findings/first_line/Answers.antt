@@ -1,7 +1,7 @@
 use Rattle.std.proofs.Common.{rules, ◌≡◌, ◌==◌, ℕ, None, Some}
 use Rattle.std.specs.List.{position}
-use Rattle.tpmsim_check.proofs.FirstLine.{line_found, line_is_last}
-use Rattle.tpmsim_check.proofs.findings.first_line.Goals as goal
+use Rattle.tpmsim_script.proofs.FirstLine.{line_found, line_is_last}
+use Rattle.tpmsim_script.proofs.findings.first_line.Goals as goal
 
 pub returns-in-Some : goal.returns-in-Some
 returns-in-Some c =

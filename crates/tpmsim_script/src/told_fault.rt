@@ -1,12 +1,12 @@
 //! The report of one bad line.
 
 ghost use Rattle.std.specs.Prelude.{◌≡◌, drop};
-ghost use Rattle.tpmsim_check.specs.Report.{wanted_text};
+ghost use Rattle.tpmsim_script.specs.Report.{wanted_text};
 
+use crate::bad_line::{BadLine, Wanted};
 use std::fmt;
 use tpm_help::word_at;
 use tpm_text::AsmFault;
-use tpmsim_script::{BadLine, Wanted};
 
 /// A bad line: its number, what is wrong with it, and what is wanted there.
 #[derive(Clone, Copy)]
@@ -33,7 +33,7 @@ impl ToldFault {
 
 impl fmt::Display for ToldFault {
     ghost use Rattle.std.specs.Prelude.{Some};
-    ghost use Rattle.tpmsim_check.specs.Report.{fault_text};
+    ghost use Rattle.tpmsim_script.specs.Report.{fault_text};
 
     ghost output = { λ told. Some (fault_text told.number told.fault told.wanted.now) };
 
@@ -53,7 +53,7 @@ struct FaultName {
 
 impl fmt::Display for FaultName {
     ghost use Rattle.std.specs.Prelude.{Some};
-    ghost use Rattle.tpmsim_check.specs.Report.{fault_name};
+    ghost use Rattle.tpmsim_script.specs.Report.{fault_name};
 
     ghost output = { λ name. Some (fault_name name.fault) };
 

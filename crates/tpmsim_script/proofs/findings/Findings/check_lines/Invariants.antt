@@ -1,11 +1,11 @@
 use Rattle.std.proofs.Common.{◌++◌, length}
 use Rattle.std.specs.Option.{option_or}
-use Rattle.tpmsim_check.specs.Report.{report_text, script_faults}
+use Rattle.tpmsim_script.specs.Report.{report_text, script_faults}
 use Rattle.tpmsim_script.specs.Checker.{waited_of}
 use Rattle.tpmsim_script.specs.Checking.{first_number}
 use Rattle.tpmsim_script.specs.Line.{lines_of}
-use Rattle.tpmsim_check.proofs.Reporting.{SoFar}
-use Rattle.tpmsim_check.proofs.findings.Findings.check_lines.Given as goal
+use Rattle.tpmsim_script.proofs.Reporting.{SoFar}
+use Rattle.tpmsim_script.proofs.findings.Findings.check_lines.Given as goal
 
 abbrev pub invariant-loop-number : goal.invariant-loop-number
 invariant-loop-number l = SoFar l.self.text.bytes.items l.self.first (waited_of l.checker) l.number l.rest

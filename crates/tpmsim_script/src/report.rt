@@ -1,11 +1,12 @@
 //! The report of a script.
 
 ghost use Rattle.std.specs.Prelude.{◌≡◌, IfOk};
-ghost use Rattle.tpmsim_check.specs.Report.{end_of, report_end, report_text};
+ghost use Rattle.tpmsim_script.specs.Report.{end_of, report_end, report_text};
 
+use crate::checker::Checker;
+use crate::fault::ScriptFault;
 use crate::findings::Findings;
 use std::alloc::{AllocError, Global};
-use tpmsim_script::{Checker, ScriptFault};
 
 /// What is wrong with the lines of a script.
 #[derive(Drop)]

@@ -1,5 +1,3 @@
-#![tactic(auto)]
-
 //! What saves a device while it is used: a [`Saver`] is told the device, a [`Witness`] each event
 //! that the device executed, and [`SavesNothing`] is the saver and the witness of a device that
 //! nobody keeps.
@@ -7,16 +5,16 @@
 //! A script that uses a device tells a saver the device at each change and at the end; a server
 //! tells a witness each command before its response goes out. Contracts see what each call told:
 //! that of a saver's user says which devices the saver was told, in which order, and each saver
-//! says what it makes of them; alike for witnesses. The crate uses `tpm_machine`.
+//! says what it makes of them; alike for witnesses.
 
 ghost use Rattle.std.specs.Prelude.{◌≡◌, Bool, OnErr, OnOk, false, true};
-ghost use Rattle.tpm_machine.specs.Executions.{Execution};
+ghost use Rattle.tpm_history.specs.Executions.{Execution};
 ghost use Rattle.tpm_machine.specs.State.{latest_drawn, state_of};
 ghost use Rattle.tpm_record.specs.Record.{Record};
-ghost use Rattle.tpm_saver.specs.Latest.{IsLatest};
+ghost use Rattle.tpm_machine.specs.Latest.{IsLatest};
 ghost use Rattle.tpm_step.specs.Events.{plain_event};
 
-use tpm_machine::Machine;
+use crate::machine::Machine;
 use tpm_record::Keep;
 use tpm_step::{Event, Outcome};
 

@@ -1,6 +1,6 @@
 use Rattle.std.proofs.Common.{rules, tests, arith, ◌<◌, length}
-use Rattle.tpmsim_check.proofs.Reporting.{more_at_limit, turned}
-use Rattle.tpmsim_check.proofs.findings.Findings.check_lines.Goals as goal
+use Rattle.tpmsim_script.proofs.Reporting.{more_at_limit, turned}
+use Rattle.tpmsim_script.proofs.findings.Findings.check_lines.Goals as goal
 
 pub loop-number-preserved : goal.loop-number-preserved
 loop-number-preserved c =

@@ -1,2 +1,0 @@
-pub mod Latest
-pub use Rattle.tpm_machine.specs.Executions
