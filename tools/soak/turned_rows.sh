@@ -99,7 +99,7 @@ fail_at_laws() {
 }
 
 # try_together NAME..: turns a copy by these patches. All below the crate of laws has to be proved, and
-# that crate is to be refused at the law of each.
+# its laws over rows, where it has any; the crate is to be refused at the law of each.
 try_together() {
     turn "$@" || return 0
     proves=$(for name do said proves "$(patch_of "$name")"; done | tr ' ' '\n' | sort -u)
@@ -111,6 +111,8 @@ try_together() {
         echo "$*: NOT REFUSED"
     elif grep -E 'is not in scope|can be named from here' "$room/log"; then
         echo "$*: BAD PATCH: the laws cannot be read"
+    elif grep -E '^\./proofs/rows/.*: error: ' "$room/log"; then
+        echo "$*: BAD PATCH: the laws over rows are not proved"
     else
         fail_at_laws "$@"
     fi

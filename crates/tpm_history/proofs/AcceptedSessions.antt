@@ -16,7 +16,7 @@ use Rattle.tpm_record.specs.Record.{Record}
 use Rattle.tpm_actions_policy.specs.Assertions.{asserts, session_handle}
 use Rattle.tpm_step.specs.Step.{Accepted, accepted}
 use Rattle.tpm_step.specs.Table.{row_of}
-use Rattle.tpm_laws.specs.Acceptance.{IsAcceptance}
+use Rattle.tpm_history.specs.rows.Acceptance.{IsAcceptance}
 use Rattle.tpm_step.proofs.Binding.{ok_at}
 use Rattle.tpm_history.specs.AcceptedAssertions.{AllFind, Finds, SessionsFind}
 use Rattle.tpm_history.specs.DeviceSessions.{HasSessions, SessionFacts, facts_of, session_facts}

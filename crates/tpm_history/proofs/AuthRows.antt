@@ -71,13 +71,13 @@ use Rattle.tpm_nvactions.specs.Access.{changed_nv}
 use Rattle.tpm_nvactions.specs.NvChangeAuth.{nv_change_auth_row}
 use Rattle.tpm_nvactions.specs.NvDefineSpace as definition
 use Rattle.tpm_step.specs.Table.{row_of}
-use Rattle.tpm_laws.specs.Footprint.{Touches, emptied}
+use Rattle.tpm_history.specs.rows.Footprint.{Touches, emptied}
 use Rattle.tpm_commands.specs.Part.{Part, Nothing, Sessions, NvData, NvCounter, NvUndefined, Lockout, Banks}
 use Rattle.tpm_commands.specs.Part.{Saved, DisableClear, Cleared}
-use Rattle.tpm_laws.specs.IndexChanges.{ChangesIndices, Defines, Writes}
-use Rattle.tpm_laws.specs.Handles.{FitsRule, HandlesFit}
+use Rattle.tpm_history.specs.rows.IndexChanges.{ChangesIndices, Defines, Writes}
+use Rattle.tpm_history.specs.rows.Handles.{FitsRule, HandlesFit}
 use Rattle.tpm_step.proofs.Binding.{asked, ok_at, ok_bind, ok_bind_is, ok_then, ok_weaker, some_is}
-use Rattle.tpm_laws.proofs.Table.{of_success, row_touches}
+use Rattle.tpm_history.proofs.rows.Table.{of_success, row_touches}
 use Rattle.tpm_history.specs.AuthValues.{AuthValues, changed_value, cleared_values, copied_value, created_value, defined_value, loaded_value, started_values, values_by, with_value}
 use Rattle.tpm_history.specs.DeviceAuthValues.{HaveValues, auth_seen, index_auth, object_auth}
 use Rattle.tpm_history.specs.HandleMap.{with_at}
@@ -87,7 +87,7 @@ use Rattle.tpm_containers.proofs.FoundNumbers.{removed_or_same as unplaced_or_sa
 use Rattle.tpm_history.proofs.HandleMap.{same_handle}
 use Rattle.tpm_history.proofs.AuthParts.{KeepsAll, Sets, auth_handle, hierarchy_set, index_kept, index_set, kept_values, named_is, object_kept, object_set, parts_keep, persistent_seen, persistent_set, same_kept, set_values, transient_seen, with_auth}
 use Rattle.tpm_history.proofs.AuthReadings.{IsDefinition, definition_read, wanted_named}
-use Rattle.tpm_laws.proofs.HandleRules.{first_fits, second_fits}
+use Rattle.tpm_history.proofs.rows.HandleRules.{first_fits, second_fits}
 
 -- ---- parts that keep authorization values
 

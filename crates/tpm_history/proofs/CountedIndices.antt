@@ -27,13 +27,13 @@ use Rattle.tpm_record.specs.Record.{Record}
 use Rattle.tpm_actions_base.specs.Request.{Request, second_handle}
 use Rattle.tpm_step.specs.Table.{row_of}
 use Rattle.tpm_step.proofs.Binding.{ok_at, ok_weaker}
-use Rattle.tpm_laws.proofs.Table.{row_changes}
-use Rattle.tpm_laws.specs.Footprint.{StartsNv}
+use Rattle.tpm_history.proofs.rows.Table.{row_changes}
+use Rattle.tpm_history.specs.rows.Footprint.{StartsNv}
 use Rattle.tpm_commands.specs.Part.{Part, NvData, NvCounter, NvAuthValue, NvDefined, NvUndefined, Beginning}
 use Rattle.tpm_commands.specs.Part.{Cleared}
 use Rattle.tpm_commands.specs.CommandCode.{part_of}
-use Rattle.tpm_laws.specs.IndexChanges.{ChangesAuth, ChangesIndices, Defines, Increments, IsCounter, KeepsCount}
-use Rattle.tpm_laws.specs.IndexChanges.{Undefines, Writes, stored_count}
+use Rattle.tpm_history.specs.rows.IndexChanges.{ChangesAuth, ChangesIndices, Defines, Increments, IsCounter, KeepsCount}
+use Rattle.tpm_history.specs.rows.IndexChanges.{Undefines, Writes, stored_count}
 use Rattle.tpm_history.specs.Counters.{Counters, begun_at, counted_at, counters_by, defined_handle, largest, next_count}
 use Rattle.tpm_history.specs.DeviceCounters.{AreCounted, IsCounted}
 use Rattle.tpm_history.specs.HandleMap.{by_handle, with_at}

@@ -27,10 +27,10 @@ use Rattle.tpm_record.specs.Record.{Record, manufactured, no_objects}
 use Rattle.tpm_actions_base.specs.Request.{Request}
 use Rattle.tpm_step.specs.Step.{Accepted, success_step}
 use Rattle.tpm_step.specs.Table.{row_of}
-use Rattle.tpm_laws.specs.Acceptance.{IsAcceptance}
-use Rattle.tpm_laws.specs.Handles.{HandlesFit}
+use Rattle.tpm_history.specs.rows.Acceptance.{IsAcceptance}
+use Rattle.tpm_history.specs.rows.Handles.{HandlesFit}
 use Rattle.tpm_step.proofs.Binding.{ok_at}
-use Rattle.tpm_laws.proofs.Leaving.{success_leaves}
+use Rattle.tpm_history.proofs.rows.Leaving.{success_leaves}
 use Rattle.tpm_history.specs.AuthValues.{AuthValues, auth_of, values_by}
 use Rattle.tpm_history.specs.DeviceAuthValues.{HasAuthValues, HaveValues, auth_seen, index_auth, object_auth}
 use Rattle.tpm_history.specs.History.{Done, History, PowerCycled, command_of, sensitive_in}

@@ -6,9 +6,9 @@ use Rattle.tpm_nv.specs.Index.{NvIndex}
 use Rattle.tpm_record.specs.Record.{Record, manufactured}
 use Rattle.tpm_step.specs.Step.{Accepted, success_step}
 use Rattle.tpm_step.specs.Table.{row_of}
-use Rattle.tpm_laws.specs.Acceptance.{IsAcceptance}
+use Rattle.tpm_history.specs.rows.Acceptance.{IsAcceptance}
 use Rattle.tpm_step.proofs.Binding.{ok_at}
-use Rattle.tpm_laws.proofs.Leaving.{success_leaves}
+use Rattle.tpm_history.proofs.rows.Leaving.{success_leaves}
 use Rattle.tpm_history.specs.Counters.{Counters, count_at, counters_by, counters_of}
 use Rattle.tpm_history.specs.DeviceCounters.{AreCounted, BeginsAbove, ExceedsEarlier, HasCounters, KeepsCounter}
 use Rattle.tpm_history.specs.History.{Done, History, command_of}

@@ -22,12 +22,12 @@ use Rattle.tpm_actions_device.specs.Shutdown.{shutdown_row}
 use Rattle.tpm_step.specs.Answer.{answer_to, written_of}
 use Rattle.tpm_step.specs.Step.{Accepted, success_step}
 use Rattle.tpm_step.specs.Table.{row_of}
-use Rattle.tpm_laws.specs.Acceptance.{IsAcceptance}
-use Rattle.tpm_laws.specs.Footprint.{Touches}
+use Rattle.tpm_history.specs.rows.Acceptance.{IsAcceptance}
+use Rattle.tpm_history.specs.rows.Footprint.{Touches}
 use Rattle.tpm_commands.specs.Part.{Part, AuthValues, Beginning, Saved}
 use Rattle.tpm_step.proofs.Binding.{ok_at, ok_bind, ok_weaker}
-use Rattle.tpm_laws.proofs.Table.{row_touches}
-use Rattle.tpm_laws.proofs.Leaving.{answered_only, success_leaves}
+use Rattle.tpm_history.proofs.rows.Table.{row_touches}
+use Rattle.tpm_history.proofs.rows.Leaving.{answered_only, success_leaves}
 use Rattle.tpm_history.specs.DevicePcrs.{AreSaved, HasPcrs, IsSavedAs, saved_in}
 use Rattle.tpm_history.specs.History.{Done, History, PowerCycled, command_of}
 use Rattle.tpm_history.specs.Pcrs.{Pcrs, before_shutdown, pcr_by, pcr_of, pcrs_after, saved_by, shutdown_or, updates_by}

@@ -18,11 +18,11 @@ use Rattle.tpm_step.specs.Entries as device
 use Rattle.tpm_step.specs.General.{is_startup}
 use Rattle.tpm_step.specs.Step.{Accepted, success_step}
 use Rattle.tpm_step.specs.Table.{row_of}
-use Rattle.tpm_laws.specs.Acceptance.{IsAcceptance}
-use Rattle.tpm_laws.specs.Draws.{draws_of}
+use Rattle.tpm_history.specs.rows.Acceptance.{IsAcceptance}
+use Rattle.tpm_history.specs.rows.Draws.{draws_of}
 use Rattle.tpm_step.proofs.Binding.{ok_at}
-use Rattle.tpm_laws.proofs.Draws.{startup_alone}
-use Rattle.tpm_laws.proofs.Table.{row_draws_so}
+use Rattle.tpm_history.proofs.rows.Draws.{startup_alone}
+use Rattle.tpm_history.proofs.rows.Table.{row_draws_so}
 use Rattle.tpm_history.specs.AuthValues.{auth_of}
 use Rattle.tpm_history.specs.DevicePcrs.{HasPcrs}
 use Rattle.tpm_history.specs.DeviceSessions.{AreLive, HasSessions, IsLive, SessionFacts, facts_of, session_facts}
@@ -32,7 +32,7 @@ use Rattle.tpm_history.specs.View.{view_of}
 use Rattle.tpm_history.proofs.LiveSessions.{none_live}
 use Rattle.tpm_history.proofs.SessionEntries.{answer_told, entries_roll}
 use Rattle.tpm_history.proofs.SessionRows.{IsTold, row_told}
-use Rattle.tpm_laws.proofs.Started.{is_started}
+use Rattle.tpm_history.proofs.rows.Started.{is_started}
 
 -- ---- where there is no session
 

@@ -49,9 +49,9 @@ use Rattle.tpm_step.specs.declared.refused_command.RefusedCommand.{RefusedComman
 use Rattle.tpm_step.proofs.Binding.{err_bind, err_bind_is, err_if}
 use Rattle.tpm_history.specs.EntryHmacs.{used_in}
 use Rattle.tpm_history.specs.Tries.{FailsTry, IsAnsweredTry, IsRefusedTry, check_for, counts_try, fails_try, is_try, touched, touched_by, touched_of_session, touched_where, try_refusal}
-use Rattle.tpm_laws.specs.Order.{IsPlain}
-use Rattle.tpm_laws.proofs.Table.{row_plain}
-use Rattle.tpm_laws.proofs.Uncounted.{err_in_command, general_plain}
+use Rattle.tpm_history.specs.rows.Order.{IsPlain}
+use Rattle.tpm_history.proofs.rows.Table.{row_plain}
+use Rattle.tpm_history.proofs.rows.Uncounted.{err_in_command, general_plain}
 
 -- ---- other codes than AUTH_FAIL
 

@@ -14,8 +14,8 @@ use Rattle.tpm_step.specs.Events.{PlainEvent, Given, Cycled}
 use Rattle.tpm_step.specs.Execution.{Executes}
 use Rattle.tpm_step.specs.Step.{Accepted, Stepped, accepted, answer_where, refusal_without_memory, step_where, success_step}
 use Rattle.tpm_step.specs.declared.refused_command.RefusedCommand.{RefusedCommand}
-use Rattle.tpm_laws.specs.Acceptance.{IsAcceptance}
-use Rattle.tpm_laws.proofs.Acceptance.{accepted_is}
+use Rattle.tpm_history.specs.rows.Acceptance.{IsAcceptance}
+use Rattle.tpm_history.proofs.rows.Acceptance.{accepted_is}
 use Rattle.tpm_history.specs.Executions.{Execution, Leads, history_after, with_execution}
 use Rattle.tpm_history.specs.History.{Done, PastEvent, PowerCycled, recorded, with_command}
 use Rattle.tpm_history.specs.Potential.{IsForgiving, Pays}

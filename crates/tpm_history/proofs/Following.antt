@@ -27,11 +27,11 @@ use Rattle.tpm_step.specs.Run.{Runs}
 use Rattle.tpm_step.specs.Step.{Accepted, Stepped, Steps, accepted, answer_where, counted_in, lockout_counted, outcome_step, refusal_without_memory, step_where, success_step}
 use Rattle.tpm_step.specs.declared.event.Outcome.{Outcome}
 use Rattle.tpm_step.specs.declared.refused_command.RefusedCommand.{RefusedCommand}
-use Rattle.tpm_laws.specs.Acceptance.{IsAcceptance}
-use Rattle.tpm_laws.specs.Sizes.{AreSized}
-use Rattle.tpm_laws.proofs.Acceptance.{accepted_is}
+use Rattle.tpm_history.specs.rows.Acceptance.{IsAcceptance}
+use Rattle.tpm_history.specs.rows.Sizes.{AreSized}
+use Rattle.tpm_history.proofs.rows.Acceptance.{accepted_is}
 use Rattle.tpm_step.proofs.Binding.{ok_at}
-use Rattle.tpm_laws.proofs.SizedSteps.{cycled_sized, execution_sized, manufactured_sized}
+use Rattle.tpm_history.proofs.rows.SizedSteps.{cycled_sized, execution_sized, manufactured_sized}
 use Rattle.tpm_history.specs.AuthValues.{auth_of}
 use Rattle.tpm_history.specs.Executions.{Execution, Leads, history_after}
 use Rattle.tpm_history.specs.Follows.{Follows, RunFollows, Shape, StretchFollows, Tells}

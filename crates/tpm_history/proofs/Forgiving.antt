@@ -15,10 +15,10 @@ use Rattle.tpm_actions_device.specs.DictionaryAttackParameters.{dictionary_attac
 use Rattle.tpm_step.specs.Step.{Accepted, counted_in, success_step}
 use Rattle.tpm_step.specs.Table.{row_of}
 use Rattle.tpm_step.proofs.Binding.{ok_at, ok_bind, ok_weaker}
-use Rattle.tpm_laws.proofs.Table.{row_touches}
-use Rattle.tpm_laws.proofs.Leaving.{success_leaves}
-use Rattle.tpm_laws.specs.Acceptance.{IsAcceptance}
-use Rattle.tpm_laws.specs.Footprint.{Touches}
+use Rattle.tpm_history.proofs.rows.Table.{row_touches}
+use Rattle.tpm_history.proofs.rows.Leaving.{success_leaves}
+use Rattle.tpm_history.specs.rows.Acceptance.{IsAcceptance}
+use Rattle.tpm_history.specs.rows.Footprint.{Touches}
 use Rattle.tpm_commands.specs.Part.{Part, AuthValues, Lockout, Beginning, Cleared}
 use Rattle.tpm_commands.specs.CommandCode.{part_of}
 use Rattle.tpm_history.specs.Potential.{IsForgiving}

@@ -11,8 +11,8 @@ use Rattle.tpm_nv.specs.Access.{counted, incremented, index_or_fault, number_or,
 use Rattle.tpm_nv.specs.Index.{NvContents, NvIndex, changed_index, index_at}
 use Rattle.tpm_nv.specs.declared.fault.WriteFault.TheVariants.{Exhausted, Undefined}
 use Rattle.tpm_step.proofs.Binding.{ok_bind_is, some_is}
-use Rattle.tpm_laws.specs.IndexChanges.{IsCounter}
-use Rattle.tpm_laws.proofs.IndexChanges.{writable_type}
+use Rattle.tpm_history.specs.rows.IndexChanges.{IsCounter}
+use Rattle.tpm_history.proofs.rows.IndexChanges.{writable_type}
 
 -- A counter has a value that is not the largest that there is, and becomes one more than it was.
 pub record CountsUp (handle : Handle) (old new : NvContents) : Type 0 where

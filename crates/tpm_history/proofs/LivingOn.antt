@@ -18,7 +18,7 @@ use Rattle.tpm_actions_base.specs.Request.{first_handle}
 use Rattle.tpm_actions_device.specs.FlushContext.{flushed_handle}
 use Rattle.tpm_actions_device.specs.StartAuthSession.{Parameters, parameters_in}
 use Rattle.tpm_actions_policy.specs.Assertions.{asserts, session_handle}
-use Rattle.tpm_laws.specs.Draws.{draws_of}
+use Rattle.tpm_history.specs.rows.Draws.{draws_of}
 use Rattle.tpm_policy_meaning.specs.Asserted.{IsAmong}
 use Rattle.tpm_history.specs.AuthValues.{auth_of}
 use Rattle.tpm_history.specs.HandleMap.{by_handle, with_at}

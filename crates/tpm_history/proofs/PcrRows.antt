@@ -37,11 +37,11 @@ use Rattle.tpm_actions_device.specs.Startup.{start_of, started_record, startup_r
 use Rattle.tpm_actions_device.specs.declared.startup.Start.{Start}
 use Rattle.tpm_actions_device.specs.declared.startup.Start.TheVariants.{Reset, Restart, Resume}
 use Rattle.tpm_step.specs.Table.{row_of}
-use Rattle.tpm_laws.specs.Footprint.{Touches}
+use Rattle.tpm_history.specs.rows.Footprint.{Touches}
 use Rattle.tpm_commands.specs.Part.{Part, AuthValues, Banks, Beginning, Cleared}
 use Rattle.tpm_commands.specs.CommandCode.{part_of}
 use Rattle.tpm_step.proofs.Binding.{ok_bind, ok_bind_is, ok_then, ok_weaker}
-use Rattle.tpm_laws.proofs.Table.{row_touches}
+use Rattle.tpm_history.proofs.rows.Table.{row_touches}
 use Rattle.tpm_history.specs.DevicePcrs.{AreSaved, IsSavedAs}
 use Rattle.tpm_history.specs.Pcrs.{count_in, extended_by_all, if_pcr, measured_by, names_pcr, pcr_by, resumed, updates_by}
 use Rattle.tpm_pcr.proofs.OneValue.{event_digest, extensions_at, extensions_count, zeros_at}

@@ -5,8 +5,8 @@ use Rattle.tpm_record.specs.Tick.{ticked}
 use Rattle.tpm_step.specs.Events.{PlainEvent, Given, Cycled}
 use Rattle.tpm_step.specs.Step.{Accepted, accepted}
 use Rattle.tpm_step.specs.declared.refused_command.RefusedCommand.{RefusedCommand}
-use Rattle.tpm_laws.specs.Acceptance.{IsAcceptance}
-use Rattle.tpm_laws.proofs.Acceptance.{accepted_is}
+use Rattle.tpm_history.specs.rows.Acceptance.{IsAcceptance}
+use Rattle.tpm_history.proofs.rows.Acceptance.{accepted_is}
 use Rattle.tpm_history.specs.History.{AcceptedCommand, Done, History, PastEvent, command_of, recorded, with_command}
 
 no_longer : (one : PastEvent) (history : History) → history ≡ one ∷ history → ⊥

@@ -38,7 +38,7 @@ use Rattle.tpm_actions_policy.specs.PolicySecret.{secret_parameters}
 use Rattle.tpm_step.specs.General.{is_startup}
 use Rattle.tpm_step.specs.Step.{Accepted}
 use Rattle.tpm_step.specs.Table.{row_of}
-use Rattle.tpm_laws.specs.Acceptance.{IsAcceptance, IsDue}
+use Rattle.tpm_history.specs.rows.Acceptance.{IsAcceptance, IsDue}
 use Rattle.tpm_step.proofs.Binding.{ok_at, ok_bind, ok_bind_is, ok_then, some_is}
 use Rattle.tpm_policy_meaning.specs.Asserted.{evaluated}
 use Rattle.tpm_history.specs.DevicePcrs.{HasPcrs}

@@ -27,8 +27,8 @@ use Rattle.tpm_actions_policy.specs.PolicyRestart.{policy_restart_row}
 use Rattle.tpm_step.specs.Table.{row_of}
 use Rattle.tpm_commands.specs.CommandCode.{part_of}
 use Rattle.tpm_step.proofs.Binding.{ok_bind, ok_bind_is, ok_then, ok_weaker, some_is}
-use Rattle.tpm_laws.proofs.Parts.{leaves_sessions}
-use Rattle.tpm_laws.proofs.Table.{row_same}
+use Rattle.tpm_history.proofs.rows.Parts.{leaves_sessions}
+use Rattle.tpm_history.proofs.rows.Table.{row_same}
 use Rattle.tpm_history.specs.AuthValues.{auth_of}
 use Rattle.tpm_history.specs.DevicePcrs.{HasPcrs}
 use Rattle.tpm_history.specs.DeviceSessions.{AreLive, SessionFacts, bound_of, facts_of, session_facts}

@@ -5,7 +5,7 @@ use Rattle.tpm_types_nv.specs.declared.nv_attributes.NvAttribute.TheVariants as 
 use Rattle.tpm_nv.specs.Access.{index_has}
 use Rattle.tpm_nv.specs.Index.{NvContents, NvIndex, index_at}
 use Rattle.tpm_record.specs.Record.{Record}
-use Rattle.tpm_laws.specs.IndexChanges.{IsCounter, stored_count}
+use Rattle.tpm_history.specs.rows.IndexChanges.{IsCounter, stored_count}
 use Rattle.tpm_history.specs.Counters.{AllBelow, Counters, HasNoDefinition, counters_of, counts_of, defines, largest}
 use Rattle.tpm_history.specs.History.{History, PastEvent}
 

@@ -13,7 +13,7 @@ use Rattle.tpm_record.specs.Record.{Record}
 use Rattle.tpm_step.specs.Events.{PlainEvent}
 use Rattle.tpm_step.specs.Step.{Stepped, outcome_step}
 use Rattle.tpm_step.specs.declared.event.Outcome.{Outcome}
-use Rattle.tpm_laws.specs.Sizes.{AreSized}
+use Rattle.tpm_history.specs.rows.Sizes.{AreSized}
 use Rattle.tpm_history.specs.AcceptedAssertions.{AllAskForTheirHandles, SessionsFind}
 use Rattle.tpm_history.specs.DeviceAuthValues.{HasAuthValues}
 use Rattle.tpm_history.specs.DeviceCounters.{BeginsAbove, ExceedsEarlier, HasCounters, KeepsCounter}

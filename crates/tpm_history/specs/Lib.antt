@@ -1,3 +1,4 @@
+pub mod rows
 pub mod View
 pub mod Views
 pub mod History

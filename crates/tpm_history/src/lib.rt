@@ -5,9 +5,9 @@
 //! device let itself be used, what a replay repeats, and how many tries may fail.
 //!
 //! Each law is the contract of a function that does nothing. The laws follow from the definitions
-//! of tpm_step and from the laws over rows of tpm_laws; only the rows are opened that set what a
-//! history tells. The contracts of the calls of tpm_machine, and of tpm_image and tpm_wire above
-//! it, have them.
+//! of tpm_step and from the laws over all rows, which [`rows`] has; beside those, only the rows are
+//! opened that set what a history tells. The contracts of the calls of tpm_machine, and of
+//! tpm_image and tpm_wire above it, have them.
 
 ghost use Rattle.std.specs.Prelude.{◌≡◌, ◌↔◌, ◌+◌, ◌++◌, ℕ, Bool, true, false, List, [], ◌∷◌, None, Some, map};
 ghost use Rattle.tpm_mac.specs.declared.algorithm.HashAlg.{HashAlg};
@@ -54,6 +54,8 @@ ghost use Rattle.tpm_history.specs.Tries.{IsRefusedTry, fails_try, is_reset};
 ghost use Rattle.tpm_history.specs.Tries.{tries_at_most, tries_within};
 ghost use Rattle.tpm_history.specs.View.{view_of};
 ghost use Rattle.tpm_history.specs.Views.{TellsOf};
+
+pub mod rows;
 
 use tpm_step::event::Outcome;
 
