@@ -10,10 +10,10 @@ use Rattle.tpm_types.specs.declared.pcr_selection.BankSelection.{BankSelection}
 use Rattle.tpm_types.specs.declared.rc.ResponseCode.TheVariants as code
 use Rattle.tpm_types.specs.declared.refused.Refused.{Refused}
 use Rattle.tpm_record.specs.Record.{Record}
-use Rattle.tpm_actions_base.specs.Answer.{Plain, answer_of}
-use Rattle.tpm_actions_base.specs.Refusals.{parameter_refusal}
-use Rattle.tpm_actions_base.specs.Request.{Request}
-use Rattle.tpm_actions_base.specs.Rows.{Success, all_read, parameter, unchanged}
+use Rattle.tpm_record.specs.rows.Answer.{Plain, answer_of}
+use Rattle.tpm_record.specs.rows.Refusals.{parameter_refusal}
+use Rattle.tpm_record.specs.rows.Request.{Request}
+use Rattle.tpm_record.specs.rows.Rows.{Success, all_read, parameter, unchanged}
 use Rattle.tpm_actions_capability.specs.Element.{listing}
 use Rattle.tpm_actions_capability.specs.Elements.{command_elements, index_elements, object_elements, pcr_elements, permanent_elements, persistent_elements, property_elements, session_elements}
 use Rattle.tpm_actions_capability.specs.declared.element.Element.{Element}

@@ -1,4 +1,4 @@
 pub mod Element
 pub mod Elements
 pub mod GetCapability
-pub use Rattle.tpm_actions_base.specs.Rows
+pub use Rattle.tpm_record.specs.rows.Rows

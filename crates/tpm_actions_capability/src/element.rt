@@ -7,7 +7,7 @@ ghost use Rattle.tpm_actions_capability.specs.Element.{by_itself, found_count, i
 ghost use Rattle.tpm_actions_capability.specs.declared.element.Element.{Element as ListedElement};
 
 use arrayvec::ArrayVec;
-use tpm_actions_base::answer::Parameters;
+use tpm_record::rows::answer::Parameters;
 
 /// The most elements of one answer; no capability ever lists more.
 pub(crate) const ELEMENT_LIMIT: usize = 64;

@@ -1,9 +1,9 @@
 //! TPM2_GetCapability: answers what the device has and is, by its row in `specs/GetCapability`.
 
 ghost use Rattle.std.specs.Prelude.{◌≡◌, []};
-ghost use Rattle.tpm_actions_base.specs.Answer.{IsEmpty};
-ghost use Rattle.tpm_actions_base.specs.Request.{request_of};
-ghost use Rattle.tpm_actions_base.specs.Rows.{Acts};
+ghost use Rattle.tpm_record.specs.rows.Answer.{IsEmpty};
+ghost use Rattle.tpm_record.specs.rows.Request.{request_of};
+ghost use Rattle.tpm_record.specs.rows.Rows.{Acts};
 ghost use Rattle.tpm_actions_capability.specs.Element.{listing};
 ghost use Rattle.tpm_actions_capability.specs.Elements.{command_elements, property_elements};
 ghost use Rattle.tpm_actions_capability.specs.GetCapability.{Tells, capability_of, capability_parameters, first_handle_of};
@@ -16,13 +16,13 @@ use crate::elements::{
     commands, indices, objects, pcrs, permanent, persistent, properties, sessions,
 };
 use arrayvec::ArrayVec;
-use tpm_actions_base::answer::{Answer, Parameters};
-use tpm_actions_base::call::Call;
-use tpm_actions_base::reading::{end, number};
-use tpm_actions_base::refusals::parameter_refusal;
 use tpm_bytes::Cursor;
 use tpm_mac::HashAlg;
 use tpm_record::Keep;
+use tpm_record::rows::answer::{Answer, Parameters};
+use tpm_record::rows::call::Call;
+use tpm_record::rows::reading::{end, number};
+use tpm_record::rows::refusals::parameter_refusal;
 use tpm_types::{ActionCheck, BankSelection, PcrSelect, PcrSelection, Refused, ResponseCode};
 
 /// The parameters of TPM2_GetCapability.

@@ -15,10 +15,10 @@ use Rattle.tpm_record.specs.Clear.{cleared_objects, cleared_persistent}
 use Rattle.tpm_record.specs.Hierarchy.{cleared_hierarchies}
 use Rattle.tpm_record.specs.Record.{Record}
 use Rattle.tpm_record.specs.declared.fixed.Fixed.{Fixed}
-use Rattle.tpm_actions_base.specs.Answer.{nothing}
-use Rattle.tpm_actions_base.specs.Refusals.{action_refusal, or_refusal}
-use Rattle.tpm_actions_base.specs.Request.{Request}
-use Rattle.tpm_actions_base.specs.Rows.{Success, all_read}
+use Rattle.tpm_record.specs.rows.Answer.{nothing}
+use Rattle.tpm_record.specs.rows.Refusals.{action_refusal, or_refusal}
+use Rattle.tpm_record.specs.rows.Request.{Request}
+use Rattle.tpm_record.specs.rows.Rows.{Success, all_read}
 
 -- lockout after TPM2_Clear: lockoutAuth is open, and no failed try is left; the parameters and the
 -- times stay

@@ -7,9 +7,9 @@ use Rattle.tpm_types.specs.Rc.{plain}
 use Rattle.tpm_types.specs.declared.rc.ResponseCode.TheVariants as code
 use Rattle.tpm_types.specs.declared.refused.Refused.{Refused}
 use Rattle.tpm_record.specs.Record.{Record, with_lockout}
-use Rattle.tpm_actions_base.specs.Answer.{nothing}
-use Rattle.tpm_actions_base.specs.Request.{Request}
-use Rattle.tpm_actions_base.specs.Rows.{Success, all_read, parameter}
+use Rattle.tpm_record.specs.rows.Answer.{nothing}
+use Rattle.tpm_record.specs.rows.Request.{Request}
+use Rattle.tpm_record.specs.rows.Rows.{Success, all_read, parameter}
 use Rattle.tpm_actions_device.specs.declared.dictionary_attack_parameters.AttackParameters.{AttackParameters}
 
 -- the parameters newMaxTries, newRecoveryTime and lockoutRecovery

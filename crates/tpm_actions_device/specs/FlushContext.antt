@@ -11,10 +11,10 @@ use Rattle.tpm_types.specs.Rc.{plain}
 use Rattle.tpm_record.specs.Objects.{object_at, without_object}
 use Rattle.tpm_record.specs.Record.{Record}
 use Rattle.tpm_types.specs.declared.refused.Refused.{Refused}
-use Rattle.tpm_actions_base.specs.Request.{Request}
-use Rattle.tpm_actions_base.specs.Answer.{nothing}
-use Rattle.tpm_actions_base.specs.Refusals.{parameter_refusal}
-use Rattle.tpm_actions_base.specs.Rows.{Success, only}
+use Rattle.tpm_record.specs.rows.Request.{Request}
+use Rattle.tpm_record.specs.rows.Answer.{nothing}
+use Rattle.tpm_record.specs.rows.Refusals.{parameter_refusal}
+use Rattle.tpm_record.specs.rows.Rows.{Success, only}
 
 -- whether a handle has the type of something that can be flushed: a session (02, 03) or a transient
 -- object (80)

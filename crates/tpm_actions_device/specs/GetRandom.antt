@@ -6,9 +6,9 @@ use Rattle.tpm_types.specs.declared.rc.ResponseCode.TheVariants as code
 use Rattle.tpm_types.specs.Rc.{plain}
 use Rattle.tpm_record.specs.Record.{Record}
 use Rattle.tpm_types.specs.declared.refused.Refused.{Refused}
-use Rattle.tpm_actions_base.specs.Answer.{AnswerParts, Sized}
-use Rattle.tpm_actions_base.specs.Request.{Request}
-use Rattle.tpm_actions_base.specs.Rows.{Success, only, unchanged}
+use Rattle.tpm_record.specs.rows.Answer.{AnswerParts, Sized}
+use Rattle.tpm_record.specs.rows.Request.{Request}
+use Rattle.tpm_record.specs.rows.Rows.{Success, only, unchanged}
 
 -- an answer of this many of the event's random bytes, as a sized buffer
 abbrev pub random_answer : ℕ → List ℕ → AnswerParts

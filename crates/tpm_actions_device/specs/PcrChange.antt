@@ -9,7 +9,7 @@ use Rattle.tpm_types.specs.declared.rc.ResponseCode.TheVariants as code
 use Rattle.tpm_types.specs.Rc.{plain}
 use Rattle.tpm_record.specs.Record.{Record}
 use Rattle.tpm_types.specs.declared.refused.Refused.{Refused}
-use Rattle.tpm_actions_base.specs.Refusals.{action_refusal}
+use Rattle.tpm_record.specs.rows.Refusals.{action_refusal}
 
 -- the refusal of a change of a PCR. A1: the PCR does not allow this change from this locality; A2:
 -- the updates could not be counted

@@ -7,11 +7,11 @@ use Rattle.tpm_types.specs.Buffer.{buffer_at}
 use Rattle.tpm_types.specs.DigestValues.{digest_values_text}
 use Rattle.tpm_record.specs.Record.{Record}
 use Rattle.tpm_types.specs.declared.refused.Refused.{Refused}
-use Rattle.tpm_actions_base.specs.Request.{Request, first_handle}
+use Rattle.tpm_record.specs.rows.Request.{Request, first_handle}
 use Rattle.tpm_actions_device.specs.PcrChange.{with_banks}
 use Rattle.tpm_actions_device.specs.PcrExtend.{extended}
-use Rattle.tpm_actions_base.specs.Answer.{Plain, answer_of}
-use Rattle.tpm_actions_base.specs.Rows.{Success, only}
+use Rattle.tpm_record.specs.rows.Answer.{Plain, answer_of}
+use Rattle.tpm_record.specs.rows.Rows.{Success, only}
 
 -- pcrHandle is authorized; parameter eventData, within the limit of data; answered: the digests of
 -- eventData

@@ -9,10 +9,10 @@ use Rattle.tpm_types.specs.DigestValues.{digest_values_at}
 use Rattle.tpm_types.specs.Handle.{pcr_of}
 use Rattle.tpm_record.specs.Record.{Record}
 use Rattle.tpm_types.specs.declared.refused.Refused.{Refused}
-use Rattle.tpm_actions_base.specs.Request.{Request, first_handle}
+use Rattle.tpm_record.specs.rows.Request.{Request, first_handle}
 use Rattle.tpm_actions_device.specs.PcrChange.{on_pcr, with_banks}
-use Rattle.tpm_actions_base.specs.Answer.{nothing}
-use Rattle.tpm_actions_base.specs.Rows.{Success, only}
+use Rattle.tpm_record.specs.rows.Answer.{nothing}
+use Rattle.tpm_record.specs.rows.Rows.{Success, only}
 
 -- the banks after a PCR was extended from this locality by each digest in turn
 abbrev pub extended : Handle → (locality : ℕ) → List DigestValue

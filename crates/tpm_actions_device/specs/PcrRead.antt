@@ -9,9 +9,9 @@ use Rattle.tpm_pcr.specs.Banks.{answer_selection, read_values}
 use Rattle.tpm_pcr.specs.Values.{BankValues}
 use Rattle.tpm_record.specs.Record.{Record}
 use Rattle.tpm_types.specs.declared.refused.Refused.{Refused}
-use Rattle.tpm_actions_base.specs.Request.{Request}
-use Rattle.tpm_actions_base.specs.Answer.{Plain, answer_of}
-use Rattle.tpm_actions_base.specs.Rows.{Success, only, unchanged}
+use Rattle.tpm_record.specs.rows.Request.{Request}
+use Rattle.tpm_record.specs.rows.Answer.{Plain, answer_of}
+use Rattle.tpm_record.specs.rows.Rows.{Success, only, unchanged}
 
 -- the text of the update counter modulo 2^32, and of the first eight selected values with the
 -- selection of just these

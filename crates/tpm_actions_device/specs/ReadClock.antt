@@ -6,9 +6,9 @@ use Rattle.tpm_bytes.specs.Reading.{◌>>=◌}
 use Rattle.tpm_types.specs.declared.refused.Refused.{Refused}
 use Rattle.tpm_record.specs.Record.{Record}
 use Rattle.tpm_record.specs.declared.fixed.Fixed.{Fixed}
-use Rattle.tpm_actions_base.specs.Answer.{Plain, answer_of}
-use Rattle.tpm_actions_base.specs.Request.{Request}
-use Rattle.tpm_actions_base.specs.Rows.{Success, all_read, unchanged}
+use Rattle.tpm_record.specs.rows.Answer.{Plain, answer_of}
+use Rattle.tpm_record.specs.rows.Request.{Request}
+use Rattle.tpm_record.specs.rows.Rows.{Success, all_read, unchanged}
 
 -- what TPM2_ReadClock answers: Time; Clock, the counts of resets and of restarts; and that Clock
 -- never went back (yes)

@@ -4,9 +4,9 @@ use Rattle.tpm_bytes.specs.Reading.{◌>>=◌}
 use Rattle.tpm_types.specs.YesNo.{yes_no_at}
 use Rattle.tpm_types.specs.declared.refused.Refused.{Refused}
 use Rattle.tpm_record.specs.Record.{Record}
-use Rattle.tpm_actions_base.specs.Answer.{nothing}
-use Rattle.tpm_actions_base.specs.Request.{Request}
-use Rattle.tpm_actions_base.specs.Rows.{Success, only, unchanged}
+use Rattle.tpm_record.specs.rows.Answer.{nothing}
+use Rattle.tpm_record.specs.rows.Request.{Request}
+use Rattle.tpm_record.specs.rows.Rows.{Success, only, unchanged}
 
 -- parameter fullTest. All tests have passed already, so there is nothing to do
 unfoldable pub self_test_row : Record → Request → Result Success Refused

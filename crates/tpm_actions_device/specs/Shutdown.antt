@@ -5,9 +5,9 @@ use Rattle.tpm_types.specs.StartupType.{startup_type_at}
 use Rattle.tpm_types.specs.declared.refused.Refused.{Refused}
 use Rattle.tpm_record.specs.Record.{Record, with_saved}
 use Rattle.tpm_record.specs.Saved.{saved_by}
-use Rattle.tpm_actions_base.specs.Answer.{nothing}
-use Rattle.tpm_actions_base.specs.Request.{Request}
-use Rattle.tpm_actions_base.specs.Rows.{Success, only}
+use Rattle.tpm_record.specs.rows.Answer.{nothing}
+use Rattle.tpm_record.specs.rows.Request.{Request}
+use Rattle.tpm_record.specs.rows.Rows.{Success, only}
 
 -- parameter shutdownType; what the command saves takes the place of what was saved before
 unfoldable pub shutdown_row : Record → Request → Result Success Refused

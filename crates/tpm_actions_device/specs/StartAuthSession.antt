@@ -23,10 +23,10 @@ use Rattle.tpm_record.specs.Entity.{auth_value_of, name_of, protection_of}
 use Rattle.tpm_record.specs.Record.{Record}
 use Rattle.tpm_types.specs.declared.refused.Refused.{Refused}
 use Rattle.tpm_actions_device.specs.declared.start_auth_session.SessionParameters.{SessionParameters}
-use Rattle.tpm_actions_base.specs.Request.{Request, second_handle}
-use Rattle.tpm_actions_base.specs.Answer.{AnswerParts, Sized}
-use Rattle.tpm_actions_base.specs.Refusals.{action_refusal, parameter_refusal}
-use Rattle.tpm_actions_base.specs.Rows.{Success, all_read, parameter}
+use Rattle.tpm_record.specs.rows.Request.{Request, second_handle}
+use Rattle.tpm_record.specs.rows.Answer.{AnswerParts, Sized}
+use Rattle.tpm_record.specs.rows.Refusals.{action_refusal, parameter_refusal}
+use Rattle.tpm_record.specs.rows.Rows.{Success, all_read, parameter}
 
 -- the parameters nonceCaller, encryptedSalt, sessionType, symmetric and authHash
 pub record Parameters : Type 0 where

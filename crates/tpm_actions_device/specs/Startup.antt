@@ -19,10 +19,10 @@ use Rattle.tpm_record.specs.Saved.{kind_of, restored_from}
 use Rattle.tpm_record.specs.declared.saved.SavedKind.{SavedKind}
 use Rattle.tpm_record.specs.declared.saved.SavedKind.TheVariants as saved
 use Rattle.tpm_types.specs.declared.refused.Refused.{Refused}
-use Rattle.tpm_actions_base.specs.Answer.{nothing}
-use Rattle.tpm_actions_base.specs.Refusals.{parameter_refusal}
-use Rattle.tpm_actions_base.specs.Request.{Request}
-use Rattle.tpm_actions_base.specs.Rows.{Success, only}
+use Rattle.tpm_record.specs.rows.Answer.{nothing}
+use Rattle.tpm_record.specs.rows.Refusals.{parameter_refusal}
+use Rattle.tpm_record.specs.rows.Request.{Request}
+use Rattle.tpm_record.specs.rows.Rows.{Success, only}
 use Rattle.tpm_actions_device.specs.declared.startup.Start.{Start}
 use Rattle.tpm_actions_device.specs.declared.startup.Start.TheVariants.{Reset, Restart, Resume}
 

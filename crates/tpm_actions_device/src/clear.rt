@@ -2,17 +2,17 @@
 //! `specs/Clear`.
 
 ghost use Rattle.std.specs.Prelude.{◌≡◌};
-ghost use Rattle.tpm_actions_base.specs.Answer.{IsEmpty};
-ghost use Rattle.tpm_actions_base.specs.Request.{request_of};
-ghost use Rattle.tpm_actions_base.specs.Rows.{Acts};
+ghost use Rattle.tpm_record.specs.rows.Answer.{IsEmpty};
+ghost use Rattle.tpm_record.specs.rows.Request.{request_of};
+ghost use Rattle.tpm_record.specs.rows.Rows.{Acts};
 ghost use Rattle.tpm_actions_device.specs.Clear.{clear_row, cleared_fixed};
 
-use tpm_actions_base::answer::Answer;
-use tpm_actions_base::call::Call;
-use tpm_actions_base::reading::end;
-use tpm_actions_base::refusals::action_refusal;
 use tpm_bytes::Cursor;
 use tpm_nv::Indices;
+use tpm_record::rows::answer::Answer;
+use tpm_record::rows::call::Call;
+use tpm_record::rows::reading::end;
+use tpm_record::rows::refusals::action_refusal;
 use tpm_record::{Fixed, Keep, PersistentObjects};
 use tpm_types::{ActionCheck, Refused, ResponseCode};
 

@@ -1,17 +1,17 @@
 //! TPM2_ClearControl: disables TPM2_Clear or enables it again, by its row in `specs/ClearControl`.
 
 ghost use Rattle.std.specs.Prelude.{◌≡◌};
-ghost use Rattle.tpm_actions_base.specs.Answer.{IsEmpty};
+ghost use Rattle.tpm_record.specs.rows.Answer.{IsEmpty};
 ghost use Rattle.tpm_actions_device.specs.ClearControl.{clear_control_row};
-ghost use Rattle.tpm_actions_base.specs.Request.{request_of};
-ghost use Rattle.tpm_actions_base.specs.Rows.{Acts};
+ghost use Rattle.tpm_record.specs.rows.Request.{request_of};
+ghost use Rattle.tpm_record.specs.rows.Rows.{Acts};
 
-use tpm_actions_base::answer::Answer;
-use tpm_actions_base::call::Call;
-use tpm_actions_base::reading::{end, parameter};
-use tpm_actions_base::refusals::action_refusal;
 use tpm_bytes::Cursor;
 use tpm_record::Keep;
+use tpm_record::rows::answer::Answer;
+use tpm_record::rows::call::Call;
+use tpm_record::rows::reading::{end, parameter};
+use tpm_record::rows::refusals::action_refusal;
 use tpm_types::{ActionCheck, Handle, Refused, ResponseCode, read_yes_no};
 
 /// TPM2_ClearControl: disables TPM2_Clear, or enables it again; AUTH_FAIL where lockout asks to

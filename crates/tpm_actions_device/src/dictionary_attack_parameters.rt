@@ -2,16 +2,16 @@
 //! in `specs/DictionaryAttackParameters`.
 
 ghost use Rattle.std.specs.Prelude.{◌≡◌};
-ghost use Rattle.tpm_actions_base.specs.Answer.{IsEmpty};
+ghost use Rattle.tpm_record.specs.rows.Answer.{IsEmpty};
 ghost use Rattle.tpm_actions_device.specs.DictionaryAttackParameters.{dictionary_attack_parameters_row, lockout_parameters};
-ghost use Rattle.tpm_actions_base.specs.Request.{request_of};
-ghost use Rattle.tpm_actions_base.specs.Rows.{Acts};
+ghost use Rattle.tpm_record.specs.rows.Request.{request_of};
+ghost use Rattle.tpm_record.specs.rows.Rows.{Acts};
 
-use tpm_actions_base::answer::Answer;
-use tpm_actions_base::call::Call;
-use tpm_actions_base::reading::{end, number};
 use tpm_bytes::Cursor;
 use tpm_record::Keep;
+use tpm_record::rows::answer::Answer;
+use tpm_record::rows::call::Call;
+use tpm_record::rows::reading::{end, number};
 use tpm_types::Refused;
 
 /// The parameters of TPM2_DictionaryAttackParameters; the times are in seconds.

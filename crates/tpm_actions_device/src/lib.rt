@@ -4,7 +4,7 @@
 //! PCRs, sessions, hierarchies and lockout. A file has one command, with one public call that reads
 //! its plain parameters, checks them, and changes the record last (TPM 2.0 Library, Part 3).
 //!
-//! The crate uses tpm_actions_base. `specs/` has a row for each command under the same name; each
+//! The crate uses `tpm_record::rows`. `specs/` has a row for each command under the same name; each
 //! call is proved to be its row, for each way of keeping the record, and a refusal leaves the
 //! record.
 

@@ -3,8 +3,8 @@
 ghost use Rattle.std.specs.Prelude.{◌≡◌};
 ghost use Rattle.tpm_actions_device.specs.PcrChange.{change_refusal};
 
-use tpm_actions_base::refusals::action_refusal;
 use tpm_pcr::ChangeFault;
+use tpm_record::rows::refusals::action_refusal;
 use tpm_types::{ActionCheck, Refused, ResponseCode};
 
 /// The refusal of a command that would change a PCR.

@@ -2,17 +2,17 @@
 //! `specs/PcrEvent`.
 
 ghost use Rattle.tpm_actions_device.specs.PcrEvent.{pcr_event_row};
-ghost use Rattle.tpm_actions_base.specs.Answer.{IsEmpty};
-ghost use Rattle.tpm_actions_base.specs.Request.{request_of};
-ghost use Rattle.tpm_actions_base.specs.Rows.{Acts};
+ghost use Rattle.tpm_record.specs.rows.Answer.{IsEmpty};
+ghost use Rattle.tpm_record.specs.rows.Request.{request_of};
+ghost use Rattle.tpm_record.specs.rows.Rows.{Acts};
 
 use crate::pcr_change::change_refusal;
-use tpm_actions_base::answer::Answer;
-use tpm_actions_base::call::Call;
-use tpm_actions_base::reading::{end, parameter};
 use tpm_bytes::Cursor;
 use tpm_pcr::event_digests;
 use tpm_record::Keep;
+use tpm_record::rows::answer::Answer;
+use tpm_record::rows::call::Call;
+use tpm_record::rows::reading::{end, parameter};
 use tpm_types::{DATA_LIMIT, Refused, read_buffer};
 
 /// TPM2_PCR_Event: extends a PCR by the digests of the data, and answers the digests; on

@@ -6,16 +6,16 @@ ghost use Rattle.std.specs.Int.{w32, to_be_bytes};
 ghost use Rattle.tpm_types.specs.DigestList.{digest_list_text, digests_of};
 ghost use Rattle.tpm_types.specs.PcrSelection.{selection_text};
 ghost use Rattle.tpm_actions_device.specs.PcrRead.{pcr_read_row};
-ghost use Rattle.tpm_actions_base.specs.Answer.{IsEmpty};
-ghost use Rattle.tpm_actions_base.specs.Request.{request_of};
-ghost use Rattle.tpm_actions_base.specs.Rows.{Acts};
+ghost use Rattle.tpm_record.specs.rows.Answer.{IsEmpty};
+ghost use Rattle.tpm_record.specs.rows.Request.{request_of};
+ghost use Rattle.tpm_record.specs.rows.Rows.{Acts};
 
-use tpm_actions_base::answer::{Answer, Parameters};
-use tpm_actions_base::call::Call;
-use tpm_actions_base::reading::{end, parameter};
 use tpm_bytes::Cursor;
 use tpm_pcr::PcrReading;
 use tpm_record::Keep;
+use tpm_record::rows::answer::{Answer, Parameters};
+use tpm_record::rows::call::Call;
+use tpm_record::rows::reading::{end, parameter};
 use tpm_types::{PcrSelection, Refused};
 
 /// Writes the low 32 bits of the update counter, the selection, and the values.

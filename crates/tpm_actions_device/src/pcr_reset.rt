@@ -2,16 +2,16 @@
 
 ghost use Rattle.std.specs.Prelude.{◌≡◌};
 ghost use Rattle.tpm_actions_device.specs.PcrReset.{pcr_reset_row};
-ghost use Rattle.tpm_actions_base.specs.Answer.{IsEmpty};
-ghost use Rattle.tpm_actions_base.specs.Request.{request_of};
-ghost use Rattle.tpm_actions_base.specs.Rows.{Acts};
+ghost use Rattle.tpm_record.specs.rows.Answer.{IsEmpty};
+ghost use Rattle.tpm_record.specs.rows.Request.{request_of};
+ghost use Rattle.tpm_record.specs.rows.Rows.{Acts};
 
 use crate::pcr_change::change_refusal;
-use tpm_actions_base::answer::Answer;
-use tpm_actions_base::call::Call;
-use tpm_actions_base::reading::end;
 use tpm_bytes::Cursor;
 use tpm_record::Keep;
+use tpm_record::rows::answer::Answer;
+use tpm_record::rows::call::Call;
+use tpm_record::rows::reading::end;
 use tpm_types::Refused;
 
 /// TPM2_PCR_Reset: makes a PCR zeros in both banks.

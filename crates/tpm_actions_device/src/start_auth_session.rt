@@ -4,17 +4,17 @@
 ghost use Rattle.tpm_bytes.specs.Reading.{Gives};
 ghost use Rattle.std.specs.Prelude.{◌≡◌, ◌≤◌, true, length, IfOk, OnOk};
 ghost use Rattle.tpm_session.specs.Key.{is_nonce_size};
-ghost use Rattle.tpm_actions_base.specs.Answer.{IsEmpty};
-ghost use Rattle.tpm_actions_base.specs.Request.{request_of};
-ghost use Rattle.tpm_actions_base.specs.Rows.{ActsIfRoom};
+ghost use Rattle.tpm_record.specs.rows.Answer.{IsEmpty};
+ghost use Rattle.tpm_record.specs.rows.Request.{request_of};
+ghost use Rattle.tpm_record.specs.rows.Rows.{ActsIfRoom};
 ghost use Rattle.tpm_actions_device.specs.StartAuthSession.{binding_of, has_other_mask, parameters_in, parameters_of, parameters_pass, start_auth_session_row};
 
-use tpm_actions_base::answer::Answer;
-use tpm_actions_base::call::Call;
-use tpm_actions_base::reading::{end, parameter};
-use tpm_actions_base::refusals::{action_refusal, memory_refusal, parameter_refusal};
 use tpm_bytes::Cursor;
 use tpm_mac::HashAlg;
+use tpm_record::rows::answer::Answer;
+use tpm_record::rows::call::Call;
+use tpm_record::rows::reading::{end, parameter};
+use tpm_record::rows::refusals::{action_refusal, memory_refusal, parameter_refusal};
 use tpm_record::{Keep, copied_auth_value, name_of, protection_of};
 use tpm_session::{Binding, Nonce, Start, StartFault, is_nonce_size};
 use tpm_types::{

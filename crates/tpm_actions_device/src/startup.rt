@@ -2,19 +2,19 @@
 //! `specs/Startup`.
 
 ghost use Rattle.std.specs.Prelude.{◌≡◌};
-ghost use Rattle.tpm_actions_base.specs.Answer.{IsEmpty};
-ghost use Rattle.tpm_actions_base.specs.Request.{request_of};
-ghost use Rattle.tpm_actions_base.specs.Rows.{Acts};
+ghost use Rattle.tpm_record.specs.rows.Answer.{IsEmpty};
+ghost use Rattle.tpm_record.specs.rows.Request.{request_of};
+ghost use Rattle.tpm_record.specs.rows.Rows.{Acts};
 ghost use Rattle.tpm_actions_device.specs.Startup.{reset_fixed, reset_hierarchies, reset_lockout, without_platform_auth};
 ghost use Rattle.tpm_actions_device.specs.Startup.{restart_fixed, resume_fixed, start_draws, start_of, started_record, startup_row};
 
-use tpm_actions_base::answer::Answer;
-use tpm_actions_base::call::Call;
-use tpm_actions_base::reading::{end, parameter};
-use tpm_actions_base::refusals::parameter_refusal;
 use tpm_bytes::Cursor;
 use tpm_lockout::Lockout;
 use tpm_nv::Indices;
+use tpm_record::rows::answer::Answer;
+use tpm_record::rows::call::Call;
+use tpm_record::rows::reading::{end, parameter};
+use tpm_record::rows::refusals::parameter_refusal;
 use tpm_record::{Fixed, Hierarchies, Keep, SavedKind, Secrets};
 use tpm_types::{ActionCheck, AuthValue, HierarchyAuth, Refused, ResponseCode, StartupType};
 

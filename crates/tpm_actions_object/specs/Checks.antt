@@ -12,7 +12,7 @@ use Rattle.tpm_types_object.specs.declared.public.Public.{Public}
 use Rattle.tpm_types_object.specs.SensitiveCreate.{SensitiveValues}
 use Rattle.tpm_types.specs.declared.rc.ResponseCode.TheVariants as code
 use Rattle.tpm_types.specs.declared.refused.Refused.{Refused}
-use Rattle.tpm_actions_base.specs.Refusals.{or_refusal, parameter_refusal}
+use Rattle.tpm_record.specs.rows.Refusals.{or_refusal, parameter_refusal}
 
 -- the refusal of a template, or of a public area to be loaded, by its checks; this many of the
 -- command's own checks come before them. The template is the second parameter

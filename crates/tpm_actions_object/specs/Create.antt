@@ -9,9 +9,9 @@ use Rattle.tpm_object.specs.Creation.{drawn_by}
 use Rattle.tpm_object.specs.PrivateArea.{private_text}
 use Rattle.tpm_record.specs.Record.{Record}
 use Rattle.tpm_types.specs.declared.refused.Refused.{Refused}
-use Rattle.tpm_actions_base.specs.Request.{Request, first_handle}
-use Rattle.tpm_actions_base.specs.Answer.{AnswerParts, SizedFirst}
-use Rattle.tpm_actions_base.specs.Rows.{Success, unchanged}
+use Rattle.tpm_record.specs.rows.Request.{Request, first_handle}
+use Rattle.tpm_record.specs.rows.Answer.{AnswerParts, SizedFirst}
+use Rattle.tpm_record.specs.rows.Rows.{Success, unchanged}
 use Rattle.tpm_actions_object.specs.Checks.{given_passes, public_passes}
 use Rattle.tpm_actions_object.specs.Creation.{Parameters, creation_text, object_parent, parameters_in}
 use Rattle.tpm_actions_object.specs.Loaded.{is_fixed, parent_passes, loaded_at}

@@ -14,10 +14,10 @@ use Rattle.tpm_record.specs.Hierarchy.{secrets_of}
 use Rattle.tpm_record.specs.Objects.{object_handle, with_object}
 use Rattle.tpm_record.specs.Record.{Record}
 use Rattle.tpm_types.specs.declared.refused.Refused.{Refused}
-use Rattle.tpm_actions_base.specs.Refusals.{handle_refusal}
-use Rattle.tpm_actions_base.specs.Request.{Request, first_handle}
-use Rattle.tpm_actions_base.specs.Answer.{AnswerParts, SizedFirst}
-use Rattle.tpm_actions_base.specs.Rows.{Success}
+use Rattle.tpm_record.specs.rows.Refusals.{handle_refusal}
+use Rattle.tpm_record.specs.rows.Request.{Request, first_handle}
+use Rattle.tpm_record.specs.rows.Answer.{AnswerParts, SizedFirst}
+use Rattle.tpm_record.specs.rows.Rows.{Success}
 use Rattle.tpm_actions_object.specs.Checks.{given_passes, public_passes}
 use Rattle.tpm_actions_object.specs.Creation.{Parameters, creation_rest, hierarchy_parent, parameters_in}
 use Rattle.tpm_actions_object.specs.Loaded.{place_for}

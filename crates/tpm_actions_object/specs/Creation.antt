@@ -26,7 +26,7 @@ use Rattle.tpm_types_object.specs.SensitiveCreate.{SensitiveValues, sensitive_cr
 use Rattle.tpm_record.specs.Hierarchy.{secrets_of}
 use Rattle.tpm_record.specs.Record.{Record}
 use Rattle.tpm_types.specs.declared.refused.Refused.{Refused}
-use Rattle.tpm_actions_base.specs.Rows.{all_read, parameter}
+use Rattle.tpm_record.specs.rows.Rows.{all_read, parameter}
 use Rattle.tpm_actions_object.specs.declared.creation.CreationParameters.{CreationParameters}
 use Rattle.tpm_actions_object.specs.declared.creation.Parent.{Parent}
 

@@ -19,10 +19,10 @@ use Rattle.tpm_types_object.specs.ObjectAttributes.{has}
 use Rattle.tpm_types_object.specs.declared.object_attributes.ObjectAttribute.TheVariants as attribute
 use Rattle.tpm_record.specs.Persistent.{persistent_at, with_persistent, without_persistent}
 use Rattle.tpm_record.specs.Record.{Record}
-use Rattle.tpm_actions_base.specs.Answer.{nothing}
-use Rattle.tpm_actions_base.specs.Refusals.{action_refusal, memory_refusal, parameter_refusal}
-use Rattle.tpm_actions_base.specs.Request.{Request, first_handle, second_handle}
-use Rattle.tpm_actions_base.specs.Rows.{Success, only}
+use Rattle.tpm_record.specs.rows.Answer.{nothing}
+use Rattle.tpm_record.specs.rows.Refusals.{action_refusal, memory_refusal, parameter_refusal}
+use Rattle.tpm_record.specs.rows.Request.{Request, first_handle, second_handle}
+use Rattle.tpm_record.specs.rows.Rows.{Success, only}
 use Rattle.tpm_actions_object.specs.Loaded.{loaded_at}
 
 -- whether the owner, or the platform, may make an object of this hierarchy persistent: the objects

@@ -18,10 +18,10 @@ use Rattle.tpm_types_object.specs.ObjectAttributes.{has}
 use Rattle.tpm_types.specs.Rc.{at, plain}
 use Rattle.tpm_record.specs.Record.{Record}
 use Rattle.tpm_types.specs.declared.refused.Refused.{Refused}
-use Rattle.tpm_actions_base.specs.Request.{Request, first_handle}
-use Rattle.tpm_actions_base.specs.Answer.{Sized, answer_of}
-use Rattle.tpm_actions_base.specs.Rows.{Success, all_read, parameter, unchanged}
-use Rattle.tpm_actions_base.specs.Refusals.{action_refusal}
+use Rattle.tpm_record.specs.rows.Request.{Request, first_handle}
+use Rattle.tpm_record.specs.rows.Answer.{Sized, answer_of}
+use Rattle.tpm_record.specs.rows.Rows.{Success, all_read, parameter, unchanged}
+use Rattle.tpm_record.specs.rows.Refusals.{action_refusal}
 use Rattle.tpm_actions_object.specs.Loaded.{loaded_at}
 
 -- the scheme of a KEYEDHASH. A1: the object is no KEYEDHASH

@@ -15,10 +15,10 @@ use Rattle.tpm_types_object.specs.Public.{public_at}
 use Rattle.tpm_record.specs.Objects.{object_handle, with_object}
 use Rattle.tpm_record.specs.Record.{Record}
 use Rattle.tpm_types.specs.declared.refused.Refused.{Refused}
-use Rattle.tpm_actions_base.specs.Request.{Request, first_handle}
-use Rattle.tpm_actions_base.specs.Answer.{AnswerParts, Sized}
-use Rattle.tpm_actions_base.specs.Rows.{Success, all_read, parameter}
-use Rattle.tpm_actions_base.specs.Refusals.{parameter_refusal}
+use Rattle.tpm_record.specs.rows.Request.{Request, first_handle}
+use Rattle.tpm_record.specs.rows.Answer.{AnswerParts, Sized}
+use Rattle.tpm_record.specs.rows.Rows.{Success, all_read, parameter}
+use Rattle.tpm_record.specs.rows.Refusals.{parameter_refusal}
 use Rattle.tpm_actions_object.specs.Checks.{public_passes}
 use Rattle.tpm_actions_object.specs.Loaded.{is_fixed, parent_passes, loaded_at, place_for}
 

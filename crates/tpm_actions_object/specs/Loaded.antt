@@ -17,7 +17,7 @@ use Rattle.tpm_record.specs.Entity.{object_of}
 use Rattle.tpm_record.specs.Objects.{object_handle, with_object}
 use Rattle.tpm_record.specs.Record.{Record}
 use Rattle.tpm_types.specs.declared.refused.Refused.{Refused}
-use Rattle.tpm_actions_base.specs.Refusals.{action_refusal, handle_refusal, memory_refusal}
+use Rattle.tpm_record.specs.rows.Refusals.{action_refusal, handle_refusal, memory_refusal}
 
 -- the object of a handle; the general checks have found that it is there
 abbrev pub loaded_at : Record → Handle → Result Object Refused

@@ -7,9 +7,9 @@ use Rattle.tpm_object.specs.declared.object.Object.{Object}
 use Rattle.tpm_types_object.specs.Public.{public_text}
 use Rattle.tpm_record.specs.Record.{Record}
 use Rattle.tpm_types.specs.declared.refused.Refused.{Refused}
-use Rattle.tpm_actions_base.specs.Request.{Request, first_handle}
-use Rattle.tpm_actions_base.specs.Answer.{Body, SizedFirst, answer_of}
-use Rattle.tpm_actions_base.specs.Rows.{Success, all_read, unchanged}
+use Rattle.tpm_record.specs.rows.Request.{Request, first_handle}
+use Rattle.tpm_record.specs.rows.Answer.{Body, SizedFirst, answer_of}
+use Rattle.tpm_record.specs.rows.Rows.{Success, all_read, unchanged}
 use Rattle.tpm_actions_object.specs.Loaded.{loaded_at}
 
 -- what TPM2_ReadPublic answers: an object's public area, its Name and its qualified Name

@@ -5,8 +5,8 @@ ghost use Rattle.std.specs.Prelude.{◌≡◌, ◌≤◌};
 ghost use Rattle.tpm_types_object.specs.SensitiveCreate.{sensitive_values_of};
 ghost use Rattle.tpm_actions_object.specs.Checks.{creation_refusal, given_passes, public_passes, template_refusal};
 
-use tpm_actions_base::refusals::parameter_refusal;
 use tpm_object::{CreationFault, TemplateFault, check_creation, check_template};
+use tpm_record::rows::refusals::parameter_refusal;
 use tpm_types::{ActionCheck, Refused, ResponseCode};
 use tpm_types_object::{Public, SensitiveCreate};
 

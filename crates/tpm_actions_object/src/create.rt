@@ -2,19 +2,19 @@
 //! `specs/Create`.
 
 ghost use Rattle.std.specs.Prelude.{◌≡◌, ◌≤◌, drop, take};
-ghost use Rattle.tpm_actions_base.specs.Answer.{IsEmpty};
-ghost use Rattle.tpm_actions_base.specs.Request.{request_of};
-ghost use Rattle.tpm_actions_base.specs.Rows.{Acts};
+ghost use Rattle.tpm_record.specs.rows.Answer.{IsEmpty};
+ghost use Rattle.tpm_record.specs.rows.Request.{request_of};
+ghost use Rattle.tpm_record.specs.rows.Rows.{Acts};
 ghost use Rattle.tpm_actions_object.specs.Create.{create_row};
 
 use crate::checks::{given_passes, public_passes};
 use crate::creation::{Parent, put_creation, read_parameters};
 use crate::loaded::{check_parent, is_fixed, loaded};
-use tpm_actions_base::answer::Answer;
-use tpm_actions_base::call::Call;
 use tpm_name::Name;
 use tpm_object::{create as create_areas, drawn_by, wrap_named};
 use tpm_record::Keep;
+use tpm_record::rows::answer::Answer;
+use tpm_record::rows::call::Call;
 use tpm_types::Refused;
 
 /// How many random bytes the IV of a private area takes.

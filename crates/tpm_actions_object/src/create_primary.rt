@@ -2,19 +2,19 @@
 //! `specs/CreatePrimary`.
 
 ghost use Rattle.std.specs.Prelude.{◌≡◌};
-ghost use Rattle.tpm_actions_base.specs.Answer.{IsEmpty};
-ghost use Rattle.tpm_actions_base.specs.Request.{request_of};
-ghost use Rattle.tpm_actions_base.specs.Rows.{ActsIfRoom};
+ghost use Rattle.tpm_record.specs.rows.Answer.{IsEmpty};
+ghost use Rattle.tpm_record.specs.rows.Request.{request_of};
+ghost use Rattle.tpm_record.specs.rows.Rows.{ActsIfRoom};
 ghost use Rattle.tpm_actions_object.specs.CreatePrimary.{create_primary_row, named_hierarchy};
 
 use crate::checks::{given_passes, public_passes};
 use crate::creation::{Parent, put_creation, read_parameters};
 use crate::loaded::load_object;
-use tpm_actions_base::answer::Answer;
-use tpm_actions_base::call::Call;
-use tpm_actions_base::refusals::handle_refusal;
 use tpm_object::derive_primary;
 use tpm_record::Keep;
+use tpm_record::rows::answer::Answer;
+use tpm_record::rows::call::Call;
+use tpm_record::rows::refusals::handle_refusal;
 use tpm_types::{ActionCheck, Handle, HierarchyHandle, Refused};
 
 fn named_hierarchy(handle: Handle) -> Result<HierarchyHandle, Refused>

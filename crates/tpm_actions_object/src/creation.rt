@@ -8,13 +8,13 @@ ghost use Rattle.tpm_name.specs.ObjectName.{object_name};
 ghost use Rattle.tpm_types.specs.Locality.{locality_number};
 ghost use Rattle.tpm_actions_object.specs.Creation.{creation_data, creation_text, hierarchy_parent, object_parent, parameters_in, parameters_of, ticket_text};
 
-use tpm_actions_base::answer::Parameters;
-use tpm_actions_base::reading::{end, number, parameter};
 use tpm_bytes::{Cursor, Sink};
 use tpm_mac::{HashAlg, digest_parts, hmac_parts};
 use tpm_name::Name;
 use tpm_object::Object;
 use tpm_record::Keep;
+use tpm_record::rows::answer::Parameters;
+use tpm_record::rows::reading::{end, number, parameter};
 use tpm_types::{HierarchyHandle, Locality, Octets, PcrSelection, Refused, read_filled};
 use tpm_types_object::{CreationData, Public, SensitiveCreate};
 

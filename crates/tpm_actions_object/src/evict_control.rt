@@ -5,19 +5,19 @@ ghost use Rattle.std.specs.Prelude.{◌≡◌, IfOk, OnOk, false, true};
 ghost use Rattle.tpm_record.specs.Persistent.{can_persist};
 ghost use Rattle.tpm_types.specs.Handle.{is_persistent};
 ghost use Rattle.tpm_types.specs.PersistentHandle.{persistent_handle_at};
-ghost use Rattle.tpm_actions_base.specs.Answer.{IsEmpty};
-ghost use Rattle.tpm_actions_base.specs.Request.{request_of, second_handle};
-ghost use Rattle.tpm_actions_base.specs.Rows.{Acts, ActsIfRoom, only};
+ghost use Rattle.tpm_record.specs.rows.Answer.{IsEmpty};
+ghost use Rattle.tpm_record.specs.rows.Request.{request_of, second_handle};
+ghost use Rattle.tpm_record.specs.rows.Rows.{Acts, ActsIfRoom, only};
 ghost use Rattle.tpm_actions_object.specs.EvictControl.{Evicts, copied, evict_control_row, eviction_passes, is_of, is_of_platform, may_evict, may_name, removed};
 
 use crate::loaded::loaded;
-use tpm_actions_base::answer::Answer;
-use tpm_actions_base::call::Call;
-use tpm_actions_base::reading::{end, parameter};
-use tpm_actions_base::refusals::{action_refusal, memory_refusal, parameter_refusal};
 use tpm_bytes::Cursor;
 use tpm_containers::KeyFault;
 use tpm_object::Object;
+use tpm_record::rows::answer::Answer;
+use tpm_record::rows::call::Call;
+use tpm_record::rows::reading::{end, parameter};
+use tpm_record::rows::refusals::{action_refusal, memory_refusal, parameter_refusal};
 use tpm_record::{Keep, PersistentObjects};
 use tpm_types::{
     ActionCheck, Handle, HierarchyHandle, Refused, ResponseCode, read_persistent_handle,

@@ -1,19 +1,19 @@
 //! TPM2_HMAC: answers the HMAC of a buffer by a key, by its row in `specs/Hmac`.
 
 ghost use Rattle.std.specs.Prelude.{◌≡◌};
-ghost use Rattle.tpm_actions_base.specs.Answer.{IsEmpty};
-ghost use Rattle.tpm_actions_base.specs.Request.{request_of};
-ghost use Rattle.tpm_actions_base.specs.Rows.{Acts};
+ghost use Rattle.tpm_record.specs.rows.Answer.{IsEmpty};
+ghost use Rattle.tpm_record.specs.rows.Request.{request_of};
+ghost use Rattle.tpm_record.specs.rows.Rows.{Acts};
 ghost use Rattle.tpm_actions_object.specs.Hmac.{chosen_hash, hmac_row, own_hash, scheme_of};
 
 use crate::loaded::loaded;
-use tpm_actions_base::answer::Answer;
-use tpm_actions_base::call::Call;
-use tpm_actions_base::reading::{end, parameter};
-use tpm_actions_base::refusals::action_refusal;
 use tpm_bytes::Cursor;
 use tpm_mac::{HashAlg, hmac_parts};
 use tpm_record::Keep;
+use tpm_record::rows::answer::Answer;
+use tpm_record::rows::call::Call;
+use tpm_record::rows::reading::{end, parameter};
+use tpm_record::rows::refusals::action_refusal;
 use tpm_types::{
     ActionCheck, DATA_LIMIT, Refused, ResponseCode, hash_number, read_buffer, read_hash_or_null,
 };

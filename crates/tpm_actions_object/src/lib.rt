@@ -6,7 +6,7 @@
 //! A command reads its parameters, checks them, and has `tpm_object` compute what is to be made or
 //! opened. What the commands share is in `checks`, `loaded` and `creation`.
 //!
-//! The crate uses `tpm_actions_base` and `tpm_object`. `specs/` has a row for each command under
+//! The crate uses `tpm_record::rows` and `tpm_object`. `specs/` has a row for each command under
 //! the same name; each call is proved to be its row, for each way of keeping the record, and a
 //! refusal leaves the record. Only TPM2_CreatePrimary, TPM2_Load and TPM2_EvictControl may be
 //! refused memory.

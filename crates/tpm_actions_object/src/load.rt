@@ -2,22 +2,22 @@
 //! `specs/Load`.
 
 ghost use Rattle.std.specs.Prelude.{◌≡◌};
-ghost use Rattle.tpm_actions_base.specs.Answer.{IsEmpty};
-ghost use Rattle.tpm_actions_base.specs.Request.{request_of};
-ghost use Rattle.tpm_actions_base.specs.Rows.{ActsIfRoom};
+ghost use Rattle.tpm_record.specs.rows.Answer.{IsEmpty};
+ghost use Rattle.tpm_record.specs.rows.Request.{request_of};
+ghost use Rattle.tpm_record.specs.rows.Rows.{ActsIfRoom};
 ghost use Rattle.tpm_name.specs.ObjectName.{object_name};
 ghost use Rattle.tpm_actions_object.specs.Load.{load_row, sensitive_of};
 
 use crate::checks::public_passes;
 use crate::loaded::{check_parent, is_fixed, load_object, loaded};
-use tpm_actions_base::answer::Answer;
-use tpm_actions_base::call::Call;
-use tpm_actions_base::reading::{end, parameter};
-use tpm_actions_base::refusals::parameter_refusal;
 use tpm_bytes::Cursor;
 use tpm_name::Name;
 use tpm_object::{Object, unwrap_named};
 use tpm_record::Keep;
+use tpm_record::rows::answer::Answer;
+use tpm_record::rows::call::Call;
+use tpm_record::rows::reading::{end, parameter};
+use tpm_record::rows::refusals::parameter_refusal;
 use tpm_types::{ActionCheck, Refused, ResponseCode, read_buffer, read_filled};
 use tpm_types_object::{Public, Sensitive};
 

@@ -5,9 +5,9 @@ ghost use Rattle.tpm_bytes.specs.Reading.{Gives};
 ghost use Rattle.std.specs.Prelude.{◌≡◌};
 ghost use Rattle.tpm_actions_object.specs.Loaded.{Loads, is_fixed, loaded_at, no_place, parent_passes, place_for};
 
-use tpm_actions_base::refusals::{action_refusal, handle_refusal, memory_refusal};
 use tpm_containers::SlotFault;
 use tpm_object::{Object, is_storage_parent};
+use tpm_record::rows::refusals::{action_refusal, handle_refusal, memory_refusal};
 use tpm_record::{Keep, object_of};
 use tpm_types::{ActionCheck, Handle, Refused, ResponseCode};
 use tpm_types_object::ObjectAttribute;

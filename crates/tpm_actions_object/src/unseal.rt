@@ -1,19 +1,19 @@
 //! TPM2_Unseal: answers the data that an object seals, by its row in `specs/Unseal`.
 
 ghost use Rattle.std.specs.Prelude.{◌≡◌};
-ghost use Rattle.tpm_actions_base.specs.Answer.{IsEmpty};
-ghost use Rattle.tpm_actions_base.specs.Request.{request_of};
-ghost use Rattle.tpm_actions_base.specs.Rows.{Acts};
+ghost use Rattle.tpm_record.specs.rows.Answer.{IsEmpty};
+ghost use Rattle.tpm_record.specs.rows.Request.{request_of};
+ghost use Rattle.tpm_record.specs.rows.Rows.{Acts};
 ghost use Rattle.tpm_actions_object.specs.Unseal.{unseal_row};
 
 use crate::loaded::loaded;
-use tpm_actions_base::answer::Answer;
-use tpm_actions_base::call::Call;
-use tpm_actions_base::reading::end;
-use tpm_actions_base::refusals::action_refusal;
 use tpm_bytes::Cursor;
 use tpm_object::is_keyed_hash;
 use tpm_record::Keep;
+use tpm_record::rows::answer::Answer;
+use tpm_record::rows::call::Call;
+use tpm_record::rows::reading::end;
+use tpm_record::rows::refusals::action_refusal;
 use tpm_types::{ActionCheck, Refused, ResponseCode};
 use tpm_types_object::ObjectAttribute;
 

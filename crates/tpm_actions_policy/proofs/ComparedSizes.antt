@@ -14,8 +14,8 @@ use Rattle.tpm_nv.specs.Index.{NvContents, NvIndex, index_at}
 use Rattle.tpm_nv.specs.IsContents.{AreIndices, IsContents, IsIndex}
 use Rattle.tpm_nv.specs.declared.fault.ReadFault.TheVariants as fault
 use Rattle.tpm_record.specs.Record.{Record}
-use Rattle.tpm_actions_base.specs.Target.{reading_passes}
-use Rattle.tpm_actions_base.specs.declared.target.Target.{Target}
+use Rattle.tpm_record.specs.rows.Target.{reading_passes}
+use Rattle.tpm_record.specs.declared.rows.target.Target.{Target}
 use Rattle.tpm_actions_policy.specs.PolicyNv.{Parameters, compared}
 
 -- an index that is written has as many bytes of data as its public area says

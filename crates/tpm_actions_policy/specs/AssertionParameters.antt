@@ -8,7 +8,7 @@ use Rattle.tpm_types.specs.DigestList.{digests_of}
 use Rattle.tpm_record.specs.Entity.{name_of}
 use Rattle.tpm_record.specs.Record.{Record}
 use Rattle.tpm_types.specs.declared.refused.Refused.{Refused}
-use Rattle.tpm_actions_base.specs.declared.target.Target.{Target}
+use Rattle.tpm_record.specs.declared.rows.target.Target.{Target}
 use Rattle.tpm_actions_policy.specs.PolicyNv.{Parameters as NvParameters, nv_parts_of}
 use Rattle.tpm_actions_policy.specs.PolicyPcr.{Parameters as PcrParameters, pcr_parts_of}
 use Rattle.tpm_actions_policy.specs.PolicySecret.{Parameters as SecretParameters, secret_of}

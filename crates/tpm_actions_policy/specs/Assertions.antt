@@ -13,10 +13,10 @@ use Rattle.tpm_commands.specs.declared.command_code.CommandCode.TheVariants as c
 use Rattle.tpm_types.specs.declared.handle.Handle.{Handle}
 use Rattle.tpm_record.specs.Record.{Record}
 use Rattle.tpm_types.specs.declared.refused.Refused.{Refused}
-use Rattle.tpm_actions_base.specs.Answer.{Body, Plain, answer_of}
-use Rattle.tpm_actions_base.specs.Refusals.{fault_refusal, handle_refusal, or_refusal}
-use Rattle.tpm_actions_base.specs.Request.{Request, first_handle, second_handle, third_handle}
-use Rattle.tpm_actions_base.specs.Rows.{Success}
+use Rattle.tpm_record.specs.rows.Answer.{Body, Plain, answer_of}
+use Rattle.tpm_record.specs.rows.Refusals.{fault_refusal, handle_refusal, or_refusal}
+use Rattle.tpm_record.specs.rows.Request.{Request, first_handle, second_handle, third_handle}
+use Rattle.tpm_record.specs.rows.Rows.{Success}
 use Rattle.tpm_actions_policy.specs.PolicyAuthValue.{auth_value_assertion}
 use Rattle.tpm_actions_policy.specs.PolicyCommandCode.{command_code_assertion}
 use Rattle.tpm_actions_policy.specs.PolicyCpHash.{cp_hash_assertion}

@@ -4,7 +4,7 @@ use Rattle.tpm_bytes.specs.Reading.{◌>>=◌}
 use Rattle.tpm_policy.specs.Assertion.{Assertion, AuthValue}
 use Rattle.tpm_session.specs.declared.session.Session.{Session}
 use Rattle.tpm_types.specs.declared.refused.Refused.{Refused}
-use Rattle.tpm_actions_base.specs.Rows.{all_read}
+use Rattle.tpm_record.specs.rows.Rows.{all_read}
 
 -- the assertion that an HMAC with the entity's authorization value is demanded; no parameters
 abbrev pub auth_value_assertion : List ℕ → Result (Session → Assertion) Refused

@@ -7,7 +7,7 @@ use Rattle.tpm_session.specs.declared.session.Session.{Session}
 use Rattle.tpm_types.specs.declared.rc.ResponseCode.TheVariants as code
 use Rattle.tpm_types.specs.Rc.{plain}
 use Rattle.tpm_types.specs.declared.refused.Refused.{Refused}
-use Rattle.tpm_actions_base.specs.Rows.{only}
+use Rattle.tpm_record.specs.rows.Rows.{only}
 
 -- the assertion of the parameter code: the one command that is allowed
 abbrev pub command_code_assertion : List ℕ → Result (Session → Assertion) Refused

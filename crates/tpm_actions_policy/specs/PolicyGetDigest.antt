@@ -3,9 +3,9 @@ use Rattle.std.specs.Prelude.{Result, Ok}
 use Rattle.tpm_bytes.specs.Reading.{◌>>=◌}
 use Rattle.tpm_record.specs.Record.{Record}
 use Rattle.tpm_types.specs.declared.refused.Refused.{Refused}
-use Rattle.tpm_actions_base.specs.Answer.{Sized, answer_of}
-use Rattle.tpm_actions_base.specs.Request.{Request, first_handle}
-use Rattle.tpm_actions_base.specs.Rows.{Success, all_read, unchanged}
+use Rattle.tpm_record.specs.rows.Answer.{Sized, answer_of}
+use Rattle.tpm_record.specs.rows.Request.{Request, first_handle}
+use Rattle.tpm_record.specs.rows.Rows.{Success, all_read, unchanged}
 use Rattle.tpm_actions_policy.specs.Assertions.{policy_session}
 
 -- answered: the session's policy digest; no parameters

@@ -17,10 +17,10 @@ use Rattle.tpm_types.specs.declared.rc.ResponseCode.TheVariants as code
 use Rattle.tpm_types.specs.declared.refused.Refused.{Refused}
 use Rattle.tpm_record.specs.Entity.{name_of}
 use Rattle.tpm_record.specs.Record.{Record}
-use Rattle.tpm_actions_base.specs.Request.{Request}
-use Rattle.tpm_actions_base.specs.Rows.{all_read, parameter}
-use Rattle.tpm_actions_base.specs.Target.{reading_passes, target_of}
-use Rattle.tpm_actions_base.specs.declared.target.Target.{Target}
+use Rattle.tpm_record.specs.rows.Request.{Request}
+use Rattle.tpm_record.specs.rows.Rows.{all_read, parameter}
+use Rattle.tpm_record.specs.rows.Target.{reading_passes, target_of}
+use Rattle.tpm_record.specs.declared.rows.target.Target.{Target}
 
 -- the parameters operandB, at most 32 bytes, offset and operation
 pub record Parameters : Type 0 where
@@ -38,7 +38,7 @@ nv_parameters text = do
 
 -- what is compared with the operand: as many bytes of the index as the operand has, from the offset
 -- on. A1 to A3: the checks of every command that reads an index; A4: the bytes reach past the data,
--- which is all that then refuses the reading (reading_laws of tpm_actions_base)
+-- which is all that then refuses the reading (reading_laws of tpm_record)
 abbrev pub compared : Record → Target → Parameters → Result (List ℕ) ActionFault
 compared r target p = do
   readable ← reading_passes target

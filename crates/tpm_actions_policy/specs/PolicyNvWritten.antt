@@ -5,7 +5,7 @@ use Rattle.tpm_policy.specs.Assertion.{Assertion, NvWritten}
 use Rattle.tpm_session.specs.declared.session.Session.{Session}
 use Rattle.tpm_types.specs.YesNo.{yes_no_at}
 use Rattle.tpm_types.specs.declared.refused.Refused.{Refused}
-use Rattle.tpm_actions_base.specs.Rows.{only}
+use Rattle.tpm_record.specs.rows.Rows.{only}
 
 -- the assertion of the parameter writtenSet
 abbrev pub nv_written_assertion : List ℕ → Result (Session → Assertion) Refused

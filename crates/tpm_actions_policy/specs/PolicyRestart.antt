@@ -5,9 +5,9 @@ use Rattle.tpm_policy.specs.State.{starting}
 use Rattle.tpm_session.specs.Sessions.{with_session_policy}
 use Rattle.tpm_record.specs.Record.{Record}
 use Rattle.tpm_types.specs.declared.refused.Refused.{Refused}
-use Rattle.tpm_actions_base.specs.Answer.{nothing}
-use Rattle.tpm_actions_base.specs.Request.{Request, first_handle}
-use Rattle.tpm_actions_base.specs.Rows.{Success, all_read}
+use Rattle.tpm_record.specs.rows.Answer.{nothing}
+use Rattle.tpm_record.specs.rows.Request.{Request, first_handle}
+use Rattle.tpm_record.specs.rows.Rows.{Success, all_read}
 use Rattle.tpm_actions_policy.specs.Assertions.{policy_session}
 
 -- the session's policy becomes what it was at the start; no parameters

@@ -12,9 +12,9 @@ use Rattle.tpm_types.specs.Rc.{plain}
 use Rattle.tpm_record.specs.Entity.{name_of}
 use Rattle.tpm_record.specs.Record.{Record}
 use Rattle.tpm_types.specs.declared.refused.Refused.{Refused}
-use Rattle.tpm_actions_base.specs.Answer.{Body, SizedFirst}
-use Rattle.tpm_actions_base.specs.Request.{Request, first_handle}
-use Rattle.tpm_actions_base.specs.Rows.{all_read, parameter}
+use Rattle.tpm_record.specs.rows.Answer.{Body, SizedFirst}
+use Rattle.tpm_record.specs.rows.Request.{Request, first_handle}
+use Rattle.tpm_record.specs.rows.Rows.{all_read, parameter}
 
 -- the parameters nonceTPM, cpHashA, policyRef and expiration
 pub record Parameters : Type 0 where

@@ -12,9 +12,9 @@ ghost use Rattle.tpm_actions_policy.specs.Assertions.{policy_session, with_asser
 use crate::compared_index::ComparedIndex;
 use crate::policy_pcr::ComparedPcrs;
 use crate::policy_secret::ShownSecret;
-use tpm_actions_base::refusals::{fault_refusal, handle_refusal};
 use tpm_policy::PolicyState;
 use tpm_record::Keep;
+use tpm_record::rows::refusals::{fault_refusal, handle_refusal};
 use tpm_session::Session;
 use tpm_types::{ActionFault, DigestList, Handle, Refused};
 

@@ -7,9 +7,9 @@ ghost use Rattle.tpm_policy.specs.Assertion.{Asserts, asserted, compared_bytes};
 ghost use Rattle.tpm_types.specs.SessionType.{is_trial};
 ghost use Rattle.tpm_actions_policy.specs.PolicyNv.{compared, nv_parts_of};
 
-use tpm_actions_base::target::Target;
 use tpm_nv::Indices;
 use tpm_policy::{NvAssertion, PolicyState};
+use tpm_record::rows::target::Target;
 use tpm_record::{Keep, name_of};
 use tpm_session::Session;
 use tpm_types::{ActionCheck, ActionFault, Operation, ResponseCode};

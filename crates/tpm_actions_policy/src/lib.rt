@@ -7,7 +7,7 @@
 //! copy of the session's policy, which the session takes where the assertion is not refused.
 //! Assertions are defined in `tpm_policy`.
 //!
-//! The crate uses `tpm_actions_base` and `tpm_policy`. `specs/` has a row for each command under
+//! The crate uses `tpm_record::rows` and `tpm_policy`. `specs/` has a row for each command under
 //! the same name; each call is proved to be its row, for each way of keeping the record, and a
 //! refusal leaves the record.
 

@@ -3,17 +3,17 @@
 
 ghost use Rattle.std.specs.Prelude.{◌≡◌};
 ghost use Rattle.tpm_commands.specs.declared.command_code.CommandCode.TheVariants as command;
-ghost use Rattle.tpm_actions_base.specs.Answer.{IsEmpty};
-ghost use Rattle.tpm_actions_base.specs.Request.{request_of};
-ghost use Rattle.tpm_actions_base.specs.Rows.{Acts};
+ghost use Rattle.tpm_record.specs.rows.Answer.{IsEmpty};
+ghost use Rattle.tpm_record.specs.rows.Request.{request_of};
+ghost use Rattle.tpm_record.specs.rows.Rows.{Acts};
 ghost use Rattle.tpm_actions_policy.specs.Assertions.{assertion_row};
 
 use crate::assertions::{AssertionParameters, make_assertion};
-use tpm_actions_base::answer::Answer;
-use tpm_actions_base::call::Call;
-use tpm_actions_base::reading::{end, number};
 use tpm_bytes::Cursor;
 use tpm_record::Keep;
+use tpm_record::rows::answer::Answer;
+use tpm_record::rows::call::Call;
+use tpm_record::rows::reading::{end, number};
 use tpm_types::Refused;
 
 /// TPM2_PolicyLocality: allows some of the localities that are left.

@@ -5,22 +5,22 @@ ghost use Rattle.std.specs.Prelude.{◌≡◌, IfOk, length};
 ghost use Rattle.tpm_commands.specs.declared.command_code.CommandCode.TheVariants as command;
 ghost use Rattle.tpm_nv.specs.IsContents.{IsContents};
 ghost use Rattle.tpm_record.specs.Record.{Record};
-ghost use Rattle.tpm_actions_base.specs.Answer.{IsEmpty};
-ghost use Rattle.tpm_actions_base.specs.Request.{request_of};
-ghost use Rattle.tpm_actions_base.specs.Rows.{Acts};
-ghost use Rattle.tpm_actions_base.specs.declared.target.Target.{Target};
+ghost use Rattle.tpm_record.specs.rows.Answer.{IsEmpty};
+ghost use Rattle.tpm_record.specs.rows.Request.{request_of};
+ghost use Rattle.tpm_record.specs.rows.Rows.{Acts};
+ghost use Rattle.tpm_record.specs.declared.rows.target.Target.{Target};
 ghost use Rattle.tpm_actions_policy.specs.AssertionParameters.{nv_asked};
 ghost use Rattle.tpm_actions_policy.specs.Assertions.{assertion_row};
 ghost use Rattle.tpm_actions_policy.specs.PolicyNv.{Parameters, compared, nv_parameters};
 
 use crate::assertions::{AssertionParameters, make_assertion};
 use crate::compared_index::ComparedIndex;
-use tpm_actions_base::answer::Answer;
-use tpm_actions_base::call::Call;
-use tpm_actions_base::reading::{end, number, parameter};
-use tpm_actions_base::target::{Target, target_of};
 use tpm_bytes::Cursor;
 use tpm_record::Keep;
+use tpm_record::rows::answer::Answer;
+use tpm_record::rows::call::Call;
+use tpm_record::rows::reading::{end, number, parameter};
+use tpm_record::rows::target::{Target, target_of};
 use tpm_types::{DIGEST_LIMIT, Operation, Refused, read_buffer};
 
 #[tactic(auto, unfolding(crate::specs::PolicyNv::nv_parameters))]

@@ -3,9 +3,9 @@
 
 ghost use Rattle.std.specs.Prelude.{◌≡◌};
 ghost use Rattle.tpm_commands.specs.declared.command_code.CommandCode.TheVariants as command;
-ghost use Rattle.tpm_actions_base.specs.Answer.{IsEmpty};
-ghost use Rattle.tpm_actions_base.specs.Request.{request_of};
-ghost use Rattle.tpm_actions_base.specs.Rows.{Acts};
+ghost use Rattle.tpm_record.specs.rows.Answer.{IsEmpty};
+ghost use Rattle.tpm_record.specs.rows.Request.{request_of};
+ghost use Rattle.tpm_record.specs.rows.Rows.{Acts};
 ghost use Rattle.tpm_policy.specs.Assertion as assertion;
 ghost use Rattle.tpm_policy.specs.Assertion.{Asserts, asserted};
 ghost use Rattle.tpm_types.specs.SessionType.{is_trial};
@@ -14,12 +14,12 @@ ghost use Rattle.tpm_actions_policy.specs.Assertions.{assertion_row};
 ghost use Rattle.tpm_actions_policy.specs.PolicyPcr.{pcr_parts_of};
 
 use crate::assertions::{AssertionParameters, make_assertion};
-use tpm_actions_base::answer::Answer;
-use tpm_actions_base::call::Call;
-use tpm_actions_base::reading::{end, parameter};
 use tpm_bytes::Cursor;
 use tpm_policy::{PcrAssertion, PolicyState};
 use tpm_record::Keep;
+use tpm_record::rows::answer::Answer;
+use tpm_record::rows::call::Call;
+use tpm_record::rows::reading::{end, parameter};
 use tpm_session::Session;
 use tpm_types::{ActionFault, DIGEST_LIMIT, PcrSelection, Refused, read_buffer};
 

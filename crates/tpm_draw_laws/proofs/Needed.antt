@@ -8,9 +8,9 @@ use Rattle.tpm_types.specs.declared.rc.ResponseCode.TheVariants as code
 use Rattle.tpm_types.specs.declared.refused.Refused.{Refused}
 use Rattle.tpm_commands.specs.declared.command_code.CommandCode.TheVariants as command
 use Rattle.tpm_record.specs.Record.{Record}
-use Rattle.tpm_actions_base.specs.Answer.{Body, Plain, Sized, SizedFirst}
-use Rattle.tpm_actions_base.specs.Request.{Request}
-use Rattle.tpm_actions_base.specs.Rows.{Success, only, unchanged}
+use Rattle.tpm_record.specs.rows.Answer.{Body, Plain, Sized, SizedFirst}
+use Rattle.tpm_record.specs.rows.Request.{Request}
+use Rattle.tpm_record.specs.rows.Rows.{Success, only, unchanged}
 use Rattle.tpm_actions_device.specs.GetRandom.{get_random_row, random_answer}
 use Rattle.tpm_step.specs.Table.{row_of}
 use Rattle.tpm_draw_laws.specs.Bytes.{with_random}

@@ -21,10 +21,10 @@ use Rattle.tpm_record.specs.Hierarchy.{cleared_hierarchies}
 use Rattle.tpm_record.specs.Record.{Record}
 use Rattle.tpm_record.specs.Saved.{kind_of}
 use Rattle.tpm_record.specs.declared.hierarchy.Hierarchies.{Hierarchies}
-use Rattle.tpm_actions_base.specs.Answer.{Sized, nothing}
-use Rattle.tpm_actions_base.specs.Refusals.{action_refusal, or_refusal}
-use Rattle.tpm_actions_base.specs.Request.{Request, first_handle, second_handle}
-use Rattle.tpm_actions_base.specs.Rows.{Success, all_read, only, unchanged}
+use Rattle.tpm_record.specs.rows.Answer.{Sized, nothing}
+use Rattle.tpm_record.specs.rows.Refusals.{action_refusal, or_refusal}
+use Rattle.tpm_record.specs.rows.Request.{Request, first_handle, second_handle}
+use Rattle.tpm_record.specs.rows.Rows.{Success, all_read, only, unchanged}
 use Rattle.tpm_actions_device.specs.StartAuthSession.{binding_of, parameters_in as session_parameters, parameters_pass, session_place, session_with, start_answer}
 use Rattle.tpm_actions_device.specs.Startup.{start_draws, start_of, started_record}
 use Rattle.tpm_actions_device.specs.declared.startup.Start.{Start}

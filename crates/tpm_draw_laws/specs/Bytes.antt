@@ -1,7 +1,7 @@
 -- What an event does when other bytes stand after the random bytes that it draws.
 use Rattle.std.specs.Prelude.{◌≡◌, ◌-◌, ℕ, List, ◌++◌, length, replicate, take, Result, Ok, Err}
-use Rattle.tpm_actions_base.specs.Request.{Request}
-use Rattle.tpm_actions_base.specs.Rows.{Success}
+use Rattle.tpm_record.specs.rows.Request.{Request}
+use Rattle.tpm_record.specs.rows.Rows.{Success}
 use Rattle.tpm_machine.specs.Drawn.{drawn_by}
 use Rattle.tpm_record.specs.Record.{Record}
 use Rattle.tpm_step.specs.Events.{Cycled, Given, PlainEvent}

@@ -8,7 +8,7 @@
 //! tpm_step; how many bytes an event draws is said in tpm_machine.
 
 ghost use Rattle.std.specs.Prelude.{◌≡◌, ℕ, Bool, false, IfOk, List, Ok, take};
-ghost use Rattle.tpm_actions_base.specs.Request.{Request};
+ghost use Rattle.tpm_record.specs.rows.Request.{Request};
 ghost use Rattle.tpm_draw_laws.specs.Bytes.{ActsAlike, AgreeOnDrawn, replayed, with_random};
 ghost use Rattle.tpm_machine.specs.Drawn.{drawn_by};
 ghost use Rattle.tpm_record.specs.Record.{Record};

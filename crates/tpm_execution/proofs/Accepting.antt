@@ -11,9 +11,9 @@ use Rattle.tpm_auth.specs.declared.session_grant.Grant.{Grant}
 use Rattle.tpm_types.specs.Check.{check_number}
 use Rattle.tpm_types.specs.Limits.{answer_limit}
 use Rattle.tpm_types.specs.declared.refused.Refused.{Refused}
-use Rattle.tpm_actions_base.specs.Request.{Request}
-use Rattle.tpm_actions_base.specs.Rows.{ActsIfRoom, Success}
-use Rattle.tpm_actions_base.specs.declared.answer.Answer.{Answer}
+use Rattle.tpm_record.specs.rows.Request.{Request}
+use Rattle.tpm_record.specs.rows.Rows.{ActsIfRoom, Success}
+use Rattle.tpm_record.specs.declared.rows.answer.Answer.{Answer}
 use Rattle.tpm_step.specs.Entries.{DrawsFew}
 use Rattle.tpm_step.specs.Answer.{Written, answer_to, text_of, written_of}
 use Rattle.tpm_step.specs.General.{general, in_command}

@@ -7,7 +7,7 @@ use Rattle.tpm_record.specs.Record.{Record}
 use Rattle.tpm_record.specs.Tick.{ticked}
 use Rattle.tpm_types.specs.declared.refused.Refused.{Refused}
 use Rattle.tpm_types.specs.Check.{check_number}
-use Rattle.tpm_actions_base.specs.Refusals.{memory_refusal}
+use Rattle.tpm_record.specs.rows.Refusals.{memory_refusal}
 use Rattle.tpm_step.specs.Answer.{refusal_text}
 use Rattle.tpm_step.specs.Events.{PlainEvent, Given, Cycled}
 use Rattle.tpm_step.specs.General.{in_command}

@@ -42,10 +42,10 @@ use Rattle.tpm_commands.specs.declared.command_code.CommandCode.{CommandCode as 
 use Rattle.tpm_commands.specs.declared.command_code.CommandCode.TheVariants as command
 use Rattle.tpm_record.specs.Entity.{name_of}
 use Rattle.tpm_record.specs.Record.{Record}
-use Rattle.tpm_actions_base.specs.Request.{Request, first_handle}
-use Rattle.tpm_actions_base.specs.Rows.{only}
-use Rattle.tpm_actions_base.specs.Target.{reading_passes, target_of}
-use Rattle.tpm_actions_base.specs.declared.target.Target.{Target}
+use Rattle.tpm_record.specs.rows.Request.{Request, first_handle}
+use Rattle.tpm_record.specs.rows.Rows.{only}
+use Rattle.tpm_record.specs.rows.Target.{reading_passes, target_of}
+use Rattle.tpm_record.specs.declared.rows.target.Target.{Target}
 use Rattle.tpm_actions_policy.specs.Assertions.{assertion_in, assertion_row, asserts, policy_after, policy_session, session_handle, with_assertion as with_device_assertion}
 use Rattle.tpm_actions_policy.specs.PolicyNv.{Parameters as NvParameters, compared, nv_parameters, nv_parts_of}
 use Rattle.tpm_actions_policy.specs.PolicyPcr.{pcr_parameters}

@@ -23,11 +23,11 @@ use Rattle.tpm_commands.specs.declared.command_code.CommandCode.{CommandCode as 
 use Rattle.tpm_commands.specs.declared.command_code.CommandCode.TheVariants as command
 use Rattle.tpm_record.specs.Entity.{name_of}
 use Rattle.tpm_record.specs.Record.{Record}
-use Rattle.tpm_actions_base.specs.Refusals.{fault_refusal, or_refusal}
-use Rattle.tpm_actions_base.specs.Request.{Request, first_handle, second_handle}
-use Rattle.tpm_actions_base.specs.Rows.{all_read, only}
-use Rattle.tpm_actions_base.specs.Target.{attributes_of, target_of}
-use Rattle.tpm_actions_base.specs.declared.target.Target.{Target}
+use Rattle.tpm_record.specs.rows.Refusals.{fault_refusal, or_refusal}
+use Rattle.tpm_record.specs.rows.Request.{Request, first_handle, second_handle}
+use Rattle.tpm_record.specs.rows.Rows.{all_read, only}
+use Rattle.tpm_record.specs.rows.Target.{attributes_of, target_of}
+use Rattle.tpm_record.specs.declared.rows.target.Target.{Target}
 use Rattle.tpm_actions_policy.specs.Assertions.{assertion_in, policy_after}
 use Rattle.tpm_actions_policy.specs.PolicyNv.{Parameters as NvParameters, nv_parameters}
 use Rattle.tpm_actions_policy.specs.PolicyPcr.{Parameters as PcrParameters, pcr_parameters, pcr_parts_of}

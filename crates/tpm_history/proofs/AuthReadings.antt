@@ -14,7 +14,7 @@ use Rattle.tpm_types.specs.declared.refused.Refused.{Refused}
 use Rattle.tpm_types_nv.specs.NvPublic.{nv_index_at, nv_public_at}
 use Rattle.tpm_types_nv.specs.declared.nv_public.NvPublic.{NvPublic}
 use Rattle.tpm_types.specs.Filled.{filled_by, or_size}
-use Rattle.tpm_actions_base.specs.Rows.{all_read, only, parameter}
+use Rattle.tpm_record.specs.rows.Rows.{all_read, only, parameter}
 use Rattle.tpm_nvactions.specs.NvDefineSpace as definition
 use Rattle.tpm_step.proofs.Binding.{asked, ok_bind, ok_bind_is, ok_then}
 

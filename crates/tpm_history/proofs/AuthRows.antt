@@ -53,10 +53,10 @@ use Rattle.tpm_record.specs.declared.fixed.Fixed.{Fixed}
 use Rattle.tpm_record.specs.declared.saved.SavedKind.{SavedKind}
 use Rattle.tpm_record.specs.declared.saved.SavedKind.TheVariants as saved
 use Rattle.tpm_record.proofs.ClearLaws.{are_cleared}
-use Rattle.tpm_actions_base.specs.Refusals.{handle_refusal, or_refusal, parameter_refusal}
-use Rattle.tpm_actions_base.specs.Request.{Request, first_handle, second_handle}
-use Rattle.tpm_actions_base.specs.Rows.{only}
-use Rattle.tpm_actions_base.specs.Target.{index_or_refusal}
+use Rattle.tpm_record.specs.rows.Refusals.{handle_refusal, or_refusal, parameter_refusal}
+use Rattle.tpm_record.specs.rows.Request.{Request, first_handle, second_handle}
+use Rattle.tpm_record.specs.rows.Rows.{only}
+use Rattle.tpm_record.specs.rows.Target.{index_or_refusal}
 use Rattle.tpm_actions_device.specs.FlushContext.{flush_context_row, flushed_from}
 use Rattle.tpm_actions_device.specs.HierarchyChangeAuth.{hierarchy_change_auth_row, with_auth_of}
 use Rattle.tpm_actions_device.specs.Startup.{start_of, started_record, startup_row}

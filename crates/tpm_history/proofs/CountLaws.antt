@@ -5,7 +5,7 @@ use Rattle.tpm_types.specs.declared.handle.Handle.{Handle}
 use Rattle.tpm_types.specs.declared.refused.Refused.{Refused}
 use Rattle.tpm_commands.specs.declared.command_code.CommandCode.{CommandCode}
 use Rattle.tpm_commands.specs.declared.command_code.CommandCode.TheVariants as command
-use Rattle.tpm_actions_base.specs.Request.{Request, second_handle}
+use Rattle.tpm_record.specs.rows.Request.{Request, second_handle}
 use Rattle.tpm_history.specs.Counters.{AllBelow, CountLaws, Counters, HasNoDefinition, IsDefinition, begun_at, count_at, counted_at, counters_by, counters_of, counts_of, defined_handle, defines, defines_by, is_named, largest, next_count}
 use Rattle.tpm_history.specs.HandleMap.{by_handle}
 use Rattle.tpm_history.specs.History.{Done, History, PastEvent, PowerCycled}

@@ -24,7 +24,7 @@ use Rattle.tpm_nv.specs.Definition.{defined_index, index_attribute_conflicts}
 use Rattle.tpm_nv.specs.Index.{NvContents, NvIndex, changed_index, index_at, with_index, without_index}
 use Rattle.tpm_nv.specs.Startup.{kept_written, started, started_attributes, started_index, unlocked}
 use Rattle.tpm_record.specs.Record.{Record}
-use Rattle.tpm_actions_base.specs.Request.{Request, second_handle}
+use Rattle.tpm_record.specs.rows.Request.{Request, second_handle}
 use Rattle.tpm_step.specs.Table.{row_of}
 use Rattle.tpm_step.proofs.Binding.{ok_at, ok_weaker}
 use Rattle.tpm_history.proofs.rows.Table.{row_changes}

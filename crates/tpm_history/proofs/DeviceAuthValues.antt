@@ -24,7 +24,7 @@ use Rattle.tpm_record.specs.Hierarchy.{manufactured_hierarchies}
 use Rattle.tpm_record.specs.Objects.{object_at}
 use Rattle.tpm_record.specs.Persistent.{persistent_at}
 use Rattle.tpm_record.specs.Record.{Record, manufactured, no_objects}
-use Rattle.tpm_actions_base.specs.Request.{Request}
+use Rattle.tpm_record.specs.rows.Request.{Request}
 use Rattle.tpm_step.specs.Step.{Accepted, success_step}
 use Rattle.tpm_step.specs.Table.{row_of}
 use Rattle.tpm_history.specs.rows.Acceptance.{IsAcceptance}

@@ -16,8 +16,8 @@ use Rattle.tpm_commands.specs.declared.command_code.CommandCode.TheVariants as c
 use Rattle.tpm_record.specs.Cycle.{cycled}
 use Rattle.tpm_record.specs.Record.{Record, manufactured, with_saved}
 use Rattle.tpm_record.specs.Saved.{Nothing, SavedState, saved_by as saved_with}
-use Rattle.tpm_actions_base.specs.Request.{Request}
-use Rattle.tpm_actions_base.specs.Rows.{only}
+use Rattle.tpm_record.specs.rows.Request.{Request}
+use Rattle.tpm_record.specs.rows.Rows.{only}
 use Rattle.tpm_actions_device.specs.Shutdown.{shutdown_row}
 use Rattle.tpm_step.specs.Answer.{answer_to, written_of}
 use Rattle.tpm_step.specs.Step.{Accepted, success_step}

@@ -11,8 +11,8 @@ use Rattle.tpm_record.specs.Cycle.{cycled}
 use Rattle.tpm_record.specs.Entity.{auth_value_of}
 use Rattle.tpm_record.specs.Record.{Record, manufactured, with_saved}
 use Rattle.tpm_record.specs.Saved.{Nothing}
-use Rattle.tpm_actions_base.specs.Request.{Request}
-use Rattle.tpm_actions_base.specs.Rows.{Success}
+use Rattle.tpm_record.specs.rows.Request.{Request}
+use Rattle.tpm_record.specs.rows.Rows.{Success}
 use Rattle.tpm_step.specs.Answer.{Written, answer_to, written_of}
 use Rattle.tpm_step.specs.Entries as device
 use Rattle.tpm_step.specs.General.{is_startup}

@@ -14,11 +14,11 @@ use Rattle.tpm_record.specs.Entity.{auth_value_of}
 use Rattle.tpm_record.specs.IsRecord.{IsRecord}
 use Rattle.tpm_record.specs.Record.{Record, manufactured}
 use Rattle.tpm_record.specs.Tick.{later, ticked}
-use Rattle.tpm_actions_base.specs.Refusals.{memory_refusal}
+use Rattle.tpm_record.specs.rows.Refusals.{memory_refusal}
 use Rattle.tpm_auth.specs.Grant.{authorize}
 use Rattle.tpm_auth.specs.Granting.{IsGranting}
 use Rattle.tpm_auth.proofs.Granting.{granting}
-use Rattle.tpm_actions_base.specs.Request.{Request}
+use Rattle.tpm_record.specs.rows.Request.{Request}
 use Rattle.tpm_step.specs.Entries.{entries_rolled}
 use Rattle.tpm_step.specs.Safe.{AcceptsModestly, IsModest}
 use Rattle.tpm_step.specs.Events.{PlainEvent, Given, Cycled, IsEvent}

@@ -8,8 +8,8 @@ use Rattle.tpm_commands.specs.declared.command_code.CommandCode.TheVariants as c
 use Rattle.tpm_record.specs.Cycle.{cycled}
 use Rattle.tpm_record.specs.Record.{Record, manufactured}
 use Rattle.tpm_record.specs.Tick.{ticked}
-use Rattle.tpm_actions_base.specs.Request.{Request}
-use Rattle.tpm_actions_base.specs.Rows.{all_read}
+use Rattle.tpm_record.specs.rows.Request.{Request}
+use Rattle.tpm_record.specs.rows.Rows.{all_read}
 use Rattle.tpm_actions_device.specs.DictionaryAttackLockReset.{dictionary_attack_lock_reset_row}
 use Rattle.tpm_actions_device.specs.DictionaryAttackParameters.{dictionary_attack_parameters_row, lockout_parameters}
 use Rattle.tpm_step.specs.Step.{Accepted, counted_in, success_step}

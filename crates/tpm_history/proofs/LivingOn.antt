@@ -13,8 +13,8 @@ use Rattle.tpm_types_command.specs.AuthEntry.{Entry}
 use Rattle.tpm_commands.specs.declared.command_code.CommandCode.{CommandCode}
 use Rattle.tpm_commands.specs.declared.command_code.CommandCode.TheVariants as command
 use Rattle.tpm_auth.specs.declared.session_grant.Grant.{Grant}
-use Rattle.tpm_actions_base.specs.Refusals.{handle_refusal}
-use Rattle.tpm_actions_base.specs.Request.{first_handle}
+use Rattle.tpm_record.specs.rows.Refusals.{handle_refusal}
+use Rattle.tpm_record.specs.rows.Request.{first_handle}
 use Rattle.tpm_actions_device.specs.FlushContext.{flushed_handle}
 use Rattle.tpm_actions_device.specs.StartAuthSession.{Parameters, parameters_in}
 use Rattle.tpm_actions_policy.specs.Assertions.{asserts, session_handle}

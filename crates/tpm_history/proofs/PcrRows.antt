@@ -27,8 +27,8 @@ use Rattle.tpm_commands.specs.declared.command_code.CommandCode.{CommandCode}
 use Rattle.tpm_commands.specs.declared.command_code.CommandCode.TheVariants as command
 use Rattle.tpm_record.specs.Record.{Record}
 use Rattle.tpm_record.specs.Saved.{Clear, Nothing, SavedState, State, kind_of, restored_from}
-use Rattle.tpm_actions_base.specs.Request.{Request, first_handle}
-use Rattle.tpm_actions_base.specs.Rows.{Success, all_read, only}
+use Rattle.tpm_record.specs.rows.Request.{Request, first_handle}
+use Rattle.tpm_record.specs.rows.Rows.{Success, all_read, only}
 use Rattle.tpm_actions_device.specs.PcrChange.{change_row, on_pcr}
 use Rattle.tpm_actions_device.specs.PcrEvent.{pcr_event_row}
 use Rattle.tpm_actions_device.specs.PcrExtend.{pcr_extend_row}

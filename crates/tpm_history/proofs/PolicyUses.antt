@@ -34,7 +34,7 @@ use Rattle.tpm_policy_meaning.specs.PolicyDigest.{policy_digest}
 use Rattle.tpm_policy_meaning.proofs.Meaning.{digest_means}
 use Rattle.tpm_policy_meaning.proofs.Sessions.{demands_value}
 use Rattle.tpm_auth.specs.SessionGrant.{has_value_in_key, is_password_demand}
-use Rattle.tpm_actions_base.specs.Rows.{only}
+use Rattle.tpm_record.specs.rows.Rows.{only}
 use Rattle.tpm_actions_policy.specs.PolicyNv.{nv_parameters}
 use Rattle.tpm_actions_policy.specs.PolicyPcr.{pcr_parameters}
 use Rattle.tpm_actions_policy.specs.PolicySecret.{secret_parameters}

@@ -29,8 +29,8 @@ use Rattle.tpm_types.specs.declared.session_type.SessionType.TheVariants as type
 use Rattle.tpm_commands.specs.declared.command_code.CommandCode.{CommandCode as Code}
 use Rattle.tpm_commands.specs.declared.command_code.CommandCode.TheVariants as command
 use Rattle.tpm_record.specs.Record.{Record}
-use Rattle.tpm_actions_base.specs.Request.{Request, first_handle}
-use Rattle.tpm_actions_base.specs.Rows.{only}
+use Rattle.tpm_record.specs.rows.Request.{Request, first_handle}
+use Rattle.tpm_record.specs.rows.Rows.{only}
 use Rattle.tpm_actions_policy.specs.Assertions.{assertion_in, assertion_row, asserts, policy_after, policy_session, session_handle, with_assertion as with_device_assertion}
 use Rattle.tpm_actions_policy.specs.PolicyNv.{nv_parameters}
 use Rattle.tpm_actions_policy.specs.PolicyPcr.{Parameters as PcrParameters, pcr_parameters, pcr_parts_of}

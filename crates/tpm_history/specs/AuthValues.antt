@@ -13,9 +13,9 @@ use Rattle.tpm_types.specs.declared.startup_type.StartupType.TheVariants as type
 use Rattle.tpm_commands.specs.declared.command_code.CommandCode.{CommandCode}
 use Rattle.tpm_commands.specs.declared.command_code.CommandCode.TheVariants as command
 use Rattle.tpm_types_object.specs.declared.sensitive.Sensitive.{Sensitive}
-use Rattle.tpm_actions_base.specs.Refusals.{handle_refusal}
-use Rattle.tpm_actions_base.specs.Request.{Request, first_handle, second_handle}
-use Rattle.tpm_actions_base.specs.Rows.{only}
+use Rattle.tpm_record.specs.rows.Refusals.{handle_refusal}
+use Rattle.tpm_record.specs.rows.Request.{Request, first_handle, second_handle}
+use Rattle.tpm_record.specs.rows.Rows.{only}
 use Rattle.tpm_actions_object.specs.Creation as creation
 use Rattle.tpm_nvactions.specs.NvDefineSpace as definition
 use Rattle.tpm_history.specs.HandleMap.{with_at}

@@ -7,7 +7,7 @@ use Rattle.tpm_types.specs.declared.handle.Handle.{Handle}
 use Rattle.tpm_types.specs.declared.refused.Refused.{Refused}
 use Rattle.tpm_commands.specs.declared.command_code.CommandCode.{CommandCode}
 use Rattle.tpm_commands.specs.declared.command_code.CommandCode.TheVariants as command
-use Rattle.tpm_actions_base.specs.Request.{Request, second_handle}
+use Rattle.tpm_record.specs.rows.Request.{Request, second_handle}
 use Rattle.tpm_nvactions.specs.NvDefineSpace.{parameters_in}
 use Rattle.tpm_history.specs.HandleMap.{by_handle, with_at}
 use Rattle.tpm_history.specs.History.{AcceptedCommand, Done, History, PastEvent, PowerCycled}

@@ -10,8 +10,8 @@ use Rattle.tpm_types_object.specs.declared.sensitive.Sensitive.{Sensitive}
 use Rattle.tpm_record.specs.Record.{Record}
 use Rattle.tpm_record.specs.Tick.{ticked}
 use Rattle.tpm_auth.specs.declared.session_grant.Grant.{Grant}
-use Rattle.tpm_actions_base.specs.Answer.{AnswerParts}
-use Rattle.tpm_actions_base.specs.Request.{Request, first_handle}
+use Rattle.tpm_record.specs.rows.Answer.{AnswerParts}
+use Rattle.tpm_record.specs.rows.Request.{Request, first_handle}
 use Rattle.tpm_actions_object.specs.Load.{parameters_in, sensitive_of}
 use Rattle.tpm_actions_object.specs.Loaded.{loaded_at}
 use Rattle.tpm_step.specs.Events.{PlainEvent, Given, Cycled}

@@ -14,8 +14,8 @@ use Rattle.tpm_types.specs.declared.rc.ResponseCode.TheVariants as code
 use Rattle.tpm_types.specs.declared.refused.Refused.{Refused}
 use Rattle.tpm_commands.specs.declared.command_code.CommandCode.{CommandCode as Code}
 use Rattle.tpm_commands.specs.declared.command_code.CommandCode.TheVariants as command
-use Rattle.tpm_actions_base.specs.Refusals.{handle_refusal}
-use Rattle.tpm_actions_base.specs.Rows.{only}
+use Rattle.tpm_record.specs.rows.Refusals.{handle_refusal}
+use Rattle.tpm_record.specs.rows.Rows.{only}
 use Rattle.tpm_actions_policy.specs.PolicyNv.{nv_parameters}
 use Rattle.tpm_actions_policy.specs.PolicyPcr.{Parameters, pcr_parameters}
 use Rattle.tpm_actions_policy.specs.PolicySecret.{secret_parameters}

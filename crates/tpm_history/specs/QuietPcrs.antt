@@ -10,7 +10,7 @@ use Rattle.tpm_types.specs.declared.handle.Handle.{Handle}
 use Rattle.tpm_types.specs.declared.pcr_selection.BankSelection.{BankSelection}
 use Rattle.tpm_types.specs.declared.session_type.SessionType.TheVariants as type
 use Rattle.tpm_commands.specs.declared.command_code.CommandCode.TheVariants as command
-use Rattle.tpm_actions_base.specs.Request.{first_handle}
+use Rattle.tpm_record.specs.rows.Request.{first_handle}
 use Rattle.tpm_step.specs.General.{is_startup}
 use Rattle.tpm_history.specs.History.{AcceptedCommand, Done, History, PastEvent, PowerCycled}
 use Rattle.tpm_history.specs.Pcrs.{digest_in, updates_of, writes}

@@ -23,12 +23,12 @@ ghost use Rattle.tpm_history.specs.PolicyUses.{AllMeetPolicies};
 ghost use Rattle.tpm_history.specs.Replays.{ReplaysRepeat};
 
 use std::alloc::Global;
-use tpm_actions_base::answer::Answer;
 use tpm_auth::{Grants, authorize_keyed};
 use tpm_bytes::NoMemory;
 use tpm_commands::CommandCode;
 use tpm_execution::{accept, decode, write_refusal, write_success};
 use tpm_mac::KeyedMac;
+use tpm_record::rows::answer::Answer;
 use tpm_record::tick::tick;
 use tpm_record::{Fixed, Keep, power_cycle, read_widths};
 use tpm_step::{Event, Outcome, RefusedCommand, Response, Row};

@@ -15,12 +15,12 @@ use Rattle.tpm_nv.specs.declared.fault.LockFault.TheVariants as lock_fault
 use Rattle.tpm_nv.specs.declared.fault.WriteFault.{WriteFault}
 use Rattle.tpm_nv.specs.declared.fault.WriteFault.TheVariants as write_fault
 use Rattle.tpm_record.specs.Record.{Record}
-use Rattle.tpm_actions_base.specs.Answer.{nothing}
-use Rattle.tpm_actions_base.specs.Refusals.{action_refusal, handle_refusal, or_refusal}
-use Rattle.tpm_actions_base.specs.Request.{Request}
-use Rattle.tpm_actions_base.specs.Rows.{Success}
-use Rattle.tpm_actions_base.specs.Target.{may_read, may_write, target_of}
-use Rattle.tpm_actions_base.specs.declared.target.Target.{Target}
+use Rattle.tpm_record.specs.rows.Answer.{nothing}
+use Rattle.tpm_record.specs.rows.Refusals.{action_refusal, handle_refusal, or_refusal}
+use Rattle.tpm_record.specs.rows.Request.{Request}
+use Rattle.tpm_record.specs.rows.Rows.{Success}
+use Rattle.tpm_record.specs.rows.Target.{may_read, may_write, target_of}
+use Rattle.tpm_record.specs.declared.rows.target.Target.{Target}
 
 -- A1 of the commands that write, and of TPM2_NV_WriteLock: authHandle may not write the index
 abbrev pub writer_passes : Target → Result (Unit {0}) Refused

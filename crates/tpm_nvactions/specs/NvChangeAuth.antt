@@ -8,10 +8,10 @@ use Rattle.tpm_types.specs.declared.rc.ResponseCode.TheVariants as code
 use Rattle.tpm_types.specs.declared.refused.Refused.{Refused}
 use Rattle.tpm_nv.specs.Access.{with_auth_value}
 use Rattle.tpm_record.specs.Record.{Record}
-use Rattle.tpm_actions_base.specs.Refusals.{handle_refusal, or_refusal, parameter_refusal}
-use Rattle.tpm_actions_base.specs.Request.{Request, first_handle}
-use Rattle.tpm_actions_base.specs.Rows.{Success, only}
-use Rattle.tpm_actions_base.specs.Target.{index_or_refusal}
+use Rattle.tpm_record.specs.rows.Refusals.{handle_refusal, or_refusal, parameter_refusal}
+use Rattle.tpm_record.specs.rows.Request.{Request, first_handle}
+use Rattle.tpm_record.specs.rows.Rows.{Success, only}
+use Rattle.tpm_record.specs.rows.Target.{index_or_refusal}
 use Rattle.tpm_nvactions.specs.Access.{changed_nv}
 
 -- nvIndex is authorized in the role ADMIN; parameter newAuth, at most 32 bytes, whose trailing

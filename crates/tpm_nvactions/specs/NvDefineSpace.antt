@@ -15,9 +15,9 @@ use Rattle.tpm_nv.specs.Index.{has_room, index_at, with_index}
 use Rattle.tpm_nv.specs.declared.definition.DefinitionFault.{DefinitionFault}
 use Rattle.tpm_nv.specs.declared.definition.DefinitionFault.TheVariants as fault
 use Rattle.tpm_record.specs.Record.{Record}
-use Rattle.tpm_actions_base.specs.Refusals.{action_refusal, or_refusal, parameter_refusal}
-use Rattle.tpm_actions_base.specs.Request.{Request, first_handle}
-use Rattle.tpm_actions_base.specs.Rows.{Success, all_read, parameter}
+use Rattle.tpm_record.specs.rows.Refusals.{action_refusal, or_refusal, parameter_refusal}
+use Rattle.tpm_record.specs.rows.Request.{Request, first_handle}
+use Rattle.tpm_record.specs.rows.Rows.{Success, all_read, parameter}
 use Rattle.tpm_nvactions.specs.declared.nv_define_space.DefinitionParameters.{DefinitionParameters}
 use Rattle.tpm_nvactions.specs.Access.{changed_nv}
 

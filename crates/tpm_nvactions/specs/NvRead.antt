@@ -9,12 +9,12 @@ use Rattle.tpm_types.specs.declared.rc.ResponseCode.TheVariants as code
 use Rattle.tpm_types.specs.declared.refused.Refused.{Refused}
 use Rattle.tpm_nv.specs.Access.{read_at}
 use Rattle.tpm_record.specs.Record.{Record}
-use Rattle.tpm_actions_base.specs.Answer.{Sized, answer_of}
-use Rattle.tpm_actions_base.specs.Refusals.{action_refusal, fault_refusal, or_refusal, parameter_refusal}
-use Rattle.tpm_actions_base.specs.Request.{Request}
-use Rattle.tpm_actions_base.specs.Rows.{Success, all_read, parameter, unchanged}
+use Rattle.tpm_record.specs.rows.Answer.{Sized, answer_of}
+use Rattle.tpm_record.specs.rows.Refusals.{action_refusal, fault_refusal, or_refusal, parameter_refusal}
+use Rattle.tpm_record.specs.rows.Request.{Request}
+use Rattle.tpm_record.specs.rows.Rows.{Success, all_read, parameter, unchanged}
 use Rattle.tpm_nvactions.specs.declared.nv_read.ReadParameters.{ReadParameters}
-use Rattle.tpm_actions_base.specs.Target.{reading_passes, target_of}
+use Rattle.tpm_record.specs.rows.Target.{reading_passes, target_of}
 
 -- the parameters size and offset
 unfoldable pub parameters_in : List ℕ → Result ReadParameters Refused
@@ -26,7 +26,7 @@ parameters_in text = do
 
 -- handles authHandle and nvIndex. A1 to A3: the checks of every command that reads an index; A4:
 -- more bytes are asked for than the limit of data; A5: they reach past the index's data, which is
--- all that then refuses the reading (reading_laws of tpm_actions_base). Answered: the bytes
+-- all that then refuses the reading (reading_laws of tpm_record). Answered: the bytes
 unfoldable pub nv_read_row : Record → Request → Result Success Refused
 nv_read_row r q = do
   target ← target_of r q

@@ -7,10 +7,10 @@ use Rattle.tpm_name.specs.NvName.{nv_name}
 use Rattle.tpm_types_nv.specs.NvPublic.{nv_public_text}
 use Rattle.tpm_nv.specs.Index.{NvIndex}
 use Rattle.tpm_record.specs.Record.{Record}
-use Rattle.tpm_actions_base.specs.Answer.{Body, SizedFirst, answer_of}
-use Rattle.tpm_actions_base.specs.Request.{Request, first_handle}
-use Rattle.tpm_actions_base.specs.Rows.{Success, all_read, unchanged}
-use Rattle.tpm_actions_base.specs.Target.{index_or_refusal}
+use Rattle.tpm_record.specs.rows.Answer.{Body, SizedFirst, answer_of}
+use Rattle.tpm_record.specs.rows.Request.{Request, first_handle}
+use Rattle.tpm_record.specs.rows.Rows.{Success, all_read, unchanged}
+use Rattle.tpm_record.specs.rows.Target.{index_or_refusal}
 
 -- what TPM2_NV_ReadPublic answers: the public area of an index, and its Name
 abbrev pub public_body : NvIndex → Body

@@ -10,11 +10,11 @@ use Rattle.tpm_types_nv.specs.NvAttributes.{has}
 use Rattle.tpm_types_nv.specs.declared.nv_attributes.NvAttribute.TheVariants as attribute
 use Rattle.tpm_nv.specs.Index.{without_index}
 use Rattle.tpm_record.specs.Record.{Record}
-use Rattle.tpm_actions_base.specs.Refusals.{action_refusal}
-use Rattle.tpm_actions_base.specs.Request.{Request}
-use Rattle.tpm_actions_base.specs.Rows.{Success, all_read}
-use Rattle.tpm_actions_base.specs.declared.target.Target.{Target}
-use Rattle.tpm_actions_base.specs.Target.{target_of}
+use Rattle.tpm_record.specs.rows.Refusals.{action_refusal}
+use Rattle.tpm_record.specs.rows.Request.{Request}
+use Rattle.tpm_record.specs.rows.Rows.{Success, all_read}
+use Rattle.tpm_record.specs.declared.rows.target.Target.{Target}
+use Rattle.tpm_record.specs.rows.Target.{target_of}
 use Rattle.tpm_nvactions.specs.Access.{changed_nv}
 
 -- whether the owner asks to remove an index that the platform defined

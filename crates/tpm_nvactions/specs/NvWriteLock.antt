@@ -4,10 +4,10 @@ use Rattle.tpm_bytes.specs.Reading.{◌>>=◌}
 use Rattle.tpm_types.specs.declared.refused.Refused.{Refused}
 use Rattle.tpm_nv.specs.Access.{write_locked}
 use Rattle.tpm_record.specs.Record.{Record}
-use Rattle.tpm_actions_base.specs.Refusals.{or_refusal}
-use Rattle.tpm_actions_base.specs.Request.{Request}
-use Rattle.tpm_actions_base.specs.Rows.{Success, all_read}
-use Rattle.tpm_actions_base.specs.Target.{target_of}
+use Rattle.tpm_record.specs.rows.Refusals.{or_refusal}
+use Rattle.tpm_record.specs.rows.Request.{Request}
+use Rattle.tpm_record.specs.rows.Rows.{Success, all_read}
+use Rattle.tpm_record.specs.rows.Target.{target_of}
 use Rattle.tpm_nvactions.specs.Access.{changed_nv, lock_refusal, writer_passes}
 
 -- handles authHandle and nvIndex. A1: authHandle may not write the index; A2: the index has neither

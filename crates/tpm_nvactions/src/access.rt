@@ -4,9 +4,9 @@
 ghost use Rattle.std.specs.Prelude.{◌≡◌};
 ghost use Rattle.tpm_nvactions.specs.Access.{lock_refusal, reader_passes, writing_refusal, writer_passes};
 
-use tpm_actions_base::refusals::{action_refusal, handle_refusal};
-use tpm_actions_base::target::Target;
 use tpm_nv::{LockFault, WriteFault};
+use tpm_record::rows::refusals::{action_refusal, handle_refusal};
+use tpm_record::rows::target::Target;
 use tpm_types::{ActionCheck, Refused, ResponseCode};
 
 /// Refuses an authHandle that may not write the index.

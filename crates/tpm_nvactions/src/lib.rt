@@ -5,7 +5,7 @@
 //! 31). What the commands share, who may read and write an index and how they refuse, is in
 //! [`access`].
 //!
-//! The crate uses `tpm_actions_base`, and `tpm_nv` for the indices. `specs/` has a row for each
+//! The crate uses `tpm_record::rows`, and `tpm_nv` for the indices. `specs/` has a row for each
 //! command under the same name; each call is proved to be its row, for each way of keeping the
 //! record, and a refusal leaves the record. Only TPM2_NV_DefineSpace may be refused memory.
 

@@ -2,18 +2,18 @@
 //! `specs/NvChangeAuth`.
 
 ghost use Rattle.std.specs.Prelude.{◌≡◌};
-ghost use Rattle.tpm_actions_base.specs.Answer.{IsEmpty};
-ghost use Rattle.tpm_actions_base.specs.Request.{request_of};
-ghost use Rattle.tpm_actions_base.specs.Rows.{Acts};
+ghost use Rattle.tpm_record.specs.rows.Answer.{IsEmpty};
+ghost use Rattle.tpm_record.specs.rows.Request.{request_of};
+ghost use Rattle.tpm_record.specs.rows.Rows.{Acts};
 ghost use Rattle.tpm_nvactions.specs.NvChangeAuth.{nv_change_auth_row};
 
-use tpm_actions_base::answer::Answer;
-use tpm_actions_base::call::Call;
-use tpm_actions_base::reading::{end, parameter};
-use tpm_actions_base::refusals::{handle_refusal, parameter_refusal};
 use tpm_bytes::Cursor;
 use tpm_nv::{Indices, Undefined};
 use tpm_record::Keep;
+use tpm_record::rows::answer::Answer;
+use tpm_record::rows::call::Call;
+use tpm_record::rows::reading::{end, parameter};
+use tpm_record::rows::refusals::{handle_refusal, parameter_refusal};
 use tpm_types::{ActionCheck, AuthValue, Refused, ResponseCode};
 
 /// TPM2_NV_ChangeAuth: sets the authorization value of an index.

@@ -5,18 +5,18 @@ ghost use Rattle.tpm_bytes.specs.Reading.{Gives};
 ghost use Rattle.std.specs.Prelude.{◌≡◌, ◌==◌, IfOk, length};
 ghost use Rattle.tpm_types.specs.Handle.{platform_handle};
 ghost use Rattle.tpm_types_nv.specs.NvPublic.{IsNvPublic};
-ghost use Rattle.tpm_actions_base.specs.Answer.{IsEmpty};
-ghost use Rattle.tpm_actions_base.specs.Request.{request_of};
-ghost use Rattle.tpm_actions_base.specs.Rows.{ActsIfRoom};
+ghost use Rattle.tpm_record.specs.rows.Answer.{IsEmpty};
+ghost use Rattle.tpm_record.specs.rows.Request.{request_of};
+ghost use Rattle.tpm_record.specs.rows.Rows.{ActsIfRoom};
 ghost use Rattle.tpm_nvactions.specs.NvDefineSpace.{definition_refusal, nv_define_space_row, parameters_in, parameters_of};
 
-use tpm_actions_base::answer::Answer;
-use tpm_actions_base::call::Call;
-use tpm_actions_base::reading::{end, parameter};
-use tpm_actions_base::refusals::{action_refusal, memory_refusal, parameter_refusal};
 use tpm_bytes::Cursor;
 use tpm_nv::{DefineFault, DefinitionFault, Indices, check_definition};
 use tpm_record::Keep;
+use tpm_record::rows::answer::Answer;
+use tpm_record::rows::call::Call;
+use tpm_record::rows::reading::{end, parameter};
+use tpm_record::rows::refusals::{action_refusal, memory_refusal, parameter_refusal};
 use tpm_types::{ActionCheck, AuthValue, Handle, Refused, ResponseCode};
 use tpm_types_nv::NvPublic;
 

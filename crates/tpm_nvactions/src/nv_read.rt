@@ -1,19 +1,19 @@
 //! TPM2_NV_Read: answers data of an index, by its row in `specs/NvRead`.
 
 ghost use Rattle.std.specs.Prelude.{◌≡◌};
-ghost use Rattle.tpm_actions_base.specs.Answer.{IsEmpty};
-ghost use Rattle.tpm_actions_base.specs.Request.{request_of};
-ghost use Rattle.tpm_actions_base.specs.Rows.{Acts};
+ghost use Rattle.tpm_record.specs.rows.Answer.{IsEmpty};
+ghost use Rattle.tpm_record.specs.rows.Request.{request_of};
+ghost use Rattle.tpm_record.specs.rows.Rows.{Acts};
 ghost use Rattle.tpm_nvactions.specs.NvRead.{nv_read_row, parameters_in};
 
-use tpm_actions_base::answer::Answer;
-use tpm_actions_base::call::Call;
-use tpm_actions_base::reading::{end, number};
-use tpm_actions_base::refusals::{action_refusal, fault_refusal, parameter_refusal};
-use tpm_actions_base::target::target_of;
 use tpm_bytes::Cursor;
 use tpm_nv::Indices;
 use tpm_record::Keep;
+use tpm_record::rows::answer::Answer;
+use tpm_record::rows::call::Call;
+use tpm_record::rows::reading::{end, number};
+use tpm_record::rows::refusals::{action_refusal, fault_refusal, parameter_refusal};
+use tpm_record::rows::target::target_of;
 use tpm_types::{ActionCheck, DATA_LIMIT, Refused, ResponseCode};
 
 /// The parameters of TPM2_NV_Read.

@@ -10,6 +10,7 @@ pub mod Clear
 pub mod Entity
 pub mod Resolved
 pub mod Kept
+pub mod rows
 pub use Rattle.tpm_lockout.specs.Lockout
 pub use Rattle.tpm_lockout.specs.Tries
 pub use Rattle.tpm_lockout.specs.Recovery

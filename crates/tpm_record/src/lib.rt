@@ -11,7 +11,7 @@
 //! the entity of a handle. The crate uses `tpm_lockout`, `tpm_pcr`, `tpm_session`, `tpm_object`
 //! and `tpm_nv`, and `tpm_containers` for the places of sessions and transient objects and for the
 //! map of persistent ones. Each call on a type that implements the trait equals its definition in
-//! `specs/`, on the record.
+//! `specs/`, on the record. [`rows`] has what the commands share that act on it.
 
 pub mod any_object;
 mod clear;
@@ -25,6 +25,7 @@ pub mod objects;
 pub mod of_handle;
 pub mod persistent;
 pub mod record;
+pub mod rows;
 pub mod saved;
 pub mod tick;
 

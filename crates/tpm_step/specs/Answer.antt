@@ -8,8 +8,8 @@ use Rattle.tpm_commands.specs.CommandCode.{code_number}
 use Rattle.tpm_types.specs.Rc.{rc_number}
 use Rattle.tpm_session.specs.ParameterHash.{OfResponse}
 use Rattle.tpm_record.specs.Record.{Record}
-use Rattle.tpm_actions_base.specs.Answer.{AnswerParts, answer_body_text}
-use Rattle.tpm_actions_base.specs.declared.answer.Answer.{Answer}
+use Rattle.tpm_record.specs.rows.Answer.{AnswerParts, answer_body_text}
+use Rattle.tpm_record.specs.declared.rows.answer.Answer.{Answer}
 use Rattle.tpm_step.specs.Entries.{Drawn, entries_answer, entries_ended, entries_rolled}
 use Rattle.tpm_step.specs.Granted.{Granted, granted_entries}
 use Rattle.tpm_step.specs.Parameters.{encrypted_answer}

@@ -5,8 +5,8 @@ use Rattle.tpm_record.specs.Tick.{ticked}
 use Rattle.tpm_types.specs.Limits.{answer_limit}
 use Rattle.tpm_types.specs.Check.{check_number}
 use Rattle.tpm_types.specs.declared.refused.Refused.{Refused}
-use Rattle.tpm_actions_base.specs.Answer.{answer_body_text}
-use Rattle.tpm_actions_base.specs.Draws.{draw_limit}
+use Rattle.tpm_record.specs.rows.Answer.{answer_body_text}
+use Rattle.tpm_record.specs.rows.Draws.{draw_limit}
 use Rattle.tpm_step.specs.Answer.{refusal_text}
 use Rattle.tpm_step.specs.Entries.{DrawsFew}
 use Rattle.tpm_step.specs.Events.{PlainEvent, Given, Cycled}

@@ -17,11 +17,11 @@ use Rattle.tpm_lockout.specs.Tries.{after_failure}
 use Rattle.tpm_types.specs.declared.refused.Counted.{Counted}
 use Rattle.tpm_types.specs.declared.refused.Counted.TheVariants as counted
 use Rattle.tpm_types.specs.declared.refused.Refused.{Refused}
-use Rattle.tpm_actions_base.specs.Answer.{IsAnswer}
-use Rattle.tpm_actions_base.specs.Request.{Request}
-use Rattle.tpm_actions_base.specs.declared.answer.Answer.{Answer}
-use Rattle.tpm_actions_base.specs.Refusals.{memory_refusal}
-use Rattle.tpm_actions_base.specs.Rows.{Success}
+use Rattle.tpm_record.specs.rows.Answer.{IsAnswer}
+use Rattle.tpm_record.specs.rows.Request.{Request}
+use Rattle.tpm_record.specs.declared.rows.answer.Answer.{Answer}
+use Rattle.tpm_record.specs.rows.Refusals.{memory_refusal}
+use Rattle.tpm_record.specs.rows.Rows.{Success}
 use Rattle.tpm_record.specs.Saved.{Nothing}
 use Rattle.tpm_commands.specs.declared.command_code.CommandCode.{CommandCode}
 use Rattle.tpm_step.specs.Answer.{Answered, answer_to, refusal_text, written_of}

@@ -4,8 +4,8 @@ use Rattle.tpm_commands.specs.declared.command_code.CommandCode.{CommandCode}
 use Rattle.tpm_commands.specs.declared.command_code.CommandCode.TheVariants as command
 use Rattle.tpm_record.specs.Record.{Record}
 use Rattle.tpm_types.specs.declared.refused.Refused.{Refused}
-use Rattle.tpm_actions_base.specs.Request.{Request}
-use Rattle.tpm_actions_base.specs.Rows.{Success}
+use Rattle.tpm_record.specs.rows.Request.{Request}
+use Rattle.tpm_record.specs.rows.Rows.{Success}
 use Rattle.tpm_actions_device.specs.Startup.{startup_row}
 use Rattle.tpm_actions_device.specs.Shutdown.{shutdown_row}
 use Rattle.tpm_actions_device.specs.SelfTest.{self_test_row}

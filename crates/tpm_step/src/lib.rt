@@ -6,7 +6,7 @@
 //! [`refused_command::RefusedCommand`], and the [`direction::Direction`] in which a session passes
 //! a parameter.
 //!
-//! The crate uses the definitions of the rows in tpm_actions_base and the crates of the commands,
+//! The crate uses the definitions of the rows in tpm_record and the crates of the commands,
 //! and those of tpm_auth. tpm_machine is proved to compute the step; laws and theorems over
 //! histories use this crate alone, and so no code.
 

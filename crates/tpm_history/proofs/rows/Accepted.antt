@@ -11,7 +11,7 @@ use Rattle.tpm_types.specs.Refused.{checked}
 use Rattle.tpm_types.specs.declared.check.Check.{Check}
 use Rattle.tpm_types.specs.declared.check.Check.TheVariants as check
 use Rattle.tpm_types.specs.declared.refused.Refused.{Refused}
-use Rattle.tpm_actions_base.specs.Rows.{Success}
+use Rattle.tpm_record.specs.rows.Rows.{Success}
 use Rattle.tpm_step.specs.Step.{Accepted, acceptance, request_in}
 use Rattle.tpm_step.specs.Table.{row_of}
 use Rattle.tpm_history.specs.rows.Sessions.{HaveSessions, SessionsStay}

@@ -29,10 +29,10 @@ use Rattle.tpm_record.specs.Record.{Record}
 use Rattle.tpm_record.specs.Saved.{kind_of}
 use Rattle.tpm_record.specs.declared.hierarchy.Hierarchies.{Hierarchies}
 use Rattle.tpm_record.specs.declared.saved.SavedKind.{SavedKind}
-use Rattle.tpm_actions_base.specs.Answer.{nothing}
-use Rattle.tpm_actions_base.specs.Refusals.{parameter_refusal}
-use Rattle.tpm_actions_base.specs.Request.{Request, second_handle}
-use Rattle.tpm_actions_base.specs.Rows.{only}
+use Rattle.tpm_record.specs.rows.Answer.{nothing}
+use Rattle.tpm_record.specs.rows.Refusals.{parameter_refusal}
+use Rattle.tpm_record.specs.rows.Request.{Request, second_handle}
+use Rattle.tpm_record.specs.rows.Rows.{only}
 use Rattle.tpm_actions_device.specs.ClearControl.{clear_control_row}
 use Rattle.tpm_actions_device.specs.DictionaryAttackLockReset.{dictionary_attack_lock_reset_row}
 use Rattle.tpm_actions_device.specs.DictionaryAttackParameters.{dictionary_attack_parameters_row}
@@ -78,8 +78,8 @@ use Rattle.tpm_pcr.specs.declared.changes.ChangeFault.{ChangeFault}
 use Rattle.tpm_nv.specs.Clear.{cleared}
 use Rattle.tpm_record.specs.Clear.{cleared_objects, cleared_persistent}
 use Rattle.tpm_record.specs.Hierarchy.{cleared_hierarchies}
-use Rattle.tpm_actions_base.specs.Refusals.{action_refusal, or_refusal}
-use Rattle.tpm_actions_base.specs.Rows.{all_read}
+use Rattle.tpm_record.specs.rows.Refusals.{action_refusal, or_refusal}
+use Rattle.tpm_record.specs.rows.Rows.{all_read}
 use Rattle.tpm_actions_device.specs.Clear.{clear_row, cleared_fixed}
 
 -- ---- a startup and a shutdown

@@ -19,7 +19,7 @@ use Rattle.tpm_types_command.specs.declared.header.Header.{Header}
 use Rattle.tpm_types_command.specs.declared.tag.Tag.{Tag}
 use Rattle.tpm_types_command.specs.declared.tag.Tag.TheVariants.{NoSessions, Sessions}
 use Rattle.tpm_record.specs.Record.{Record}
-use Rattle.tpm_actions_base.specs.Request.{Request}
+use Rattle.tpm_record.specs.rows.Request.{Request}
 use Rattle.tpm_step.specs.General.{body_of, both_or_neither, general, in_header, is_startup}
 use Rattle.tpm_step.specs.General.{present_handles_at, sessions_pass}
 use Rattle.tpm_history.specs.rows.Draws.{draws_of}

@@ -4,7 +4,7 @@ use Rattle.tpm_bytes.proofs.Fields.{ok_is}
 use Rattle.tpm_types.specs.declared.handle.Handle.{Handle}
 use Rattle.tpm_commands.specs.declared.shape.HandleRule.{HandleRule}
 use Rattle.tpm_record.specs.Record.{Record}
-use Rattle.tpm_actions_base.specs.Request.{first_handle, second_handle}
+use Rattle.tpm_record.specs.rows.Request.{first_handle, second_handle}
 use Rattle.tpm_history.specs.rows.Handles.{FitsRule, HandlesFit}
 
 pub first_fits : (r : Record) (rule : HandleRule) (rules : List HandleRule) (handles : List Handle) (handle : Handle) → HandlesFit r (rule ∷ rules) handles → first_handle handles ≡ Ok handle → FitsRule r rule handle

@@ -34,9 +34,9 @@ use Rattle.tpm_nv.specs.declared.fault.WriteFault.{WriteFault}
 use Rattle.tpm_nv.specs.declared.fault.WriteFault.TheVariants as write_fault
 use Rattle.tpm_nv.proofs.KeptLaws.{type_of_writable}
 use Rattle.tpm_record.specs.Record.{Record}
-use Rattle.tpm_actions_base.specs.Refusals.{or_refusal}
-use Rattle.tpm_actions_base.specs.Request.{Request, first_handle, second_handle}
-use Rattle.tpm_actions_base.specs.Target.{attributes_of, target_of}
+use Rattle.tpm_record.specs.rows.Refusals.{or_refusal}
+use Rattle.tpm_record.specs.rows.Request.{Request, first_handle, second_handle}
+use Rattle.tpm_record.specs.rows.Target.{attributes_of, target_of}
 use Rattle.tpm_nvactions.specs.NvDefineSpace.{definition_refusal}
 use Rattle.tpm_commands.specs.Part.{NvAuthValue, NvCounter, NvData, Part}
 use Rattle.tpm_history.specs.rows.IndexChanges.{ChangesAuth, ChangesIndices, HasNoConflict}

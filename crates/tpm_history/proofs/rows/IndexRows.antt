@@ -33,11 +33,11 @@ use Rattle.tpm_nv.specs.declared.fault.LockFault.{LockFault}
 use Rattle.tpm_nv.specs.declared.fault.Undefined.{Undefined}
 use Rattle.tpm_nv.specs.declared.fault.WriteFault.{WriteFault}
 use Rattle.tpm_record.specs.Record.{Record}
-use Rattle.tpm_actions_base.specs.Refusals.{handle_refusal, or_refusal, parameter_refusal}
-use Rattle.tpm_actions_base.specs.Request.{Request, first_handle, second_handle}
-use Rattle.tpm_actions_base.specs.Rows.{all_read, parameter}
-use Rattle.tpm_actions_base.specs.Target.{target_of}
-use Rattle.tpm_actions_base.specs.declared.target.Target.{Target}
+use Rattle.tpm_record.specs.rows.Refusals.{handle_refusal, or_refusal, parameter_refusal}
+use Rattle.tpm_record.specs.rows.Request.{Request, first_handle, second_handle}
+use Rattle.tpm_record.specs.rows.Rows.{all_read, parameter}
+use Rattle.tpm_record.specs.rows.Target.{target_of}
+use Rattle.tpm_record.specs.declared.rows.target.Target.{Target}
 use Rattle.tpm_nvactions.specs.Access.{changed_nv, lock_refusal, writer_passes, writing_refusal}
 use Rattle.tpm_nvactions.specs.NvChangeAuth.{nv_change_auth_row}
 use Rattle.tpm_nvactions.specs.NvDefineSpace.{definition_refusal, nv_define_space_row}

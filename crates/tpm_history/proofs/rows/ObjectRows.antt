@@ -42,10 +42,10 @@ use Rattle.tpm_record.specs.Entity.{is_present, object_of}
 use Rattle.tpm_record.specs.Objects.{object_at, with_object}
 use Rattle.tpm_record.specs.Persistent.{persistent_at, with_persistent, without_persistent}
 use Rattle.tpm_record.specs.Record.{Record}
-use Rattle.tpm_actions_base.specs.Answer.{AnswerParts}
-use Rattle.tpm_actions_base.specs.Refusals.{or_refusal}
-use Rattle.tpm_actions_base.specs.Request.{Request, first_handle, second_handle}
-use Rattle.tpm_actions_base.specs.Rows.{only}
+use Rattle.tpm_record.specs.rows.Answer.{AnswerParts}
+use Rattle.tpm_record.specs.rows.Refusals.{or_refusal}
+use Rattle.tpm_record.specs.rows.Request.{Request, first_handle, second_handle}
+use Rattle.tpm_record.specs.rows.Rows.{only}
 use Rattle.tpm_actions_object.specs.Checks.{creation_refusal, given_passes, public_passes}
 use Rattle.tpm_actions_object.specs.Checks.{template_refusal}
 use Rattle.tpm_actions_object.specs.Create.{create_row}

@@ -25,11 +25,11 @@ use Rattle.tpm_nv.specs.Index.{NvIndex, index_at}
 use Rattle.tpm_record.specs.Entity.{AnIndex, AnObject, Entity, Permanent, entity_at, is_kept}
 use Rattle.tpm_record.specs.Entity.{is_present, object_of}
 use Rattle.tpm_record.specs.Record.{Record}
-use Rattle.tpm_actions_base.specs.Refusals.{fault_refusal, handle_refusal, or_refusal}
-use Rattle.tpm_actions_base.specs.Request.{first_handle, second_handle, third_handle}
-use Rattle.tpm_actions_base.specs.Rows.{parameter}
-use Rattle.tpm_actions_base.specs.Target.{attributes_of, index_or_refusal}
-use Rattle.tpm_actions_base.specs.declared.target.Target.{Target}
+use Rattle.tpm_record.specs.rows.Refusals.{fault_refusal, handle_refusal, or_refusal}
+use Rattle.tpm_record.specs.rows.Request.{first_handle, second_handle, third_handle}
+use Rattle.tpm_record.specs.rows.Rows.{parameter}
+use Rattle.tpm_record.specs.rows.Target.{attributes_of, index_or_refusal}
+use Rattle.tpm_record.specs.declared.rows.target.Target.{Target}
 use Rattle.tpm_history.specs.rows.Handles.{FitsRule, HandlesFit}
 use Rattle.tpm_history.specs.rows.Order.{InOrder, IsLate, Late, Orders}
 use Rattle.tpm_history.specs.rows.Refusals.{Passes}

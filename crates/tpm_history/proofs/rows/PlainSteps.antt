@@ -3,9 +3,9 @@ use Rattle.std.proofs.Common.{◌∷◌, Err, List, Ok, Result, [], refl, rules,
 use Rattle.tpm_types.specs.declared.action_fault.ActionFault.{ActionFault}
 use Rattle.tpm_types.specs.declared.handle.Handle.{Handle}
 use Rattle.tpm_types.specs.declared.rc.Rc.{Rc}
-use Rattle.tpm_actions_base.specs.Refusals.{fault_refusal, or_refusal}
-use Rattle.tpm_actions_base.specs.Request.{first_handle, second_handle, third_handle}
-use Rattle.tpm_actions_base.specs.Rows.{parameter}
+use Rattle.tpm_record.specs.rows.Refusals.{fault_refusal, or_refusal}
+use Rattle.tpm_record.specs.rows.Request.{first_handle, second_handle, third_handle}
+use Rattle.tpm_record.specs.rows.Rows.{parameter}
 use Rattle.tpm_history.specs.rows.Order.{Plain}
 use Rattle.tpm_step.proofs.Binding.{err_bind, err_fault, err_if, err_or}
 

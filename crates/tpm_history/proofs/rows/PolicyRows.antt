@@ -22,10 +22,10 @@ use Rattle.tpm_session.specs.Sessions.{session_at, with_session_policy}
 use Rattle.tpm_session.specs.declared.session.Session.{Session}
 use Rattle.tpm_record.specs.Entity.{is_present}
 use Rattle.tpm_record.specs.Record.{Record}
-use Rattle.tpm_actions_base.specs.Answer.{AnswerParts, answer_of, nothing}
-use Rattle.tpm_actions_base.specs.Refusals.{fault_refusal, or_refusal}
-use Rattle.tpm_actions_base.specs.Request.{Request, first_handle}
-use Rattle.tpm_actions_base.specs.Rows.{Success, all_read}
+use Rattle.tpm_record.specs.rows.Answer.{AnswerParts, answer_of, nothing}
+use Rattle.tpm_record.specs.rows.Refusals.{fault_refusal, or_refusal}
+use Rattle.tpm_record.specs.rows.Request.{Request, first_handle}
+use Rattle.tpm_record.specs.rows.Rows.{Success, all_read}
 use Rattle.tpm_actions_policy.specs.Assertions.{assertion_in, assertion_row, body_of, policy_after}
 use Rattle.tpm_actions_policy.specs.Assertions.{policy_session, session_handle, with_assertion}
 use Rattle.tpm_actions_policy.specs.PolicyGetDigest.{policy_get_digest_row}

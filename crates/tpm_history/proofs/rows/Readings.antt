@@ -6,7 +6,7 @@ use Rattle.tpm_commands.specs.declared.shape.ParameterKind.{ParameterKind}
 use Rattle.tpm_types.specs.AuthValue.{auth_value_at, trimmed}
 use Rattle.tpm_types.specs.Buffer.{buffer_at}
 use Rattle.tpm_types.specs.declared.refused.Refused.{Refused}
-use Rattle.tpm_actions_base.specs.Rows.{all_read, only, parameter}
+use Rattle.tpm_record.specs.rows.Rows.{all_read, only, parameter}
 use Rattle.tpm_history.specs.rows.Shapes.{behind, behind_kind, spelled}
 
 -- ---- readings

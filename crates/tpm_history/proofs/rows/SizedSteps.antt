@@ -32,8 +32,8 @@ use Rattle.std.specs.List.{AllByRecursion}
 use Rattle.std.specs.Fn.{Mut}
 use Rattle.tpm_step.specs.Execution.{Executes}
 use Rattle.tpm_step.specs.declared.event.Outcome.{Outcome}
-use Rattle.tpm_actions_base.specs.Request.{Request}
-use Rattle.tpm_actions_base.specs.Rows.{Success}
+use Rattle.tpm_record.specs.rows.Request.{Request}
+use Rattle.tpm_record.specs.rows.Rows.{Success}
 use Rattle.tpm_record.specs.Saved.{Nothing}
 use Rattle.tpm_commands.specs.declared.command_code.CommandCode.{CommandCode}
 use Rattle.tpm_history.proofs.rows.Draws.{general_few}

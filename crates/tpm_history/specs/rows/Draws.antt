@@ -10,9 +10,9 @@ use Rattle.tpm_types.specs.declared.rc.ResponseCode.TheVariants as code
 use Rattle.tpm_types.specs.declared.refused.Refused.{Refused}
 use Rattle.tpm_commands.specs.declared.command_code.CommandCode.{CommandCode}
 use Rattle.tpm_commands.specs.declared.command_code.CommandCode.TheVariants as command
-use Rattle.tpm_actions_base.specs.Draws.{draw_limit}
-use Rattle.tpm_actions_base.specs.Request.{Request}
-use Rattle.tpm_actions_base.specs.Rows.{Success, only}
+use Rattle.tpm_record.specs.rows.Draws.{draw_limit}
+use Rattle.tpm_record.specs.rows.Request.{Request}
+use Rattle.tpm_record.specs.rows.Rows.{Success, only}
 use Rattle.tpm_actions_device.specs.StartAuthSession.{parameters_in as session_parameters}
 use Rattle.tpm_actions_object.specs.Creation.{parameters_in as creation_parameters}
 use Rattle.tpm_step.specs.General.{is_startup}

@@ -13,7 +13,7 @@ use Rattle.tpm_nv.specs.Clear.{cleared}
 use Rattle.tpm_nv.specs.Definition.{defined_index, index_attribute_conflicts}
 use Rattle.tpm_nv.specs.Index.{NvContents, NvIndex, changed_index, index_at, with_index}
 use Rattle.tpm_nv.specs.Index.{without_index}
-use Rattle.tpm_actions_base.specs.Request.{Request, second_handle}
+use Rattle.tpm_record.specs.rows.Request.{Request, second_handle}
 use Rattle.tpm_nvactions.specs.NvDefineSpace.{Parameters, parameters_in}
 use Rattle.tpm_history.specs.rows.Footprint.{StartsNv}
 use Rattle.tpm_commands.specs.Part.{Part, NvData, NvCounter, NvAuthValue, NvDefined, NvUndefined, Beginning}

@@ -4,8 +4,8 @@ use Rattle.tpm_types.specs.declared.refused.Refused.{Refused}
 use Rattle.tpm_commands.specs.CommandCode.{part_of, shape_of}
 use Rattle.tpm_commands.specs.declared.command_code.CommandCode.{CommandCode}
 use Rattle.tpm_record.specs.Record.{Record}
-use Rattle.tpm_actions_base.specs.Request.{Request}
-use Rattle.tpm_actions_base.specs.Rows.{Success}
+use Rattle.tpm_record.specs.rows.Request.{Request}
+use Rattle.tpm_record.specs.rows.Rows.{Success}
 use Rattle.tpm_history.specs.rows.Draws.{DrawsAsSaid}
 use Rattle.tpm_history.specs.rows.Footprint.{Touches}
 use Rattle.tpm_history.specs.rows.IndexChanges.{ChangesIndices}

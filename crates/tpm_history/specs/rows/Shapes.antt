@@ -29,8 +29,8 @@ use Rattle.tpm_types.specs.YesNo.{yes_no_at}
 use Rattle.tpm_record.specs.Record.{Record}
 use Rattle.tpm_types.specs.declared.check.Check.TheVariants as check
 use Rattle.tpm_types.specs.declared.refused.Refused.{Refused}
-use Rattle.tpm_actions_base.specs.Answer.{begins_sized}
-use Rattle.tpm_actions_base.specs.Rows.{Success, all_read, parameter}
+use Rattle.tpm_record.specs.rows.Answer.{begins_sized}
+use Rattle.tpm_record.specs.rows.Rows.{Success, all_read, parameter}
 use Rattle.tpm_history.specs.rows.Refusals.{Passes}
 
 -- A success has a handle, and a sized buffer as the first parameter of its answer, exactly where

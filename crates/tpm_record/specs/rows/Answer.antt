@@ -2,7 +2,7 @@
 use Rattle.std.specs.Prelude.{◌≡◌, ℕ, Bool, true, false, List, [], ◌++◌, Option, None}
 use Rattle.tpm_bytes.specs.Writing.{sized_text}
 use Rattle.tpm_types.specs.declared.handle.Handle.{Handle}
-use Rattle.tpm_actions_base.specs.declared.answer.Answer.{Answer}
+use Rattle.tpm_record.specs.declared.rows.answer.Answer.{Answer}
 
 -- the parameters of an answer: a sized buffer, which a session can encrypt, alone or with what
 -- stands after it; or parameters with no such buffer at their front

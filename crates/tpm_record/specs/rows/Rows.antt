@@ -9,9 +9,9 @@ use Rattle.tpm_record.specs.Record.{Record}
 use Rattle.tpm_types.specs.Refused.{refusal}
 use Rattle.tpm_types.specs.declared.check.Check.TheVariants as check
 use Rattle.tpm_types.specs.declared.refused.Refused.{Refused}
-use Rattle.tpm_actions_base.specs.Answer.{AnswerParts, IsAnswer}
-use Rattle.tpm_actions_base.specs.Refusals.{memory_refusal}
-use Rattle.tpm_actions_base.specs.declared.answer.Answer.{Answer}
+use Rattle.tpm_record.specs.rows.Answer.{AnswerParts, IsAnswer}
+use Rattle.tpm_record.specs.rows.Refusals.{memory_refusal}
+use Rattle.tpm_record.specs.declared.rows.answer.Answer.{Answer}
 
 -- the refusal of a parameter, by G11: its fault is placed at the parameter of this number
 abbrev pub parameter_refusal : ℕ → Rc → Refused

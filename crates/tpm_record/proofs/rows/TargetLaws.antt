@@ -13,10 +13,10 @@ use Rattle.tpm_nv.specs.Access.{read_at}
 use Rattle.tpm_nv.specs.Index.{NvContents, NvIndex, index_at}
 use Rattle.tpm_nv.specs.declared.fault.ReadFault.TheVariants.{PastData}
 use Rattle.tpm_record.specs.Record.{Record}
-use Rattle.tpm_actions_base.specs.Refusals.{handle_refusal}
-use Rattle.tpm_actions_base.specs.Request.{Request, first_handle, second_handle}
-use Rattle.tpm_actions_base.specs.Target.{attributes_of, index_or_refusal, may_read, reading_passes, target_of}
-use Rattle.tpm_actions_base.specs.declared.target.Target.{Target}
+use Rattle.tpm_record.specs.rows.Refusals.{handle_refusal}
+use Rattle.tpm_record.specs.rows.Request.{Request, first_handle, second_handle}
+use Rattle.tpm_record.specs.rows.Target.{attributes_of, index_or_refusal, may_read, reading_passes, target_of}
+use Rattle.tpm_record.specs.declared.rows.target.Target.{Target}
 
 ok_where : {A B : Type 0} (P : A → Type 0) (x : Result A B) → ((a : A) → x ≡ Ok a → P a) → IfOk x P
 ok_where P (Ok a) h = h a refl

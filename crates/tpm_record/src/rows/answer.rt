@@ -2,7 +2,7 @@
 //! One answer is lent to all commands.
 
 ghost use Rattle.std.specs.Prelude.{◌≤◌};
-ghost use Rattle.tpm_actions_base.specs.Draws.{draw_limit};
+ghost use Rattle.tpm_record.specs.rows.Draws.{draw_limit};
 
 use tpm_bytes::Sink;
 use tpm_types::{ANSWER_LIMIT, Handle};
@@ -23,7 +23,7 @@ pub struct Answer {
 }
 
 impl Answer {
-    ghost use Rattle.tpm_actions_base.specs.Answer.{IsEmpty};
+    ghost use Rattle.tpm_record.specs.rows.Answer.{IsEmpty};
 
     /// An answer with no handle, no parameters, and no random bytes drawn.
     pub fn empty() -> Answer

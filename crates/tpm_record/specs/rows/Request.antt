@@ -3,8 +3,8 @@ use Rattle.std.specs.Prelude.{ℕ, List, [], ◌∷◌, Result, Ok, Err}
 use Rattle.tpm_types.specs.declared.handle.Handle.{Handle}
 use Rattle.tpm_types.specs.Locality.{locality_number}
 use Rattle.tpm_types.specs.declared.refused.Refused.{Refused}
-use Rattle.tpm_actions_base.specs.Refusals.{handle_refusal}
-use Rattle.tpm_actions_base.specs.declared.call.Call.{Call}
+use Rattle.tpm_record.specs.rows.Refusals.{handle_refusal}
+use Rattle.tpm_record.specs.declared.rows.call.Call.{Call}
 
 -- the request of a command: its handles, as many as its shape has, the number of its locality, its
 -- parameters in plain, and the event's 256 random bytes

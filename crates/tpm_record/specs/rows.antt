@@ -1,3 +1,4 @@
+-- What the rows of all commands are made of.
 pub mod Request
 pub mod Draws
 pub mod Answer

@@ -5,14 +5,14 @@ ghost use Rattle.std.specs.Prelude.{◌≡◌, ℕ, IfErr, IfOk, Ok};
 ghost use Rattle.tpm_nv.specs.Access.{read_at};
 ghost use Rattle.tpm_nv.specs.declared.fault.ReadFault.TheVariants.{PastData};
 ghost use Rattle.tpm_record.specs.Record.{Record};
-ghost use Rattle.tpm_actions_base.specs.Request.{Request, request_of};
-ghost use Rattle.tpm_actions_base.specs.Target.{attributes_of, may, may_read, may_write};
-ghost use Rattle.tpm_actions_base.specs.Target.{reading_passes, target_of};
+ghost use Rattle.tpm_record.specs.rows.Request.{Request, request_of};
+ghost use Rattle.tpm_record.specs.rows.Target.{attributes_of, may, may_read, may_write};
+ghost use Rattle.tpm_record.specs.rows.Target.{reading_passes, target_of};
 
-use crate::call::Call;
-use crate::refusals::handle_refusal;
+use crate::keep::Keep;
+use crate::rows::call::Call;
+use crate::rows::refusals::handle_refusal;
 use tpm_nv::Indices;
-use tpm_record::Keep;
 use tpm_types::{ActionCheck, ActionFault, Handle, Refused, ResponseCode};
 use tpm_types_nv::{NvAttribute, NvAttributes};
 
@@ -98,7 +98,7 @@ impl Target {
 /// The reading of an index that a command names, and that these checks let it read, is refused only
 /// where it goes past the data. The function does nothing.
 #[inline(always)]
-#[tactic(auto, using(crate::proofs::TargetLaws::reading_within))]
+#[tactic(auto, using(crate::proofs::rows::TargetLaws::reading_within))]
 pub fn reading_laws()
     ensures { (r : Record) (q : Request) (offset size : ℕ)
         → IfOk (target_of r q) (λ target. reading_passes target ≡ Ok tt

@@ -5,7 +5,7 @@ ghost use Rattle.std.specs.Prelude.{◌≡◌};
 ghost use Rattle.tpm_bytes.specs.Reading.{or_fault};
 ghost use Rattle.tpm_types.specs.Rc.{plain};
 ghost use Rattle.tpm_types.specs.declared.rc.ResponseCode.TheVariants as code;
-ghost use Rattle.tpm_actions_base.specs.Rows.{all_read, parameter, parameter_refusal};
+ghost use Rattle.tpm_record.specs.rows.Rows.{all_read, parameter, parameter_refusal};
 
 use tpm_bytes::{Cursor, Short};
 use tpm_types::{Check, Rc, Refused, ResponseCode};

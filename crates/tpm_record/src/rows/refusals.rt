@@ -2,7 +2,7 @@
 //! by refused memory.
 
 ghost use Rattle.std.specs.Prelude.{◌≡◌};
-ghost use Rattle.tpm_actions_base.specs.Refusals.{action_refusal, fault_refusal, handle_refusal, memory_refusal, parameter_refusal};
+ghost use Rattle.tpm_record.specs.rows.Refusals.{action_refusal, fault_refusal, handle_refusal, memory_refusal, parameter_refusal};
 
 use tpm_types::{ActionCheck, ActionFault, Check, Rc, Refused, ResponseCode};
 

@@ -3,7 +3,7 @@
 
 ghost use Rattle.std.specs.Prelude.{◌≡◌};
 
-use crate::refusals::handle_refusal;
+use crate::rows::refusals::handle_refusal;
 use tpm_types::{Handle, Locality, Refused};
 
 /// What a command is called with, once the general checks and the authorization have passed.
@@ -19,7 +19,7 @@ pub struct Call<'a> {
 }
 
 impl Call<'_> {
-    ghost use Rattle.tpm_actions_base.specs.Request.{first_handle, second_handle, third_handle};
+    ghost use Rattle.tpm_record.specs.rows.Request.{first_handle, second_handle, third_handle};
 
     /// The first handle of a command that has one.
     pub fn first_handle(&self) -> Result<Handle, Refused>

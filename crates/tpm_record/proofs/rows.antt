@@ -1,0 +1,2 @@
+-- Laws of what the rows of all commands are made of.
+pub mod TargetLaws
