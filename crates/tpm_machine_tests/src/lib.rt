@@ -1,9 +1,12 @@
 #![tactic(auto)]
 
-//! Tests of the device and of its connections, for what no clause says and no script under `tests/`
-//! shows: what `run` tells, counters near their largest values, and connections that take turns.
+//! Tests of the device, of its sessions and NV indices, and of its connections, for what no clause
+//! says and no script under `tests/` shows: what `run` tells, counters near their largest values,
+//! each public call on sessions and indices once, with values that were computed outside, and
+//! connections that take turns.
 //!
-//! The crate uses `tpm_wire`, and no crate uses it.
+//! The crate uses `tpm_wire` and `tpm_slots`, and no crate uses it. It waits for both, so it is proved
+//! beside the program.
 
 #[cfg(test)]
 mod comparison;
@@ -18,4 +21,8 @@ mod histories;
 #[cfg(test)]
 mod keeps;
 #[cfg(test)]
+mod nv_indices;
+#[cfg(test)]
 mod runs;
+#[cfg(test)]
+mod session_parts;

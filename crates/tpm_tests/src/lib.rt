@@ -1,8 +1,8 @@
 #![tactic(auto)]
 
-//! Tests of the crates below the device, for what no clause says and no script under `tests/`
-//! shows: published vectors and numbers that were computed outside, each public call once, and what
-//! a tap tells of its device.
+//! Tests of the crates below the sessions and NV indices, for what no clause says and no script
+//! under `tests/` shows: published vectors and numbers that were computed outside, each public call
+//! once, and what a tap tells of its device.
 //!
 //! The crate uses those crates, and no crate uses it. A crate with tests is proved twice, so the
 //! tests are in a crate of their own.
@@ -22,14 +22,10 @@ mod digests;
 #[cfg(test)]
 mod lockout;
 #[cfg(test)]
-mod nv_indices;
-#[cfg(test)]
 mod nv_public;
 #[cfg(test)]
 mod objects;
 #[cfg(test)]
 mod policies;
-#[cfg(test)]
-mod session_parts;
 #[cfg(test)]
 mod types;

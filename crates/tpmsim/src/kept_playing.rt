@@ -2,6 +2,7 @@
 
 use crate::fault::Fault;
 use crate::kept::{Kept, play, said_of_opening};
+use crate::retelling::{RetellFault, retell};
 use std::fs;
 use std::io::Read;
 use tpm_bytes::Tap;
@@ -10,7 +11,6 @@ use tpm_slots::SlotKeep;
 use tpm_step::Outcome;
 use tpmsim_folder::{Force, Place, Said};
 use tpmsim_image::Entropy;
-use tpmsim_journal_script::{RetellFault, retell};
 use tpmsim_script::first_bytes;
 
 /// Takes power away from the device in a folder, and gives it back.

@@ -1,4 +1,9 @@
-//! A journal is told as a script.
+//! What happened to a device, told from its journal as a script: the journal's head, and for each
+//! of its entries a comment that traces what was answered, and the lines that execute the command.
+//!
+//! [`retell`] executes the entries of a journal again, as opening it does, and writes the script,
+//! which is a map over exactly the entries that were executed. It does no input or output but
+//! through the writer that it is given.
 
 ghost use Rattle.std.specs.Prelude.{◌≡◌, ◌≤◌, ◌++◌, ◌∷◌, [], IfOk, OnErr, OnOk, codes, drop, false, length};
 ghost use Rattle.std.specs.Prelude.{replicate, take, true};
@@ -6,10 +11,13 @@ ghost use Rattle.std.specs.Io.KnownBytes.{Appends};
 ghost use Rattle.tpm_bytes.specs.Tap.{device_of, marks_of};
 ghost use Rattle.tpm_machine.specs.State.{state_of};
 ghost use Rattle.tpm_record.specs.Record.{manufactured};
-ghost use Rattle.tpmsim_journal_script.specs.Retelling.{RetellsEntries, RetellsJournal};
+ghost use Rattle.tpmsim.specs.Retelling.{RetellsEntries, RetellsJournal};
 
-use crate::comment::Comment;
-use crate::front::{Front, execute_front, put_entry};
+mod comment;
+mod front;
+
+use crate::retelling::comment::Comment;
+use crate::retelling::front::{Front, execute_front, put_entry};
 use std::io::Write;
 use tpm_bytes::{Failed, Tap};
 use tpm_image::open_into;

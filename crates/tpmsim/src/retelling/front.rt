@@ -4,9 +4,9 @@ ghost use Rattle.std.specs.Prelude.{◌≡◌, ◌≤◌, ◌++◌, ◌∷◌, [
 ghost use Rattle.std.specs.Io.KnownBytes.{Appends};
 ghost use Rattle.tpm_bytes.specs.Tap.{device_of, marks_of};
 ghost use Rattle.tpm_machine.specs.State.{state_of};
-ghost use Rattle.tpmsim_journal_script.specs.Retelling.{TellsFront};
+ghost use Rattle.tpmsim.specs.Retelling.{TellsFront};
 
-use crate::comment::{Comment, comment_of};
+use crate::retelling::comment::{Comment, comment_of};
 use std::io::Write;
 use tpm_bytes::{Failed, Tap};
 use tpm_journal::{Journal, perform};
@@ -32,7 +32,7 @@ pub enum Front {
 
 /// Executes the entry at the front of a text. The entry's bytes go to the first room, and its text
 /// is written to the second, to be compared.
-#[tactic(auto, using(crate::proofs::Words::can_be_told))]
+#[tactic(auto, using(crate::proofs::retelling::Words::can_be_told))]
 pub fn execute_front<K: Keep>(
     journal: &mut Journal,
     machine: &mut Machine<K>,
@@ -61,7 +61,7 @@ pub fn execute_front<K: Keep>(
 }
 
 /// Writes a comment, and the lines of an entry's text that execute its command.
-#[tactic(auto, using(crate::proofs::Words::put_together))]
+#[tactic(auto, using(crate::proofs::retelling::Words::put_together))]
 pub fn put_entry<W: Write>(
     writer: &mut Tap<W>,
     comment: &Comment,

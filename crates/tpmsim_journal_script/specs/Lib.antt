@@ -1,3 +1,0 @@
-pub mod Retelling
-pub use Rattle.tpm_journal.specs.Replay
-pub use Rattle.tpm_journal.specs.Opening
