@@ -22,13 +22,6 @@ fail() {
     exit 1
 }
 
-# Whether each crate below the exports stands built here, and no source of it is newer.
-are_built() {
-    for crate in $below; do
-        is_newest "crates/$crate/out/rlib/$crate.rlib/format" "$crate" || return 1
-    done
-}
-
 # Proves the exports and all below them in a copy.
 prove() {
     echo "tpmsim: proving what the library stands on; from nothing this takes half an hour" >&2
@@ -91,7 +84,8 @@ done
 kit=$(readlink -f "$(command -v rattle)") && kit=${kit%/bin/*} || exit 1
 made_of=$(sources_checksum "$exports") || exit 1
 repository=$top
-are_built || { repository=$work/copy && prove; }
+# shellcheck disable=SC2086 # no name of a crate has a space
+are_built $below || { repository=$work/copy && prove; }
 compile "$repository" || fail 'the exports are not compiled'
 link || fail 'the library is not put together'
 [ "$made_of" = "$(sources_checksum "$exports")" ] || fail 'a source changed meanwhile'

@@ -33,18 +33,10 @@ lists=$top/crates/tpmsim_lists/out/tpmsim_lists
 library=$top/dist/libtpmsim.a
 jobs=${JOBS:-$(getconf _NPROCESSORS_ONLN)}
 
-# Makes a folder in memory, since tests force files to the disk, and names it. It is one in which
-# programs run, where a gigabyte is free.
-in_memory() {
-    [ "$(df -Pk /dev/shm | awk 'NR == 2 { print $4 }')" -ge 1000000 ] || return 1
-    made=$(mktemp -d /dev/shm/tpmsim.XXXXXX) || return 1
-    echo '#!/bin/sh' >"$made/runs" && chmod +x "$made/runs" && "$made/runs" && echo "$made" && return
-    rm -rf "$made"
-    return 1
-}
-
+# Tests force files to the disk, so they work in memory.
+. "$top/tools/lib/memory.sh"
 work=
-[ -n "${TMPDIR:-}" ] || work=$(in_memory 2>&1) || work=
+[ -n "${TMPDIR:-}" ] || work=$(folder_in_memory 1 2>&1) || work=
 [ -n "$work" ] || work=$(mktemp -d) || exit 1
 trap 'rm -rf "$work"' EXIT
 mkdir "$work/told" "$work/rooms" "$work/queue" || exit 1

@@ -51,6 +51,16 @@ is_newest() {
         newer=$(find $sources -newer "$1" -print -quit 2>/dev/null) && [ -z "$newer" ]
 }
 
+# are_built CRATE..: whether each of these libraries and programs stands built here, as `rt ci` leaves
+# it, and no source of it is newer.
+are_built() {
+    for crate do
+        made=crates/$crate/out/rlib/$crate.rlib/format
+        [ ! -e "crates/$crate/src/main.rt" ] || made=crates/$crate/out/$crate
+        is_newest "$made" "$crate" || return 1
+    done
+}
+
 # Reads text, and prints its SHA-256.
 checksum() {
     sum=$(sha256sum) && echo "${sum%% *}"

@@ -6,9 +6,9 @@ tries; these are run whole before a piece of work is called done (docs/GATE.md s
     tools/soak/wrong_bodies.py                       all of them
     tools/soak/wrong_bodies.py tpm_pcr               those of one crate, or of several
 
-First `rt ci` proves the crates and those below them, in a copy without wrong bodies, where it did not
-on this machine before; then those of each crate are tried, as many crates at a time as there are
-processors, or JOBS says.
+The crates stand on the libraries that `rt ci` built here, where no source is newer; else `rt ci` proves
+these first, in a copy without wrong bodies. Then those of each crate are tried, as many crates at a
+time as there are processors, or JOBS says.
 
 The prover checks each function against the contracts of those that it calls, and says which
 functions have goals of their own that fail. So wrong bodies of different functions share one check,
@@ -312,14 +312,17 @@ def copy_parts(start: pathlib.Path, folder: pathlib.Path) -> None:
             shutil.copy(it, folder)
 
 
+def lent(one: str, other: str) -> None:
+    """Copies a file that nothing writes into: by a link, where one can be made."""
+    try:
+        os.link(one, other)
+    except OSError:
+        shutil.copy2(one, other)
+
+
 def linked(one: str, other: str) -> None:
-    """Copies a file of what a check kept: what was proved by a link, as a check replaces such a file,
-    where one can be made."""
-    if one.endswith(".oantt"):
-        with contextlib.suppress(OSError):
-            os.link(one, other)
-            return
-    shutil.copy2(one, other)
+    """Copies a file of what a check kept: what was proved by a link, as a check replaces such a file."""
+    (lent if one.endswith(".oantt") else shutil.copy2)(one, other)
 
 
 def unread_in(said: list[str]) -> str | None:
@@ -446,8 +449,22 @@ def lay(room: pathlib.Path, names: list[str]) -> None:
         copy_parts(TOP / "crates" / name, room / "crates" / name)
 
 
+def are_built(names: list[str]) -> bool:
+    """Whether these crates stand built in this repository, of the sources as they are."""
+    script = '. tools/lib/proved.sh && are_built "$@"'
+    return said_by(TOP, "sh", "-c", script, "sh", *names).returncode == 0
+
+
+def take_built(room: pathlib.Path, names: list[str]) -> None:
+    """Gives a repository the libraries among these crates that stand built in this one."""
+    for name in names:
+        rlib = pathlib.Path("crates", name, "out", "rlib")
+        if (TOP / rlib).exists():
+            shutil.copytree(TOP / rlib, room / rlib, copy_function=lent)
+
+
 def prove(room: pathlib.Path) -> None:
-    """Proves all crates of a repository. What `rt ci` proved on this machine before is taken from there."""
+    """Proves all crates of a repository, or takes what a kit that keeps its proofs has of them."""
     ran = said_by(room, "sh", str(TOP / "tools" / "lib" / "rt_ci.sh"))
     if ran.returncode:
         print(ran.stdout)
@@ -496,9 +513,12 @@ def try_crate(crate: Crate, groups: list[Group]) -> Tried:
 
 def tried(folder: pathlib.Path, names: list[str], jobs: int) -> int:
     """Tries the wrong bodies of these crates, and tells how many were refused."""
-    proved = folder / "proved"
-    lay(proved, with_below(names))
-    prove(proved)
+    proved, every = folder / "proved", with_below(names)
+    lay(proved, every)
+    if are_built(every):
+        take_built(proved, every)
+    else:
+        prove(proved)
     crates = [Crate(proved, name, folder) for name in names]
     groups = {it: groups_of([it.wrong_body(edit) for edit in edits_of(it.name)]) for it in crates}
     refused = 0
