@@ -3,16 +3,15 @@
 # row together, and the proofs that spell the row. So the device does something wrong, and all crates
 # below the histories are proved of it; but what its history tells is something else, so a law of
 # tpm_history, or of another crate of laws, has to fail. They are run whole before a piece of work is
-# called done. Those that name different laws of one crate are tried in one copy, which is a proof of
-# the crates above what they turn, from nothing. Needs rt, and git.
+# called done. Those that name different laws of one crate are tried in one copy of that crate and of
+# those below it, which `rt ci` proves: from nothing, where the kit keeps nothing. Needs rt, and git.
 #
 #   tools/soak/turned_rows.sh                    all of them
 #   tools/soak/turned_rows.sh pcr_16_restored    one of them, or several
 #
-# A patch begins with what the device does then, and with two lines, or three:
+# A patch begins with what the device does then, and with a line, or two:
 #
-#   proves: CRATE..      what `rt ci` has to prove all the same, with the crates below
-#   law: FILE NAME       what it has to refuse, in crates/tpm_history/proofs/FILE.antt
+#   law: FILE NAME       what has to be refused, in crates/tpm_history/proofs/FILE.antt
 #   crate: CRATE         or in crates/CRATE/proofs/FILE.antt
 #
 # The last line is `N of M turned rows refused`, and the status is 0 where all are.
@@ -20,6 +19,8 @@ set -eu
 
 cd "$(dirname "$0")/../.."
 top=$PWD
+. tools/lib/proved.sh
+. tools/lib/proving.sh
 if [ "$#" -eq 0 ]; then
     for patch in wrong/turned/*.patch; do
         name=${patch##*/}
@@ -45,13 +46,12 @@ crate_of() {
     echo "${crate:-tpm_history}"
 }
 
-# turn NAME..: makes a copy of the crates, without wrong bodies, and turns it by these patches.
+# turn NAME..: makes a copy of the crate of their laws and of those below it, without wrong bodies, and
+# turns it by these patches.
 turn() {
     rm -rf "$room/copy"
-    mkdir "$room/copy"
-    cp crates.txt HANDLES "$room/copy"
-    tar cf - --exclude=out --exclude=incremental --exclude=must-fail crates |
-        (cd "$room/copy" && tar xf -)
+    crates="$(crates_below "$(crate_of "$1")") $(crate_of "$1")"
+    copy_crates "$room/copy" || return 1
     (cd "$room/copy" && git init --quiet)
     for name do
         (cd "$room/copy" && git apply "$top/$(patch_of "$name")") ||
@@ -59,9 +59,14 @@ turn() {
     done
 }
 
-# prove CRATE..: `rt ci` of these crates in the copy, whose words are in the log.
+# prove: `rt ci` of the copy, whose words are in the log.
 prove() {
-    (cd "$room/copy" && sh "$top/tools/lib/rt_ci.sh" "$@") >"$room/log" 2>&1
+    (cd "$room/copy" && sh "$top/tools/lib/rt_ci.sh") </dev/null >"$room/log" 2>&1
+}
+
+# refused_crates: those that the log says are not proved.
+refused_crates() {
+    sed -n 's/^rt: \([a-z0-9_]*\).* NOT PROVED.*/\1/p' "$room/log" | sort -u
 }
 
 # law_at CRATE FILE LINE: the law in which a line of a proof stands.
@@ -102,13 +107,11 @@ fail_at_laws() {
 # its laws over rows, where it has any; the crate is to be refused at the law of each.
 try_together() {
     turn "$@" || return 0
-    proves=$(for name do said proves "$(patch_of "$name")"; done | tr ' ' '\n' | sort -u)
-    # shellcheck disable=SC2086 # crates have no spaces in their names
-    if ! prove $proves; then
+    if prove; then
+        echo "$*: NOT REFUSED"
+    elif [ "$(refused_crates)" != "$(crate_of "$1")" ]; then
         cat "$room/log"
         echo "$*: BAD PATCH: what is below the laws is not proved"
-    elif prove "$(crate_of "$1")"; then
-        echo "$*: NOT REFUSED"
     elif grep -E 'is not in scope|can be named from here' "$room/log"; then
         echo "$*: BAD PATCH: the laws cannot be read"
     elif grep -E '^\./proofs/rows/.*: error: ' "$room/log"; then

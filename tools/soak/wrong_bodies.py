@@ -471,6 +471,23 @@ def prove(room: pathlib.Path) -> None:
         raise SystemExit("A crate is not proved as it stands, so no wrong body says anything.")
 
 
+@contextlib.contextmanager
+def files_in_memory(number: int) -> Iterator[None]:
+    """Has this many checks at a time write their files in memory, where there is room for them, or in
+    TMPDIR, where that is set."""
+    script = f". tools/lib/memory.sh && folder_for_proofs {number}"
+    made = "" if os.environ.get("TMPDIR") else said_by(TOP, "sh", "-c", script).stdout.strip()
+    if not os.path.isdir(made):
+        yield
+        return
+    os.environ["TMPDIR"] = made
+    try:
+        yield
+    finally:
+        del os.environ["TMPDIR"]
+        shutil.rmtree(made)
+
+
 def edits_of(name: str) -> list[pathlib.Path]:
     return sorted((TOP / "wrong" / name).glob("*.edit"))
 
@@ -539,7 +556,7 @@ def main() -> int:
     words = parsed()
     jobs = int(os.environ.get("JOBS") or os.cpu_count() or 1)
     names = words.crates or [name for name in uses() if edits_of(name)]
-    with tempfile.TemporaryDirectory() as folder:
+    with tempfile.TemporaryDirectory() as folder, files_in_memory(jobs):
         refused = tried(pathlib.Path(folder), names, jobs)
     wanted = sum(len(edits_of(name)) for name in names)
     print(f"{refused} of {wanted} wrong bodies refused")

@@ -16,7 +16,7 @@ pub(crate) const ELEMENT_LIMIT: usize = 64;
 pub(crate) type Elements = ArrayVec<Element, ELEMENT_LIMIT>;
 
 /// An element that a capability lists.
-#[derive(Clone, Copy, Debug, PartialEq, Eq, Default)]
+#[derive(Clone, Copy, PartialEq, Eq, Default)]
 pub struct Element {
     /// The number that is compared with the property from which on elements are asked for.
     pub number: u32,
@@ -24,7 +24,7 @@ pub struct Element {
 }
 
 /// The form in which an element is listed.
-#[derive(Clone, Copy, Debug, PartialEq, Eq)]
+#[derive(Clone, Copy, PartialEq, Eq)]
 pub enum Telling {
     Value,
     NumberAndValue,

@@ -34,7 +34,7 @@ pub struct CapabilityParameters {
 }
 
 /// The capabilities that are served: TPM_CAP of TPM 2.0 Library, Part 2, section 6.12.
-#[derive(Clone, Copy, Debug, PartialEq, Eq)]
+#[derive(Clone, Copy, PartialEq, Eq)]
 pub enum Capability {
     Handles,
     Commands,

@@ -49,7 +49,7 @@ fn reset_lockout(lockout: &mut Lockout)
 }
 
 /// What a startup is (TPM 2.0 Library, Part 1, section 12.2.3).
-#[derive(Clone, Copy, Debug, PartialEq, Eq)]
+#[derive(Clone, Copy, PartialEq, Eq)]
 pub enum Start {
     /// TPM Reset: a startup with CLEAR, where no state was saved.
     Reset,

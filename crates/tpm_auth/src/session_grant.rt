@@ -26,7 +26,7 @@ use tpm_types::{Check, Handle, Refused, ResponseCode, SessionType};
 use tpm_types_command::{AuthEntry, Command};
 
 /// What an entry authorizes: a handle, with what the session's policy demanded for it.
-#[derive(Clone, Copy, Debug, PartialEq, Eq)]
+#[derive(Clone, Copy, PartialEq, Eq)]
 pub struct Grant {
     pub handle: Handle,
     pub demand: Demand,

@@ -8,11 +8,11 @@ ghost use Rattle.tpm_bytes.specs.Reading.{AreBytes, Reads, bytes_at, number_at, 
 use std::marker::Model;
 
 /// The fault that fewer bytes are left than were asked for.
-#[derive(Clone, Copy, Debug, PartialEq, Eq)]
+#[derive(Clone, Copy, PartialEq, Eq)]
 pub struct Short;
 
 /// Why a sized buffer was not read.
-#[derive(Clone, Copy, Debug, PartialEq, Eq)]
+#[derive(Clone, Copy, PartialEq, Eq)]
 pub enum SizedFault {
     /// The size of the buffer is over the limit, whether its bytes are there or not.
     TooLong,

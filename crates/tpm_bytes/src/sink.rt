@@ -12,7 +12,7 @@ use arrayvec::ArrayVec;
 use std::marker::Model;
 
 /// The fault that a text does not fit.
-#[derive(Clone, Copy, Debug, PartialEq, Eq)]
+#[derive(Clone, Copy, PartialEq, Eq)]
 pub struct Full;
 
 /// A text of at most `N` bytes that is being written. Contracts see it as the bytes so far.

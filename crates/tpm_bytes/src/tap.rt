@@ -10,7 +10,7 @@ use std::io;
 use std::io::{Read, Write};
 
 /// The reader or the writer of a tap failed, as the tap's marks say.
-#[derive(Clone, Copy, Debug, PartialEq, Eq)]
+#[derive(Clone, Copy, PartialEq, Eq)]
 pub struct Failed;
 
 /// A reader or a writer, and what it did: whether it failed, whether it ended, how many of its

@@ -12,7 +12,7 @@ use tpm_types::{DATA_LIMIT, NvUse, Role};
 
 /// The commands that are served, ascending by number. The facts of each are in one line of
 /// `facts!`.
-#[derive(Clone, Copy, Debug, PartialEq, Eq)]
+#[derive(Clone, Copy, PartialEq, Eq)]
 pub enum CommandCode {
     EvictControl,
     NvUndefineSpace,

@@ -7,7 +7,7 @@ ghost use Rattle.tpm_commands.specs.Shape.{is_entity, is_provision};
 use tpm_types::{Handle, Role};
 
 /// The kind of a handle, by the types of TPM 2.0 Library, Part 2, section 9.
-#[derive(Clone, Copy, Debug, PartialEq, Eq)]
+#[derive(Clone, Copy, PartialEq, Eq)]
 pub enum HandleKind {
     /// TPMI_DH_PCR: a PCR.
     Pcr,
@@ -84,14 +84,14 @@ impl HandleKind {
 
 /// The kind of a handle of a command, and the role in which it is authorized; None where it needs
 /// no authorization.
-#[derive(Clone, Copy, Debug, PartialEq, Eq)]
+#[derive(Clone, Copy, PartialEq, Eq)]
 pub struct HandleRule {
     pub kind: HandleKind,
     pub role: Option<Role>,
 }
 
 /// The kind of a parameter of a command.
-#[derive(Clone, Copy, Debug, PartialEq, Eq)]
+#[derive(Clone, Copy, PartialEq, Eq)]
 pub enum ParameterKind {
     /// A startup type: TPM_SU.
     StartupType,

@@ -32,7 +32,7 @@ const COMMANDS_ROOM: usize = 160;
 type Commands = ArrayVec<Element, COMMANDS_ROOM>;
 
 /// The parameters of TPM2_GetCapability.
-#[derive(Clone, Copy, Debug, PartialEq, Eq)]
+#[derive(Clone, Copy, PartialEq, Eq)]
 pub struct Asked {
     pub capability: u32,
     pub property: u32,

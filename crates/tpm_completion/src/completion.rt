@@ -9,7 +9,7 @@ use tpm_record::Keep;
 use tpm_types::{Handle, OBJECT_LIMIT, SESSION_LIMIT};
 
 /// What the layer remembers of the object in a place.
-#[derive(Clone, Copy, Debug, PartialEq, Eq)]
+#[derive(Clone, Copy, PartialEq, Eq)]
 pub struct Held {
     /// The number of the object's context, 0 where it has none.
     pub context: u64,
@@ -19,7 +19,7 @@ pub struct Held {
 }
 
 /// The state of the layer. Contexts and flushes are counted together, from 1 on.
-#[derive(Clone, Copy, Debug, PartialEq, Eq)]
+#[derive(Clone, Copy, PartialEq, Eq)]
 pub struct Completion {
     /// A number that the layer's user chooses, by which the contexts of one start are told from
     /// those of another.

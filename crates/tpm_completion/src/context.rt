@@ -12,7 +12,7 @@ pub const TOKEN_SIZE: usize = 20;
 pub const CONTEXT_SIZE: usize = 38;
 
 /// What a context names: its number, and the handle of its object or session.
-#[derive(Clone, Copy, Debug, PartialEq, Eq)]
+#[derive(Clone, Copy, PartialEq, Eq)]
 pub struct Token {
     pub context: u64,
     pub handle: Handle,

@@ -20,7 +20,7 @@ pub const LISTING_LIMIT: usize = 521;
 pub type Elements = ArrayVec<Element, ELEMENT_LIMIT>;
 
 /// The form in which an element is listed.
-#[derive(Clone, Copy, Debug, PartialEq, Eq)]
+#[derive(Clone, Copy, PartialEq, Eq)]
 pub enum Form {
     Value,
     Property,

@@ -18,7 +18,7 @@ use tpm_step::{Response, Row};
 use tpm_types::{Handle, OBJECT_LIMIT};
 
 /// An object that waits: its place, and the number of its flush; 0 means that none waits.
-#[derive(Clone, Copy, Debug, PartialEq, Eq)]
+#[derive(Clone, Copy, PartialEq, Eq)]
 pub struct Waiting {
     pub place: usize,
     pub since: u64,

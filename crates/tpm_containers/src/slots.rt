@@ -9,7 +9,7 @@ ghost use Rattle.tpm_containers.specs.Slots.{Inserts, at_place, free, lowest_fre
 use std::alloc::Global;
 
 /// Why no place was taken.
-#[derive(Clone, Copy, Debug, PartialEq, Eq)]
+#[derive(Clone, Copy, PartialEq, Eq)]
 pub enum SlotFault {
     /// All places are taken.
     Full,

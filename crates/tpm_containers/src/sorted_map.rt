@@ -9,7 +9,7 @@ use crate::Choice;
 use std::alloc::Global;
 
 /// Why nothing was put under a key.
-#[derive(Clone, Copy, Debug, PartialEq, Eq)]
+#[derive(Clone, Copy, PartialEq, Eq)]
 pub enum KeyFault {
     /// There is a value under the key.
     Taken,

@@ -13,7 +13,7 @@ ghost use Rattle.tpm_hex.specs.Values.{PairsTell};
 ghost use Rattle.tpm_hex.specs.declared.TheConstants.{NO_DIGIT};
 
 /// The fault that a text is not hex: its length is odd, or a byte of it is no digit.
-#[derive(Clone, Copy, Debug, PartialEq, Eq)]
+#[derive(Clone, Copy, PartialEq, Eq)]
 pub struct NotHex;
 
 /// The value of a byte that is no digit.

@@ -1,7 +1,7 @@
 //! Why bytes are not an image, and why an image is not saved.
 
 /// Why bytes are not an image, in the order of the checks.
-#[derive(Clone, Copy, Debug, PartialEq, Eq)]
+#[derive(Clone, Copy, PartialEq, Eq)]
 pub enum ImageFault {
     /// The text has fewer bytes than the head and the digest have: 42.
     Short,
@@ -20,18 +20,18 @@ pub enum ImageFault {
 }
 
 /// A part of an image is cut short, or has a value that it may not have.
-#[derive(Clone, Copy, Debug, PartialEq, Eq)]
+#[derive(Clone, Copy, PartialEq, Eq)]
 pub struct Malformed;
 
 /// Why the state of a device was not filled with what a text says.
-#[derive(Clone, Copy, Debug, PartialEq, Eq)]
+#[derive(Clone, Copy, PartialEq, Eq)]
 pub enum FillFault {
     Malformed,
     NoMemory,
 }
 
 /// Why an image was not saved.
-#[derive(Clone, Copy, Debug, PartialEq, Eq)]
+#[derive(Clone, Copy, PartialEq, Eq)]
 pub enum SaveFault {
     /// The writer failed.
     Write,

@@ -14,7 +14,7 @@ use tpm_bytes::Cursor;
 use tpm_types::{NV_INDEX_LIMIT, NV_SPACE_LIMIT};
 
 /// A version of an image.
-#[derive(Clone, Copy, Debug, PartialEq, Eq)]
+#[derive(Clone, Copy, PartialEq, Eq)]
 pub enum Version {
     /// Version 1 is read, and no longer written. Its images have at most 32 NV indices, with 8,192
     /// bytes.

@@ -16,7 +16,7 @@ use tpm_step::{Event, Outcome};
 use tpm_types::Locality;
 
 /// Why a text was not followed to its end.
-#[derive(Clone, Copy, Debug, PartialEq, Eq)]
+#[derive(Clone, Copy, PartialEq, Eq)]
 pub enum FollowFault {
     /// The text has as many bytes as its first line says, but is no entry.
     Damaged,
@@ -25,7 +25,7 @@ pub enum FollowFault {
 }
 
 /// How far a text was followed.
-#[derive(Clone, Copy, Debug, PartialEq, Eq)]
+#[derive(Clone, Copy, PartialEq, Eq)]
 pub struct Followed {
     /// How many bytes the entries have that were executed.
     pub taken: usize,

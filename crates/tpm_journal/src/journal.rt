@@ -28,7 +28,7 @@ use tpm_step::{Event, Outcome};
 use tpm_types::Locality;
 
 /// The state of a journal beside its device.
-#[derive(Clone, Copy, Debug, PartialEq, Eq)]
+#[derive(Clone, Copy, PartialEq, Eq)]
 pub struct Journal {
     /// The sum of the marks so far.
     pub sum: u64,

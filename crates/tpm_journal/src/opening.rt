@@ -14,7 +14,7 @@ use tpm_record::Keep;
 use tpm_step::Outcome;
 
 /// Why a text was not opened as a journal.
-#[derive(Clone, Copy, Debug, PartialEq, Eq)]
+#[derive(Clone, Copy, PartialEq, Eq)]
 pub enum OpenFault {
     /// The text does not begin with a head.
     NoJournal,
@@ -25,7 +25,7 @@ pub enum OpenFault {
 }
 
 /// A journal that was opened.
-#[derive(Clone, Copy, Debug, PartialEq, Eq)]
+#[derive(Clone, Copy, PartialEq, Eq)]
 pub struct Opened {
     pub journal: Journal,
     /// How many bytes the head and the entries have.

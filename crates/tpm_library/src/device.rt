@@ -43,7 +43,7 @@ pub struct Device {
 
 /// What the caller of a command is told beside its response.
 #[repr(C)]
-#[derive(Clone, Copy, Debug, PartialEq, Eq)]
+#[derive(Clone, Copy, PartialEq, Eq)]
 pub struct Answered {
     /// How many bytes the response has.
     pub size: usize,

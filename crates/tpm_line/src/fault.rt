@@ -7,7 +7,7 @@ use tpm_bytes::{Short, SizedFault};
 use tpm_types::Rc;
 
 /// The reason why there is no line of a buffer.
-#[derive(Clone, Copy, Debug, PartialEq, Eq)]
+#[derive(Clone, Copy, PartialEq, Eq)]
 pub enum SpellFault {
     /// No line was found that spells the buffer.
     NoLine,

@@ -7,7 +7,7 @@ use tpm_bytes::Cursor;
 use tpm_types::{PCR_COUNT, read_hash};
 
 /// The kind of a list's elements.
-#[derive(Clone, Copy, Debug, PartialEq, Eq)]
+#[derive(Clone, Copy, PartialEq, Eq)]
 pub enum Element {
     /// A selection of a bank: TPMS_PCR_SELECTION.
     Bank,

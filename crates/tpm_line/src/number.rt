@@ -5,7 +5,7 @@ use std::fmt::Write;
 use tpm_commands::CommandCode;
 
 /// The form in which a number is written.
-#[derive(Clone, Copy, Debug, PartialEq, Eq)]
+#[derive(Clone, Copy, PartialEq, Eq)]
 pub enum Form {
     Decimal,
     Hexadecimal,

@@ -2,7 +2,7 @@
 //! cycle, and so are saved in an image.
 
 /// The part of the protection against dictionary attacks that outlasts a power cycle.
-#[derive(Clone, Copy, Debug, PartialEq, Eq)]
+#[derive(Clone, Copy, PartialEq, Eq)]
 pub struct LockoutFields {
     /// Failed tries that are not forgiven (TPM_PT_LOCKOUT_COUNTER).
     pub failed_tries: u32,

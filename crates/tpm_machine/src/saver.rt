@@ -19,7 +19,7 @@ use tpm_record::Keep;
 use tpm_step::{Event, Outcome};
 
 /// The fault that the device was not saved.
-#[derive(Clone, Copy, Debug, PartialEq, Eq)]
+#[derive(Clone, Copy, PartialEq, Eq)]
 pub struct Unsaved;
 
 /// What saves a device while it is used. Contracts see each call that succeeds as a relation of the
@@ -73,7 +73,7 @@ pub trait Witness {
 }
 
 /// A saver that saves nothing, since nobody wants the device any more.
-#[derive(Clone, Copy, Debug, PartialEq, Eq)]
+#[derive(Clone, Copy, PartialEq, Eq)]
 pub struct SavesNothing;
 
 impl Saver for SavesNothing {

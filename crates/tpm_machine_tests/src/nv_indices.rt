@@ -44,7 +44,7 @@ const DIGEST: &[u8] =
     b"\x82\x6e\xb4\x34\xa3\xb9\x98\xd5\x2e\x8f\x8d\x6f\xf9\x74\x18\xcb\x60\xd5\x25\x6e";
 
 /// The outcome of a definition: no public area, or the check that failed, or the call's answer.
-#[derive(Clone, Copy, Debug, PartialEq, Eq)]
+#[derive(Clone, Copy, PartialEq, Eq)]
 enum Outcome {
     Unread,
     Refused(DefinitionFault),

@@ -11,7 +11,7 @@ use tpm_types::{NV_DATA_LIMIT, is_policy_size};
 use tpm_types_nv::{NvAttribute, NvAttributes, NvPublic, NvType};
 
 /// Why an index is not to be defined with a public area.
-#[derive(Clone, Copy, Debug, PartialEq, Eq)]
+#[derive(Clone, Copy, PartialEq, Eq)]
 pub enum DefinitionFault {
     /// The authorization value is longer than a digest of nameAlg.
     AuthValueSize,

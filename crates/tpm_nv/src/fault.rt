@@ -1,11 +1,11 @@
 //! Why a call on an NV index, its definition, or putting it back from what was kept, is refused.
 
 /// The handle has no index. A change of the authorization value has no other fault.
-#[derive(Clone, Copy, Debug, PartialEq, Eq)]
+#[derive(Clone, Copy, PartialEq, Eq)]
 pub struct Undefined;
 
 /// Why an index was not written, counted up or extended, or no bits of it were set.
-#[derive(Clone, Copy, Debug, PartialEq, Eq)]
+#[derive(Clone, Copy, PartialEq, Eq)]
 pub enum WriteFault {
     /// The handle has no index.
     Undefined,
@@ -22,7 +22,7 @@ pub enum WriteFault {
 }
 
 /// Why an index was not read.
-#[derive(Clone, Copy, Debug, PartialEq, Eq)]
+#[derive(Clone, Copy, PartialEq, Eq)]
 pub enum ReadFault {
     /// The handle has no index.
     Undefined,
@@ -35,7 +35,7 @@ pub enum ReadFault {
 }
 
 /// Why an index was not locked.
-#[derive(Clone, Copy, Debug, PartialEq, Eq)]
+#[derive(Clone, Copy, PartialEq, Eq)]
 pub enum LockFault {
     /// The handle has no index.
     Undefined,
@@ -44,7 +44,7 @@ pub enum LockFault {
 }
 
 /// Why an index was not defined.
-#[derive(Clone, Copy, Debug, PartialEq, Eq)]
+#[derive(Clone, Copy, PartialEq, Eq)]
 pub enum DefineFault {
     /// The index is marked as written, which no index is as it is defined.
     Written,
@@ -59,7 +59,7 @@ pub enum DefineFault {
 }
 
 /// Why an index was not put back.
-#[derive(Clone, Copy, Debug, PartialEq, Eq)]
+#[derive(Clone, Copy, PartialEq, Eq)]
 pub enum RestoreFault {
     /// The handle has an index already.
     Defined,

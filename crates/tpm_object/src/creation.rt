@@ -15,7 +15,7 @@ use tpm_types_object::{
 };
 
 /// Why what the caller gives to a new object is refused.
-#[derive(Clone, Copy, Debug, PartialEq, Eq)]
+#[derive(Clone, Copy, PartialEq, Eq)]
 pub enum CreationFault {
     /// The authorization value is longer than a digest of nameAlg.
     AuthValueSize,

@@ -20,7 +20,7 @@ use tpm_name::Name;
 use tpm_types_object::{Public, Sensitive};
 
 /// The private area is not one that the parent wrapped for this public area.
-#[derive(Clone, Copy, Debug, PartialEq, Eq)]
+#[derive(Clone, Copy, PartialEq, Eq)]
 pub struct IntegrityFault;
 
 /// The most bytes of a sensitive area in a sized buffer, encrypted or not.

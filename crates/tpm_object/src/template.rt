@@ -12,7 +12,7 @@ use tpm_types_object::{
 };
 
 /// Why a template is refused.
-#[derive(Clone, Copy, Debug, PartialEq, Eq)]
+#[derive(Clone, Copy, PartialEq, Eq)]
 pub enum TemplateFault {
     /// authPolicy is neither empty nor a digest of nameAlg.
     AuthPolicySize,

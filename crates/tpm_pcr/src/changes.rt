@@ -18,7 +18,7 @@ use tpm_mac::{Digest, HashAlg, digest_parts};
 use tpm_types::{DigestValue, DigestValues, Locality, PcrIndex};
 
 /// Why no PCR was changed.
-#[derive(Clone, Copy, Debug, PartialEq, Eq)]
+#[derive(Clone, Copy, PartialEq, Eq)]
 pub enum ChangeFault {
     /// The PCR does not allow this change from this locality.
     Locality,
@@ -27,7 +27,7 @@ pub enum ChangeFault {
 }
 
 /// What a PCR is for, which decides from where it may be changed.
-#[derive(Clone, Copy, Debug, PartialEq, Eq)]
+#[derive(Clone, Copy, PartialEq, Eq)]
 pub enum PcrUse {
     /// PCRs 0 to 15 measure the platform's start. They are extended from any locality, and never
     /// reset.

@@ -10,7 +10,7 @@ use tpm_bytes::{append, copied};
 use tpm_mac::{Digest, HashAlg};
 
 /// What a policy demands in addition to its digest.
-#[derive(Clone, Copy, Debug, PartialEq, Eq)]
+#[derive(Clone, Copy, PartialEq, Eq)]
 pub enum Demand {
     /// Nothing is demanded in addition.
     None,

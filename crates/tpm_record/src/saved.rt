@@ -9,7 +9,7 @@ use tpm_pcr::{Banks, SavedPcrs};
 use tpm_types::StartupType;
 
 /// The kind of the last TPM2_Shutdown, if there was one that was not cancelled.
-#[derive(Clone, Copy, Debug, PartialEq, Eq)]
+#[derive(Clone, Copy, PartialEq, Eq)]
 pub enum SavedKind {
     Nothing,
     Clear,

@@ -13,7 +13,7 @@ use tpm_mac::kdfa;
 use tpm_types::{BUFFER_LIMIT, SymmetricDefinition};
 
 /// The fault that the session has no symmetric algorithm.
-#[derive(Clone, Copy, Debug, PartialEq, Eq)]
+#[derive(Clone, Copy, PartialEq, Eq)]
 pub struct SymmetricFault;
 
 /// The label of KDFa for the keys of parameters.

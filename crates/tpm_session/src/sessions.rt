@@ -28,7 +28,7 @@ pub struct Start<'a> {
 }
 
 /// Why a session did not start.
-#[derive(Clone, Copy, Debug, PartialEq, Eq)]
+#[derive(Clone, Copy, PartialEq, Eq)]
 pub enum StartFault {
     /// The caller's nonce has fewer than 16 bytes, or more than a digest.
     Size,

@@ -2,7 +2,7 @@
 //! (TPM 2.0 Library, Part 1, section 21).
 
 /// What a session does with a first parameter (TPM 2.0 Library, Part 1, section 21).
-#[derive(Clone, Copy, Debug, PartialEq, Eq)]
+#[derive(Clone, Copy, PartialEq, Eq)]
 pub enum Direction {
     /// The session decrypts the first parameter of a command.
     Decrypt,

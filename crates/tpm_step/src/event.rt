@@ -52,7 +52,7 @@ impl<'a> Event<'a> {
 
 /// What was decided about an event: the command's code, or 0 where none was found or power was
 /// cycled, and the number of the check that refused the command, or 0 where none did.
-#[derive(Clone, Copy, Debug, PartialEq, Eq)]
+#[derive(Clone, Copy, PartialEq, Eq)]
 pub struct Row {
     pub code: u32,
     pub check: u8,

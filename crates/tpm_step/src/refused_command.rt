@@ -7,7 +7,7 @@ use tpm_commands::CommandCode;
 use tpm_types::Refused;
 
 /// A refusal, and the code of the command that is refused, or 0 where none was found.
-#[derive(Clone, Copy, Debug, PartialEq, Eq)]
+#[derive(Clone, Copy, PartialEq, Eq)]
 pub struct RefusedCommand {
     pub code: u32,
     pub refused: Refused,

@@ -2,7 +2,7 @@
 //! digests alone.
 
 /// The kinds of elements that a list may have.
-#[derive(Clone, Copy, Debug, PartialEq, Eq)]
+#[derive(Clone, Copy, PartialEq, Eq)]
 pub enum Element {
     /// The PCRs that are selected in a bank: TPMS_PCR_SELECTION.
     Bank,

@@ -6,7 +6,7 @@ use std::alloc::AllocError;
 
 /// Why a line spells no command, or one that no buffer can hold: the first fault from the left. A
 /// column is the place of a token's first byte, from 1.
-#[derive(Clone, Copy, Debug, PartialEq, Eq)]
+#[derive(Clone, Copy, PartialEq, Eq)]
 pub enum AsmFault {
     /// The first token is no command's name.
     BadName,
@@ -33,7 +33,7 @@ impl From<AllocError> for AsmFault {
 }
 
 /// Why a token is not what is wanted in its place.
-#[derive(Clone, Copy, Debug, PartialEq, Eq)]
+#[derive(Clone, Copy, PartialEq, Eq)]
 pub enum TokenFault {
     /// The token is not written as it should be.
     Bad,

@@ -19,7 +19,7 @@ pub fn is_word(word: &str, text: &[u8]) -> bool
 }
 
 /// The radix in which a number is written.
-#[derive(Clone, Copy, Debug, PartialEq, Eq)]
+#[derive(Clone, Copy, PartialEq, Eq)]
 enum Radix {
     Decimal,
     Hexadecimal,

@@ -6,7 +6,7 @@ use crate::action_check::ActionCheck;
 use crate::rc::{Rc, ResponseCode};
 
 /// Why a command is refused by a check of its own: which check it is, and the response code.
-#[derive(Clone, Copy, Debug, PartialEq, Eq)]
+#[derive(Clone, Copy, PartialEq, Eq)]
 pub struct ActionFault {
     pub check: ActionCheck,
     pub rc: Rc,

@@ -7,7 +7,7 @@ use crate::action_check::ActionCheck;
 
 /// The check that refused a command: G1 to G11 for all commands, then A1 to A7 of the command's
 /// own, and M. A row reports the check's number.
-#[derive(Clone, Copy, Debug, PartialEq, Eq)]
+#[derive(Clone, Copy, PartialEq, Eq)]
 pub enum Check {
     /// G1: fewer bytes than a header, or more than the limit of a buffer.
     Length,

@@ -18,7 +18,7 @@ use tpm_mac::HashAlg;
 pub const DIGEST_VALUES_LIMIT: u32 = 2;
 
 /// A digest with its algorithm: TPMT_HA of TPM 2.0 Library, Part 2, section 10.3.2.
-#[derive(Clone, Copy, Debug, PartialEq, Eq)]
+#[derive(Clone, Copy, PartialEq, Eq)]
 pub enum DigestValue {
     Sha1([u8; 20]),
     Sha256([u8; 32]),

@@ -7,13 +7,13 @@ use crate::pcr::{PCR_COUNT, PcrIndex};
 
 /// The handle of an entity: TPM_HANDLE of TPM 2.0 Library, Part 2, section 7.1. Its highest byte
 /// says what it names (TPM_HT, section 7.2).
-#[derive(Clone, Copy, Debug, PartialEq, Eq, Default)]
+#[derive(Clone, Copy, PartialEq, Eq, Default)]
 pub struct Handle {
     pub number: u32,
 }
 
 /// What a handle in an authorization entry names.
-#[derive(Clone, Copy, Debug, PartialEq, Eq)]
+#[derive(Clone, Copy, PartialEq, Eq)]
 pub enum SessionKind {
     /// TPM_RS_PW: no session, a password.
     Password,
@@ -24,7 +24,7 @@ pub enum SessionKind {
 }
 
 /// An authorization value of the device's own: TPMI_RH_HIERARCHY_AUTH of Part 2.
-#[derive(Clone, Copy, Debug, PartialEq, Eq)]
+#[derive(Clone, Copy, PartialEq, Eq)]
 pub enum HierarchyAuth {
     /// TPM_RH_OWNER: ownerAuth.
     Owner,
@@ -37,7 +37,7 @@ pub enum HierarchyAuth {
 }
 
 /// A hierarchy, to which objects belong: TPMI_RH_HIERARCHY+ of Part 2, section 9.13.
-#[derive(Clone, Copy, Debug, PartialEq, Eq)]
+#[derive(Clone, Copy, PartialEq, Eq)]
 pub enum HierarchyHandle {
     /// TPM_RH_OWNER: the owner's hierarchy, which the standard calls the storage hierarchy.
     Owner,

@@ -3,7 +3,7 @@
 
 /// The use that a command makes of an NV index by whose authorization it runs: from it follows
 /// which attributes of the index allow that (TPM 2.0 Library, Part 2, section 13.4, TPMA_NV).
-#[derive(Clone, Copy, Debug, PartialEq, Eq)]
+#[derive(Clone, Copy, PartialEq, Eq)]
 pub enum NvUse {
     /// The command reads the index, as TPM2_NV_Read does.
     Read,

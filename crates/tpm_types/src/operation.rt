@@ -8,7 +8,7 @@ use crate::rc::{Rc, ResponseCode};
 use tpm_bytes::Cursor;
 
 /// How two operands are compared: TPM_EO of TPM 2.0 Library, Part 2, section 6.8.
-#[derive(Clone, Copy, Debug, PartialEq, Eq)]
+#[derive(Clone, Copy, PartialEq, Eq)]
 pub enum Operation {
     Equal,
     NotEqual,

@@ -12,7 +12,7 @@ pub const PCR_COUNT: u8 = 24;
 pub const SELECT_SIZE: u8 = 3;
 
 /// The number of a PCR, 0 to 23 (TPM 2.0 Library, Part 1, section 17).
-#[derive(Clone, Copy, Debug, PartialEq, Eq)]
+#[derive(Clone, Copy, PartialEq, Eq)]
 pub struct PcrIndex {
     number: u8,
 }
@@ -51,7 +51,7 @@ impl PcrIndex {
 
 /// Which PCRs of a bank are selected: `pcrSelect` of TPMS_PCR_SELECTION (Part 2, section 10.6.2).
 /// Contracts see it as a number, whose bit n stands for PCR n.
-#[derive(Clone, Copy, Debug, PartialEq, Eq)]
+#[derive(Clone, Copy, PartialEq, Eq)]
 pub struct PcrSelect {
     bits: u32,
 }

@@ -17,7 +17,7 @@ use tpm_mac::HashAlg;
 pub const BANK_LIMIT: u32 = 16;
 
 /// PCRs of one bank: TPMS_PCR_SELECTION (TPM 2.0 Library, Part 2, section 10.6.2).
-#[derive(Clone, Copy, Debug, PartialEq, Eq)]
+#[derive(Clone, Copy, PartialEq, Eq)]
 pub struct BankSelection {
     pub hash: HashAlg,
     pub select: PcrSelect,

@@ -5,7 +5,7 @@ ghost use Rattle.std.specs.Prelude.{◌≡◌, ◌<◌};
 
 /// A response code without its place: TPM_RC of TPM 2.0 Library, Part 2, section 6.6.3, in the
 /// standard's names without `TPM_RC_`.
-#[derive(Clone, Copy, Debug, PartialEq, Eq)]
+#[derive(Clone, Copy, PartialEq, Eq)]
 pub enum ResponseCode {
     BadTag = 0x01e,
     Initialize = 0x100,
@@ -60,7 +60,7 @@ pub enum ResponseCode {
 }
 
 /// The handle, parameter or session that a fault is in, numbered from 1 (Part 2, section 6.6.2).
-#[derive(Clone, Copy, Debug, PartialEq, Eq)]
+#[derive(Clone, Copy, PartialEq, Eq)]
 pub enum Place {
     Nowhere,
     Handle(u8),
@@ -69,7 +69,7 @@ pub enum Place {
 }
 
 /// A response code and its place.
-#[derive(Clone, Copy, Debug, PartialEq, Eq)]
+#[derive(Clone, Copy, PartialEq, Eq)]
 pub struct Rc {
     pub code: ResponseCode,
     pub place: Place,

@@ -7,7 +7,7 @@ use crate::check::Check;
 use crate::rc::Rc;
 
 /// What a refusal counts against dictionary attacks (TPM 2.0 Library, Part 1, section 19.8).
-#[derive(Clone, Copy, Debug, PartialEq, Eq)]
+#[derive(Clone, Copy, PartialEq, Eq)]
 pub enum Counted {
     None,
     /// A failed try at a protected entity.
@@ -17,7 +17,7 @@ pub enum Counted {
 }
 
 /// A refusal: the response code, the check that found it, and what it counts.
-#[derive(Clone, Copy, Debug, PartialEq, Eq)]
+#[derive(Clone, Copy, PartialEq, Eq)]
 pub struct Refused {
     pub rc: Rc,
     pub check: Check,

@@ -2,7 +2,7 @@
 //! 19.2).
 
 /// The role in which a handle is authorized (TPM 2.0 Library, Part 1, section 19.2).
-#[derive(Clone, Copy, Debug, PartialEq, Eq)]
+#[derive(Clone, Copy, PartialEq, Eq)]
 pub enum Role {
     User,
     Admin,

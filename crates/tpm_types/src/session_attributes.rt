@@ -6,7 +6,7 @@ ghost use Rattle.tpm_types.specs.SessionAttributes.{audits, continues_session, d
 
 /// The attributes of a session in an authorization entry: TPMA_SESSION of TPM 2.0 Library, Part 2,
 /// section 8.4.
-#[derive(Clone, Copy, Debug, PartialEq, Eq, Default)]
+#[derive(Clone, Copy, PartialEq, Eq, Default)]
 pub struct SessionAttributes {
     pub octet: u8,
 }

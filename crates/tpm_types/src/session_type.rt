@@ -7,7 +7,7 @@ use crate::rc::{Rc, ResponseCode};
 use tpm_bytes::Cursor;
 
 /// The type of a session: TPM_SE of TPM 2.0 Library, Part 2, section 6.11.
-#[derive(Clone, Copy, Debug, PartialEq, Eq)]
+#[derive(Clone, Copy, PartialEq, Eq)]
 pub enum SessionType {
     /// The session authorizes by the entity's authorization value.
     Hmac,

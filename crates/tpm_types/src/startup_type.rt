@@ -8,7 +8,7 @@ use tpm_bytes::Cursor;
 
 /// Whether the device starts with the state that was saved: TPM_SU of TPM 2.0 Library, Part 2,
 /// section 6.10.
-#[derive(Clone, Copy, Debug, PartialEq, Eq)]
+#[derive(Clone, Copy, PartialEq, Eq)]
 pub enum StartupType {
     Clear,
     State,

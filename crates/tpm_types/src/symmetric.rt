@@ -11,7 +11,7 @@ use tpm_bytes::{Cursor, Full, Sink};
 use tpm_mac::HashAlg;
 
 /// How a session encrypts parameters: TPMT_SYM_DEF of TPM 2.0 Library, Part 2, section 11.1.6.
-#[derive(Clone, Copy, Debug, PartialEq, Eq)]
+#[derive(Clone, Copy, PartialEq, Eq)]
 pub enum SymmetricDefinition {
     /// Parameters are not encrypted.
     Null,

@@ -15,14 +15,14 @@ use tpm_types::{BUFFER_LIMIT, Handle, Rc, ResponseCode};
 pub const HEADER_SIZE: usize = 10;
 
 /// The header of a command, without its size (TPM 2.0 Library, Part 1, section 18.2).
-#[derive(Clone, Copy, Debug, PartialEq, Eq)]
+#[derive(Clone, Copy, PartialEq, Eq)]
 pub struct Header {
     pub tag: Tag,
     pub code: CommandCode,
 }
 
 /// The first fault of a command's header, in the order of the checks.
-#[derive(Clone, Copy, Debug, PartialEq, Eq)]
+#[derive(Clone, Copy, PartialEq, Eq)]
 pub enum HeaderFault {
     /// The buffer has fewer bytes than a header, or more than the limit of a buffer.
     Length,

@@ -5,7 +5,7 @@ ghost use Rattle.std.specs.Prelude.{◌≡◌};
 
 /// The tag of a command, which says whether it has authorization sessions: TPM_ST of TPM 2.0
 /// Library, Part 2, section 6.9.
-#[derive(Clone, Copy, Debug, PartialEq, Eq)]
+#[derive(Clone, Copy, PartialEq, Eq)]
 pub enum Tag {
     NoSessions,
     Sessions,

@@ -12,7 +12,7 @@ use tpm_types::{Rc, read_attribute_bits};
 const RESERVED_BITS: u32 = 0x01f0_0300;
 
 /// An attribute of an NV index, by its bit: TPMA_NV of TPM 2.0 Library, Part 2, section 13.4.
-#[derive(Clone, Copy, Debug, PartialEq, Eq)]
+#[derive(Clone, Copy, PartialEq, Eq)]
 pub enum NvAttribute {
     PpWrite = 0,
     OwnerWrite = 1,
@@ -50,7 +50,7 @@ impl NvAttribute {
 }
 
 /// The attributes of an NV index, a bit for each, and four bits for its type.
-#[derive(Clone, Copy, Debug, PartialEq, Eq)]
+#[derive(Clone, Copy, PartialEq, Eq)]
 pub struct NvAttributes {
     pub bits: u32,
 }

@@ -11,7 +11,7 @@ use tpm_types::{Rc, read_attribute_bits};
 const RESERVED_BITS: u32 = 0xfff8_f309;
 
 /// An attribute of an object, by its bit: TPMA_OBJECT of TPM 2.0 Library, Part 2, section 8.3.
-#[derive(Clone, Copy, Debug, PartialEq, Eq)]
+#[derive(Clone, Copy, PartialEq, Eq)]
 pub enum ObjectAttribute {
     FixedTpm = 1,
     StClear = 2,
@@ -40,7 +40,7 @@ impl ObjectAttribute {
 
 /// The attributes of an object, a bit for each; no other bit is set. Contracts see them as the
 /// number of these bits.
-#[derive(Clone, Copy, Debug, PartialEq, Eq)]
+#[derive(Clone, Copy, PartialEq, Eq)]
 pub struct ObjectAttributes {
     bits: u32,
 }

@@ -13,7 +13,7 @@ use tpm_types::{
 };
 
 /// The type of an object: TPMI_ALG_PUBLIC of TPM 2.0 Library, Part 2, section 12.2.2.
-#[derive(Clone, Copy, Debug, PartialEq, Eq)]
+#[derive(Clone, Copy, PartialEq, Eq)]
 pub enum ObjectType {
     /// TPM_ALG_KEYEDHASH: a key of HMACs, or sealed data.
     KeyedHash,
@@ -64,7 +64,7 @@ impl ObjectType {
 
 /// The scheme of a KEYEDHASH, which says what it is used for: TPMT_KEYEDHASH_SCHEME (Part 2,
 /// section 11.1).
-#[derive(Clone, Copy, Debug, PartialEq, Eq)]
+#[derive(Clone, Copy, PartialEq, Eq)]
 pub enum KeyedHashScheme {
     /// No scheme is set (TPM_ALG_NULL): the object may be used for any.
     Null,
@@ -123,7 +123,7 @@ impl KeyedHashScheme {
 }
 
 /// The parameters of an object of a type: TPMU_PUBLIC_PARMS (Part 2, section 12.2.3).
-#[derive(Clone, Copy, Debug, PartialEq, Eq)]
+#[derive(Clone, Copy, PartialEq, Eq)]
 pub enum PublicParameters {
     KeyedHash(KeyedHashScheme),
     /// AES with a key of 128 bits, in cipher feedback mode.

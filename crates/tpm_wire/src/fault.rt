@@ -9,11 +9,11 @@ pub struct Full;
 pub struct NoConnection;
 
 /// The fault that the host has no random bytes or no time to give.
-#[derive(Clone, Copy, Debug, PartialEq, Eq)]
+#[derive(Clone, Copy, PartialEq, Eq)]
 pub struct HostFault;
 
 /// Why a connection was not served to its end.
-#[derive(Clone, Copy, Debug, PartialEq, Eq)]
+#[derive(Clone, Copy, PartialEq, Eq)]
 pub enum ServeFault {
     /// Eight connections are open.
     Full,

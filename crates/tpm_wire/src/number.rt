@@ -4,7 +4,7 @@ ghost use Rattle.std.specs.Prelude.{◌≡◌, ◌<◌};
 
 /// The number of a connection, 0 to 7. A number whose connection was closed names no connection
 /// until one is opened under it again.
-#[derive(Clone, Copy, Debug, PartialEq, Eq)]
+#[derive(Clone, Copy, PartialEq, Eq)]
 pub struct ConnectionNumber {
     number: usize,
     ghost in_range: { number < 8 },

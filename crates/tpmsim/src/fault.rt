@@ -17,7 +17,7 @@ use tpmsim_image::DeviceFault;
 use tpmsim_script::ScriptFault;
 
 /// Why the program failed. The fault prints as the line on standard error says it.
-#[derive(Clone, Copy, Debug, PartialEq, Eq)]
+#[derive(Clone, Copy, PartialEq, Eq)]
 pub enum Fault {
     /// The command line is not one of the program's.
     Usage,

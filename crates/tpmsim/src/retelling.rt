@@ -28,7 +28,7 @@ use tpm_record::Keep;
 use tpm_step::Outcome;
 
 /// Why a journal was not told to its end.
-#[derive(Clone, Copy, Debug, PartialEq, Eq)]
+#[derive(Clone, Copy, PartialEq, Eq)]
 pub enum RetellFault {
     /// The journal was not opened. Everything before the fault was told.
     Open(OpenFault),

@@ -6,7 +6,7 @@ ghost use Rattle.tpmsim_folder.specs.Fault.{is_of_contents, place_text, said_tex
 use std::fmt;
 
 /// The place that a fault concerns.
-#[derive(Clone, Copy, Debug, PartialEq, Eq)]
+#[derive(Clone, Copy, PartialEq, Eq)]
 pub enum Place {
     Folder,
     Journal,
@@ -16,7 +16,7 @@ pub enum Place {
 }
 
 /// What a fault says of its place.
-#[derive(Clone, Copy, Debug, PartialEq, Eq)]
+#[derive(Clone, Copy, PartialEq, Eq)]
 pub enum Said {
     IsLink,
     IsNoFile,
@@ -48,7 +48,7 @@ pub enum Said {
 }
 
 /// Why a kept device did not do what was asked for.
-#[derive(Clone, Copy, Debug, PartialEq, Eq)]
+#[derive(Clone, Copy, PartialEq, Eq)]
 pub struct KeptFault {
     pub place: Place,
     pub said: Said,

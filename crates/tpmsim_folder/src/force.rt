@@ -1,7 +1,7 @@
 //! When the disk is forced, for hosts whose power may fail.
 
 /// When the journal is forced to the disk.
-#[derive(Clone, Copy, Debug, PartialEq, Eq)]
+#[derive(Clone, Copy, PartialEq, Eq)]
 pub enum Force {
     /// The journal is never forced.
     Never,

@@ -4,7 +4,7 @@ use crate::fault::{KeptFault, Place, Said};
 use std::time::{Clock, SystemTime};
 
 /// The moment at which a command comes.
-#[derive(Clone, Copy, Debug, PartialEq, Eq)]
+#[derive(Clone, Copy, PartialEq, Eq)]
 pub enum Moment {
     /// Now, by the host's clock.
     Now,

@@ -8,7 +8,7 @@ use crate::fault::Said;
 use std::fs::Metadata;
 
 /// The kind of file at a path.
-#[derive(Clone, Copy, Debug, PartialEq, Eq)]
+#[derive(Clone, Copy, PartialEq, Eq)]
 pub enum Kind {
     Link,
     File,

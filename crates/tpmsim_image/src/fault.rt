@@ -9,7 +9,7 @@ use tpm_bytes::NoMemory;
 use tpm_image::ImageFault;
 
 /// Why a device that is kept in an image was not opened, saved or served.
-#[derive(Clone, Copy, Debug, PartialEq, Eq)]
+#[derive(Clone, Copy, PartialEq, Eq)]
 pub enum DeviceFault {
     /// The file of the image holds no image.
     Image(ImageFault),

@@ -34,7 +34,7 @@ impl Socket {
 }
 
 /// The identity of a file, which tells it from all others: its device and its inode.
-#[derive(Clone, Copy, Debug, PartialEq, Eq)]
+#[derive(Clone, Copy, PartialEq, Eq)]
 struct Identity {
     device: u64,
     inode: u64,

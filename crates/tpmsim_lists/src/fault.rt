@@ -9,7 +9,7 @@ use tpm_text::AsmFault;
 use tpmsim_script::ScriptFault;
 
 /// Why the program failed.
-#[derive(Clone, Copy, Debug, PartialEq, Eq)]
+#[derive(Clone, Copy, PartialEq, Eq)]
 pub enum Fault {
     /// The command line is not one of the program's.
     Usage,

@@ -4,7 +4,7 @@ use tpm_text::AsmFault;
 
 /// Why a line is not one that a script may have. A column is counted in what follows the line's
 /// word and its space, from 1.
-#[derive(Clone, Copy, Debug, PartialEq, Eq)]
+#[derive(Clone, Copy, PartialEq, Eq)]
 pub struct BadLine {
     pub fault: AsmFault,
     /// What is wanted where the fault is.
@@ -12,7 +12,7 @@ pub struct BadLine {
 }
 
 /// What a line wants where it is bad.
-#[derive(Clone, Copy, Debug, PartialEq, Eq)]
+#[derive(Clone, Copy, PartialEq, Eq)]
 pub enum Wanted {
     /// The word of a line: `do`, `cmd`, `loc`, `wait`, `entropy` or `power`.
     Word,

@@ -7,7 +7,7 @@ use tpm_bytes::NoMemory;
 
 /// Why a script did not run to its end. The lines before the fault were run, and their responses
 /// written, but for those that a `Write` or a `Save` fault cut off.
-#[derive(Clone, Copy, Debug, PartialEq, Eq)]
+#[derive(Clone, Copy, PartialEq, Eq)]
 pub enum ScriptFault {
     /// The line of this number, from 1, is not one that a script may have.
     Line(u32),

@@ -15,7 +15,7 @@ use tpm_text::{AsmFault, decimal, is_word, locality, position_of};
 use tpm_types::Locality;
 
 /// A line of a script.
-#[derive(Clone, Copy, Debug, PartialEq, Eq)]
+#[derive(Clone, Copy, PartialEq, Eq)]
 pub enum Line<'a> {
     /// `cmd HEX`: a command, in hex.
     Command(&'a [u8]),
@@ -35,7 +35,7 @@ pub enum Line<'a> {
 
 /// The fault that a line cannot be performed: its hex is not valid, its words spell no command, or
 /// it has too many bytes or milliseconds.
-#[derive(Clone, Copy, Debug, PartialEq, Eq)]
+#[derive(Clone, Copy, PartialEq, Eq)]
 pub struct Unfit;
 
 impl<'a> Line<'a> {

@@ -8,7 +8,7 @@ use crate::line::Unfit;
 use tpm_text::AsmFault;
 
 /// The reason why a script is stopped at a line.
-#[derive(Clone, Copy, Debug, PartialEq, Eq)]
+#[derive(Clone, Copy, PartialEq, Eq)]
 pub enum LineFault {
     /// The line is not one that a script may have.
     Bad,

@@ -16,7 +16,7 @@ pub const LINE_LIMIT: usize = 65_536;
 const CAPACITY: usize = 65_536;
 
 /// What comes next in the bytes that were read.
-#[derive(Clone, Copy, Debug, PartialEq, Eq)]
+#[derive(Clone, Copy, PartialEq, Eq)]
 pub enum Next {
     /// A whole line, which [`Lines::line`] gives.
     Line,
@@ -29,7 +29,7 @@ pub enum Next {
 }
 
 /// The fault that a line has more than [`LINE_LIMIT`] bytes.
-#[derive(Clone, Copy, Debug, PartialEq, Eq)]
+#[derive(Clone, Copy, PartialEq, Eq)]
 struct TooLong;
 
 /// The lines of a text, each of which ends with 0a, but for the last, which need not. The memory of

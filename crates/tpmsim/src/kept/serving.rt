@@ -14,7 +14,7 @@ use tpmsim_folder::{KeptFault, Moment};
 const READS: u32 = 1_048_576;
 
 /// Why a connection was not served to its end.
-#[derive(Clone, Copy, Debug, PartialEq, Eq)]
+#[derive(Clone, Copy, PartialEq, Eq)]
 pub enum ServeFault {
     /// The client could not be read from or written to.
     Client,

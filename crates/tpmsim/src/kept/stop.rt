@@ -9,14 +9,14 @@ use tpmsim_script::line::Unfit;
 use tpmsim_script::{BadLine, ScriptFault};
 
 /// Why a script was not played to its end.
-#[derive(Clone, Copy, Debug, PartialEq, Eq)]
+#[derive(Clone, Copy, PartialEq, Eq)]
 pub enum PlayFault {
     Script(ScriptFault),
     Kept(KeptFault),
 }
 
 /// Why a line was not performed.
-#[derive(Clone, Copy, Debug, PartialEq, Eq)]
+#[derive(Clone, Copy, PartialEq, Eq)]
 pub enum Stop {
     /// The line is not one that a script may have.
     Bad,
