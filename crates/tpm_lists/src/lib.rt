@@ -1,11 +1,21 @@
 #![tactic(auto)]
 
-//! What is done with the device's state in lists that grow. A function that names the type of that
-//! state is slow to prove, whatever it does, so one does, and calls what others make of any type.
+//! What is done with the device's state in lists that grow.
+//!
+//! The type of that state has containers of containers. A call's proof puts the impls of all of them
+//! together anew, and takes the longer the deeper they are nested; so each function here names one
+//! layer of them, and no other crate names that type.
 
 ghost use Rattle.std.specs.Prelude.{Result};
 
-use tpm_record::{Keep, ListKeep};
+use tpm_containers::{ListMap, ListSlots, Slots, SortedMap};
+use tpm_nv::{Area, Head, Indices, ListArea, StoredIndices};
+use tpm_object::Object;
+use tpm_record::kept::Kept;
+use tpm_record::persistent::StoredObjects;
+use tpm_record::{Keep, PersistentObjects};
+use tpm_session::Session;
+use tpm_types::{NV_INDEX_LIMIT, OBJECT_LIMIT, PERSISTENT_LIMIT, SESSION_LIMIT};
 
 /// What can be done with the state, in whatever way it is kept.
 pub trait Task<Fault> {
@@ -16,9 +26,46 @@ pub trait Task<Fault> {
         ensures { may_give self result };
 }
 
-/// Does a task with the state in lists.
+/// Does a task with the state in containers of these kinds.
+fn run_over_containers<
+    Fault,
+    T: Task<Fault>,
+    S: Slots<Session, SESSION_LIMIT>,
+    O: Slots<Object, OBJECT_LIMIT>,
+    P: PersistentObjects,
+    N: Indices,
+>(task: T) -> Result<(), Fault>
+    ensures { T.may_give task result }
+{
+    task.run::<Kept<S, O, P, N>>()
+}
+
+/// Does a task with persistent objects and NV indices in maps of these kinds.
+fn run_over_maps<
+    Fault,
+    T: Task<Fault>,
+    S: Slots<Session, SESSION_LIMIT>,
+    O: Slots<Object, OBJECT_LIMIT>,
+    P: SortedMap<Object, PERSISTENT_LIMIT>,
+    H: SortedMap<Head, NV_INDEX_LIMIT>,
+    A: Area,
+>(task: T) -> Result<(), Fault>
+    ensures { T.may_give task result }
+{
+    run_over_containers::<Fault, T, S, O, StoredObjects<P>, StoredIndices<H, A>>(task)
+}
+
+/// Does a task with the state in lists: the type of that state is `ListKeep`.
 pub fn run_over_lists<Fault, T: Task<Fault>>(task: T) -> Result<(), Fault>
     ensures { T.may_give task result }
 {
-    task.run::<ListKeep>()
+    run_over_maps::<
+        Fault,
+        T,
+        ListSlots<Session, SESSION_LIMIT>,
+        ListSlots<Object, OBJECT_LIMIT>,
+        ListMap<Object, PERSISTENT_LIMIT>,
+        ListMap<Head, NV_INDEX_LIMIT>,
+        ListArea,
+    >(task)
 }
