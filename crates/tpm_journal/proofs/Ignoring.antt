@@ -7,8 +7,8 @@ use Rattle.tpm_step.specs.Events.{Given, PlainEvent}
 use Rattle.tpm_step.specs.Execution.{Executes}
 use Rattle.tpm_machine.specs.Drawn.{drawn_by}
 use Rattle.tpm_machine.proofs.Following.{execution_follows}
-use Rattle.tpm_draw_laws.specs.Bytes.{AgreeOnDrawn, zeros_behind}
-use Rattle.tpm_draw_laws.proofs.Executions.{draws_alike, executes_alike, replays, replay_draws}
+use Rattle.tpm_journal.specs.draw_laws.Bytes.{AgreeOnDrawn, zeros_behind}
+use Rattle.tpm_journal.proofs.draw_laws.Executions.{draws_alike, executes_alike, replays, replay_draws}
 use Rattle.tpm_completion.specs.Execution.{AsksFirst, Behind, Completes, CompletesBy, CompletesIf, GivesUp, Notes, Passes, Seen, given_up_behind}
 use Rattle.tpm_completion.specs.Room.{flush_asked}
 use Rattle.tpm_completion.specs.declared.completion.Completion.{Completion}

@@ -1,3 +1,4 @@
+pub mod draw_laws
 pub mod Command
 pub mod State
 pub mod Living

@@ -6,9 +6,11 @@
 //! [`Journal`] is the state of a journal beside the device: its sum, its time, and the completing
 //! layer, which begins anew with each head. It begins at a power cycle, executes commands and gives
 //! their entries, follows a text, and is opened from a text. An entry says whether the layer was
-//! on. The device and the layer that are opened executed exactly the answered commands. The crate
+//! on, and has the random bytes that its command drew: others have no influence, as [`draw_laws`]
+//! says. The device and the layer that are opened executed exactly the answered commands. The crate
 //! does no input or output: texts are read from the caller's memory and written to it.
 
+pub mod draw_laws;
 pub mod following;
 pub mod journal;
 pub mod laws;

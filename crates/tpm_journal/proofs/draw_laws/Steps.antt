@@ -17,9 +17,9 @@ use Rattle.tpm_step.specs.General.{general}
 use Rattle.tpm_step.specs.Step.{Accepted, acceptance, accepted, answer_where, refusal_without_memory, request_in, success_step}
 use Rattle.tpm_step.specs.Table.{row_of}
 use Rattle.tpm_step.specs.declared.refused_command.RefusedCommand.{RefusedCommand}
-use Rattle.tpm_draw_laws.proofs.Alike.{Alike, alike_after, alike_before, alike_in_command}
-use Rattle.tpm_draw_laws.proofs.Fronts.{Behind, behind}
-use Rattle.tpm_draw_laws.proofs.Rows.{row_alike}
+use Rattle.tpm_journal.proofs.draw_laws.Alike.{Alike, alike_after, alike_before, alike_in_command}
+use Rattle.tpm_journal.proofs.draw_laws.Fronts.{Behind, behind}
+use Rattle.tpm_journal.proofs.draw_laws.Rows.{row_alike}
 
 -- ---- what is accepted
 

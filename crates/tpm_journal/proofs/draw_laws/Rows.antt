@@ -33,9 +33,9 @@ use Rattle.tpm_actions_object.specs.Checks.{given_passes, public_passes}
 use Rattle.tpm_actions_object.specs.Creation.{parameters_in}
 use Rattle.tpm_actions_object.specs.Loaded.{is_fixed, loaded_at, parent_passes}
 use Rattle.tpm_step.specs.Table.{row_of}
-use Rattle.tpm_draw_laws.specs.Bytes.{ActsAlike, with_random}
-use Rattle.tpm_draw_laws.proofs.Alike.{alike_after}
-use Rattle.tpm_draw_laws.proofs.Fronts.{part, shorter}
+use Rattle.tpm_journal.specs.draw_laws.Bytes.{ActsAlike, with_random}
+use Rattle.tpm_journal.proofs.draw_laws.Alike.{alike_after}
+use Rattle.tpm_journal.proofs.draw_laws.Fronts.{part, shorter}
 use Rattle.tpm_actions_policy.specs.Assertions.{assertion_row}
 use Rattle.tpm_actions_device.specs.ClearControl.{clear_control_row}
 use Rattle.tpm_actions_device.specs.Clear.{clear_row}

@@ -12,9 +12,9 @@ use Rattle.tpm_step.specs.Execution.{Executes}
 use Rattle.tpm_step.specs.Safe.{IsModest}
 use Rattle.tpm_step.specs.Step.{Accepted, Stepped, accepted, step_where, stepped_of}
 use Rattle.tpm_step.specs.declared.refused_command.RefusedCommand.{RefusedCommand}
-use Rattle.tpm_draw_laws.specs.Bytes.{AgreeOnDrawn, replayed, zeros_behind}
-use Rattle.tpm_draw_laws.proofs.Fronts.{front_kept}
-use Rattle.tpm_draw_laws.proofs.Steps.{AcceptedAlike, accepted_alike, drawn_alike, fronts, nonces_alike, where_alike, with_other}
+use Rattle.tpm_journal.specs.draw_laws.Bytes.{AgreeOnDrawn, replayed, zeros_behind}
+use Rattle.tpm_journal.proofs.draw_laws.Fronts.{front_kept}
+use Rattle.tpm_journal.proofs.draw_laws.Steps.{AcceptedAlike, accepted_alike, drawn_alike, fronts, nonces_alike, where_alike, with_other}
 
 -- a success that is modest is modest with other bytes
 modest_alike : (a b : Result Accepted RefusedCommand) (random other : List ℕ) → length other ≡ length random → AcceptedAlike random other a b
