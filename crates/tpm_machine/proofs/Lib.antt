@@ -1,3 +1,7 @@
+pub mod Refusals
+pub mod Answering
+pub mod DecodingLaws
+pub mod Accepting
 pub mod Running
 pub mod Histories
 pub mod Modesty

@@ -6,7 +6,7 @@ use Rattle.tpm_step.specs.Execution.{Executes}
 use Rattle.tpm_step.specs.Step.{outcome_step}
 use Rattle.tpm_step.specs.declared.event.Outcome.{Outcome}
 use Rattle.tpm_history.specs.Executions.{Execution}
-use Rattle.tpm_execution.specs.Drawn.{drawn_by}
+use Rattle.tpm_machine.specs.Drawn.{drawn_by}
 
 -- An execution is the latest of a machine with this record: the event was executed with this
 -- outcome, and this many of its random bytes were drawn.

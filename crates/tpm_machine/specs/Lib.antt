@@ -1,12 +1,12 @@
 pub mod State
 pub mod Latest
+pub mod Drawn
 pub use Rattle.tpm_step.specs.Events
 pub use Rattle.tpm_step.specs.Step
 pub use Rattle.tpm_step.specs.Run
 pub use Rattle.tpm_step.specs.Safe
 pub use Rattle.tpm_record.specs.Record
 pub use Rattle.tpm_record.specs.IsRecord
-pub use Rattle.tpm_execution.specs.Drawn
 pub use Rattle.tpm_history.specs.Executions
 pub use Rattle.tpm_history.specs.Follows
 pub use Rattle.tpm_history.specs.History

@@ -22,11 +22,13 @@ ghost use Rattle.tpm_history.specs.History.{History};
 ghost use Rattle.tpm_history.specs.PolicyUses.{AllMeetPolicies};
 ghost use Rattle.tpm_history.specs.Replays.{ReplaysRepeat};
 
+use crate::decoding::decode;
+use crate::response::{write_refusal, write_success};
+use crate::table::accept;
 use std::alloc::Global;
 use tpm_auth::{Grants, authorize_keyed};
 use tpm_bytes::NoMemory;
 use tpm_commands::CommandCode;
-use tpm_execution::{accept, decode, write_refusal, write_success};
 use tpm_mac::KeyedMac;
 use tpm_record::rows::answer::Answer;
 use tpm_record::tick::tick;
@@ -49,7 +51,7 @@ pub struct Machine<K: Keep> {
 }
 
 impl<K: Keep> Machine<K> {
-    ghost use Rattle.tpm_execution.specs.Drawn.{drawn_by};
+    ghost use Rattle.tpm_machine.specs.Drawn.{drawn_by};
     ghost use Rattle.tpm_machine.specs.State.{latest_drawn, with_keep};
     ghost use Rattle.tpm_machine.specs.contracts.machine.Machine.{the_row as machine_row};
 
@@ -182,7 +184,7 @@ impl<K: Keep> Machine<K> {
     }
 
     /// Does what an event asks for, writes its response, and gives its row.
-    #[tactic(auto, using(tpm_execution::proofs::Refusals::steps_exactly))]
+    #[tactic(auto, using(crate::proofs::Refusals::steps_exactly))]
     fn advance(&mut self, event: &Event, text: &mut Response) -> Row
         requires { text.old.items ≡ [] }
         ensures steps { Steps K.can_refuse (state_of K.record_of self.old) (plain_event event.now)
@@ -251,7 +253,7 @@ impl<K: Keep> Machine<K> {
         }
     }
 
-    ghost use Rattle.tpm_execution.specs.Drawn.{drawn_by_command};
+    ghost use Rattle.tpm_machine.specs.Drawn.{drawn_by_command};
     ghost use Rattle.tpm_types.specs.Locality.{locality_number};
     ghost use Rattle.tpm_step.specs.Safe.{IsModest};
     ghost use Rattle.tpm_step.specs.Step.{Answers, accepted};
@@ -307,7 +309,7 @@ impl<K: Keep> Machine<K> {
 
     /// Does what a command asks for whose entries authorize these handles.
     #[inline(always)]
-    #[tactic(auto, using(tpm_execution::proofs::Accepting::acting))]
+    #[tactic(auto, using(crate::proofs::Accepting::acting))]
     fn perform(
         &mut self,
         command: &Command,

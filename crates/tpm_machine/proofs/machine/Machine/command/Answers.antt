@@ -1,6 +1,6 @@
 use Rattle.std.proofs.Common.{rules, ◌∙◌}
 use Rattle.tpm_types_command.specs.Command.{whole_of}
-use Rattle.tpm_execution.proofs.Accepting.{command_refused, not_authorized, unauthorized_draws}
+use Rattle.tpm_machine.proofs.Accepting.{command_refused, not_authorized, unauthorized_draws}
 use Rattle.tpm_machine.proofs.machine.Machine.command.Goals as goal
 
 pub returns-in-Err-authorize_keyed-clause-answer : goal.returns-in-Err-authorize_keyed-clause-answer

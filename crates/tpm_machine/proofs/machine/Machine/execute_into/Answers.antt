@@ -2,7 +2,7 @@ use Rattle.tpm_step.specs.Events.{plain_event}
 use Rattle.tpm_machine.specs.State.{state_of}
 use Rattle.tpm_machine.proofs.Histories.{execution_tells}
 use Rattle.tpm_machine.proofs.Modesty.{accepts_modestly}
-use Rattle.tpm_execution.proofs.Refusals.{steps_harmless}
+use Rattle.tpm_machine.proofs.Refusals.{steps_harmless}
 use Rattle.tpm_machine.proofs.Running.{exactly}
 use Rattle.tpm_step.specs.Execution.{Executes}
 use Rattle.tpm_step.specs.Step.{Stepped}

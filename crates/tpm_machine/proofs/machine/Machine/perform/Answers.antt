@@ -1,6 +1,6 @@
 use Rattle.std.proofs.Common.{rules, ◌∙◌}
 use Rattle.tpm_types_command.specs.Command.{whole_of}
-use Rattle.tpm_execution.proofs.Accepting.{refused_draws, row_refused}
+use Rattle.tpm_machine.proofs.Accepting.{refused_draws, row_refused}
 use Rattle.tpm_machine.proofs.machine.Machine.perform.Goals as goal
 
 pub returns-in-Err-clause-answer : goal.returns-in-Err-clause-answer

@@ -6,7 +6,7 @@ ghost use Rattle.std.specs.Int.{w16, w32, to_be_bytes};
 ghost use Rattle.std.specs.List.{zip};
 ghost use Rattle.tpm_types_command.specs.AuthEntry.{entry_of};
 ghost use Rattle.tpm_types_command.specs.Command.{whole_of};
-ghost use Rattle.tpm_execution.specs.Drawn.{bytes_drawn};
+ghost use Rattle.tpm_machine.specs.Drawn.{bytes_drawn};
 ghost use Rattle.tpm_step.specs.Answer.{answer_to, framed, handle_answer, refusal_tag, refusal_text, text_of};
 ghost use Rattle.tpm_step.specs.Entries.{DrawsFew};
 ghost use Rattle.tpm_step.specs.Parameters.{encrypted_answer};

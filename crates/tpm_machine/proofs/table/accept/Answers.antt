@@ -1,8 +1,8 @@
 use Rattle.std.proofs.Common.{rules}
 use Rattle.tpm_types_command.specs.Command.{whole_of}
-use Rattle.tpm_execution.proofs.Accepting.{accepts}
-use Rattle.tpm_execution.proofs.DecodingLaws.{plain_as_sent}
-use Rattle.tpm_execution.proofs.table.accept.Goals as goal
+use Rattle.tpm_machine.proofs.Accepting.{accepts}
+use Rattle.tpm_machine.proofs.DecodingLaws.{plain_as_sent}
+use Rattle.tpm_machine.proofs.table.accept.Goals as goal
 
 pub returns-then-any_decrypts : goal.returns-then-any_decrypts
 returns-then-any_decrypts g c =

@@ -1,7 +1,7 @@
 use Rattle.std.proofs.Common.{◌≡◌, ◌+◌, ◌*◌, ◌≤◌, drop, length, map}
 use Rattle.tpm_types_command.specs.AuthEntry.{entry_of}
 use Rattle.tpm_step.specs.Entries.{entries_rolled}
-use Rattle.tpm_execution.proofs.entries.roll_entries.Given as goal
+use Rattle.tpm_machine.proofs.entries.roll_entries.Given as goal
 
 -- Rolling the entries that are left, from here on, leads to what rolling all of them does.
 abbrev pub invariant-loop-entry : goal.invariant-loop-entry

@@ -2,7 +2,7 @@ use Rattle.std.proofs.Common.{◌≡◌, ◌+◌, ◌≤◌, drop, length}
 use Rattle.tpm_bytes.specs.Many.{each_at}
 use Rattle.tpm_bytes.proofs.Joining.{behind}
 use Rattle.tpm_step.specs.General.{present_handle_at}
-use Rattle.tpm_execution.proofs.decoding.read_handles.Given as goal
+use Rattle.tpm_machine.proofs.decoding.read_handles.Given as goal
 
 -- The handles so far, and those that are left to be read, are all that there were to read.
 abbrev pub invariant-loop-rule : goal.invariant-loop-rule

@@ -13,7 +13,7 @@ use Rattle.tpm_step.specs.Answer.{Written, answer_to, framed, handle_answer, suc
 use Rattle.tpm_step.specs.Entries.{Drawn, DrawsFew, entries_answer, entries_ended, entries_rolled}
 use Rattle.tpm_step.specs.Granted.{Granted, granted_entries}
 use Rattle.tpm_step.specs.Parameters.{encrypted_answer}
-use Rattle.tpm_execution.specs.Drawn.{bytes_drawn}
+use Rattle.tpm_machine.specs.Drawn.{bytes_drawn}
 
 pub framed_alone : (tag code : ℕ) → framed tag code [] ≡ to_be_bytes w16 tag ++ to_be_bytes w32 10 ++ to_be_bytes w32 code
 framed_alone tag code = ap (λ (l : List ℕ). to_be_bytes w16 tag ++ to_be_bytes w32 10 ++ l) (append-nil (to_be_bytes w32 code))

@@ -4,8 +4,8 @@ use Rattle.std.specs.List.{zip}
 use Rattle.tpm_types_command.specs.AuthEntry.{entry_of}
 use Rattle.tpm_types_command.specs.Command.{whole_of}
 use Rattle.tpm_step.specs.Answer.{text_of}
-use Rattle.tpm_execution.proofs.Answering.{answered_with, drawn_few, drawn_in_all}
-use Rattle.tpm_execution.proofs.response.write_with_sessions.Goals as goal
+use Rattle.tpm_machine.proofs.Answering.{answered_with, drawn_few, drawn_in_all}
+use Rattle.tpm_machine.proofs.response.write_with_sessions.Goals as goal
 
 pub returns-clause-answer : goal.returns-clause-answer
 returns-clause-answer g c =

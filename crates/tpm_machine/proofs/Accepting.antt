@@ -20,8 +20,8 @@ use Rattle.tpm_step.specs.General.{general, in_command}
 use Rattle.tpm_step.specs.Safe.{IsModest}
 use Rattle.tpm_step.specs.Step.{Accepted, Accepts, Answers, RefusesOrWantsMemory, Stepped, Succeeds, acceptance, accepted, refusal_step, request_in, settled}
 use Rattle.tpm_step.specs.Table.{row_of}
-use Rattle.tpm_execution.specs.Drawn.{bytes_drawn, drawn_by_command}
-use Rattle.tpm_execution.proofs.Refusals.{answers_exactly, refused_answers}
+use Rattle.tpm_machine.specs.Drawn.{bytes_drawn, drawn_by_command}
+use Rattle.tpm_machine.proofs.Refusals.{answers_exactly, refused_answers}
 
 first_of_both : (a b : Bool) → (a && b) ≡ true → a ≡ true
 first_of_both true b e = refl

@@ -1,4 +1,0 @@
-pub mod Refusals
-pub mod Answering
-pub mod DecodingLaws
-pub mod Accepting
