@@ -1,6 +1,5 @@
 # tools/release.sh, in a copy of the repository whose dist/ is said to be of its sources: what stands in
-# the way of a release, and what it makes. Of the crates it has three: those that dist/ is made of, and
-# one that the library alone stands on.
+# the way of a release, and what it makes. Of the crates it has the two that dist/ is made of.
 tests=$(cd "$(dirname "$0")/.." && pwd -P)
 . "$tests/common/cases.sh"
 needs git dpkg-deb python3
@@ -10,7 +9,7 @@ mkdir copy none
 printf '#!/bin/sh\nexit 1\n' >none/cc
 chmod +x none/cc
 (cd "$top" && tar cf - --exclude=out --exclude=must-fail --exclude=__pycache__ CHANGELOG.md Makefile \
-    README.md HANDLES crates/tpmsim crates/tpmsim_library crates/tpm_library crates.txt attached dist \
+    README.md HANDLES crates/tpmsim crates/tpmsim_library crates.txt attached dist \
     docs examples library packaging python/pyproject.toml python/tpmsim tools tpmsim .gitignore) |
     tar xf - -C copy
 cd copy || exit 1
@@ -35,7 +34,7 @@ release() {
 }
 
 sed -i 's/^## .*, 2026-11-27/## Unreleased/' CHANGELOG.md
-echo '-- a comment' >>"crates/tpm_library/src/lib.rt"
+echo '-- a comment' >>"crates/tpmsim_library/src/lib.rt"
 release 'something stands in the way'
 git checkout -q .
 release 'a release'

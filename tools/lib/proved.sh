@@ -52,9 +52,15 @@ is_newest() {
 }
 
 # are_built CRATE..: whether each of these libraries and programs stands built here, as `rt ci` leaves
-# it, and no source of it is newer.
+# it, and no source of it is newer. Of a static library it leaves nothing, so all below it has to stand
+# built.
 are_built() {
     for crate do
+        if grep -q "^$crate staticlib" crates.txt; then
+            # shellcheck disable=SC2046 # no name of a crate has a space
+            are_built $(crates_below "$crate") || return 1
+            continue
+        fi
         made=crates/$crate/out/rlib/$crate.rlib/format
         [ ! -e "crates/$crate/src/main.rt" ] || made=crates/$crate/out/$crate
         is_newest "$made" "$crate" || return 1

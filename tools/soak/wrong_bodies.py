@@ -158,6 +158,8 @@ class Crate:
         is_program = (self.folder / "src" / "main.rt").exists()
         root = "src/main.rt" if is_program else "src/lib.rt"
         words = [str(kit() / "bin" / "rattle"), "check", "--crate-name", self.name, root]
+        if f"{self.name} staticlib" in (line.partition(":")[0] for line in rows()):
+            words += ["--crate-type", "staticlib"]
         for it in ["std", *uses()[self.name]]:
             words += ["--extern", f"{it}={rlibs.get(it, kit() / 'rlibs') / it}.rlib"]
         for folder in [kit() / "rlibs", *rlibs.values()]:
@@ -420,10 +422,15 @@ def name_in(line: str) -> str:
 
 
 @functools.cache
+def rows() -> list[str]:
+    """The lines of crates.txt."""
+    return (TOP / "crates.txt").read_text(encoding="utf-8").split("\n")
+
+
+@functools.cache
 def uses() -> dict[str, list[str]]:
     """The crates of this repository, each with the libraries that it names."""
-    lines = (TOP / "crates.txt").read_text(encoding="utf-8").split("\n")
-    return {name_in(line): line.partition(":")[2].split() for line in lines if name_in(line)}
+    return {name_in(line): line.partition(":")[2].split() for line in rows() if name_in(line)}
 
 
 def with_below(names: list[str]) -> list[str]:
@@ -441,8 +448,7 @@ def lay(room: pathlib.Path, names: list[str]) -> None:
     """Makes a repository of these crates in a folder, without tests and wrong bodies."""
     (room / "crates").mkdir(parents=True)
     shutil.copy(TOP / "HANDLES", room)
-    lines = (TOP / "crates.txt").read_text(encoding="utf-8").split("\n")
-    mine = [line for line in lines if name_in(line) in names]
+    mine = [line for line in rows() if name_in(line) in names]
     (room / "crates.txt").write_text("\n".join([*mine, ""]), encoding="utf-8")
     subprocess.run(["git", "init", "--quiet"], cwd=room, check=True)
     for name in names:

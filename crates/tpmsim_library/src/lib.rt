@@ -1,8 +1,18 @@
 #![tactic(auto)]
 
-//! libtpmsim: the calls of tpm_library under the names that C links. Each export calls the function
-//! of its name and repeats its contract. An allocator has no bytes, so C passes nothing for it.
-//! `library/tpmsim.h` declares the exports for C, and says what a caller owes.
+//! libtpmsim: the device inside the process that uses it, by calls under the names that C links.
+//! The crate uses the machine, in fixed places, and its image. Each export calls the function of
+//! its name in [`calls`] or [`journal`], and repeats its contract. An allocator has no bytes, so C
+//! passes nothing for it. `library/tpmsim.h` declares the exports for C, and says what a caller
+//! owes.
+//!
+//! A [`Holder`] is one pointer, which is null where it has no device, so that memory of zeros is a
+//! holder. Each of the [`calls`] takes every holder, and answers a [number](told): where that is
+//! not 0, nothing was done, and the holder is as it was. All that a caller owes is that the buffers
+//! lie where the call is told.
+//!
+//! The contracts say of a command and of a power cycle what tpm_machine says, and of an image what
+//! tpm_image says. No contract can say that memory is given back.
 
 ghost use Rattle.std.specs.Prelude.{◌≡◌, ◌≢◌, ◌<◌, ◌==◌, ◌∷◌, [], drop, false, length, not, true};
 ghost use Rattle.std.specs.Option.{MatchOption};
@@ -28,23 +38,30 @@ ghost use Rattle.tpm_record.specs.IsRecord.{IsRecord};
 ghost use Rattle.tpm_record.specs.Record.{Record, manufactured};
 ghost use Rattle.tpm_step.specs.Events.{Cycled, Given};
 ghost use Rattle.tpm_step.specs.Execution.{Executes};
-ghost use Rattle.tpm_library.specs.State.{command_seen, cycle_seen, record_of};
-ghost use Rattle.tpm_library.specs.Journal.{BeginsIfRoom, HasFault, IsOfJournal, Records};
-ghost use Rattle.tpm_library.specs.Journal.{command_by, image_at_power};
-ghost use Rattle.tpm_library.specs.Told.{Tells, done, follow_number, no_device, no_locality};
-ghost use Rattle.tpm_library.specs.Told.{no_memory, open_number};
-ghost use Rattle.tpm_library.specs.Version.{version_number};
-ghost use Rattle.tpm_library.specs.declared.device.Device.{Device};
+ghost use Rattle.tpmsim_library.specs.State.{command_seen, cycle_seen, record_of};
+ghost use Rattle.tpmsim_library.specs.Journal.{BeginsIfRoom, HasFault, IsOfJournal, Records};
+ghost use Rattle.tpmsim_library.specs.Journal.{command_by, image_at_power};
+ghost use Rattle.tpmsim_library.specs.Told.{Tells, done, follow_number, no_device, no_locality};
+ghost use Rattle.tpmsim_library.specs.Told.{no_memory, open_number};
+ghost use Rattle.tpmsim_library.specs.Version.{version_number};
+ghost use Rattle.tpmsim_library.specs.declared.device.Device.{Device};
 
+mod calls;
+mod device;
+mod holder;
+mod journal;
+mod told;
+
+use device::Answered;
+use holder::Holder;
 use std::alloc::Global;
-use tpm_library::{Answered, Holder};
 
 /// The version, with 256 times the number after the first point, and 65,536 times that before it.
 #[unsafe(no_mangle)]
 pub extern "C" fn tpmsim_version() -> u32
     ensures { result ≡ version_number 0 1 0 }
 {
-    tpm_library::version()
+    calls::version()
 }
 
 /// Makes a new device of 256 random bytes, in place of the holder's own.
@@ -55,7 +72,7 @@ pub extern "C" fn tpmsim_manufacture(alloc: Global, holder: &mut Holder, random:
     ensures refused { result ≢ done
         → (result ≡ no_memory) × (holder.new.device ≡ holder.old.device) }
 {
-    tpm_library::manufacture(alloc, holder, random)
+    calls::manufacture(alloc, holder, random)
 }
 
 /// Executes a command.
@@ -86,7 +103,7 @@ pub extern "C" fn tpmsim_execute(
         → (result ≡ no_device) × (holder.old.device ≡ None) }
     ensures locality { result ≡ no_locality → 4 < locality }
 {
-    tpm_library::execute(
+    calls::execute(
         alloc, holder, buffer, locality, elapsed_ms, random, response, answered,
     )
 }
@@ -100,7 +117,7 @@ pub extern "C" fn tpmsim_power_cycle(alloc: Global, holder: &mut Holder) -> u8
         × After Follows (record_of before) Cycled (cycle_seen after)) }
     ensures told { MatchOption holder.old.device (result ≡ no_device) (λ before. result ≡ done) }
 {
-    tpm_library::power_cycle(alloc, holder)
+    calls::power_cycle(alloc, holder)
 }
 
 /// Writes the image of the device to a room, if the image fits.
@@ -111,7 +128,7 @@ pub extern "C" fn tpmsim_save(alloc: Global, holder: &mut Holder, room: &mut [u8
         room.new) }
     ensures kept { holder.new.device ≡ holder.old.device }
 {
-    tpm_library::save(alloc, holder, room)
+    calls::save(alloc, holder, room)
 }
 
 /// Writes what the device keeps without power, but for its clock, to a room, if that has as many
@@ -122,7 +139,7 @@ pub extern "C" fn tpmsim_kept(alloc: Global, holder: &mut Holder, room: &mut [u8
         (λ device. PutsFront (kept_text (record_of device)) room.old result room.new) }
     ensures kept { holder.new.device ≡ holder.old.device }
 {
-    tpm_library::kept(alloc, holder, room)
+    calls::kept(alloc, holder, room)
 }
 
 /// Opens a device from its image, in place of the holder's own.
@@ -135,7 +152,7 @@ pub extern "C" fn tpmsim_open(alloc: Global, holder: &mut Holder, image: &[u8]) 
         → (device : Device) × (holder.new.device ≡ Some device)
         × Follows (record_of device) (PowerCycled ∷ history) }
 {
-    tpm_library::open(alloc, holder, image)
+    calls::open(alloc, holder, image)
 }
 
 /// Frees the device, if there is one.
@@ -143,7 +160,7 @@ pub extern "C" fn tpmsim_open(alloc: Global, holder: &mut Holder, image: &[u8]) 
 pub extern "C" fn tpmsim_free(alloc: Global, holder: &mut Holder)
     ensures { holder.new.device ≡ None }
 {
-    tpm_library::free(alloc, holder);
+    calls::free(alloc, holder);
 }
 
 /// Cycles power, and writes the head of the device's new journal to a room, if the head fits.
@@ -160,7 +177,7 @@ pub extern "C" fn tpmsim_journal_begin(
         (after : Device) × (holder.new.device ≡ Some after)
         × BeginsIfRoom before now_ms (length room.old) result after) }
 {
-    tpm_library::journal::begin(alloc, holder, now_ms, room)
+    journal::begin(alloc, holder, now_ms, room)
 }
 
 /// Opens the device of a journal, in place of the holder's own.
@@ -178,7 +195,7 @@ pub extern "C" fn tpmsim_journal_open(
     ensures told { result ≢ done → result ≢ no_memory
         → (fault : OpenFault) × (result ≡ open_number fault) × HasFault text.now fault }
 {
-    tpm_library::journal::open(alloc, holder, text, taken)
+    journal::open(alloc, holder, text, taken)
 }
 
 /// Executes the entries of a text that follows what the device executed.
@@ -196,7 +213,7 @@ pub extern "C" fn tpmsim_journal_follow(
         × Replays false before.journal (record_of before) text.now
         (record { taken = taken.new; fault = fault }) after.journal (record_of after)) }
 {
-    tpm_library::journal::follow(alloc, holder, text, taken)
+    journal::follow(alloc, holder, text, taken)
 }
 
 /// Executes a command by the host's clock, with the completing layer or without it, and writes its
@@ -229,7 +246,7 @@ pub extern "C" fn tpmsim_journal_execute(
     ensures told { result ≢ done → result ≢ no_locality
         → (result ≡ no_device) × (holder.old.device ≡ None) }
 {
-    tpm_library::journal::execute(
+    journal::execute(
         alloc, holder, buffer, locality, now_ms, completes, random, response, answered, entry, size,
     )
 }

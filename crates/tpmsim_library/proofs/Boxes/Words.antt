@@ -1,0 +1,86 @@
+-- A pointer beside an allocator. A box, a holder and a pair have these two fields, so one word of
+-- the machine stands for each of them. Neither an allocator nor a pointer owns anything, so these
+-- fields own nothing.
+use mathlib.Core.List.{List, [], ◌∷◌}
+use mathlib.Core.Path.{◌≡◌, refl}
+use lib.Dec.{T, lit<}
+use mir.Raw.{raw as bare}
+use mir.Syntax.{ty_ptr, ty_struct, tcons, tnil}
+use mir.Val.{Val, vunit, vstruct, vcons, vnil, has_ty, WT}
+use seplogic.Ra.Ura.{Ura}
+use base.Logic.{ent, emp}
+use types.Logic.{Logic, sem}
+use denote.Exit.{no}
+use denote.Laws.{Is}
+use denote.Param.{arg, layout}
+use denote.Param.Laws.{Laws, arg_laws}
+use denote.RattleType.{RattleType}
+use denote.RawPtr.{Ptr, RawPtr, block_ptr, null_ptr, ptr_val, rawptr_Tells}
+use denote.Shadow.{Pure, makes_shadow}
+use denote.Struct.Struct.{Shape, Struct, Struct-Makes, Struct-Tells}
+use Rattle.std.proofs.alloc.Global.TheLaws as global_laws
+use Rattle.std.specs.contracts.alloc.Global as global
+use Rattle.std.specs.declared.alloc.Global.{Global}
+use Rattle.tpmsim_library.proofs.device.Device.TheLaws as device_laws
+use Rattle.tpmsim_library.specs.contracts.device.Device as device
+
+-- the allocator and the device, as a generic function takes them
+abbrev pub Heap : RattleType
+Heap = arg (bare (layout global.the_row)) no global.the_row
+
+abbrev pub Content : RattleType
+Content = arg (bare (layout device.the_row)) no device.the_row
+
+pub heap_laws : Laws Heap
+heap_laws = arg_laws (bare (layout global.the_row)) no global.the_row global_laws.the_row_laws refl
+
+pub content_laws : Laws Content
+content_laws = arg_laws (bare (layout device.the_row)) no device.the_row device_laws.the_row_laws refl
+
+-- the word of an allocator, and of a pointer beside one
+abbrev pub heap_word : Global → Val
+heap_word alloc = global_laws.lowered alloc
+
+abbrev pub word : Ptr → Global → Val
+word at alloc = vstruct (vcons (ptr_val at) (vcons (heap_word alloc) vnil))
+
+-- an allocator owns that its word is this one, and no other word is an allocator's
+pub heap_is : (alloc : Global) → Is Heap alloc (heap_word alloc ∷ [])
+heap_is alloc = ((vstruct (vcons vunit vnil) ∷ [], tt), (refl, (((vunit ∷ [], tt), (refl, (refl, tt))), tt)))
+
+pub heap_told : (alloc : Global) (words : List Val) → Is Heap alloc words → words ≡ heap_word alloc ∷ []
+heap_told alloc words is = global_laws.the_told.tells alloc words is
+
+pub heap_typed : (alloc : Global) → T (has_ty (layout Heap) (heap_word alloc)) × WT (heap_word alloc)
+heap_typed alloc = (tt, ((tt, tt), tt))
+
+-- a pointer is of its type, null or not
+pub pointer_typed : (at : Ptr) → T (has_ty ty_ptr (ptr_val at)) × WT (ptr_val at)
+pointer_typed (block_ptr b o) = (tt, tt)
+pointer_typed null_ptr = (tt, record { fits = lit< tt })
+
+-- a word is of the type of each struct that has these two fields, since no name is read
+pub word_typed : (at : Ptr) (alloc : Global) → T (has_ty (ty_struct [] (tcons ty_ptr (tcons (layout Heap) tnil))) (word at alloc)) × WT (word at alloc)
+word_typed (block_ptr b o) alloc = (tt, (tt, ((heap_typed alloc).1, tt)))
+word_typed null_ptr alloc = (tt, (record { fits = lit< tt }, ((heap_typed alloc).1, tt)))
+
+-- the two fields in the form of a struct without a name
+abbrev pub Fields : Shape
+Fields = record { name = []; args = []; types = []; fields = RawPtr ∷ Heap ∷ [] }
+
+pub word_is : (at : Ptr) (alloc : Global) → Is (Struct Fields) (at, (alloc, tt)) (word at alloc ∷ [])
+word_is at alloc = ((ptr_val at ∷ [], (heap_word alloc ∷ [], tt)), (refl, (refl, (heap_is alloc, tt))))
+
+pub word_told : (at : Ptr) (alloc : Global) (words : List Val) → Is (Struct Fields) (at, (alloc, tt)) words → words ≡ word at alloc ∷ []
+word_told at alloc = Struct-Tells Fields ((λ p. ptr_val p ∷ []), ((λ a. heap_word a ∷ []), tt)) (rawptr_Tells, (heap_told, tt)) (at, (alloc, tt))
+
+-- neither field owns memory
+heap_plain : (alloc : Global) (words : List Val) → Pure (Heap.own_val alloc words)
+heap_plain alloc words fields = (tt, ((λ inner. (tt, (tt, tt))), tt))
+
+module _ {M : Type 1} {𝓤 : Ura M} (𝓛 : Logic 𝓤) where
+  pub heap_made : (alloc : Global) → ent 𝓤 (emp 𝓤) (sem 𝓛 (Heap.own_val alloc (heap_word alloc ∷ [])))
+  heap_made alloc = makes_shadow 𝓛 (Heap.own_val alloc (heap_word alloc ∷ [])) (heap_plain alloc (heap_word alloc ∷ [])) (heap_is alloc)
+
+  pub fields_made : (at : Ptr) (alloc : Global) → ent 𝓤 (emp 𝓤) (sem 𝓛 ((Struct Fields).own_val (at, (alloc, tt)) (word at alloc ∷ [])))
+  fields_made at alloc = Struct-Makes 𝓛 Fields ((λ p words. tt), (heap_plain, tt)) (at, (alloc, tt)) (word at alloc ∷ []) (word_is at alloc)

@@ -1,0 +1,25 @@
+-- The record of a device, and the effect of an event on it.
+use Rattle.std.specs.Prelude.{List, [], take, ℕ}
+use Rattle.tpm_record.specs.Record.{Record}
+use Rattle.tpm_slots.specs.SlotRecord.{slot_record}
+use Rattle.tpm_step.specs.Step.{Stepped}
+use Rattle.tpmsim_library.specs.declared.device.Answered.{Answered}
+use Rattle.tpmsim_library.specs.declared.device.Device.{Device}
+
+-- the record of a device; its containers are seen as their contents
+abbrev pub record_of : Device → Record
+record_of device = slot_record device.machine.keep
+
+-- the effect of a command: the response at the front of the room for it, the row, and the record
+-- after it
+abbrev pub command_seen : List ℕ → Answered → Device → Stepped
+command_seen room answered after = record {
+  response = take answered.size room;
+  row = record { code = answered.code; check = answered.check };
+  after = record_of after;
+}
+
+-- the effect of a power cycle, which has no response and the row of no command
+abbrev pub cycle_seen : Device → Stepped
+cycle_seen after =
+    record { response = []; row = record { code = 0; check = 0 }; after = record_of after }

@@ -1,0 +1,168 @@
+//! The calls on a device's holder, as C has them. A call takes the device out, uses it, and puts it
+//! back, which moves only a pointer.
+
+ghost use Rattle.std.specs.Prelude.{◌≡◌, ◌≢◌, ◌<◌, ◌∷◌, [], drop, false, true};
+ghost use Rattle.std.specs.Option.{MatchOption};
+ghost use Rattle.std.specs.declared.option.Option.TheVariants.{None, Some};
+ghost use Rattle.std.specs.declared.result.Result.{Result};
+ghost use Rattle.tpm_machine.specs.Follows.{After, Follows};
+ghost use Rattle.tpm_machine.specs.History.{History, PowerCycled};
+ghost use Rattle.tpm_image_text.specs.Image.{IsImage, image_text};
+ghost use Rattle.tpm_image_text.specs.KeptText.{kept_text};
+ghost use Rattle.tpm_image_text.specs.NonVolatile.{kept_of};
+ghost use Rattle.tpm_image_text.specs.Opening.{Opens};
+ghost use Rattle.tpm_image_text.specs.Saving.{PutsFront};
+ghost use Rattle.tpm_image_text.specs.declared.fault.ImageFault.{ImageFault as Fault};
+ghost use Rattle.tpm_image_text.specs.declared.version.Version.{Version};
+ghost use Rattle.tpm_image_text.specs.declared.version.Version.TheVariants.{Two};
+ghost use Rattle.tpm_machine.specs.Drawn.{drawn_by};
+ghost use Rattle.tpm_record.specs.IsRecord.{IsRecord};
+ghost use Rattle.tpm_record.specs.Record.{Record, manufactured};
+ghost use Rattle.tpm_step.specs.Events.{Cycled, Given};
+ghost use Rattle.tpm_step.specs.Execution.{Executes};
+ghost use Rattle.tpmsim_library.specs.State.{command_seen, cycle_seen, record_of};
+ghost use Rattle.tpmsim_library.specs.Told.{Tells, done, no_device, no_locality, no_memory};
+ghost use Rattle.tpmsim_library.specs.Version.{version_number};
+ghost use Rattle.tpmsim_library.specs.declared.device.Device.{Device};
+
+use crate::device::{Answered, Device};
+use crate::holder::Holder;
+use crate::told::{DONE, NO_DEVICE, NO_LOCALITY, NO_MEMORY, fault_number};
+use std::alloc::Global;
+use tpm_step::Event;
+use tpm_types::Locality;
+
+/// The version as one number: 65,536 times major, plus 256 times minor, plus patch.
+pub fn version() -> u32
+    ensures { result ≡ version_number 0 1 0 }
+{
+    0x00_01_00
+}
+
+/// Makes a new device, whose secrets are these random bytes, in place of the holder's own.
+/// NO_MEMORY: memory was refused, and the holder is as it was.
+pub fn manufacture(alloc: Global, holder: &mut Holder, random: &[u8; 256]) -> u8
+    ensures made { result ≡ done → (device : Device) × (holder.new.device ≡ Some device)
+        × (record_of device ≡ manufactured random.now) × Follows (record_of device) [] }
+    ensures refused { result ≢ done
+        → (result ≡ no_memory) × (holder.new.device ≡ holder.old.device) }
+{
+    let Some(device) = Device::manufacture(alloc, random) else {
+        return NO_MEMORY;
+    };
+    holder.put(device);
+    DONE
+}
+
+/// Executes a command, and writes its response to the front of the room for it. NO_LOCALITY: the
+/// locality is not 0 to 4. NO_DEVICE: the holder has no device. In both cases nothing is written.
+pub fn execute(
+    alloc: Global,
+    holder: &mut Holder,
+    buffer: &[u8],
+    locality: u8,
+    elapsed_ms: u32,
+    random: &[u8; 256],
+    response: &mut [u8; 4096],
+    answered: &mut Answered,
+) -> u8
+    ensures executes { result ≡ done → (before : Device) × (after : Device)
+        × (holder.old.device ≡ Some before) × (holder.new.device ≡ Some after)
+        × Executes false (record_of before) (Given buffer.now locality elapsed_ms random.now)
+        (command_seen response.new answered.new after)
+        × After Follows (record_of before) (Given buffer.now locality elapsed_ms random.now)
+        (command_seen response.new answered.new after)
+        × (answered.new.drawn ≡ drawn_by (record_of before)
+        (Given buffer.now locality elapsed_ms random.now) answered.new.check) }
+    ensures rest { result ≡ done
+        → drop answered.new.size response.new ≡ drop answered.new.size response.old }
+    ensures refused { result ≢ done → (holder.new.device ≡ holder.old.device)
+        × (response.new ≡ response.old) × (answered.new ≡ answered.old) }
+    ensures told { result ≢ done → result ≢ no_locality
+        → (result ≡ no_device) × (holder.old.device ≡ None) }
+    ensures locality { result ≡ no_locality → 4 < locality }
+{
+    let Some(locality) = Locality::new(locality) else {
+        return NO_LOCALITY;
+    };
+    let Some(mut device) = holder.take(alloc) else {
+        return NO_DEVICE;
+    };
+    let event = Event::of_command(buffer, locality, elapsed_ms, *random);
+    *answered = device.execute(&event, response);
+    holder.put(device);
+    DONE
+}
+
+/// Takes power away and gives it back. NO_DEVICE: the holder has no device.
+pub fn power_cycle(alloc: Global, holder: &mut Holder) -> u8
+    ensures executes { MatchOption holder.old.device (holder.new.device ≡ None) (λ before.
+        (after : Device) × (holder.new.device ≡ Some after)
+        × Executes false (record_of before) Cycled (cycle_seen after)
+        × After Follows (record_of before) Cycled (cycle_seen after)) }
+    ensures told { MatchOption holder.old.device (result ≡ no_device) (λ before. result ≡ done) }
+{
+    let Some(mut device) = holder.take(alloc) else {
+        return NO_DEVICE;
+    };
+    device.cycle_power();
+    holder.put(device);
+    DONE
+}
+
+/// Writes the image of the device to the front of a room. Gives how many bytes the image has, or 0
+/// where there is no device. Nothing is written to a smaller room.
+pub fn save(alloc: Global, holder: &mut Holder, room: &mut [u8]) -> usize
+    ensures saved { MatchOption holder.old.device ((result ≡ 0) × (room.new ≡ room.old))
+        (λ device. PutsFront (image_text Two (kept_of (record_of device))) room.old result
+        room.new) }
+    ensures kept { holder.new.device ≡ holder.old.device }
+{
+    let Some(device) = holder.take(alloc) else {
+        return 0;
+    };
+    let size = device.save_into(room);
+    holder.put(device);
+    size
+}
+
+/// Writes what the device keeps without power, but for its clock, to the front of a room, if that
+/// fits. Gives how many bytes it has, written or not; 0 where there is no device.
+pub fn kept(alloc: Global, holder: &mut Holder, room: &mut [u8]) -> usize
+    ensures told { MatchOption holder.old.device ((result ≡ 0) × (room.new ≡ room.old))
+        (λ device. PutsFront (kept_text (record_of device)) room.old result room.new) }
+    ensures kept { holder.new.device ≡ holder.old.device }
+{
+    let Some(device) = holder.take(alloc) else {
+        return 0;
+    };
+    let size = device.kept_into(room);
+    holder.put(device);
+    size
+}
+
+/// Opens a device from its image, as after a power cycle, in place of the holder's own. Otherwise
+/// the number is that of the first fault, or NO_MEMORY, and the holder is as it was.
+pub fn open(alloc: Global, holder: &mut Holder, image: &[u8]) -> u8
+    ensures opens { (opened : Result Device Fault) × Opens record_of true image.now opened
+        × Tells opened holder.old.device holder.new.device result }
+    ensures history { result ≡ done → (version : Version) (r : Record) (history : History)
+        → IsRecord r → Follows r history → IsImage version (kept_of r) image.now
+        → (device : Device) × (holder.new.device ≡ Some device)
+        × Follows (record_of device) (PowerCycled ∷ history) }
+{
+    match Device::open(alloc, image) {
+        Ok(device) => {
+            holder.put(device);
+            DONE
+        }
+        Err(fault) => fault_number(fault),
+    }
+}
+
+/// Frees the device, if there is one, and leaves the holder with none.
+pub fn free(alloc: Global, holder: &mut Holder)
+    ensures { holder.new.device ≡ None }
+{
+    let _before = holder.take(alloc);
+}

@@ -1,0 +1,81 @@
+//! The one pointer by which C holds a device.
+
+ghost use Rattle.std.specs.Prelude.{◌≡◌};
+ghost use Rattle.std.specs.Option.{MatchOption};
+ghost use Rattle.std.specs.declared.option.Option.{Option};
+ghost use Rattle.std.specs.declared.option.Option.TheVariants.{None, Some};
+ghost use Rattle.tpmsim_library.specs.Held.{held};
+ghost use Rattle.tpmsim_library.specs.contracts.device.Device.{the_row as device_row};
+ghost use Rattle.tpmsim_library.specs.declared.device.Device.{Device};
+
+use crate::device::Device;
+use std::alloc::Global;
+use std::marker::Model;
+use std::mem;
+
+/// The pointer by which C holds a device: it leads to the device's box, which the holder owns, or
+/// is null where there is no device. C sees one pointer, since an allocator has no bytes.
+#[repr(C)]
+#[derive(Drop)]
+pub struct Holder {
+    at: *mut u8,
+    alloc: Global,
+    ghost device: { Option Device },
+}
+
+impl Model for Holder {
+    ghost also_owns = { λ h. held device_row h.alloc h.at h.device };
+}
+
+impl Holder {
+    /// A holder with no device.
+    pub fn empty(alloc: Global) -> Holder
+        ensures { result.device ≡ None }
+    {
+        Holder {
+            at: std::ptr::null_mut(),
+            alloc,
+        }
+    }
+
+    /// A holder with this device.
+    pub fn of(device: Box<Device>) -> Holder
+        ensures { result.device ≡ Some device.value }
+    {
+        let (at, alloc) = Box::into_raw_with_allocator(device);
+        Holder {
+            at: at as *mut u8,
+            alloc,
+        }
+    }
+
+    /// The device of the holder, if there is one.
+    pub fn into_box(self) -> Option<Box<Device>>
+        ensures { MatchOption result (self.device ≡ None) (λ b. self.device ≡ Some b.value) }
+    {
+        let Holder { at, alloc } = self;
+        if at.is_null() {
+            return None;
+        }
+        Some(unsafe { Box::from_raw(alloc, at as *mut Device) })
+    }
+
+    /// Takes the device out, if there is one, and leaves the holder with none.
+    pub fn take(&mut self, alloc: Global) -> Option<Box<Device>>
+        ensures taken { MatchOption result (self.old.device ≡ None)
+            (λ b. self.old.device ≡ Some b.value) }
+        ensures left { self.new.device ≡ None }
+    {
+        mem::replace(self, Holder::empty(alloc)).into_box()
+    }
+
+    /// Puts a device in, and frees the one that was there.
+    pub fn put(&mut self, device: Box<Device>)
+        ensures { self.new.device ≡ Some device.value }
+    {
+        let _before = mem::replace(self, Holder::of(device)).into_box();
+    }
+}
+
+/// The device may be used and freed in another thread than the one that made it.
+unsafe impl Send for Holder {}

@@ -1,0 +1,126 @@
+//! The calls on the journal of a device, as C has them.
+
+ghost use Rattle.std.specs.Prelude.{◌≡◌, ◌≢◌, ◌<◌, ◌==◌, drop, false, length, not};
+ghost use Rattle.std.specs.Option.{MatchOption};
+ghost use Rattle.std.specs.declared.option.Option.{Option};
+ghost use Rattle.std.specs.declared.option.Option.TheVariants.{None, Some};
+ghost use Rattle.tpm_image_text.specs.Saving.{PutsFront};
+ghost use Rattle.tpm_journal.specs.Replay.{Replays};
+ghost use Rattle.tpm_journal.specs.declared.following.FollowFault.{FollowFault};
+ghost use Rattle.tpm_journal.specs.declared.opening.OpenFault.{OpenFault as Fault};
+ghost use Rattle.tpm_journal_text.specs.Head.{head_text};
+ghost use Rattle.tpmsim_library.specs.Journal.{BeginsIfRoom, HasFault, IsOfJournal, Records};
+ghost use Rattle.tpmsim_library.specs.Journal.{command_by, image_at_power};
+ghost use Rattle.tpmsim_library.specs.State.{record_of};
+ghost use Rattle.tpmsim_library.specs.Told.{done, follow_number, no_device, no_locality};
+ghost use Rattle.tpmsim_library.specs.Told.{no_memory, open_number};
+ghost use Rattle.tpmsim_library.specs.declared.device.Device.{Device};
+
+use crate::device::{Answered, Device};
+use crate::holder::Holder;
+use crate::told::{DONE, NO_DEVICE, NO_LOCALITY, NO_MEMORY, follow_number, open_number};
+use std::alloc::Global;
+use tpm_types::Locality;
+
+/// Cycles the power of the device, and writes the head of its new journal to the front of a room.
+/// Gives how many bytes the head has, or 0 where there is no device. Nothing is done where the room
+/// is smaller.
+pub fn begin(alloc: Global, holder: &mut Holder, now_ms: u64, room: &mut [u8]) -> usize
+    ensures head { MatchOption holder.old.device ((result ≡ 0) × (room.new ≡ room.old))
+        (λ before. PutsFront (head_text now_ms (image_at_power before)) room.old result room.new) }
+    ensures begins { MatchOption holder.old.device (holder.new.device ≡ None) (λ before.
+        (after : Device) × (holder.new.device ≡ Some after)
+        × BeginsIfRoom before now_ms (length room.old) result after) }
+{
+    let Some(mut device) = holder.take(alloc) else {
+        return 0;
+    };
+    let size = device.begin_journal(now_ms, room);
+    holder.put(device);
+    size
+}
+
+/// Opens the device of a journal, in place of the holder's own, and says how many bytes of the text
+/// are the head and entries. Otherwise the number is that of the first fault, or NO_MEMORY, and the
+/// holder is as it was.
+pub fn open(alloc: Global, holder: &mut Holder, text: &[u8], taken: &mut usize) -> u8
+    ensures opens { result ≡ done → (device : Device) × (holder.new.device ≡ Some device)
+        × IsOfJournal text.now taken.new device }
+    ensures refused { result ≢ done
+        → (holder.new.device ≡ holder.old.device) × (taken.new ≡ taken.old) }
+    ensures told { result ≢ done → result ≢ no_memory
+        → (fault : Fault) × (result ≡ open_number fault) × HasFault text.now fault }
+{
+    match Device::open_journal(alloc, text, taken) {
+        Some(Ok(device)) => {
+            holder.put(device);
+            DONE
+        }
+        Some(Err(fault)) => open_number(fault),
+        None => NO_MEMORY,
+    }
+}
+
+/// Executes the entries of a text that follows what the device executed, and says how many bytes of
+/// the text they are. NO_DEVICE: the holder has no device, and nothing is done.
+pub fn follow(alloc: Global, holder: &mut Holder, text: &[u8], taken: &mut usize) -> u8
+    ensures follows { MatchOption holder.old.device
+        ((result ≡ no_device) × (holder.new.device ≡ None) × (taken.new ≡ taken.old))
+        (λ before. (after : Device) × (fault : Option FollowFault)
+        × (holder.new.device ≡ Some after) × (result ≡ follow_number fault)
+        × Replays false before.journal (record_of before) text.now
+        (record { taken = taken.new; fault = fault }) after.journal (record_of after)) }
+{
+    let Some(mut device) = holder.take(alloc) else {
+        return NO_DEVICE;
+    };
+    let followed = device.follow(text);
+    holder.put(device);
+    *taken = followed.taken;
+    follow_number(followed.fault)
+}
+
+/// Executes a command by the host's clock, writes its response to the front of the room for it, and
+/// its entry to the front of another. Where `completes` is not 0, the completing layer completes
+/// what the device does. NO_LOCALITY: the locality is not 0 to 4. NO_DEVICE: the holder has no
+/// device. In both cases nothing is written.
+pub fn execute(
+    alloc: Global,
+    holder: &mut Holder,
+    buffer: &[u8],
+    locality: u8,
+    now_ms: u64,
+    completes: u8,
+    random: &[u8; 256],
+    response: &mut [u8; 4096],
+    answered: &mut Answered,
+    entry: &mut [u8; 9216],
+    size: &mut usize,
+) -> u8
+    ensures records { result ≡ done → (before : Device) × (after : Device)
+        × (holder.old.device ≡ Some before) × (holder.new.device ≡ Some after)
+        × Records before
+        (command_by before buffer.now locality now_ms (not (completes == 0)) random.now)
+        response.new answered.new size.new entry.new after }
+    ensures rest { result ≡ done
+        → drop answered.new.size response.new ≡ drop answered.new.size response.old }
+    ensures refused { result ≢ done → (holder.new.device ≡ holder.old.device)
+        × (response.new ≡ response.old) × (answered.new ≡ answered.old)
+        × (entry.new ≡ entry.old) × (size.new ≡ size.old) }
+    ensures locality { result ≡ no_locality → 4 < locality }
+    ensures told { result ≢ done → result ≢ no_locality
+        → (result ≡ no_device) × (holder.old.device ≡ None) }
+{
+    let Some(locality) = Locality::new(locality) else {
+        return NO_LOCALITY;
+    };
+    let Some(mut device) = holder.take(alloc) else {
+        return NO_DEVICE;
+    };
+    let completes = completes != 0;
+    *size = device.execute_recorded(
+        buffer, locality, now_ms, completes, random, response, answered, entry,
+    );
+    holder.put(device);
+    DONE
+}
