@@ -2,15 +2,16 @@
 
 //! A device that is kept in an image: the image's file and its lock ([`image_file`],
 //! [`image_lock`]), its savers ([`image_saver`], [`command_saver`]), and the serving of it on a
-//! socket ([`serving`]), with a log where one is asked for ([`log_file`]).
+//! socket ([`serving`]), with a log where one is asked for ([`log`]), in a file of its own
+//! ([`log_file`]).
 //!
 //! What the device is given comes from the host: random bytes from a file ([`entropy`]), the time
 //! that has passed ([`stopwatch`]), and both together for each command ([`source`]). The socket
-//! ([`socket`]) serves any device. Contracts say what a saver notes, and which time a command is
-//! told; no contract can say what a file holds.
+//! ([`socket`]) serves any device. Contracts say what a saver notes, what is written to a log, and
+//! which time a command is told; no contract can say what a file holds.
 //!
-//! The crate uses tpm_image for images, tpm_wire for connections, tpm_log for logs, and the settings
-//! of tpmsim_arguments.
+//! The crate uses tpm_image for images, tpm_journal_text for the form of a log, tpm_wire for
+//! connections, and the settings of tpmsim_arguments.
 
 pub mod command_saver;
 pub mod entropy;
@@ -19,6 +20,7 @@ mod folder;
 pub mod image_file;
 mod image_lock;
 pub mod image_saver;
+pub mod log;
 mod log_file;
 pub mod serving;
 pub mod socket;

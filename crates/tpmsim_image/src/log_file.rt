@@ -1,11 +1,11 @@
 //! The file of a served device's log, which is made anew and is its owner's alone.
 
 use crate::fault::DeviceFault;
+use crate::log::Log;
 use std::fs::{File, OpenOptions};
 use std::io;
 use std::os::unix::fs::OpenOptionsExt;
 use std::time::{SystemTime, UNIX_EPOCH};
-use tpm_log::Log;
 use tpm_machine::Machine;
 use tpm_record::Keep;
 

@@ -1,4 +1,11 @@
-//! A log, which is written to a writer: its head, and an entry for each command.
+//! The log of a device: a script that plays again what the device executed, and that grows with
+//! each command before its response goes out.
+//!
+//! A log has the form of a journal: its head has the image of the device as power came on, and each
+//! command has an entry. [`Log`] is a log that is written to any writer, and notes the commands as
+//! the witness of a device; [`Logged`] is a witness that keeps a log, if there is one. The
+//! contracts say that a log's text holds exactly the commands that it was told, in their order
+//! ([`laws`]).
 
 ghost use Rattle.std.specs.Prelude.{◌≡◌, ◌≤◌, IfOk, length, take, true};
 ghost use Rattle.tpm_image_text.specs.Image.{image_text};
@@ -7,7 +14,12 @@ ghost use Rattle.tpm_image_text.specs.declared.version.Version.TheVariants.{Two}
 ghost use Rattle.tpm_journal_text.specs.Head.{image_limit};
 ghost use Rattle.tpm_machine.specs.State.{state_of};
 
-use crate::entry::entry_of;
+mod entry;
+pub mod laws;
+pub mod logged;
+
+use crate::log::entry::entry_of;
+pub use logged::Logged;
 use std::io::Write;
 use tpm_bytes::Tap;
 use tpm_image::save_into;
@@ -32,7 +44,7 @@ pub struct Log<W> {
 }
 
 impl<W: Write + Drop> Log<W> {
-    ghost use Rattle.tpm_log.specs.Log.{Begins, written_of};
+    ghost use Rattle.tpmsim_image.specs.log.Log.{Begins, written_of};
 
     /// Begins the log of a device as power comes on, at this time of the host's clock in
     /// milliseconds.
@@ -75,13 +87,13 @@ fn save<K: Keep>(machine: &Machine<K>, room: &mut [u8; IMAGE_ROOM]) -> usize
 }
 
 impl<W: Write> Witness for Log<W> {
-    ghost use Rattle.tpm_log.specs.Log.{Adds, written_of};
+    ghost use Rattle.tpmsim_image.specs.log.Log.{Adds, written_of};
 
     ghost notes = { λ old one new. Adds (written_of W.contents old) one (written_of W.contents new) };
 
     ghost note_failed = { λ log. log.failed };
 
-    #[tactic(auto, using(crate::proofs::Noting::adds_latest))]
+    #[tactic(auto, using(crate::proofs::log::Noting::adds_latest))]
     fn note<K: Keep>(
         &mut self,
         machine: &Machine<K>,

@@ -2,8 +2,8 @@
 use Rattle.std.proofs.Common.{◌≡◌, ℕ, Option, Some, sym, ap, ◌∙◌, subst}
 use Rattle.tpm_machine.specs.Executions.{Execution}
 use Rattle.tpm_journal_text.specs.Entry.{PlainEntry}
-use Rattle.tpm_log.specs.Executed.{entry_by, entry_in}
-use Rattle.tpm_log.specs.Log.{Adds, AddsEntry, AddsSome, Written}
+use Rattle.tpmsim_image.specs.log.Executed.{entry_by, entry_in}
+use Rattle.tpmsim_image.specs.log.Log.{Adds, AddsEntry, AddsSome, Written}
 use Rattle.tpm_machine.specs.Drawn.{drawn_by}
 use Rattle.tpm_record.specs.Record.{Record}
 use Rattle.tpm_machine.specs.Latest.{IsLatest}

@@ -2,7 +2,7 @@
 
 ghost use Rattle.std.specs.Prelude.{◌≡◌, OnErr, OnOk, true};
 ghost use Rattle.tpm_machine.specs.Executions.{Execution};
-ghost use Rattle.tpm_log.specs.Log.{AddsWhereKept, log_failed};
+ghost use Rattle.tpmsim_image.specs.log.Log.{AddsWhereKept, log_failed};
 ghost use Rattle.tpm_machine.specs.State.{latest_drawn, state_of};
 ghost use Rattle.tpm_machine.specs.Latest.{IsLatest};
 ghost use Rattle.tpm_step.specs.Events.{plain_event};

@@ -6,8 +6,8 @@ use Rattle.std.specs.List.{FoldsTo}
 use Rattle.tpm_machine.specs.Executions.{Execution}
 use Rattle.tpm_journal_text.specs.Entry.{PlainEntry}
 use Rattle.tpm_journal_text.specs.Journal.{entries_text, sum_after_all}
-use Rattle.tpm_log.specs.Executed.{entry_in}
-use Rattle.tpm_log.specs.Log.{Adds, AddsAll, AddsSome, Written}
+use Rattle.tpmsim_image.specs.log.Executed.{entry_in}
+use Rattle.tpmsim_image.specs.log.Log.{Adds, AddsAll, AddsSome, Written}
 
 -- the text of a log to which one entry was appended, and then those of others
 behind_first : (old mid new : Written) (one : Execution) (found : Option PlainEntry) (executions : List Execution)

@@ -1,6 +1,6 @@
 use Rattle.std.proofs.Common.{arith, length-take}
 use Rattle.tpm_bytes.proofs.Fields.{AreBytes-take}
-use Rattle.tpm_log.proofs.entry.entry_of_command.Goals as goal
+use Rattle.tpmsim_image.proofs.log.entry.entry_of_command.Goals as goal
 
 pub returns-clause-is : goal.returns-clause-is
 returns-clause-is c = record {

@@ -7,8 +7,8 @@ use Rattle.tpm_machine.specs.Executions.{Execution}
 use Rattle.tpm_journal_text.specs.Entry.{IsEntry, PlainEntry, entry_text, sum_after}
 use Rattle.tpm_journal_text.specs.Head.{head_sum, head_text}
 use Rattle.tpm_journal_text.specs.Journal.{entries_text, sum_after_all}
-use Rattle.tpm_log.specs.Executed.{entry_in}
-use Rattle.tpm_log.specs.declared.log.Log.{Log}
+use Rattle.tpmsim_image.specs.log.Executed.{entry_in}
+use Rattle.tpmsim_image.specs.declared.log.Log.{Log}
 
 -- the state of a log: its text, where that is known, and the sum of its marks
 pub record Written : Type 0 where

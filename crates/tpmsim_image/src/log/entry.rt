@@ -2,7 +2,7 @@
 
 ghost use Rattle.std.specs.Prelude.{◌≡◌, IfSome, Some, false, take};
 ghost use Rattle.tpm_journal_text.specs.Entry.{IsEntry, plain_entry};
-ghost use Rattle.tpm_log.specs.Executed.{entry_by};
+ghost use Rattle.tpmsim_image.specs.log.Executed.{entry_by};
 ghost use Rattle.tpm_step.specs.Events.{plain_event};
 ghost use Rattle.tpm_types.specs.Locality.{locality_number};
 
