@@ -92,7 +92,9 @@ fn digests_are_those_of_the_standard(rt: HostRuntime) {
     check(&rt, done, Ok(()));
     check(&rt, state.digest(), SECRET);
     state.restart(HashAlg::Sha256);
-    let selection = PcrSelection::read(&mut Cursor::new(SELECTION)).ok().expect(&rt, "PCR 0");
+    let selection = PcrSelection::read(&mut Cursor::new(SELECTION))
+        .ok()
+        .expect(&rt, "PCR 0");
     let done = state.pcr(HashAlg::Sha256, false, &pcr(&selection));
     check(&rt, done, Ok(()));
     check(&rt, state.digest(), PCR);
@@ -100,7 +102,9 @@ fn digests_are_those_of_the_standard(rt: HostRuntime) {
 
 #[test]
 fn either_branch_leads_to_one_digest(rt: HostRuntime) {
-    let list = DigestList::read(&mut Cursor::new(BRANCHES)).ok().expect(&rt, "two digests");
+    let list = DigestList::read(&mut Cursor::new(BRANCHES))
+        .ok()
+        .expect(&rt, "two digests");
     let mut state = PolicyState::new(HashAlg::Sha256);
     let refused = ActionFault::in_parameter(ActionCheck::First, 1, ResponseCode::Value);
     check(&rt, state.or(HashAlg::Sha256, false, &list), Err(refused));
@@ -177,7 +181,9 @@ fn refusals() -> [(u8, Rc); 8] {
 
 #[test]
 fn the_first_condition_that_does_not_hold_refuses(rt: HostRuntime) {
-    let selection = PcrSelection::read(&mut Cursor::new(SELECTION)).ok().expect(&rt, "PCR 0");
+    let selection = PcrSelection::read(&mut Cursor::new(SELECTION))
+        .ok()
+        .expect(&rt, "PCR 0");
     let mut state = PolicyState::new(HashAlg::Sha256);
     check(&rt, assert_all(&mut state, &selection), Ok(()));
     let here = Locality::new(0).expect(&rt, "locality 0");
