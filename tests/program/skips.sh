@@ -7,7 +7,8 @@ copy=$room/copy
 mkdir -p "$copy/tools/lib" "$copy/tests" "$copy/.ci" "$copy/crates/tpmsim/out" \
     "$copy/crates/tpmsim_lists/out"
 cp "$tests/../tools/scripts.sh" "$copy/tools"
-cp "$tests/../tools/lib/play_tests.sh" "$tests/../tools/lib/rt_ci.sh" "$copy/tools/lib"
+cp "$tests/../tools/lib/play_tests.sh" "$tests/../tools/lib/rt_ci.sh" "$tests/../tools/lib/memory.sh" \
+    "$copy/tools/lib"
 cp "$tests/../.ci/run" "$copy/.ci"
 for built in tpmsim/out/tpmsim tpmsim_lists/out/tpmsim_lists; do
     ln -s "$program" "$copy/crates/$built"
