@@ -57,6 +57,7 @@ startup='cmd 80010000000c000001440000'
 told() {
     [ -s "$1" ] || { printf 'empty'; return; }
     text='' before='' times=0 lines=0
+    # shellcheck disable=SC2094 # both only read the file
     while IFS= read -r line; do
         lines=$((lines + 1))
         [ "$lines" -le 30 ] || { told_at_length "$1"; return; }

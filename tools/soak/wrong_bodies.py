@@ -210,7 +210,9 @@ class Crate:
             brought = re.compile(rf"ghost use Rattle\.{self.name}\.specs\.{module}\.{{([^}}]*)}}")
             files = {it.file for it in self.texts}
             texts = [(self.folder / it).read_text(encoding="utf-8") for it in sorted(files)]
-            names = [it for text in texts for row in brought.findall(text) for it in row.split(", ")]
+            names = [
+                it for text in texts for row in brought.findall(text) for it in row.split(", ")
+            ]
         if not names:
             return set()
         named = re.compile(rf"(?<!\w)(?:{'|'.join(map(re.escape, names))})(?!\w)")
@@ -324,7 +326,10 @@ def lent(one: str, other: str) -> None:
 
 def linked(one: str, other: str) -> None:
     """Copies a file of what a check kept: what was proved by a link, as a check replaces such a file."""
-    (lent if one.endswith(".oantt") else shutil.copy2)(one, other)
+    if one.endswith(".oantt"):
+        lent(one, other)
+    else:
+        shutil.copy2(one, other)
 
 
 def unread_in(said: list[str]) -> str | None:
