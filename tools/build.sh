@@ -29,7 +29,7 @@ for tool in rt git; do
         exit 3
     }
 done
-echo "tpmsim: proving and building the program; from nothing this takes half an hour" >&2
+echo "tpmsim: proving and building the program; from nothing this takes half an hour to an hour" >&2
 echo "tpmsim: meanwhile, unproved and slow: cd $top/crates/tpmsim && rt try -- run - <SCRIPT" >&2
 if ! (build); then
     echo "tpmsim: the build failed, so nothing is run; $log says why" >&2

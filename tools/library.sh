@@ -24,7 +24,7 @@ fail() {
 
 # Proves the exports and all below them in a copy.
 prove() {
-    echo "tpmsim: proving what the library stands on; from nothing this takes half an hour" >&2
+    echo "tpmsim: proving what the library stands on; from nothing this takes half an hour to an hour" >&2
     crates="$below $exports"
     total=$(echo "$crates" | wc -w)
     (copy_crates "$work/copy" && cd "$work/copy" && prove_all)
