@@ -14,6 +14,7 @@ files=
 [ -n "${TMPDIR:-}" ] || files=$(folder_for_proofs "$number" 2>&1) || files=
 if [ -n "$files" ]; then
     trap 'rm -rf "$files"' EXIT
+    trap 'exit 1' HUP INT TERM
     export TMPDIR="$files"
 fi
 rt ci "$@"
