@@ -108,21 +108,24 @@ fn sessions_are_found_by_their_handles(rt: HostRuntime) {
 
 fn find_sessions<S: Slots<Session, SESSION_LIMIT>, R: Abort>(rt: &R, alloc: Global) {
     let mut sessions: Sessions<S> = Sessions::new(alloc);
-    check(
-        rt,
-        started(&mut sessions, SessionType::Hmac),
-        Ok(0x0200_0000),
-    );
-    check(
-        rt,
-        started(&mut sessions, SessionType::Policy),
-        Ok(0x0300_0001),
-    );
-    check(
-        rt,
-        started(&mut sessions, SessionType::Trial),
-        Ok(0x0300_0002),
-    );
+    start_three(rt, &mut sessions);
+    look_up(rt, &sessions);
+    roll_policy(rt, &mut sessions);
+    flush_policy(rt, &mut sessions);
+}
+
+/// Starts a session of each type, which take the lowest free numbers.
+fn start_three<S: Slots<Session, SESSION_LIMIT>, R: Abort>(rt: &R, sessions: &mut Sessions<S>) {
+    for (kind, number) in [
+        (SessionType::Hmac, 0x0200_0000),
+        (SessionType::Policy, 0x0300_0001),
+        (SessionType::Trial, 0x0300_0002),
+    ] {
+        check(rt, started(sessions, kind), Ok(number));
+    }
+}
+
+fn look_up<S: Slots<Session, SESSION_LIMIT>, R: Abort>(rt: &R, sessions: &Sessions<S>) {
     for (number, there) in [
         (0x0200_0000, true),
         (0x0300_0000, false),
@@ -133,24 +136,27 @@ fn find_sessions<S: Slots<Session, SESSION_LIMIT>, R: Abort>(rt: &R, alloc: Glob
         let found = sessions.get(Handle { number }).is_some();
         check(rt, (number, found), (number, there));
     }
-    let policy = Handle {
-        number: 0x0300_0001,
-    };
-    check(rt, sessions.roll(policy, Nonce::of(b"new")), true);
-    check(
-        rt,
-        nonce_of(&sessions, 0x0300_0001),
-        Some(b"new".as_slice()),
-    );
-    check(rt, nonce_of(&sessions, 0x0300_0002), Some(NONCE_TPM));
-    check(rt, sessions.flush(policy), true);
-    check(rt, sessions.flush(policy), false);
-    check(rt, sessions.roll(policy, Nonce::of(b"")), false);
-    check(
-        rt,
-        started(&mut sessions, SessionType::Hmac),
-        Ok(0x0200_0001),
-    );
+}
+
+/// The handle of the policy session.
+const POLICY: Handle = Handle {
+    number: 0x0300_0001,
+};
+
+fn roll_policy<S: Slots<Session, SESSION_LIMIT>, R: Abort>(rt: &R, sessions: &mut Sessions<S>) {
+    check(rt, sessions.roll(POLICY, Nonce::of(b"new")), true);
+    let rolled = nonce_of(sessions, 0x0300_0001);
+    check(rt, rolled, Some(b"new".as_slice()));
+    check(rt, nonce_of(sessions, 0x0300_0002), Some(NONCE_TPM));
+}
+
+/// Ends the policy session, whose number a new one then takes.
+fn flush_policy<S: Slots<Session, SESSION_LIMIT>, R: Abort>(rt: &R, sessions: &mut Sessions<S>) {
+    check(rt, sessions.flush(POLICY), true);
+    check(rt, sessions.flush(POLICY), false);
+    check(rt, sessions.roll(POLICY, Nonce::of(b"")), false);
+    let next = started(sessions, SessionType::Hmac);
+    check(rt, next, Ok(0x0200_0001));
 }
 
 #[test]

@@ -2,6 +2,7 @@
 //! refuse the use of a policy.
 
 use super::comparison::check;
+use std::process::Abort;
 use tpm_bytes::Cursor;
 use tpm_mac::HashAlg;
 use tpm_policy::{Demand, EntityPolicy, PcrAssertion, PolicyState, SecretAssertion, Use};
@@ -92,10 +93,7 @@ fn digests_are_those_of_the_standard(rt: HostRuntime) {
     check(&rt, done, Ok(()));
     check(&rt, state.digest(), SECRET);
     state.restart(HashAlg::Sha256);
-    let selection = PcrSelection::read(&mut Cursor::new(SELECTION))
-        .ok()
-        .expect(&rt, "PCR 0");
-    let done = state.pcr(HashAlg::Sha256, false, &pcr(&selection));
+    let done = state.pcr(HashAlg::Sha256, false, &pcr(&pcr_0(&rt)));
     check(&rt, done, Ok(()));
     check(&rt, state.digest(), PCR);
 }
@@ -179,24 +177,38 @@ fn refusals() -> [(u8, Rc); 8] {
     ]
 }
 
+/// PCR 0 in the SHA-256 bank.
+fn pcr_0<R: Abort>(rt: &R) -> PcrSelection {
+    PcrSelection::read(&mut Cursor::new(SELECTION))
+        .ok()
+        .expect(rt, "PCR 0")
+}
+
+/// The policy with all of these assertions.
+fn asserted<R: Abort>(rt: &R) -> PolicyState {
+    let mut state = PolicyState::new(HashAlg::Sha256);
+    check(rt, assert_all(&mut state, &pcr_0(rt)), Ok(()));
+    state
+}
+
+/// Locality 0, or another where that is a condition which does not hold.
+fn locality_from<R: Abort>(rt: &R, condition: u8) -> Locality {
+    let number = if condition <= 7 { 1 } else { 0 };
+    Locality::new(number).expect(rt, "locality 0 or 1")
+}
+
+/// What a use is answered in which every condition from this number on does not hold.
+fn answer_from<R: Abort>(rt: &R, state: &PolicyState, condition: u8) -> Result<Demand, Rc> {
+    let locality = locality_from(rt, condition);
+    state.check_use(&spoiled_from(condition, state.digest(), locality))
+}
+
 #[test]
 fn the_first_condition_that_does_not_hold_refuses(rt: HostRuntime) {
-    let selection = PcrSelection::read(&mut Cursor::new(SELECTION))
-        .ok()
-        .expect(&rt, "PCR 0");
-    let mut state = PolicyState::new(HashAlg::Sha256);
-    check(&rt, assert_all(&mut state, &selection), Ok(()));
-    let here = Locality::new(0).expect(&rt, "locality 0");
-    let elsewhere = Locality::new(1).expect(&rt, "locality 1");
+    let state = asserted(&rt);
     for (condition, rc) in refusals() {
-        let locality = if condition <= 7 { elsewhere } else { here };
-        let asked = spoiled_from(condition, state.digest(), locality);
-        check(
-            &rt,
-            (condition, state.check_use(&asked)),
-            (condition, Err(rc)),
-        );
+        let answer = answer_from(&rt, &state, condition);
+        check(&rt, (condition, answer), (condition, Err(rc)));
     }
-    let asked = spoiled_from(9, state.digest(), here);
-    check(&rt, state.check_use(&asked), Ok(Demand::None));
+    check(&rt, answer_from(&rt, &state, 9), Ok(Demand::None));
 }

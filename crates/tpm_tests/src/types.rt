@@ -7,7 +7,7 @@ use tpm_bytes::{Cursor, Sink};
 use tpm_commands::{CommandCode, HandleKind, ParameterKind, read_handles};
 use tpm_mac::HashAlg;
 use tpm_types::{
-    BankSelection, DigestList, DigestValue, DigestValues, Handle, PcrSelect, PcrSelection,
+    BankSelection, DigestList, DigestValue, DigestValues, Handle, PcrSelect, PcrSelection, Rc,
     ResponseCode, SessionAttributes, SessionType, StartupType, read_buffer, read_yes_no,
 };
 use tpm_types_command::{AuthEntry, Command};
@@ -29,16 +29,21 @@ const DIGESTS: &[u8] = b"\x00\x00\x00\x02\
     \x00\x0b\x02\x02\x02\x02\x02\x02\x02\x02\x02\x02\x02\x02\x02\x02\x02\x02\
     \x02\x02\x02\x02\x02\x02\x02\x02\x02\x02\x02\x02\x02\x02\x02\x02";
 
-#[test]
-fn response_codes_have_places(rt: HostRuntime) {
-    for (rc, number) in [
+/// Response codes at a place, and without one.
+fn placed_codes() -> [(Rc, u32); 6] {
+    [
         (ResponseCode::Value.anywhere().at_parameter(1), 0x1c4),
         (ResponseCode::Insufficient.anywhere().at_parameter(1), 0x1da),
         (ResponseCode::Handle.anywhere().at_session(1), 0x98b),
         (ResponseCode::AuthFail.anywhere().at_session(1), 0x98e),
         (ResponseCode::Handle.anywhere().at_handle(2), 0x28b),
         (ResponseCode::BadTag.anywhere(), 0x01e),
-    ] {
+    ]
+}
+
+#[test]
+fn response_codes_have_places(rt: HostRuntime) {
+    for (rc, number) in placed_codes() {
         check(&rt, rc.number(), number);
     }
 }
@@ -47,47 +52,49 @@ fn is_numbered(code: CommandCode, number: u32) -> bool {
     code.number() == number && CommandCode::named(number) == Some(code)
 }
 
+const NUMBERS: [(CommandCode, u32); 10] = [
+    (CommandCode::EvictControl, 0x120),
+    (CommandCode::ClearControl, 0x127),
+    (CommandCode::PcrEvent, 0x13c),
+    (CommandCode::PcrReset, 0x13d),
+    (CommandCode::Startup, 0x144),
+    (CommandCode::GetRandom, 0x17b),
+    (CommandCode::PcrRead, 0x17e),
+    (CommandCode::PcrExtend, 0x182),
+    (CommandCode::PolicyPassword, 0x18c),
+    (CommandCode::Shutdown, 0x145),
+];
+
 #[test]
 fn commands_have_numbers(rt: HostRuntime) {
-    check(&rt, is_numbered(CommandCode::EvictControl, 0x120), true);
-    check(&rt, is_numbered(CommandCode::ClearControl, 0x127), true);
-    check(&rt, is_numbered(CommandCode::PcrEvent, 0x13c), true);
-    check(&rt, is_numbered(CommandCode::PcrReset, 0x13d), true);
-    check(&rt, is_numbered(CommandCode::Startup, 0x144), true);
-    check(&rt, is_numbered(CommandCode::GetRandom, 0x17b), true);
-    check(&rt, is_numbered(CommandCode::PcrRead, 0x17e), true);
-    check(&rt, is_numbered(CommandCode::PcrExtend, 0x182), true);
-    check(&rt, is_numbered(CommandCode::PolicyPassword, 0x18c), true);
-    check(&rt, is_numbered(CommandCode::Shutdown, 0x145), true);
+    for (code, number) in &NUMBERS {
+        check(&rt, is_numbered(*code, *number), true);
+    }
     check(&rt, CommandCode::named(0x142), None);
 }
 
 #[test]
-fn commands_have_shapes(rt: HostRuntime) {
+fn pcr_event_has_its_shape(rt: HostRuntime) {
     let event = CommandCode::PcrEvent.shape();
-    check(
-        &rt,
-        (event.forbids_sessions, event.sized_answer),
-        (false, false),
-    );
-    check(
-        &rt,
-        matches!(event.parameters, [kind] if kind.is_sized()),
-        true,
-    );
-    check(
-        &rt,
-        matches!(event.handles, [rule] if rule.kind.allows(Handle::NULL)),
-        true,
-    );
+    let allowed = (event.forbids_sessions, event.sized_answer);
+    check(&rt, allowed, (false, false));
+    let is_sized = matches!(event.parameters, [kind] if kind.is_sized());
+    check(&rt, is_sized, true);
+    let takes_null = matches!(event.handles, [rule] if rule.kind.allows(Handle::NULL));
+    check(&rt, takes_null, true);
+}
+
+#[test]
+fn startup_has_its_shape(rt: HostRuntime) {
+    let startup = CommandCode::Startup.shape();
+    let told = (startup.handles.is_empty(), startup.forbids_sessions);
+    check(&rt, told, (true, true));
+}
+
+#[test]
+fn handles_and_parameters_have_kinds(rt: HostRuntime) {
     check(&rt, CommandCode::PcrEvent.handle_count(), 1);
     check(&rt, CommandCode::PcrEvent.authorized_handles(), 1);
-    let startup = CommandCode::Startup.shape();
-    check(
-        &rt,
-        (startup.handles.is_empty(), startup.forbids_sessions),
-        (true, true),
-    );
     check(&rt, HandleKind::Pcr.allows(Handle::NULL), false);
     check(&rt, ParameterKind::U16.is_sized(), false);
 }
@@ -133,58 +140,85 @@ fn fault_of(buffer: &[u8]) -> u32 {
     }
 }
 
+/// Buffers, each with the number of its first fault.
+const FAULTS: [(&[u8], u32); 7] = [
+    (b"\x00\xc1\x00\x00\x00\x0b\x00\x00\x01", 0x142),
+    (b"\x00\xc1\x00\x00\x00\x0b\x00\x00\x01\x46", 0x01e),
+    (b"\x80\x02\x00\x00\x00\x0b\x00\x00\x01\x46", 0x142),
+    (b"\x80\x02\x00\x00\x00\x0a\x00\x00\x01\x46", 0x143),
+    (b"\x80\x02\x00\x00\x00\x0c\x00\x00\x01\x3d\x00\x00", 0x19a),
+    (
+        b"\x80\x02\x00\x00\x00\x0e\x00\x00\x01\x3d\x00\x00\x00\x10",
+        0x144,
+    ),
+    (PCR_RESET, 0),
+];
+
 #[test]
 fn a_command_has_a_first_fault(rt: HostRuntime) {
-    for (buffer, fault) in [
-        (b"\x00\xc1\x00\x00\x00\x0b\x00\x00\x01".as_slice(), 0x142),
-        (b"\x00\xc1\x00\x00\x00\x0b\x00\x00\x01\x46", 0x01e),
-        (b"\x80\x02\x00\x00\x00\x0b\x00\x00\x01\x46", 0x142),
-        (b"\x80\x02\x00\x00\x00\x0a\x00\x00\x01\x46", 0x143),
-        (b"\x80\x02\x00\x00\x00\x0c\x00\x00\x01\x3d\x00\x00", 0x19a),
-        (
-            b"\x80\x02\x00\x00\x00\x0e\x00\x00\x01\x3d\x00\x00\x00\x10",
-            0x144,
-        ),
-        (PCR_RESET, 0),
-    ] {
-        check(&rt, (buffer, fault_of(buffer)), (buffer, fault));
+    for (buffer, fault) in &FAULTS {
+        check(&rt, (*buffer, fault_of(buffer)), (*buffer, *fault));
     }
 }
 
-/// The tag and the code of a command, how many handles and entries it has, and how long it is.
-fn parts_of(buffer: &[u8]) -> Option<(u16, u32, usize, usize, usize)> {
-    let command = Command::read(&mut Cursor::new(buffer)).ok()?;
-    let (handles, entries) = (command.handles.len(), command.entries.len());
-    let (tag, code) = (command.tag().number(), command.code.number());
-    Some((tag, code, handles, entries, command.text_len()?))
+/// The tag and the code of a command.
+fn header_of(buffer: &[u8]) -> Option<(u16, u32)> {
+    match Command::read(&mut Cursor::new(buffer)) {
+        Ok(command) => Some((command.tag().number(), command.code.number())),
+        Err(_) => None,
+    }
+}
+
+/// How many handles and entries a command has, and how long it is.
+fn counts_of(buffer: &[u8]) -> Option<(usize, usize, Option<usize>)> {
+    match Command::read(&mut Cursor::new(buffer)) {
+        Ok(command) => {
+            let (handles, entries) = (command.handles.len(), command.entries.len());
+            Some((handles, entries, command.text_len()))
+        }
+        Err(_) => None,
+    }
 }
 
 #[test]
 fn a_command_has_parts(rt: HostRuntime) {
-    check(&rt, parts_of(PCR_RESET), Some((0x8002, 0x13d, 1, 1, 32)));
+    check(&rt, header_of(PCR_RESET), Some((0x8002, 0x13d)));
+    check(&rt, counts_of(PCR_RESET), Some((1, 1, Some(32))));
 }
 
 /// The command that a buffer spells, written again.
 fn rewritten_command(buffer: &[u8]) -> Option<ArrayVec<u8, 32>> {
-    let command = Command::read(&mut Cursor::new(buffer)).ok()?;
+    let Ok(command) = Command::read(&mut Cursor::new(buffer)) else {
+        return None;
+    };
     let mut sink = Sink::new();
-    command.write(&mut sink).ok()?;
+    let Ok(()) = command.write(&mut sink) else {
+        return None;
+    };
     Some(sink.into_bytes())
 }
 
 /// The selection that a text spells, written again.
 fn rewritten_selection(text: &[u8]) -> Option<ArrayVec<u8, 10>> {
-    let selection = PcrSelection::read(&mut Cursor::new(text)).ok()?;
+    let Ok(selection) = PcrSelection::read(&mut Cursor::new(text)) else {
+        return None;
+    };
     let mut sink = Sink::new();
-    selection.write(&mut sink).ok()?;
+    let Ok(()) = selection.write(&mut sink) else {
+        return None;
+    };
     Some(sink.into_bytes())
 }
 
 /// The digests that a text spells, written again.
 fn rewritten_digests(text: &[u8]) -> Option<ArrayVec<u8, 62>> {
-    let digests = DigestValues::read(&mut Cursor::new(text)).ok()?;
+    let Ok(digests) = DigestValues::read(&mut Cursor::new(text)) else {
+        return None;
+    };
     let mut sink = Sink::new();
-    digests.write(&mut sink).ok()?;
+    let Ok(()) = digests.write(&mut sink) else {
+        return None;
+    };
     Some(sink.into_bytes())
 }
 
@@ -235,15 +269,17 @@ fn fields_are_where_they_stand(rt: HostRuntime) {
 }
 
 /// The attributes of an entry, and how long it is.
-fn entry_of(text: &[u8]) -> Option<(u8, usize)> {
-    let entry = AuthEntry::read(&mut Cursor::new(text)).ok()?;
-    Some((entry.attributes.octet, entry.text_len()?))
+fn entry_of(text: &[u8]) -> Option<(u8, Option<usize>)> {
+    match AuthEntry::read(&mut Cursor::new(text)) {
+        Ok(entry) => Some((entry.attributes.octet, entry.text_len())),
+        Err(_) => None,
+    }
 }
 
 #[test]
 fn an_entry_has_its_length(rt: HostRuntime) {
     let entry = b"\x02\x00\x00\x01\x00\x02\xaa\xbb\x20\x00\x03abc;";
-    check(&rt, entry_of(entry), Some((0x20, 14)));
+    check(&rt, entry_of(entry), Some((0x20, Some(14))));
     let attributes = SessionAttributes { octet: 0x20 };
     check(
         &rt,
