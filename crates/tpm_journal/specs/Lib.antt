@@ -4,6 +4,7 @@ pub mod State
 pub mod Living
 pub mod Replay
 pub mod Opening
+pub mod Retelling
 pub use Rattle.tpm_journal_text.specs.Sum
 pub use Rattle.tpm_journal_text.specs.Entry
 pub use Rattle.tpm_journal_text.specs.Head

@@ -1,3 +1,2 @@
 pub mod Fault
-pub mod Retelling
 pub mod kept

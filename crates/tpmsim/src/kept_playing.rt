@@ -2,10 +2,10 @@
 
 use crate::fault::Fault;
 use crate::kept::{Kept, play, said_of_opening};
-use crate::retelling::{RetellFault, retell};
 use std::fs;
 use std::io::Read;
 use tpm_bytes::Tap;
+use tpm_journal::{RetellFault, retell};
 use tpm_machine::Machine;
 use tpm_slots::SlotKeep;
 use tpm_step::Outcome;

@@ -13,17 +13,16 @@
 //!
 //! The program uses tpmsim_arguments for its words, tpmsim_script for scripts and their check,
 //! `tpm_text` and `tpm_line` for lines, `tpm_help` for what it tells of these, tpmsim_image for a
-//! device that is kept in an image, and tpmsim_folder for the folder of one that is kept there
-//! ([`kept`]), of which [`retelling`] tells what happened. All that touches files, sockets and
-//! clocks is here, in tpmsim_image or in tpmsim_folder; what the device answers is proved in the
-//! crates below.
+//! device that is kept in an image, tpmsim_folder for the folder of one that is kept there
+//! ([`kept`]), and tpm_journal for what happened to it. All that touches files, sockets and clocks
+//! is here, in tpmsim_image or in tpmsim_folder; what the device answers is proved in the crates
+//! below.
 
 mod checking;
 mod fault;
 mod kept;
 mod kept_playing;
 mod kept_serving;
-mod retelling;
 mod running;
 mod telling;
 

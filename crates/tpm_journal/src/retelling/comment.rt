@@ -4,7 +4,7 @@ ghost use Rattle.std.specs.Prelude.{◌≡◌, codes};
 ghost use Rattle.tpm_journal.specs.Command.{event_of};
 ghost use Rattle.tpm_journal_text.specs.Entry.{IsEntry, plain_entry};
 ghost use Rattle.tpm_text.specs.Trace.{IsAnswered, IsRow, trace_text};
-ghost use Rattle.tpmsim.specs.Retelling.{CanBeTold, words_of};
+ghost use Rattle.tpm_journal.specs.Retelling.{CanBeTold, words_of};
 
 use arrayvec::ArrayString;
 use tpm_journal_text::Entry;

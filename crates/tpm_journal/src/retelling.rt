@@ -11,17 +11,19 @@ ghost use Rattle.std.specs.Io.KnownBytes.{Appends};
 ghost use Rattle.tpm_bytes.specs.Tap.{device_of, marks_of};
 ghost use Rattle.tpm_machine.specs.State.{state_of};
 ghost use Rattle.tpm_record.specs.Record.{manufactured};
-ghost use Rattle.tpmsim.specs.Retelling.{RetellsEntries, RetellsJournal};
+ghost use Rattle.tpm_journal.specs.Retelling.{RetellsEntries, RetellsJournal};
 
 mod comment;
 mod front;
 
+use crate::following::{FollowFault, Followed};
+use crate::journal::Journal;
+use crate::opening::OpenFault;
 use crate::retelling::comment::Comment;
 use crate::retelling::front::{Front, execute_front, put_entry};
 use std::io::Write;
 use tpm_bytes::{Failed, Tap};
 use tpm_image::open_into;
-use tpm_journal::{FollowFault, Followed, Journal, OpenFault};
 use tpm_journal_text::{BYTES_ROOM, ENTRY_ROOM, IMAGE_ROOM, read_head};
 use tpm_machine::Machine;
 use tpm_record::Keep;
@@ -72,7 +74,7 @@ pub fn retell<K: Keep, W: Write>(
 }
 
 /// Executes the entries of a text that follows a journal, and tells each.
-pub fn retell_entries<K: Keep, W: Write>(
+fn retell_entries<K: Keep, W: Write>(
     journal: &mut Journal,
     machine: &mut Machine<K>,
     text: &[u8],

@@ -18,7 +18,7 @@ use Rattle.tpm_journal.specs.declared.following.FollowFault.TheVariants.{Damaged
 use Rattle.tpm_journal.specs.declared.following.Followed.{Followed}
 use Rattle.tpm_journal.specs.declared.journal.Journal.{Journal}
 use Rattle.tpm_journal.proofs.Repeating.{entries_more, journal_sum}
-use Rattle.tpmsim.specs.Retelling.{PerformsSo, Retells, RetellsEntries, comment_of, retold}
+use Rattle.tpm_journal.specs.Retelling.{PerformsSo, Retells, RetellsEntries, comment_of, retold}
 
 -- ---- the lines of an entry in its text
 

@@ -1,8 +1,8 @@
 use Rattle.std.proofs.Common.{◌-◌, length, None}
 use Rattle.tpm_bytes.specs.Tap.{device_of}
 use Rattle.tpm_machine.specs.State.{state_of}
-use Rattle.tpmsim.specs.Retelling.{Retells}
-use Rattle.tpmsim.proofs.retelling.retell_entries.Given as goal
+use Rattle.tpm_journal.specs.Retelling.{Retells}
+use Rattle.tpm_journal.proofs.retelling.retell_entries.Given as goal
 
 -- The entries so far were executed and told.
 abbrev pub invariant-loop-size : goal.invariant-loop-size

@@ -19,10 +19,10 @@ use Rattle.tpm_record.specs.Record.{Record}
 use Rattle.tpm_step.specs.Events.{PlainEvent}
 use Rattle.tpm_step.specs.declared.event.Row.{Row}
 use Rattle.tpm_text.specs.Trace.{IsAnswered, IsRow, trace_text}
-use Rattle.tpmsim.specs.declared.retelling.front.Front.{Front}
-use Rattle.tpmsim.specs.declared.retelling.front.Front.TheVariants as front
-use Rattle.tpmsim.specs.declared.retelling.RetellFault.{RetellFault}
-use Rattle.tpmsim.specs.declared.retelling.RetellFault.TheVariants.{Open, Write}
+use Rattle.tpm_journal.specs.declared.retelling.front.Front.{Front}
+use Rattle.tpm_journal.specs.declared.retelling.front.Front.TheVariants as front
+use Rattle.tpm_journal.specs.declared.retelling.RetellFault.{RetellFault}
+use Rattle.tpm_journal.specs.declared.retelling.RetellFault.TheVariants.{Open, Write}
 
 -- the words that tell how an event was answered: `completed` where the completing layer was on, or
 -- else the trace

@@ -1,6 +1,6 @@
 use Rattle.std.proofs.Common.{rules, arith}
-use Rattle.tpmsim.proofs.retelling.Telling.{long_enough, told_cut_at, told_damaged_at, told_more_at, told_none, told_otherwise_at}
-use Rattle.tpmsim.proofs.retelling.retell_entries.Goals as goal
+use Rattle.tpm_journal.proofs.retelling.Telling.{long_enough, told_cut_at, told_damaged_at, told_more_at, told_none, told_otherwise_at}
+use Rattle.tpm_journal.proofs.retelling.retell_entries.Goals as goal
 
 pub loop-size-init : goal.loop-size-init
 loop-size-init g c = told_none _ _ _ _ _

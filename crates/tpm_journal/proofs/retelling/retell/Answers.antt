@@ -1,7 +1,7 @@
 use Rattle.std.proofs.KnownBytes.{Keeps-refl}
 use Rattle.tpm_journal.proofs.ReadHeads.{begins, not_opened}
-use Rattle.tpmsim.proofs.retelling.Heads.{told_text}
-use Rattle.tpmsim.proofs.retelling.retell.Goals as goal
+use Rattle.tpm_journal.proofs.retelling.Heads.{told_text}
+use Rattle.tpm_journal.proofs.retelling.retell.Goals as goal
 
 pub returns-in-Err : goal.returns-in-Err
 returns-in-Err g c = (

@@ -8,7 +8,7 @@ use Rattle.tpm_completion.specs.declared.completion.Completion.{Completion}
 use Rattle.tpm_record.specs.Record.{Record}
 use Rattle.tpm_step.specs.Events.{PlainEvent}
 use Rattle.tpm_text.proofs.Traceable.{executed}
-use Rattle.tpmsim.specs.Retelling.{CanBeTold}
+use Rattle.tpm_journal.specs.Retelling.{CanBeTold}
 
 pub can_be_told : (can completes : Bool) (layer : Completion) (old : Record) (event : PlainEvent) (seen : Seen)
     → CompletesIf can completes layer old event seen → CanBeTold completes event seen.step.row seen.step.response

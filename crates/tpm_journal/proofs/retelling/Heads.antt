@@ -12,7 +12,7 @@ use Rattle.tpm_journal.proofs.ReadHeads.{begins}
 use Rattle.tpm_journal_text.specs.Head.{IsHeadOf}
 use Rattle.tpm_journal_text.specs.declared.head.Head.{Head}
 use Rattle.tpm_record.specs.Record.{Record}
-use Rattle.tpmsim.specs.Retelling.{RetellsEntries, RetellsText}
+use Rattle.tpm_journal.specs.Retelling.{RetellsEntries, RetellsText}
 
 -- the entries are told from the state with which the head begins
 from_head : (can : Bool) (text : List ℕ) (head : Head) (kept : NonVolatile) (at : Record) (rest : List ℕ) (followed : Followed) (start after : Journal) (new : Record)

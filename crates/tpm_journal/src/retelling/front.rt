@@ -4,12 +4,13 @@ ghost use Rattle.std.specs.Prelude.{◌≡◌, ◌≤◌, ◌++◌, ◌∷◌, [
 ghost use Rattle.std.specs.Io.KnownBytes.{Appends};
 ghost use Rattle.tpm_bytes.specs.Tap.{device_of, marks_of};
 ghost use Rattle.tpm_machine.specs.State.{state_of};
-ghost use Rattle.tpmsim.specs.Retelling.{TellsFront};
+ghost use Rattle.tpm_journal.specs.Retelling.{TellsFront};
 
+use crate::following::perform;
+use crate::journal::Journal;
 use crate::retelling::comment::{Comment, comment_of};
 use std::io::Write;
 use tpm_bytes::{Failed, Tap};
-use tpm_journal::{Journal, perform};
 use tpm_journal_text::{BYTES_ROOM, ENTRY_ROOM, Next, read_entry, sum_of};
 use tpm_machine::Machine;
 use tpm_record::Keep;

@@ -1,7 +1,7 @@
 use Rattle.std.proofs.Common.{rules, refl}
 use Rattle.tpm_completion.specs.Execution.{seen_of}
 use Rattle.tpm_journal_text.specs.Entry.{plain_entry}
-use Rattle.tpmsim.proofs.retelling.front.execute_front.Goals as goal
+use Rattle.tpm_journal.proofs.retelling.front.execute_front.Goals as goal
 
 pub returns-then-sum_of-entry : goal.returns-then-sum_of-entry
 returns-then-sum_of-entry g c = record {
