@@ -8,6 +8,8 @@
 # that needs no `rt`.
 #
 #   tools/scripts.sh                   all of them
+#   tools/scripts.sh --shipped         those of what is in dist/ alone
+#   tools/scripts.sh --built           the others: those of the programs built here that have other bytes
 #   tools/scripts.sh pcr_extend files  these
 #   tools/scripts.sh 'nv/*' 'torn*'    those of the folder tests/nv, and those whose names begin so
 #   JOBS=1 tools/scripts.sh            one after another, and not one on each processor
@@ -87,6 +89,13 @@ is_test() {
     esac
 }
 
+part=
+case ${1:-} in
+--shipped | --built)
+    part=${1#--}
+    shift
+    ;;
+esac
 if [ "$#" -eq 0 ]; then
     set -- '*'
 fi
@@ -117,6 +126,16 @@ shipped_is_of_sources() (
     cd "$top" && . tools/lib/proved.sh && is_proved sources "$(sources_checksum)"
 )
 
+# is_of_part PROGRAM: whether it is one of those that are asked for. A program that was built here is
+# played as the one in dist/, where it has the same bytes and that is of the sources.
+is_of_part() {
+    case $part,$1 in
+    shipped,"$top/dist/tpmsim" | ,*) true ;;
+    built,"$out/"*) ! cmp -s "$top/dist/tpmsim" "$1" || ! shipped_is_of_sources ;;
+    *) false ;;
+    esac
+}
+
 # missing PROGRAM: says so, where others were built here.
 missing() {
     [ ! -x "$out/tpmsim" ] || say "${1#"$top/"} is not there"
@@ -124,6 +143,7 @@ missing() {
 
 programs=0
 for program in "$out/tpmsim" "$out/tpmsim.by-rattle" "$top/dist/tpmsim"; do
+    is_of_part "$program" || continue
     if [ ! -x "$program" ]; then
         missing "$program"
         continue
@@ -132,7 +152,7 @@ for program in "$out/tpmsim" "$out/tpmsim.by-rattle" "$top/dist/tpmsim"; do
         say 'dist/tpmsim is not run: it was proved of other sources than these'
         continue
     fi
-    if [ "$program" = "$top/dist/tpmsim" ] && cmp -s "$out/tpmsim" "$program"; then
+    if [ -z "$part" ] && [ "$program" = "$top/dist/tpmsim" ] && cmp -s "$out/tpmsim" "$program"; then
         say 'dist/tpmsim has the bytes of the program that was built here'
         continue
     fi
@@ -157,6 +177,7 @@ ends_well() {
 
 [ -x "$lists" ] || missing "$lists"
 for test do
+    [ "$part" != shipped ] || continue
     case $test in
     */lists_*.sh)
         if [ -x "$lists" ]; then
@@ -186,7 +207,7 @@ missing_library() {
 
 why=$(missing_library)
 for test do
-    is_of_library "$test" || continue
+    [ "$part" != built ] && is_of_library "$test" || continue
     if [ -z "$why" ]; then
         check "$test" "$library" "${test%.*}.out"
     else
@@ -221,7 +242,8 @@ count() {
     find "$work/told" -type f -exec cat {} + | grep -c "^$1: "
 }
 
-[ -x "$out/tpmsim" ] || echo 'No proof was run: nothing was proved and built here.'
+[ "$part" = shipped ] || [ -x "$out/tpmsim" ] ||
+    echo 'No proof was run: nothing was proved and built here.'
 failed=$(count FAILED)
 skipped=$(count skipped)
 counts="$(count ok) passed, $failed failed"
