@@ -6,7 +6,7 @@ import collections
 import dataclasses
 import re
 
-FUNCTION = re.compile(r"\s*(pub(\([a-z ]+\))? )?(const )?(unsafe )?fn (\w+)")
+FUNCTION = re.compile(r"\s*(pub(\([a-z ]+\))? )?(const )?(unsafe )?(?:extern \S+ )?fn (\w+)")
 # the first word of a block of functions, and its head without parameters
 BLOCK = re.compile(r"(?:pub(?:\([a-z ]+\))? )?(?:unsafe )?(?:impl|trait)\b")
 HEAD = re.compile(

@@ -1,5 +1,5 @@
-//! The calls on a device's holder, as C has them. A call takes the device out, uses it, and puts it
-//! back, which moves only a pointer.
+//! The exports on a device's holder. A call takes the device out, uses it, and puts it back, which
+//! moves only a pointer.
 
 ghost use Rattle.std.specs.Prelude.{◌≡◌, ◌≢◌, ◌<◌, ◌∷◌, [], drop, false, true};
 ghost use Rattle.std.specs.Option.{MatchOption};
@@ -33,7 +33,8 @@ use tpm_step::Event;
 use tpm_types::Locality;
 
 /// The version as one number: 65,536 times major, plus 256 times minor, plus patch.
-pub fn version() -> u32
+#[unsafe(no_mangle)]
+pub extern "C" fn tpmsim_version() -> u32
     ensures { result ≡ version_number 0 1 0 }
 {
     0x00_01_00
@@ -41,7 +42,8 @@ pub fn version() -> u32
 
 /// Makes a new device, whose secrets are these random bytes, in place of the holder's own.
 /// NO_MEMORY: memory was refused, and the holder is as it was.
-pub fn manufacture(alloc: Global, holder: &mut Holder, random: &[u8; 256]) -> u8
+#[unsafe(no_mangle)]
+pub extern "C" fn tpmsim_manufacture(alloc: Global, holder: &mut Holder, random: &[u8; 256]) -> u8
     ensures made { result ≡ done → (device : Device) × (holder.new.device ≡ Some device)
         × (record_of device ≡ manufactured random.now) × Follows (record_of device) [] }
     ensures refused { result ≢ done
@@ -56,7 +58,8 @@ pub fn manufacture(alloc: Global, holder: &mut Holder, random: &[u8; 256]) -> u8
 
 /// Executes a command, and writes its response to the front of the room for it. NO_LOCALITY: the
 /// locality is not 0 to 4. NO_DEVICE: the holder has no device. In both cases nothing is written.
-pub fn execute(
+#[unsafe(no_mangle)]
+pub extern "C" fn tpmsim_execute(
     alloc: Global,
     holder: &mut Holder,
     buffer: &[u8],
@@ -95,7 +98,8 @@ pub fn execute(
 }
 
 /// Takes power away and gives it back. NO_DEVICE: the holder has no device.
-pub fn power_cycle(alloc: Global, holder: &mut Holder) -> u8
+#[unsafe(no_mangle)]
+pub extern "C" fn tpmsim_power_cycle(alloc: Global, holder: &mut Holder) -> u8
     ensures executes { MatchOption holder.old.device (holder.new.device ≡ None) (λ before.
         (after : Device) × (holder.new.device ≡ Some after)
         × Executes false (record_of before) Cycled (cycle_seen after)
@@ -112,7 +116,8 @@ pub fn power_cycle(alloc: Global, holder: &mut Holder) -> u8
 
 /// Writes the image of the device to the front of a room. Gives how many bytes the image has, or 0
 /// where there is no device. Nothing is written to a smaller room.
-pub fn save(alloc: Global, holder: &mut Holder, room: &mut [u8]) -> usize
+#[unsafe(no_mangle)]
+pub extern "C" fn tpmsim_save(alloc: Global, holder: &mut Holder, room: &mut [u8]) -> usize
     ensures saved { MatchOption holder.old.device ((result ≡ 0) × (room.new ≡ room.old))
         (λ device. PutsFront (image_text Two (kept_of (record_of device))) room.old result
         room.new) }
@@ -128,7 +133,8 @@ pub fn save(alloc: Global, holder: &mut Holder, room: &mut [u8]) -> usize
 
 /// Writes what the device keeps without power, but for its clock, to the front of a room, if that
 /// fits. Gives how many bytes it has, written or not; 0 where there is no device.
-pub fn kept(alloc: Global, holder: &mut Holder, room: &mut [u8]) -> usize
+#[unsafe(no_mangle)]
+pub extern "C" fn tpmsim_kept(alloc: Global, holder: &mut Holder, room: &mut [u8]) -> usize
     ensures told { MatchOption holder.old.device ((result ≡ 0) × (room.new ≡ room.old))
         (λ device. PutsFront (kept_text (record_of device)) room.old result room.new) }
     ensures kept { holder.new.device ≡ holder.old.device }
@@ -143,7 +149,8 @@ pub fn kept(alloc: Global, holder: &mut Holder, room: &mut [u8]) -> usize
 
 /// Opens a device from its image, as after a power cycle, in place of the holder's own. Otherwise
 /// the number is that of the first fault, or NO_MEMORY, and the holder is as it was.
-pub fn open(alloc: Global, holder: &mut Holder, image: &[u8]) -> u8
+#[unsafe(no_mangle)]
+pub extern "C" fn tpmsim_open(alloc: Global, holder: &mut Holder, image: &[u8]) -> u8
     ensures opens { (opened : Result Device Fault) × Opens record_of true image.now opened
         × Tells opened holder.old.device holder.new.device result }
     ensures history { result ≡ done → (version : Version) (r : Record) (history : History)
@@ -161,7 +168,8 @@ pub fn open(alloc: Global, holder: &mut Holder, image: &[u8]) -> u8
 }
 
 /// Frees the device, if there is one, and leaves the holder with none.
-pub fn free(alloc: Global, holder: &mut Holder)
+#[unsafe(no_mangle)]
+pub extern "C" fn tpmsim_free(alloc: Global, holder: &mut Holder)
     ensures { holder.new.device ≡ None }
 {
     let _before = holder.take(alloc);

@@ -1,4 +1,4 @@
-//! The calls on the journal of a device, as C has them.
+//! The exports on the journal of a device.
 
 ghost use Rattle.std.specs.Prelude.{◌≡◌, ◌≢◌, ◌<◌, ◌==◌, drop, false, length, not};
 ghost use Rattle.std.specs.Option.{MatchOption};
@@ -25,7 +25,13 @@ use tpm_types::Locality;
 /// Cycles the power of the device, and writes the head of its new journal to the front of a room.
 /// Gives how many bytes the head has, or 0 where there is no device. Nothing is done where the room
 /// is smaller.
-pub fn begin(alloc: Global, holder: &mut Holder, now_ms: u64, room: &mut [u8]) -> usize
+#[unsafe(no_mangle)]
+pub extern "C" fn tpmsim_journal_begin(
+    alloc: Global,
+    holder: &mut Holder,
+    now_ms: u64,
+    room: &mut [u8],
+) -> usize
     ensures head { MatchOption holder.old.device ((result ≡ 0) × (room.new ≡ room.old))
         (λ before. PutsFront (head_text now_ms (image_at_power before)) room.old result room.new) }
     ensures begins { MatchOption holder.old.device (holder.new.device ≡ None) (λ before.
@@ -43,7 +49,13 @@ pub fn begin(alloc: Global, holder: &mut Holder, now_ms: u64, room: &mut [u8]) -
 /// Opens the device of a journal, in place of the holder's own, and says how many bytes of the text
 /// are the head and entries. Otherwise the number is that of the first fault, or NO_MEMORY, and the
 /// holder is as it was.
-pub fn open(alloc: Global, holder: &mut Holder, text: &[u8], taken: &mut usize) -> u8
+#[unsafe(no_mangle)]
+pub extern "C" fn tpmsim_journal_open(
+    alloc: Global,
+    holder: &mut Holder,
+    text: &[u8],
+    taken: &mut usize,
+) -> u8
     ensures opens { result ≡ done → (device : Device) × (holder.new.device ≡ Some device)
         × IsOfJournal text.now taken.new device }
     ensures refused { result ≢ done
@@ -63,7 +75,13 @@ pub fn open(alloc: Global, holder: &mut Holder, text: &[u8], taken: &mut usize) 
 
 /// Executes the entries of a text that follows what the device executed, and says how many bytes of
 /// the text they are. NO_DEVICE: the holder has no device, and nothing is done.
-pub fn follow(alloc: Global, holder: &mut Holder, text: &[u8], taken: &mut usize) -> u8
+#[unsafe(no_mangle)]
+pub extern "C" fn tpmsim_journal_follow(
+    alloc: Global,
+    holder: &mut Holder,
+    text: &[u8],
+    taken: &mut usize,
+) -> u8
     ensures follows { MatchOption holder.old.device
         ((result ≡ no_device) × (holder.new.device ≡ None) × (taken.new ≡ taken.old))
         (λ before. (after : Device) × (fault : Option FollowFault)
@@ -84,7 +102,8 @@ pub fn follow(alloc: Global, holder: &mut Holder, text: &[u8], taken: &mut usize
 /// its entry to the front of another. Where `completes` is not 0, the completing layer completes
 /// what the device does. NO_LOCALITY: the locality is not 0 to 4. NO_DEVICE: the holder has no
 /// device. In both cases nothing is written.
-pub fn execute(
+#[unsafe(no_mangle)]
+pub extern "C" fn tpmsim_journal_execute(
     alloc: Global,
     holder: &mut Holder,
     buffer: &[u8],

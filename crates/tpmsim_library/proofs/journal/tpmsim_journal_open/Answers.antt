@@ -3,7 +3,7 @@ use Rattle.std.proofs.BoxSteps.Form.{D}
 use Rattle.std.specs.declared.option.Option.TheVariants.{Some}
 use Rattle.tpmsim_library.specs.Journal.{OpensDevice}
 use Rattle.tpmsim_library.proofs.Boxes.{boxes}
-use Rattle.tpmsim_library.proofs.journal.open.Goals as goal
+use Rattle.tpmsim_library.proofs.journal.tpmsim_journal_open.Goals as goal
 
 -- the device that is put into the holder is the one of the journal
 pub returns-in-Some-Ok-clause-opens : goal.returns-in-Some-Ok-clause-opens

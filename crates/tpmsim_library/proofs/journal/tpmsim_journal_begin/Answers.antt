@@ -1,6 +1,6 @@
 use Rattle.std.proofs.Common.{sym, ap, ◌∙◌, ◌≡◌}
 use Rattle.std.specs.declared.option.Option.TheVariants.{Some}
-use Rattle.tpmsim_library.proofs.journal.begin.Goals as goal
+use Rattle.tpmsim_library.proofs.journal.tpmsim_journal_begin.Goals as goal
 
 -- the device that is put back is the one that was taken, with its journal begun where there was
 -- room

@@ -2,7 +2,7 @@ use Rattle.std.proofs.Common.{sym, ap, subst, ◌∙◌, ◌≡◌, not}
 use Rattle.std.specs.Prelude.{◌==◌}
 use Rattle.std.specs.declared.option.Option.TheVariants.{Some}
 use Rattle.tpmsim_library.specs.Journal.{Records, command_by}
-use Rattle.tpmsim_library.proofs.journal.execute.Goals as goal
+use Rattle.tpmsim_library.proofs.journal.tpmsim_journal_execute.Goals as goal
 
 -- the command comes from the locality of this number
 pub returns-clause-records : goal.returns-clause-records

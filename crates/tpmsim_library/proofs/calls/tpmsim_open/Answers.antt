@@ -3,7 +3,7 @@ use Rattle.std.proofs.BoxSteps.Form.{D}
 use Rattle.tpmsim_library.specs.State.{record_of}
 use Rattle.tpmsim_library.proofs.Boxes.{boxes}
 use Rattle.tpmsim_library.proofs.Opening.{fault_alike}
-use Rattle.tpmsim_library.proofs.calls.open.Goals as goal
+use Rattle.tpmsim_library.proofs.calls.tpmsim_open.Goals as goal
 
 pub returns-in-Ok-clause-opens : goal.returns-in-Ok-clause-opens
 returns-in-Ok-clause-opens c = (Ok c.in-Ok.device.value, c.in-Ok.ensures.exact, (refl, c.put.ensures))
