@@ -1,12 +1,13 @@
 //! The command line in the words of clap: the program's subcommands, with their options and helps.
 
-ghost use Rattle.std.specs.Prelude.{◌≡◌, codes, false, IfOk, IsOkAnd};
+ghost use Rattle.std.specs.Prelude.{◌≡◌, ◌∷◌, [], codes, false, IfOk, IsOkAnd};
 ghost use Rattle.clap.specs.Words.{AddsSubcommand, app_of, new_app, rule_of, shape_of};
 ghost use Rattle.tpmsim_arguments.specs.CommandLine.{asm_command, bare_program, check_command};
 ghost use Rattle.tpmsim_arguments.specs.CommandLine.{choice, code_command, flag, line_command};
 ghost use Rattle.tpmsim_arguments.specs.CommandLine.{lines_command, operand, optional_operand};
 ghost use Rattle.tpmsim_arguments.specs.CommandLine.{power_command, program, run_command};
 ghost use Rattle.tpmsim_arguments.specs.CommandLine.{script_command, serve_command, setting};
+ghost use Rattle.tpmsim_arguments.specs.CommandLine.{with_arguments};
 
 use clap::{Arg, ArgAction, Command};
 use std::alloc::{AllocError, Global};
@@ -130,74 +131,112 @@ fn choice<'a>(alloc: Global, name: &'a str, value: &'a str, help: &'a str) -> Ar
         .help(help)
 }
 
+/// A command that has one argument.
+fn one_argument_command<'a>(
+    alloc: Global,
+    name: &'a str,
+    about: &'a str,
+    example: &'a str,
+    argument: Arg<'a>,
+) -> Result<Command<'a>, AllocError>
+    requires local { argument.global ≡ false }
+    ensures { IfOk result (λ command.
+        shape_of command ≡ with_arguments name.entry.now (rule_of argument.entry ∷ [])) }
+{
+    Command::new(alloc, name)
+        .about(about)
+        .after_help(example)
+        .arg(argument)
+}
+
 fn check_command<'a>(alloc: Global) -> Result<Command<'a>, AllocError>
     ensures { IfOk result (λ command. shape_of command ≡ check_command) }
 {
-    Command::new(alloc, "check")
-        .about("Reads a script without running it, and prints what is wrong with each bad line")
-        .after_help("Example: tpmsim check examples/measured_boot.tpm")
-        .arg(operand(
-            alloc,
-            "script",
-            "SCRIPT",
-            "The file of the script, or - for standard input",
-        ))
+    let argument = operand(
+        alloc,
+        "script",
+        "SCRIPT",
+        "The file of the script, or - for standard input",
+    );
+    one_argument_command(
+        alloc,
+        "check",
+        "Reads a script without running it, and prints what is wrong with each bad line",
+        "Example: tpmsim check examples/measured_boot.tpm",
+        argument,
+    )
 }
 
 fn asm_command<'a>(alloc: Global) -> Result<Command<'a>, AllocError>
     ensures { IfOk result (λ command. shape_of command ≡ asm_command) }
 {
-    Command::new(alloc, "asm")
-        .about("Prints the buffer of a command in hex")
-        .after_help("Example: tpmsim asm 'PCR_Read sha256:0,4'")
-        .arg(operand(
-            alloc,
-            "line",
-            "LINE",
-            "The command in words, as it stands behind `do ` in a script",
-        ))
+    let argument = operand(
+        alloc,
+        "line",
+        "LINE",
+        "The command in words, as it stands behind `do ` in a script",
+    );
+    one_argument_command(
+        alloc,
+        "asm",
+        "Prints the buffer of a command in hex",
+        "Example: tpmsim asm 'PCR_Read sha256:0,4'",
+        argument,
+    )
 }
 
 fn line_command<'a>(alloc: Global) -> Result<Command<'a>, AllocError>
     ensures { IfOk result (λ command. shape_of command ≡ line_command) }
 {
-    Command::new(alloc, "line")
-        .about("Prints the line in words that spells the buffer of a command")
-        .after_help("Example: tpmsim line 80010000000c0000017b0020")
-        .arg(operand(
-            alloc,
-            "hex",
-            "HEX",
-            "The buffer of the command in hex, as it stands behind `cmd ` in a script",
-        ))
+    let argument = operand(
+        alloc,
+        "hex",
+        "HEX",
+        "The buffer of the command in hex, as it stands behind `cmd ` in a script",
+    );
+    one_argument_command(
+        alloc,
+        "line",
+        "Prints the line in words that spells the buffer of a command",
+        "Example: tpmsim line 80010000000c0000017b0020",
+        argument,
+    )
 }
 
 fn lines_command<'a>(alloc: Global) -> Result<Command<'a>, AllocError>
     ensures { IfOk result (λ command. shape_of command ≡ lines_command) }
 {
-    Command::new(alloc, "lines")
-        .about("Prints how a command is said in words, and an example of it")
-        .after_help("Example: tpmsim lines NV_Write")
-        .arg(optional_operand(
-            alloc,
-            "name",
-            "NAME",
-            "The command, by the standard's name without TPM2_; all commands without this",
-        ))
+    let argument = optional_operand(
+        alloc,
+        "name",
+        "NAME",
+        "The command, by the standard's name without TPM2_; all commands without this",
+    );
+    one_argument_command(
+        alloc,
+        "lines",
+        "Prints how a command is said in words, and an example of it",
+        "Example: tpmsim lines NV_Write",
+        argument,
+    )
 }
 
 fn code_command<'a>(alloc: Global) -> Result<Command<'a>, AllocError>
     ensures { IfOk result (λ command. shape_of command ≡ code_command) }
 {
-    Command::new(alloc, "code")
-        .about("Prints the name of a response code, and the place of the fault that it tells of")
-        .after_help("Example: tpmsim code 98e")
-        .arg(operand(
-            alloc,
-            "number",
-            "HEX",
-            "The response code in hex, of at most eight digits",
-        ))
+    let argument = operand(
+        alloc,
+        "number",
+        "HEX",
+        "The response code in hex, of at most eight digits",
+    );
+    one_argument_command(
+        alloc,
+        "code",
+        "Prints the name of a response code, and the place of the fault that it tells of",
+        "Example: tpmsim code 98e",
+        argument,
+    )
 }
 
 /// The command `serve`, with its help around its options, and without the options.
@@ -263,17 +302,25 @@ fn setting<'a>(alloc: Global, name: &'a str, value: &'a str, help: &'a str) -> A
 fn power_command<'a>(alloc: Global) -> Result<Command<'a>, AllocError>
     ensures { IfOk result (λ command. shape_of command ≡ power_command) }
 {
-    Command::new(alloc, "power")
-        .about("Cycles the power of a device whose state is in a folder")
-        .after_help("Example: tpmsim power tpm")
-        .arg(operand(alloc, "state", "DIR", "The folder of the device's state"))
+    let argument = operand(alloc, "state", "DIR", "The folder of the device's state");
+    one_argument_command(
+        alloc,
+        "power",
+        "Cycles the power of a device whose state is in a folder",
+        "Example: tpmsim power tpm",
+        argument,
+    )
 }
 
 fn script_command<'a>(alloc: Global) -> Result<Command<'a>, AllocError>
     ensures { IfOk result (λ command. shape_of command ≡ script_command) }
 {
-    Command::new(alloc, "script")
-        .about("Prints what happened to a device since its power came on, as a script")
-        .after_help("Example: tpmsim script tpm")
-        .arg(operand(alloc, "state", "DIR", "The folder of the device's state"))
+    let argument = operand(alloc, "state", "DIR", "The folder of the device's state");
+    one_argument_command(
+        alloc,
+        "script",
+        "Prints what happened to a device since its power came on, as a script",
+        "Example: tpmsim script tpm",
+        argument,
+    )
 }

@@ -111,12 +111,12 @@ impl Player {
         requires { length line.now ≤ 65536 }
     {
         match Line::parse(line)? {
-            Line::Command(digits) => self.execute(kept, room.decode(digits)?, writer)?,
-            Line::Words(words) => self.execute(kept, room.assemble(words)?, writer)?,
+            Line::Command(digits) => return self.execute(kept, room.decode(digits)?, writer),
+            Line::Words(words) => return self.execute(kept, room.assemble(words)?, writer),
+            Line::PowerCycle => return self.cycle_power(kept, writer),
             Line::Locality(locality) => self.script.set_locality(locality),
             Line::Wait(milliseconds) => self.script.wait(milliseconds)?,
             Line::Entropy(digits) => self.script.set_entropy(room.decode(digits)?)?,
-            Line::PowerCycle => self.cycle_power(kept, writer)?,
             Line::Nothing => {}
         }
         Ok(())
