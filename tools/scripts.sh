@@ -89,10 +89,10 @@ is_test() {
     esac
 }
 
-part=
+asked=
 case ${1:-} in
 --shipped | --built)
-    part=${1#--}
+    asked=${1#--}
     shift
     ;;
 esac
@@ -126,10 +126,10 @@ shipped_is_of_sources() (
     cd "$top" && . tools/lib/proved.sh && is_proved sources "$(sources_checksum)"
 )
 
-# is_of_part PROGRAM: whether it is one of those that are asked for. A program that was built here is
+# is_asked PROGRAM: whether it is one of those that are asked for. A program that was built here is
 # played as the one in dist/, where it has the same bytes and that is of the sources.
-is_of_part() {
-    case $part,$1 in
+is_asked() {
+    case $asked,$1 in
     shipped,"$top/dist/tpmsim" | ,*) true ;;
     built,"$out/"*) ! cmp -s "$top/dist/tpmsim" "$1" || ! shipped_is_of_sources ;;
     *) false ;;
@@ -143,7 +143,7 @@ missing() {
 
 programs=0
 for program in "$out/tpmsim" "$out/tpmsim.by-rattle" "$top/dist/tpmsim"; do
-    is_of_part "$program" || continue
+    is_asked "$program" || continue
     if [ ! -x "$program" ]; then
         missing "$program"
         continue
@@ -152,7 +152,7 @@ for program in "$out/tpmsim" "$out/tpmsim.by-rattle" "$top/dist/tpmsim"; do
         say 'dist/tpmsim is not run: it was proved of other sources than these'
         continue
     fi
-    if [ -z "$part" ] && [ "$program" = "$top/dist/tpmsim" ] && cmp -s "$out/tpmsim" "$program"; then
+    if [ -z "$asked" ] && [ "$program" = "$top/dist/tpmsim" ] && cmp -s "$out/tpmsim" "$program"; then
         say 'dist/tpmsim has the bytes of the program that was built here'
         continue
     fi
@@ -177,7 +177,7 @@ ends_well() {
 
 [ -x "$lists" ] || missing "$lists"
 for test do
-    [ "$part" != shipped ] || continue
+    [ "$asked" != shipped ] || continue
     case $test in
     */lists_*.sh)
         if [ -x "$lists" ]; then
@@ -207,7 +207,9 @@ missing_library() {
 
 why=$(missing_library)
 for test do
-    [ "$part" != built ] && is_of_library "$test" || continue
+    if [ "$asked" = built ] || ! is_of_library "$test"; then
+        continue
+    fi
     if [ -z "$why" ]; then
         check "$test" "$library" "${test%.*}.out"
     else
@@ -242,7 +244,7 @@ count() {
     find "$work/told" -type f -exec cat {} + | grep -c "^$1: "
 }
 
-[ "$part" = shipped ] || [ -x "$out/tpmsim" ] ||
+[ "$asked" = shipped ] || [ -x "$out/tpmsim" ] ||
     echo 'No proof was run: nothing was proved and built here.'
 failed=$(count FAILED)
 skipped=$(count skipped)
