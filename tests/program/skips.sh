@@ -78,11 +78,13 @@ without nm starved torn torn_scripts lists_starved
 without python3 serve images line
 without unshare serve_full_disk
 
-# The gate. Its stand-ins end well, and tools/scripts.sh says what it is told.
+# The gate. Its stand-ins end well, and tools/scripts.sh says what it is told, of the shipped program and
+# of those that were built.
 mkdir "$room/stubs"
 printf '#!/bin/sh\necho 3 passed, 0 failed\n' >"$room/stubs/rt"
 # shellcheck disable=SC2016 # the stand-in expands them
-printf '#!/bin/sh\necho "$SAID"; exit "$STATUS"\n' >"$copy/tools/scripts.sh"
+printf '#!/bin/sh\n[ "$1" = --built ] || { echo "$SHIPPED"; exit; }; echo "$SAID"; exit "$STATUS"\n' \
+    >"$copy/tools/scripts.sh"
 mkdir "$copy/tools/soak"
 for stub in dist soak/fuzz soak/histories soak/audits; do
     printf '#!/bin/sh\n' >"$copy/tools/$stub.sh"
@@ -94,11 +96,13 @@ for crate in tpmsim tpmsim_lists; do
 done
 chmod +x "$room/stubs/rt" "$copy"/tools/*.sh "$copy"/tools/soak/*.sh
 
-# gate LABEL SAID STATUS: what the gate says of failures, where tools/scripts.sh says and ends so.
+# gate LABEL SAID STATUS [SHIPPED]: what the gate says of failures, where tools/scripts.sh says and ends
+# so of the programs that were built, and says this of the shipped one.
 gate() {
     echo "$1:"
     status=0
-    SAID=$2 STATUS=$3 "$copy/.ci/run" >"$room/output" 2>&1 || status=$?
+    SAID=$2 STATUS=$3 SHIPPED=${4:-7 passed, 0 failed} "$copy/.ci/run" >"$room/output" 2>&1 ||
+        status=$?
     sed -n '/^FAILED/p; /^there is no/p; $s/^[0-9]* passed/N passed/p' "$room/output" |
         sed 's/^/    /'
     echo "    status $status"
@@ -117,5 +121,11 @@ gate 'one failed, and two were skipped' '9 passed, 1 failed, 2 skipped' 1
 gate 'none was skipped, in these words' '9 passed, 0 failed, 0 skipped' 0
 gate 'no count' 'all is well' 0
 gate 'another status' '9 passed, 0 failed' 1
+gate 'one of the shipped program failed' '9 passed, 0 failed' 0 '6 passed, 1 failed'
+gate 'two of the shipped program were skipped' '9 passed, 0 failed' 0 '5 passed, 0 failed, 2 skipped'
+gate 'no count of the shipped program' '9 passed, 0 failed' 0 'all is well'
+printf '#!/bin/sh\nexit 1\n' >"$copy/tools/soak/histories.sh"
+gate 'a history that differs' '9 passed, 0 failed' 0
+printf '#!/bin/sh\n' >"$copy/tools/soak/histories.sh"
 rm "$room/path/cc"
 gate 'without cc' '9 passed, 0 failed, 5 skipped' 0
