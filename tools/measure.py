@@ -108,6 +108,12 @@ def machine() -> str:
     return f"{len(os.sched_getaffinity(0))} x {name}"
 
 
+def stolen() -> float:
+    """The processor minutes that the host of a virtual machine has given to others since it began."""
+    fields = Path("/proc/stat").read_text().split("\n", 1)[0].split()
+    return int(fields[8]) / TICKS / 60
+
+
 def figures(lines: list[str], minutes: float, uses: dict[Process, Use]) -> dict[str, object]:
     """What is said of a run of the gate: minutes of the clock and processor minutes."""
     seconds: defaultdict[tuple[str, str], float] = defaultdict(float)
@@ -148,8 +154,9 @@ def main(words: list[str]) -> int:
     kept: dict[tuple[str, ...], tuple[str, list[str]]]
     kept = {(): ("gate", ["sh", ".ci/run"]), ("--proofs",): ("proofs", ["sh", "tools/lib/rt_ci.sh"])}
     key, command = kept.get(tuple(words), ("", words))
+    stolen_before = stolen()
     lines, status, minutes, uses = run(command)
-    told = figures(lines, minutes, uses)
+    told = {**figures(lines, minutes, uses), "stolen_processor_minutes": round(stolen() - stolen_before, 1)}
     number = len(os.sched_getaffinity(0))
     if key:
         write(key if number == os.cpu_count() else f"{key}_on_{number}_processors", told)

@@ -127,5 +127,8 @@ gate 'no count of the shipped program' '9 passed, 0 failed' 0 'all is well'
 printf '#!/bin/sh\nexit 1\n' >"$copy/tools/soak/histories.sh"
 gate 'a history that differs' '9 passed, 0 failed' 0
 printf '#!/bin/sh\n' >"$copy/tools/soak/histories.sh"
+printf '#!/bin/sh\nexit 1\n' >"$copy/tools/soak/audits.sh"
+gate 'logs of both programs that do not agree' '9 passed, 0 failed' 0
+printf '#!/bin/sh\n' >"$copy/tools/soak/audits.sh"
 rm "$room/path/cc"
 gate 'without cc' '9 passed, 0 failed, 5 skipped' 0

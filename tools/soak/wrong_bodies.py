@@ -566,6 +566,8 @@ def tried(folder: pathlib.Path, names: list[str], jobs: int) -> int:
 def main() -> int:
     words = parsed()
     jobs = int(os.environ.get("JOBS") or os.cpu_count() or 1)
+    # A check keeps the memory that it took, as those of tools/lib/rt_ci.sh do.
+    os.environ.setdefault("MIMALLOC_PURGE_DELAY", "-1")
     names = words.crates or [name for name in uses() if edits_of(name)]
     with tempfile.TemporaryDirectory() as folder, files_in_memory(jobs):
         refused = tried(pathlib.Path(folder), names, jobs)
