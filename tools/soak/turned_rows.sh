@@ -1,8 +1,8 @@
 #!/bin/sh
 # Tries the patches under wrong/turned: each turns the code of a command and the definition of its
 # row together, and the proofs that spell the row. So the device does something wrong, and all crates
-# below the histories are proved of it; but what its history tells is something else, so a law of
-# tpm_history, or of another crate of laws, has to fail. They are run whole before a piece of work is
+# below tpm_step are proved of it; but what its history tells is something else, so a law of tpm_step,
+# or of another crate of laws, has to fail. They are run whole before a piece of work is
 # called done. Those that name different laws of one crate are tried in one copy of that crate and of
 # those below it, which `rt ci` proves: from nothing, where the kit keeps nothing. Needs rt, and git.
 #
@@ -11,7 +11,7 @@
 #
 # A patch begins with what the device does then, and with a line, or two:
 #
-#   law: FILE NAME       what has to be refused, in crates/tpm_history/proofs/FILE.antt
+#   law: FILE NAME       what has to be refused, in crates/tpm_step/proofs/FILE.antt
 #   crate: CRATE         or in crates/CRATE/proofs/FILE.antt
 #
 # The last line is `N of M turned rows refused`, and the status is 0 where all are.
@@ -43,7 +43,7 @@ patch_of() {
 # crate_of NAME: the crate of the law that a patch names.
 crate_of() {
     crate=$(said crate "$(patch_of "$1")")
-    echo "${crate:-tpm_history}"
+    echo "${crate:-tpm_step}"
 }
 
 # turn NAME..: makes a copy of the crate of their laws and of those below it, without wrong bodies, and

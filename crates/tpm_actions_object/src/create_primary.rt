@@ -1,21 +1,26 @@
 //! TPM2_CreatePrimary: derives an object from the seed of a hierarchy and loads it, by its row in
 //! `specs/CreatePrimary`.
 
-ghost use Rattle.std.specs.Prelude.{◌≡◌};
+ghost use Rattle.std.specs.Prelude.{◌≡◌, ◌++◌, []};
+ghost use Rattle.tpm_bytes.specs.Writing.{sized_text};
+ghost use Rattle.tpm_name.specs.ObjectName.{object_name};
+ghost use Rattle.tpm_types.specs.Locality.{locality_number};
+ghost use Rattle.tpm_types_object.specs.Public.{public_text};
 ghost use Rattle.tpm_record.specs.rows.Answer.{IsEmpty};
 ghost use Rattle.tpm_record.specs.rows.Request.{request_of};
 ghost use Rattle.tpm_record.specs.rows.Rows.{ActsIfRoom};
 ghost use Rattle.tpm_actions_object.specs.CreatePrimary.{create_primary_row, named_hierarchy};
+ghost use Rattle.tpm_actions_object.specs.Creation.{creation_rest, hierarchy_parent, parameters_of};
 
 use crate::checks::{given_passes, public_passes};
-use crate::creation::{Parent, put_creation, read_parameters};
+use crate::creation::{CreationParameters, Parent, put_creation, read_parameters};
 use crate::loaded::load_object;
-use tpm_object::derive_primary;
+use tpm_object::{Object, derive_primary};
 use tpm_record::Keep;
-use tpm_record::rows::answer::Answer;
+use tpm_record::rows::answer::{Answer, Parameters};
 use tpm_record::rows::call::Call;
 use tpm_record::rows::refusals::handle_refusal;
-use tpm_types::{ActionCheck, Handle, HierarchyHandle, Refused};
+use tpm_types::{ActionCheck, Handle, HierarchyHandle, Locality, Refused};
 
 fn named_hierarchy(handle: Handle) -> Result<HierarchyHandle, Refused>
     ensures { result ≡ named_hierarchy handle }
@@ -24,6 +29,28 @@ fn named_hierarchy(handle: Handle) -> Result<HierarchyHandle, Refused>
         Some(hierarchy) => Ok(hierarchy),
         None => Err(handle_refusal()),
     }
+}
+
+/// Writes what is answered: what there is to say of the creation of an object below a hierarchy, and
+/// the object's Name.
+fn put_primary<K: Keep>(
+    keep: &K,
+    locality: Locality,
+    hierarchy: HierarchyHandle,
+    asked: CreationParameters,
+    object: &Object,
+    text: &mut Parameters,
+)
+    requires { text.old ≡ [] }
+    ensures { text.new ≡ sized_text (public_text object.now.public)
+        ++ (creation_rest (K.record_of keep.now) (locality_number locality)
+        (hierarchy_parent hierarchy) (parameters_of asked.entry) object.now.public
+        ++ sized_text (object_name object.now.public)) }
+{
+    let name = object.name();
+    let parent = Parent::of_hierarchy(hierarchy);
+    put_creation(keep, locality, &parent, asked, &object.public, &name, text);
+    text.append_sized(name.as_slice());
 }
 
 /// TPM2_CreatePrimary: derives an object from the seed of a hierarchy, and loads it.
@@ -44,19 +71,8 @@ pub fn create_primary<K: Keep>(
     given_passes(3, &asked.given, &asked.template)?;
     let seed = keep.fixed().hierarchies.secrets(hierarchy).seed;
     let object = derive_primary(hierarchy, &seed, &asked.template, &asked.given);
-    let name = object.name();
-    let parent = Parent::of_hierarchy(hierarchy);
     let text = &mut answer.parameters;
-    put_creation(
-        keep,
-        call.locality,
-        &parent,
-        asked,
-        &object.public,
-        &name,
-        text,
-    );
-    answer.parameters.append_sized(name.as_slice());
+    put_primary(keep, call.locality, hierarchy, asked, &object, text);
     answer.handle = Some(load_object(keep, object, ActionCheck::Seventh)?);
     Ok(())
 }

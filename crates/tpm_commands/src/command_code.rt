@@ -163,22 +163,32 @@ const COMPARED: &[ParameterKind] = &[Buffer(32), U16, Operation];
 /// authHash.
 const START: &[ParameterKind] = &[Buffer(32), Buffer(32), SessionType, Symmetric, Hash];
 
+/// Whether a fact is one of those that are named.
+macro_rules! holds {
+    (sized_answer: sized_answer $($rest:ident)*) => { true };
+    (answers_handle: answers_handle $($rest:ident)*) => { true };
+    (forbids_sessions: forbids_sessions $($rest:ident)*) => { true };
+    (grows: grows $($rest:ident)*) => { true };
+    (reads_nv: reads_nv $($rest:ident)*) => { true };
+    (keeps_shutdown: keeps_shutdown $($rest:ident)*) => { true };
+    ($fact:ident: $other:ident $($rest:ident)*) => { holds!($fact: $($rest)*) };
+    ($fact:ident:) => { false };
+}
+
 /// A shape with these handles and parameters, of which only the named facts hold.
 macro_rules! shape {
-    ([$($handle:expr),*], $parameters:expr $(, $fact:ident)*) => {{
-        let mut shape = Shape {
+    ([$($handle:expr),*], $parameters:expr $(, $fact:ident)*) => {
+        Shape {
             handles: &[$($handle),*],
             parameters: $parameters,
-            sized_answer: false,
-            answers_handle: false,
-            forbids_sessions: false,
-            grows: false,
-            reads_nv: false,
-            keeps_shutdown: false,
-        };
-        $(shape.$fact = true;)*
-        shape
-    }};
+            sized_answer: holds!(sized_answer: $($fact)*),
+            answers_handle: holds!(answers_handle: $($fact)*),
+            forbids_sessions: holds!(forbids_sessions: $($fact)*),
+            grows: holds!(grows: $($fact)*),
+            reads_nv: holds!(reads_nv: $($fact)*),
+            keeps_shutdown: holds!(keeps_shutdown: $($fact)*),
+        }
+    };
 }
 
 /// One column of the lines of `facts!`: all commands, the number, the name or the shape of a

@@ -7,16 +7,16 @@ use Rattle.tpm_step.specs.Execution.{Executes}
 use Rattle.tpm_step.specs.Run.{Runs}
 use Rattle.tpm_step.specs.Step.{Stepped}
 use Rattle.tpm_step.specs.declared.event.Outcome.{Outcome}
-use Rattle.tpm_history.specs.DeviceAuthValues.{HasAuthValues}
-use Rattle.tpm_history.specs.DeviceCounters.{HasCounters}
-use Rattle.tpm_history.specs.DevicePcrs.{HasPcrs}
-use Rattle.tpm_history.specs.DeviceSessions.{HasSessions}
-use Rattle.tpm_history.specs.Follows.{After, Follows, RunFollows}
-use Rattle.tpm_history.specs.Grounds.{AllHaveGrounds}
-use Rattle.tpm_history.specs.History.{History}
-use Rattle.tpm_history.specs.PolicyUses.{AllMeetPolicies}
-use Rattle.tpm_history.specs.Replays.{ReplaysRepeat}
-use Rattle.tpm_history.proofs.Following.{execution_follows, manufactured_follows, run_follows}
+use Rattle.tpm_step.specs.DeviceAuthValues.{HasAuthValues}
+use Rattle.tpm_step.specs.DeviceCounters.{HasCounters}
+use Rattle.tpm_step.specs.DevicePcrs.{HasPcrs}
+use Rattle.tpm_step.specs.DeviceSessions.{HasSessions}
+use Rattle.tpm_step.specs.Follows.{After, Follows, RunFollows}
+use Rattle.tpm_step.specs.Grounds.{AllHaveGrounds}
+use Rattle.tpm_step.specs.History.{History}
+use Rattle.tpm_step.specs.PolicyUses.{AllMeetPolicies}
+use Rattle.tpm_step.specs.Replays.{ReplaysRepeat}
+use Rattle.tpm_step.proofs.Following.{execution_follows, manufactured_follows, run_follows}
 
 pub new_follows : (r : Record) (random : List ℕ) → r ≡ manufactured random → Follows r []
 new_follows r random is = subst (λ (x : Record). Follows x []) (sym is) (manufactured_follows random)

@@ -5,7 +5,7 @@ use Rattle.tpm_step.specs.Events.{PlainEvent}
 use Rattle.tpm_step.specs.Execution.{Executes}
 use Rattle.tpm_step.specs.Step.{outcome_step}
 use Rattle.tpm_step.specs.declared.event.Outcome.{Outcome}
-use Rattle.tpm_history.specs.Executions.{Execution}
+use Rattle.tpm_step.specs.Executions.{Execution}
 use Rattle.tpm_machine.specs.Drawn.{drawn_by}
 
 -- An execution is the latest of a machine with this record: the event was executed with this

@@ -7,6 +7,6 @@ pub use Rattle.tpm_step.specs.Run
 pub use Rattle.tpm_step.specs.Safe
 pub use Rattle.tpm_record.specs.Record
 pub use Rattle.tpm_record.specs.IsRecord
-pub use Rattle.tpm_history.specs.Executions
-pub use Rattle.tpm_history.specs.Follows
-pub use Rattle.tpm_history.specs.History
+pub use Rattle.tpm_step.specs.Executions
+pub use Rattle.tpm_step.specs.Follows
+pub use Rattle.tpm_step.specs.History

@@ -8,7 +8,7 @@
 //! says what it makes of them; alike for witnesses.
 
 ghost use Rattle.std.specs.Prelude.{◌≡◌, Bool, OnErr, OnOk, false, true};
-ghost use Rattle.tpm_history.specs.Executions.{Execution};
+ghost use Rattle.tpm_step.specs.Executions.{Execution};
 ghost use Rattle.tpm_machine.specs.State.{latest_drawn, state_of};
 ghost use Rattle.tpm_record.specs.Record.{Record};
 ghost use Rattle.tpm_machine.specs.Latest.{IsLatest};

@@ -1,7 +1,7 @@
 //! The HMAC by which a session authenticates an entry of a command or of a response, and the text
 //! of that HMAC (TPM 2.0 Library, Part 1, section 19.6.5).
 
-ghost use Rattle.std.specs.Prelude.{◌≡◌, ◌≤◌, IsTrue, ◌↔◌, length};
+ghost use Rattle.std.specs.Prelude.{◌≡◌, ◌+◌, ◌≤◌, ◌++◌, IsTrue, ◌↔◌, length};
 ghost use Rattle.tpm_bytes.specs.Writing.{Puts};
 ghost use Rattle.tpm_mac.specs.Digest.{digest_size};
 ghost use Rattle.tpm_mac.specs.Hmac.{hmac_of};
@@ -74,6 +74,16 @@ pub fn entry_text<'a>(
     }
 }
 
+/// Writes three texts at the end, where there is room for them.
+fn append_three<const N: usize>(sink: &mut Sink<N>, first: &[u8], second: &[u8], third: &[u8])
+    requires { length sink.old + (length first.now + (length second.now + length third.now)) ≤ N }
+    ensures { sink.new ≡ sink.old ++ (first.now ++ (second.now ++ third.now)) }
+{
+    sink.append(first);
+    sink.append(second);
+    sink.append(third);
+}
+
 impl<'a> EntryText<'a> {
     /// Whether the text fits into room for this many bytes.
     fn fits(&self, room: usize) -> bool
@@ -92,12 +102,8 @@ impl<'a> EntryText<'a> {
         if !self.fits(N - sink.len()) {
             return Err(Full);
         }
-        sink.append(self.hash);
-        sink.append(self.newer);
-        sink.append(self.older);
-        sink.append(self.decrypt);
-        sink.append(self.encrypt);
-        sink.append(&[self.attributes.octet]);
+        append_three(sink, self.hash, self.newer, self.older);
+        append_three(sink, self.decrypt, self.encrypt, &[self.attributes.octet]);
         Ok(())
     }
 

@@ -13,7 +13,7 @@ use Rattle.tpm_types.specs.declared.rc.ResponseCode.TheVariants as code
 use Rattle.tpm_types.specs.declared.refused.Refused.{Refused}
 
 -- the refusal where a handle does not name what the general checks have found that it names, so
--- that no row acts. It does not occur (later_handle_laws of tpm_history)
+-- that no row acts. It does not occur (later_handle_laws of tpm_step)
 abbrev pub handle_refusal : Refused
 handle_refusal = refusal check.Handles (plain code.Failure)
 

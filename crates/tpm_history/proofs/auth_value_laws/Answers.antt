@@ -1,5 +1,0 @@
-use Rattle.tpm_history.proofs.DeviceAuthValues.{others_have_none}
-use Rattle.tpm_history.proofs.auth_value_laws.Goals as goal
-
-pub returns-clause-others : goal.returns-clause-others
-returns-clause-others c = others_have_none

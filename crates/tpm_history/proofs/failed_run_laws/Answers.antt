@@ -1,5 +1,0 @@
-use Rattle.tpm_history.proofs.FailedRun.{failed_run_is}
-use Rattle.tpm_history.proofs.failed_run_laws.Goals as goal
-
-pub returns : goal.returns
-returns c = failed_run_is

@@ -1,8 +1,0 @@
-use Rattle.tpm_history.proofs.FailedTries.{execution_tells, try_tells}
-use Rattle.tpm_history.proofs.failed_try_laws.Goals as goal
-
-pub returns-clause-exactly : goal.returns-clause-exactly
-returns-clause-exactly c = try_tells
-
-pub returns-clause-answered : goal.returns-clause-answered
-returns-clause-answered c = execution_tells

@@ -1,5 +1,0 @@
-use Rattle.tpm_history.proofs.FewTries.{reset_is, resets_so}
-use Rattle.tpm_history.proofs.reset_laws.Goals as goal
-
-pub returns : goal.returns
-returns c = λ one. (resets_so one, reset_is one)

@@ -1,5 +1,0 @@
-use Rattle.tpm_history.proofs.rows.SizedSteps.{answer_sized}
-use Rattle.tpm_history.proofs.rows.answer_size_laws.Goals as goal
-
-pub returns : goal.returns
-returns c = answer_sized

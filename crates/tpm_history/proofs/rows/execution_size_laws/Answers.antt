@@ -1,5 +1,0 @@
-use Rattle.tpm_history.proofs.rows.SizedSteps.{execution_sized}
-use Rattle.tpm_history.proofs.rows.execution_size_laws.Goals as goal
-
-pub returns : goal.returns
-returns c = execution_sized

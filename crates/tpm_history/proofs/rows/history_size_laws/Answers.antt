@@ -1,5 +1,0 @@
-use Rattle.tpm_history.proofs.rows.SizedSteps.{histories_sized}
-use Rattle.tpm_history.proofs.rows.history_size_laws.Goals as goal
-
-pub returns : goal.returns
-returns c = histories_sized

@@ -1,5 +1,0 @@
-use Rattle.tpm_history.proofs.rows.SizedSteps.{step_sized}
-use Rattle.tpm_history.proofs.rows.step_size_laws.Goals as goal
-
-pub returns : goal.returns
-returns c = step_sized

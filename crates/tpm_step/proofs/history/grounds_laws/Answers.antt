@@ -1,0 +1,5 @@
+use Rattle.tpm_step.proofs.Following.{grounds_manufactured}
+use Rattle.tpm_step.proofs.history.grounds_laws.Goals as goal
+
+pub returns : goal.returns
+returns c = grounds_manufactured

@@ -1,0 +1,5 @@
+use Rattle.tpm_step.proofs.RunReplays.{accepted_recorded}
+use Rattle.tpm_step.proofs.history.recorded_laws.Goals as goal
+
+pub returns : goal.returns
+returns c = accepted_recorded

@@ -1,0 +1,11 @@
+use Rattle.tpm_step.proofs.PowerCycles.{leads_on, leads_too, power_cycle_leads}
+use Rattle.tpm_step.proofs.history.stretch_laws.Goals as goal
+
+pub returns-clause-power_cycle : goal.returns-clause-power_cycle
+returns-clause-power_cycle c = power_cycle_leads
+
+pub returns-clause-joined : goal.returns-clause-joined
+returns-clause-joined c = leads_on
+
+pub returns-clause-wider : goal.returns-clause-wider
+returns-clause-wider c = leads_too

@@ -1,0 +1,62 @@
+-- The laws of a success, from the part of the state that it touches.
+use Rattle.std.proofs.Common.{◌≡◌, ◌≤◌, Ok, Result, ap, arith, false, rules, subst, sym, true, ℕ}
+use Rattle.tpm_types.specs.declared.refused.Refused.{Refused}
+use Rattle.tpm_commands.specs.declared.command_code.CommandCode.{CommandCode}
+use Rattle.tpm_containers.specs.Slots.{AreAll}
+use Rattle.tpm_record.specs.Record.{Record}
+use Rattle.tpm_record.specs.rows.Request.{Request}
+use Rattle.tpm_record.specs.rows.Rows.{Success}
+use Rattle.tpm_step.specs.rows.Draws.{DrawsAsSaid, read_or_none}
+use Rattle.tpm_step.specs.rows.Footprint.{Touches}
+use Rattle.tpm_commands.specs.CommandCode.{part_of}
+use Rattle.tpm_step.specs.rows.IndexChanges.{ChangesIndices}
+use Rattle.tpm_step.specs.rows.RowLaws.{SuccessLaws}
+use Rattle.tpm_step.specs.rows.Shapes.{AnswersItsShape, Grows, GrowsAsShaped}
+use Rattle.tpm_step.specs.rows.Sizes.{IsSized}
+use Rattle.tpm_step.proofs.Binding.{ok_bind}
+use Rattle.tpm_step.proofs.rows.Parts.{keeps_places, leaves_sessions, sessions_same}
+use Rattle.tpm_step.proofs.rows.Parts.{touched_grows, touched_same}
+
+-- A command grows as its shape says, if its successes take no place more, or one.
+abbrev pub GrowsNothing : CommandCode → Type 0
+GrowsNothing c = (old new : Record) → Grows false old new → GrowsAsShaped c old new
+
+abbrev pub GrowsByOne : CommandCode → Type 0
+GrowsByOne c = (old new : Record) → Grows true old new → GrowsAsShaped c old new
+
+-- the laws of a success that leaves the sessions alone
+pub beside_sessions : (c : CommandCode) (r : Record) (q : Request) (s : Success)
+    → leaves_sessions (part_of c) ≡ true → Touches (part_of c) r s.after → GrowsAsShaped c r s.after
+    → ChangesIndices (part_of c) q r.nv s.after.nv → AnswersItsShape c s → DrawsAsSaid c q s → SuccessLaws c r q s
+beside_sessions c r q s leaves touches grows changes answers draws = record {
+  touches = touches;
+  changes = changes;
+  grows = grows;
+  answers = answers;
+  draws = draws;
+  stays = λ may. sessions_same r s.after same;
+  sized = λ enough sized. subst (AreAll IsSized) (sym same) sized;
+}
+  where
+    same : s.after.sessions ≡ r.sessions
+    same = touched_same (part_of c) r s.after leaves touches
+
+-- the laws of a success whose part takes no place more
+pub in_place : (c : CommandCode) (r : Record) (q : Request) (s : Success)
+    → leaves_sessions (part_of c) ≡ true → keeps_places (part_of c) ≡ true → GrowsNothing c
+    → Touches (part_of c) r s.after → ChangesIndices (part_of c) q r.nv s.after.nv
+    → AnswersItsShape c s → DrawsAsSaid c q s → SuccessLaws c r q s
+in_place c r q s leaves keeps nothing touches changes answers draws =
+    beside_sessions c r q s leaves touches (nothing r s.after (touched_grows (part_of c) r s.after keeps touches)) changes answers draws
+
+-- a success that draws no random bytes draws no more than the limit
+pub none_drawn : 0 ≤ 96
+none_drawn = omega arith
+
+-- where a command draws what its parameters say, it draws as is said of it
+pub drawn_as_read : {P : Type 0} (count : P → ℕ) (x : Result P Refused) (p : P)
+    → x ≡ Ok p → count p ≡ read_or_none count x
+drawn_as_read count x p is = sym (ap (read_or_none count) is)
+
+-- the steps of a row whose part takes no place more
+pub ruleset in_place_steps = (rules, ok_bind, in_place, none_drawn)

@@ -1,0 +1,83 @@
+-- Which accepted command made an assertion of a policy session, and on what ground. TPM 2.0
+-- Library, Part 1, section 19.7 (enhanced authorization), and Part 3, sections 23.4
+-- (TPM2_PolicySecret) and 23.9 (TPM2_PolicyNV).
+use Rattle.std.specs.Prelude.{◌≡◌, ℕ, List, [], ◌∷◌, ◌++◌, Some, Ok, slice_get}
+use Rattle.tpm_policy.specs.Assertion as assertion
+use Rattle.tpm_policy.specs.Assertion.{Assertion, NvParts, SecretParts}
+use Rattle.tpm_types.specs.declared.handle.Handle.{Handle}
+use Rattle.tpm_types.specs.declared.operation.Operation.{Operation}
+use Rattle.tpm_types_command.specs.AuthEntry.{Entry}
+use Rattle.tpm_commands.specs.declared.command_code.CommandCode.TheVariants as command
+use Rattle.tpm_policy_meaning.specs.Asserted.{IsAmong}
+use Rattle.tpm_actions_policy.specs.Assertions.{session_handle}
+use Rattle.tpm_step.specs.EntryHmacs.{used_in}
+use Rattle.tpm_step.specs.Grounds.{Ground}
+use Rattle.tpm_step.specs.History.{AcceptedCommand, Done, History}
+use Rattle.tpm_step.specs.Policies.{assertion_by}
+use Rattle.tpm_step.specs.Sessions.{LiveSession, sessions_of}
+use Rattle.tpm_step.specs.View.{name_in}
+
+-- ---- the assertions of a session
+
+-- An assertion is among those of the session of a handle, after a history.
+abbrev pub Stands : Assertion → Handle → History → Type 0
+Stands one handle history =
+    (s : LiveSession) × (sessions_of history handle ≡ Some s) × IsAmong one s.assertions
+
+-- An assertion is among those of a session after each of these events too, the latest first. None
+-- of them starts, restarts, ends or uses that session: such an event leaves it no assertion.
+abbrev pub StandsThrough : Assertion → Handle → (events before : History) → Type 0
+StandsThrough one handle [] before = Unit {0}
+StandsThrough one handle (event ∷ events) before =
+    Stands one handle (event ∷ events ++ before) × StandsThrough one handle events before
+
+-- An accepted command made an assertion on the session of a handle, and the session has it since
+-- then.
+pub record IsAssertedBy (history : History) (handle : Handle) (one : Assertion) : Type 0 where
+  pub command : AcceptedCommand
+  pub before : History
+  pub since : History
+  pub past : history ≡ since ++ Done command ∷ before
+  pub session : LiveSession
+  pub lives : sessions_of before handle ≡ Some session
+  pub names : session_handle command.command.code command.request.handles ≡ Ok handle
+  pub asserts : assertion_by command.command.code command before session.hash session.nonce_tpm
+      ≡ Ok one
+  pub stands : StandsThrough one handle (since ++ Done command ∷ []) before
+
+-- The first handle of a command was authorized by the command's first entry, on this ground.
+pub record IsFirstAuthorized (history : History) (c : AcceptedCommand) : Type 0 where
+  pub handle : Handle
+  pub used : used_in c.command 0 ≡ Some handle
+  pub entry : Entry
+  pub given : slice_get c.command.entries 0 ≡ Some entry
+  pub ground : Ground history c 0 entry
+
+-- ---- TPM2_PolicySecret and TPM2_PolicyNV
+
+-- TPM2_PolicySecret was accepted for a policyRef and the entity of this Name, which was authorized,
+-- and the session of a handle has that assertion since then.
+pub record ShowsSecret (history : History) (handle : Handle) (name reference : List ℕ) : Type 0
+  where
+    pub parts : SecretParts
+    pub asserted : IsAssertedBy history handle (assertion.Secret parts)
+    pub is_secret : asserted.command.command.code ≡ command.PolicySecret
+    pub entity : name_in asserted.command.views 0 ≡ name
+    pub authorized : IsFirstAuthorized asserted.before asserted.command
+    pub for_reference : parts.reference ≡ reference
+
+-- TPM2_PolicyNV was accepted for the NV index of this Name, an operand, an offset and an operation:
+-- it is refused unless the comparison of the index, from the offset on, with the operand holds.
+-- What lets it read the index was authorized, and the session of a handle has that assertion since
+-- then.
+pub record ComparesIndex (history : History) (handle : Handle) (name operand : List ℕ) (offset : ℕ)
+    (operation : Operation) : Type 0
+  where
+    pub parts : NvParts
+    pub asserted : IsAssertedBy history handle (assertion.Nv parts)
+    pub is_nv : asserted.command.command.code ≡ command.PolicyNv
+    pub index : name_in asserted.command.views 1 ≡ name
+    pub authorized : IsFirstAuthorized asserted.before asserted.command
+    pub with_operand : parts.operand ≡ operand
+    pub from_offset : parts.offset ≡ offset
+    pub by_operation : parts.operation ≡ operation

@@ -1,0 +1,132 @@
+-- NV counters by the history alone. TPM 2.0 Library, Part 3, sections 31.2 and 31.8 (NV counters,
+-- TPM2_NV_Increment).
+use Rattle.std.specs.Prelude.{◌≡◌, ◌↔◌, ℕ, ◌+◌, ◌<◌, ◌≤◌, ◌==◌, max, Bool, true, false, List, [], ◌∷◌, ◌++◌, Option, Some, None, Result, Ok, Err}
+use Rattle.std.specs.List.{AllByRecursion}
+use Rattle.tpm_bytes.specs.Reading.{◌>>=◌}
+use Rattle.tpm_types.specs.declared.handle.Handle.{Handle}
+use Rattle.tpm_types.specs.declared.refused.Refused.{Refused}
+use Rattle.tpm_commands.specs.declared.command_code.CommandCode.{CommandCode}
+use Rattle.tpm_commands.specs.declared.command_code.CommandCode.TheVariants as command
+use Rattle.tpm_record.specs.rows.Request.{Request, second_handle}
+use Rattle.tpm_nvactions.specs.NvDefineSpace.{parameters_in}
+use Rattle.tpm_step.specs.HandleMap.{by_handle, with_at}
+use Rattle.tpm_step.specs.History.{AcceptedCommand, Done, History, PastEvent, PowerCycled}
+
+-- the value of the counter at each handle since its definition, which it has from its first
+-- increment on; and all values that any counter ever had, the latest first
+pub record Counters : Type 0 where
+  pub at : Handle → Option ℕ
+  pub all : List ℕ
+
+abbrev pub no_counters : Counters
+no_counters = record { at = λ handle. None; all = [] }
+
+-- the largest of some values, 0 if there is none
+abbrev pub largest : List ℕ → ℕ
+largest [] = 0
+largest (n ∷ ns) = max (largest ns) n
+
+-- the value to which a counter rises: one more than it was, and at first one more than any counter
+-- ever was
+abbrev pub next_count : (most : ℕ) → Option ℕ → ℕ
+next_count most None = most + 1
+next_count most (Some n) = n + 1
+
+-- ---- what a command does to the counter of a handle
+
+-- TPM2_NV_Increment: the counter of its handle has one value more
+abbrev pub counted_at : Handle → Counters → Counters
+counted_at handle c =
+    let n : ℕ = next_count (largest c.all) (c.at handle) in
+    record { at = with_at handle (Some n) c.at; all = n ∷ c.all }
+
+-- TPM2_NV_DefineSpace: the counter of its handle begins anew
+abbrev pub begun_at : Handle → Counters → Counters
+begun_at handle c = record { at = with_at handle None c.at; all = c.all }
+
+-- the index that TPM2_NV_DefineSpace defines
+abbrev pub defined_handle : List ℕ → Result Handle Refused
+defined_handle text = do
+  p ← parameters_in text
+  Ok p.public.nv_index
+
+-- the counters after an accepted command. What removes an index, as TPM2_NV_UndefineSpace and
+-- TPM2_Clear, need say nothing: a definition begins anew, and no other command counts before it
+abbrev pub counters_by : CommandCode → Request → Counters → Counters
+counters_by command.NvIncrement q c = by_handle (second_handle q.handles) counted_at c
+counters_by command.NvDefineSpace q c = by_handle (defined_handle q.parameters) begun_at c
+counters_by _ q c = c
+
+-- the counters after a history
+abbrev pub counters_of : History → Counters
+counters_of [] = no_counters
+counters_of (Done c ∷ history) = counters_by c.command.code c.request (counters_of history)
+counters_of (PowerCycled ∷ history) = counters_of history
+
+-- all values that any counter had, and the value of the counter at a handle
+abbrev pub counts_of : History → List ℕ
+counts_of history = (counters_of history).all
+
+abbrev pub count_at : History → Handle → Option ℕ
+count_at history handle = (counters_of history).at handle
+
+-- ---- definitions of indices in a history
+
+-- whether a handle is the one that a command names
+abbrev pub is_named : Result Handle Refused → Handle → Bool
+is_named (Ok named) handle = named.number == handle.number
+is_named (Err e) handle = false
+
+abbrev pub defines_by : CommandCode → Request → Handle → Bool
+defines_by command.NvDefineSpace q handle = is_named (defined_handle q.parameters) handle
+defines_by _ q handle = false
+
+-- whether an event defines an index at a handle
+abbrev pub defines : PastEvent → Handle → Bool
+defines (Done c) handle = defines_by c.command.code c.request handle
+defines PowerCycled handle = false
+
+-- An event is an accepted TPM2_NV_DefineSpace of an index with this handle.
+pub record IsDefinition (one : PastEvent) (handle : Handle) : Type 0 where
+  pub accepted : AcceptedCommand
+  pub named : Handle
+  pub is : one ≡ Done accepted
+  pub code : accepted.command.code ≡ command.NvDefineSpace
+  pub defined : defined_handle accepted.request.parameters ≡ Ok named
+  pub same : named.number ≡ handle.number
+
+-- No index is defined under a handle in this part of a history.
+abbrev pub HasNoDefinition : Handle → History → Type 0
+HasNoDefinition handle history =
+    AllByRecursion (λ (one : PastEvent). defines one handle ≡ false) history
+
+-- Each of these numbers is below this one.
+abbrev pub AllBelow : ℕ → List ℕ → Type 0
+AllBelow n numbers = AllByRecursion (λ m. m < n) numbers
+
+-- what holds of the counters of every history
+pub record CountLaws : Type 0 where
+  -- an index is defined by an accepted TPM2_NV_DefineSpace, and by nothing else
+  pub definitions : (one : PastEvent) (handle : Handle)
+      → (defines one handle ≡ true ↔ IsDefinition one handle)
+  -- a counter that has no value yet exceeds, once it has one, all that any counter had before,
+  -- whatever happened meanwhile
+  pub first_exceeds : (old new : History) (handle : Handle) (n : ℕ)
+      → count_at old handle ≡ None
+      → count_at (new ++ old) handle ≡ Some n
+      → AllBelow n (counts_of old)
+  -- a counter that was defined, once it has a value, exceeds all that any counter had before its
+  -- definition
+  pub defined_exceeds : (old new : History) (definition : PastEvent) (handle : Handle) (n : ℕ)
+      → defines definition handle ≡ true
+      → count_at (new ++ definition ∷ old) handle ≡ Some n
+      → AllBelow n (counts_of old)
+  -- a counter does not go down as long as no index is defined anew under its handle
+  pub never_down : (old new : History) (handle : Handle) (n : ℕ)
+      → count_at old handle ≡ Some n
+      → HasNoDefinition handle new
+      → (m : ℕ) × (count_at (new ++ old) handle ≡ Some m) × (n ≤ m)
+  -- the value of a counter is at most the largest that any counter had
+  pub within : (history : History) (handle : Handle) (n : ℕ)
+      → count_at history handle ≡ Some n
+      → n ≤ largest (counts_of history)

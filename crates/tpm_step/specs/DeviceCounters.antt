@@ -1,0 +1,70 @@
+-- The NV counters of a device, as a history tells of them.
+use Rattle.std.specs.Prelude.{◌≡◌, ℕ, ◌≤◌, true, false, ◌∷◌, ◌++◌, Option, Some, None}
+use Rattle.tpm_types.specs.declared.handle.Handle.{Handle}
+use Rattle.tpm_types_nv.specs.declared.nv_attributes.NvAttribute.TheVariants as attribute
+use Rattle.tpm_nv.specs.Access.{index_has}
+use Rattle.tpm_nv.specs.Index.{NvContents, NvIndex, index_at}
+use Rattle.tpm_record.specs.Record.{Record}
+use Rattle.tpm_step.specs.rows.IndexChanges.{IsCounter, stored_count}
+use Rattle.tpm_step.specs.Counters.{AllBelow, Counters, HasNoDefinition, counters_of, counts_of, defines, largest}
+use Rattle.tpm_step.specs.History.{History, PastEvent}
+
+-- An NV index that is a counter has this value, and no startup takes it away.
+pub record IsCounted (index : NvIndex) (count : Option ℕ) : Type 0 where
+  pub stays : index_has index attribute.ClearStClear ≡ false
+  pub value : stored_count index ≡ count
+
+-- The largest value that any counter of the device ever had is the largest of these, and each
+-- counter has its value.
+pub record AreCounted (contents : NvContents) (c : Counters) : Type 0 where
+  pub most : contents.max_count ≡ largest c.all
+  pub each : (handle : Handle) (index : NvIndex)
+      → index_at contents handle ≡ Some index
+      → IsCounter index
+      → IsCounted index (c.at handle)
+
+-- The counters of a device are those of a history.
+abbrev pub HasCounters : Record → History → Type 0
+HasCounters r history = AreCounted r.nv (counters_of history)
+
+-- A counter that a device had has become no less, as long as no index was defined anew under its
+-- handle.
+abbrev pub KeepsCounter : (old new : Record) → (meanwhile : History) → Handle
+    → NvIndex → NvIndex → Type 0
+KeepsCounter old new meanwhile handle before after =
+    index_at old.nv handle ≡ Some before
+    → IsCounter before
+    → index_at new.nv handle ≡ Some after
+    → IsCounter after
+    → HasNoDefinition handle meanwhile
+    → (n : ℕ)
+    → stored_count before ≡ Some n
+    → (m : ℕ) × (stored_count after ≡ Some m) × (n ≤ m)
+
+-- A counter that had no value when a stretch of events began exceeds, once it has one, all that any
+-- counter had before the stretch.
+abbrev pub BeginsAbove : (old new : Record) → (history : History) → Handle
+    → NvIndex → NvIndex → Type 0
+BeginsAbove old new history handle before after =
+    index_at old.nv handle ≡ Some before
+    → IsCounter before
+    → stored_count before ≡ None
+    → index_at new.nv handle ≡ Some after
+    → IsCounter after
+    → (n : ℕ)
+    → stored_count after ≡ Some n
+    → AllBelow n (counts_of history)
+
+-- A counter that was defined in a stretch of events exceeds all that any counter had before its
+-- definition, in the stretch and before it.
+abbrev pub ExceedsEarlier : (new : Record) → (history meanwhile : History) → Handle → NvIndex
+    → Type 0
+ExceedsEarlier new history meanwhile handle after =
+    (earlier later : History) (definition : PastEvent)
+    → meanwhile ≡ later ++ definition ∷ earlier
+    → defines definition handle ≡ true
+    → index_at new.nv handle ≡ Some after
+    → IsCounter after
+    → (n : ℕ)
+    → stored_count after ≡ Some n
+    → AllBelow n (counts_of (earlier ++ history))

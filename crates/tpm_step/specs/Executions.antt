@@ -1,0 +1,34 @@
+-- Events one after another, and the history that they make.
+use Rattle.std.specs.Prelude.{◌≡◌, Bool, List, [], ◌∷◌}
+use Rattle.tpm_record.specs.Record.{Record}
+use Rattle.tpm_step.specs.Events.{PlainEvent, Cycled}
+use Rattle.tpm_step.specs.Execution.{Executes}
+use Rattle.tpm_step.specs.Step.{Stepped, step}
+use Rattle.tpm_step.specs.History.{History, recorded}
+
+-- an event that was executed on this record, and what was seen of it
+pub record Execution : Type 0 where
+  pub before : Record
+  pub event : PlainEvent
+  pub seen : Stepped
+
+-- These events were executed one after another, and led from an old record to a new one. `can` says
+-- whether memory can be refused.
+abbrev pub Leads : Bool → Record → List Execution → Record → Type 0
+Leads can old [] new = new ≡ old
+Leads can old (one ∷ executions) new =
+    (one.before ≡ old) × Executes can old one.event one.seen
+    × Leads can one.seen.after executions new
+
+-- power going off and on again, at this record
+abbrev pub power_cycle : Record → Execution
+power_cycle r = record { before = r; event = Cycled; seen = step r Cycled }
+
+-- the history after one more execution, and after a list of executions, of which the first came
+-- first
+abbrev pub with_execution : Execution → History → History
+with_execution one history = recorded one.before one.event one.seen.row.check history
+
+abbrev pub history_after : History → List Execution → History
+history_after history [] = history
+history_after history (one ∷ executions) = history_after (with_execution one history) executions

@@ -1,0 +1,116 @@
+-- A device that a history leads to, and what the history tells of it.
+use Rattle.std.specs.Prelude.{◌≡◌, Bool, List, [], ◌∷◌, Option, length, map}
+use Rattle.std.specs.Borrow.{Bor}
+use Rattle.std.specs.Fn.{Mut, CalledAt}
+use Rattle.tpm_nv.specs.Index.{NvIndex}
+use Rattle.tpm_object.specs.declared.object.Object.{Object}
+use Rattle.tpm_session.specs.declared.session.Session.{Session}
+use Rattle.tpm_containers.specs.SortedMap.{Ascends, Entries}
+use Rattle.tpm_nv.specs.IsContents.{AreIndices}
+use Rattle.tpm_types.specs.Limits.{object_limit, session_limit}
+use Rattle.tpm_types.specs.declared.handle.Handle.{Handle}
+use Rattle.tpm_record.specs.Record.{Record}
+use Rattle.tpm_step.specs.Events.{PlainEvent}
+use Rattle.tpm_step.specs.Step.{Stepped, outcome_step}
+use Rattle.tpm_step.specs.declared.event.Outcome.{Outcome}
+use Rattle.tpm_step.specs.rows.Sizes.{AreSized}
+use Rattle.tpm_step.specs.AcceptedAssertions.{AllAskForTheirHandles, SessionsFind}
+use Rattle.tpm_step.specs.DeviceAuthValues.{HasAuthValues}
+use Rattle.tpm_step.specs.DeviceCounters.{BeginsAbove, ExceedsEarlier, HasCounters, KeepsCounter}
+use Rattle.tpm_step.specs.DevicePcrs.{HasPcrs}
+use Rattle.tpm_step.specs.DeviceSessions.{HasSessions}
+use Rattle.tpm_step.specs.EntryHmacs.{AllShowHmacs}
+use Rattle.tpm_step.specs.Grounds.{AllHaveGrounds}
+use Rattle.tpm_step.specs.PolicyUses.{AllMeetPolicies}
+use Rattle.tpm_step.specs.QuietPcrs.{AllRecordUpdates}
+use Rattle.tpm_step.specs.Replays.{ReplaysRepeat}
+use Rattle.tpm_step.specs.RunReplays.{RunReplaysRepeat}
+use Rattle.tpm_step.specs.Executions.{Execution, Leads, history_after}
+use Rattle.tpm_step.specs.History.{History, recorded}
+use Rattle.tpm_step.specs.Potential.{IsForgiving}
+use Rattle.tpm_step.specs.Tries.{FailsFew, FailsWithin}
+
+-- The record has a place for each session and transient object that there can be, and its
+-- persistent objects and NV indices are in the order of their handles.
+pub record Shape (sessions : List (Option Session)) (objects : List (Option Object))
+    (persistent : Entries Object) (indices : Entries NvIndex) : Type 0 where
+  pub sessions_many : length sessions ≡ session_limit
+  pub objects_many : length objects ≡ object_limit
+  pub persistent_ascend : Ascends persistent
+  pub indices_ascend : Ascends indices
+
+-- A device follows a history: its counters, its PCRs, its authorization values and its sessions are
+-- those of the history. In the history each entry of an HMAC session had its HMAC, and so every
+-- replay repeats a nonce or an HMAC; the update counters that policies record hold, and each use of
+-- a handle had its grounds. The assertions of policy sessions were accepted, and so each use by
+-- such a session met every policy that has the authPolicy of what it used, or the hash is broken.
+-- No forgiving of a try is overdue; and the record has the shape and the sizes of every record, and
+-- NV indices of their sizes.
+pub record Follows (r : Record) (history : History) : Type 0 where
+  pub counters : HasCounters r history
+  pub forgiving : IsForgiving r.fixed.lockout
+  pub pcrs : HasPcrs r history
+  pub auth_values : HasAuthValues r history
+  pub sessions : HasSessions r history
+  pub hmacs : AllShowHmacs history
+  pub replays : ReplaysRepeat history
+  pub updates : AllRecordUpdates history
+  pub grounds : AllHaveGrounds history
+  pub found : SessionsFind history
+  pub asked : AllAskForTheirHandles history
+  pub policies : AllMeetPolicies history
+  pub shape : Shape r.sessions r.objects r.persistent r.nv.indices
+  pub sized : AreSized r
+  pub indices : AreIndices r.nv.indices
+
+-- ---- one event, on a device that follows a history
+
+-- An event that was executed leads a device that follows a history to one of which this holds, with
+-- the history after the event.
+abbrev pub After : (Record → History → Type 0) → Record → PlainEvent → Stepped → Type 0
+After Holds old event x =
+    (history : History) → Follows old history
+    → Holds x.after (recorded old event x.row.check history)
+
+-- ---- a stretch of events, on a device that follows a history
+
+-- Executions led from a device that follows a history to one that follows the history after them. A
+-- counter did not go down unless an index was defined anew under its handle; a counter that had no
+-- value, or was defined, begins above all values before; few tries failed; and every replay repeats
+-- a nonce or an HMAC.
+pub record StretchFollows (can : Bool) (old : Record) (executions : List Execution) (new : Record)
+    (history : History) : Type 0
+  where
+    pub leads : Leads can old executions new
+    pub follows : Follows new (history_after history executions)
+    pub counters_stay : (handle : Handle) (before after : NvIndex)
+        → KeepsCounter old new (history_after [] executions) handle before after
+    pub counters_begin : (handle : Handle) (before after : NvIndex)
+        → BeginsAbove old new history handle before after
+    pub counters_exceed : (handle : Handle) (after : NvIndex)
+        → ExceedsEarlier new history (history_after [] executions) handle after
+    pub few_fail : FailsFew can old executions new
+    pub fail_within : FailsWithin can old executions new
+    pub replays : RunReplaysRepeat history executions
+
+-- ---- a run, on a device that follows a history
+
+-- The outcomes of these executions were told to a closure in state p, in order, once each, which
+-- left it in state q.
+abbrev pub Tells : {F : Type 0} → Mut F (Bor Outcome × Unit {0}) (Unit {0}) → F → List Execution
+    → F → Type 0
+Tells g p [] q = q ≡ p
+Tells {F} g p (one ∷ executions) q =
+    (outcome : Outcome) × (next : F) × (one.seen ≡ outcome_step one.seen.after outcome)
+    × CalledAt g p outcome tt next × Tells g next executions q
+
+-- The events ran from a device that follows a history to one that follows the history after them,
+-- and a closure was told each outcome.
+pub record RunFollows {F : Type 0} (g : Mut F (Bor Outcome × Unit {0}) (Unit {0})) (can : Bool)
+    (old : Record) (p : F) (events : List PlainEvent) (new : Record) (q : F) (history : History)
+    : Type 0
+  where
+    pub executions : List Execution
+    pub events_are : map (λ (one : Execution). one.event) executions ≡ events
+    pub told : Tells g p executions q
+    pub stretch : StretchFollows can old executions new history

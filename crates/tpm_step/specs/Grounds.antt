@@ -1,0 +1,109 @@
+-- The grounds on which a command uses what it uses, by the history before it. TPM 2.0 Library, Part
+-- 1, section 19 (authorizations and policies), and Part 3, section 5.6 (authorization checks).
+use Rattle.std.specs.Prelude.{◌≡◌, ◌≢◌, ℕ, ◌&&◌, Bool, true, false, IfSome, [], ◌∷◌, is_some, Option, Some, None, option_and_then, slice_get}
+use Rattle.std.specs.Int.{bit_at}
+use Rattle.std.specs.Option.{option_map_or}
+use Rattle.tpm_policy.specs.Use.{EntityParts}
+use Rattle.tpm_types.specs.Handle.{session_kind}
+use Rattle.tpm_types.specs.declared.handle.Handle.{Handle}
+use Rattle.tpm_types.specs.declared.handle.SessionKind.TheVariants as kind
+use Rattle.tpm_types.specs.declared.nv_use.NvUse.{NvUse}
+use Rattle.tpm_types.specs.declared.role.Role.{Role}
+use Rattle.tpm_types.specs.declared.role.Role.TheVariants as role
+use Rattle.tpm_types.specs.declared.session_type.SessionType.TheVariants as type
+use Rattle.tpm_types_command.specs.AuthEntry.{Entry}
+use Rattle.tpm_commands.specs.CommandCode.{code_number, nv_use_at, role_at}
+use Rattle.tpm_record.specs.declared.entity.Means.{Means}
+use Rattle.tpm_record.specs.declared.entity.Means.TheVariants as means
+use Rattle.tpm_auth.specs.SessionGrant.{is_password_demand}
+use Rattle.tpm_step.specs.EntryHmacs.{HasHmac, HasPassword, cp_hash_in, used_in}
+use Rattle.tpm_step.specs.History.{AcceptedCommand, Done, History, PowerCycled}
+use Rattle.tpm_step.specs.QuietPcrs.{HoldsPcrs, asserts_pcrs}
+use Rattle.tpm_step.specs.Sessions.{LiveSession, policy_in, sessions_of}
+use Rattle.tpm_step.specs.View.{View}
+use Rattle.tpm_step.specs.Views.{is_there, view_policy, view_takes, view_written}
+
+-- whether the entity of a view is there, and may be authorized by this means, for a command that
+-- makes this use of it
+abbrev pub allows : Means → NvUse → View → Bool
+allows means nv_use view = is_there view && view_takes means nv_use view
+
+-- whether the entity in a place of a command's handles is there, and may be authorized by this
+-- means. Places are counted from 0; of the commands that are served none has a second handle that
+-- needs authorization
+abbrev pub allows_in : Means → AcceptedCommand → ℕ → Bool
+allows_in means c place =
+    option_map_or (allows means (nv_use_at c.command.code place)) (slice_get c.views place) false
+
+-- ---- the policy of an entity that a command uses
+
+-- the nameAlg and the authPolicy of the entity in a place of a command's handles, if it has a
+-- policy
+abbrev pub policy_at : AcceptedCommand → ℕ → Option EntityParts
+policy_at c place = option_and_then view_policy (slice_get c.views place)
+
+-- The hash of a session is an entity's nameAlg, and its policy digest the authPolicy, which is not
+-- empty.
+abbrev pub IsPolicyOf : LiveSession → Option EntityParts → Type 0
+IsPolicyOf s None = ⊥
+IsPolicyOf s (Some entity) =
+    (entity.hash ≡ s.hash) × ((policy_in s).digest ≡ entity.digest) × (entity.digest ≢ [])
+
+-- whether the entity in a place of a command's handles is written, where it is an NV index
+abbrev pub written_at : AcceptedCommand → ℕ → Option Bool
+written_at c place = option_and_then view_written (slice_get c.views place)
+
+-- For a handle in the role ADMIN, a policy has to name a command.
+abbrev pub NamesCommand : Role → Option ℕ → Type 0
+NamesCommand role.User number = Unit {0}
+NamesCommand role.Admin number = is_some number ≡ true
+
+-- A policy session may authorize the entity in a place of a command's handles. The entity allows a
+-- policy, and has the session's. Since the first TPM2_PolicyPCR no PCR was written and no
+-- TPM2_Clear accepted, and so all that was asserted of PCRs holds. A recorded command code is this
+-- command's, and the role ADMIN requires one; a recorded cpHash is this command's; a recorded
+-- written value is that of this NV index; and the command's locality is allowed.
+pub record MeetsPolicy (history : History) (c : AcceptedCommand) (place : ℕ) (e : Entry)
+    (s : LiveSession) : Type 0 where
+  pub allowed : allows_in means.Policy c place ≡ true
+  pub policy : IsPolicyOf s (policy_at c place)
+  pub pcrs : asserts_pcrs s ≡ true → HoldsPcrs e.session history s
+  pub command : IfSome (policy_in s).command (λ number. number ≡ code_number c.command.code)
+  pub named : NamesCommand (role_at c.command.code place) (policy_in s).command
+  pub cp_hash : IfSome (policy_in s).cp_hash (λ hash. hash ≡ cp_hash_in c s.hash)
+  pub written : IfSome (policy_in s).nv_written (λ is_written. written_at c place ≡ Some is_written)
+  pub locality : bit_at (policy_in s).localities c.request.locality ≡ 1
+
+-- The entry of a policy session has the password where the session's policy demands one, and
+-- otherwise its HMAC.
+abbrev pub HasDemanded : Bool → History → AcceptedCommand → ℕ → Entry → LiveSession → Type 0
+HasDemanded true history c place e s = HasPassword history c place e
+HasDemanded false history c place e s = HasHmac history c place e s
+
+-- ---- the three grounds
+
+-- The entry in a place authorizes the handle in the same place: as a password; by its HMAC in an
+-- HMAC session; or by a policy session, which is no trial session.
+pub data Ground (history : History) (c : AcceptedCommand) (place : ℕ) (e : Entry) : Type 0 where
+  ByPassword : session_kind e.session ≡ kind.Password → allows_in means.AuthValue c place ≡ true
+      → HasPassword history c place e → Ground history c place e
+  ByHmac : (s : LiveSession) → sessions_of history e.session ≡ Some s → s.kind ≡ type.Hmac
+      → allows_in means.AuthValue c place ≡ true → HasHmac history c place e s
+      → Ground history c place e
+  ByPolicy : (s : LiveSession) → sessions_of history e.session ≡ Some s → s.kind ≡ type.Policy
+      → MeetsPolicy history c place e s
+      → HasDemanded (is_password_demand (policy_in s).demand) history c place e s
+      → Ground history c place e
+
+-- Each handle of a command that needs authorization has an entry in its place, which authorizes it
+-- on one of the three grounds.
+abbrev pub UsesHaveGrounds : History → AcceptedCommand → Type 0
+UsesHaveGrounds history c =
+    (place : ℕ) (handle : Handle) → used_in c.command place ≡ Some handle
+    → (e : Entry) × (slice_get c.command.entries place ≡ Some e) × Ground history c place e
+
+-- Each command of a history used its handles on one of the three grounds, by the history before it.
+abbrev pub AllHaveGrounds : History → Type 0
+AllHaveGrounds [] = Unit {0}
+AllHaveGrounds (Done c ∷ history) = UsesHaveGrounds history c × AllHaveGrounds history
+AllHaveGrounds (PowerCycled ∷ history) = AllHaveGrounds history

@@ -1,0 +1,88 @@
+-- What a device has accepted. Of its state an entry tells what the command was answered, what
+-- everybody could read of its handles, and the sensitive area that a TPM2_Load takes in.
+use Rattle.std.specs.Prelude.{ℕ, zero, suc, List, ◌∷◌, map, Option, Some, None, Result, Ok, Err}
+use Rattle.tpm_bytes.specs.Reading.{◌>>=◌}
+use Rattle.tpm_types.specs.declared.refused.Refused.{Refused}
+use Rattle.tpm_types_command.specs.Command.{Whole}
+use Rattle.tpm_commands.specs.declared.command_code.CommandCode.{CommandCode}
+use Rattle.tpm_commands.specs.declared.command_code.CommandCode.TheVariants as command
+use Rattle.tpm_types_object.specs.declared.sensitive.Sensitive.{Sensitive}
+use Rattle.tpm_record.specs.Record.{Record}
+use Rattle.tpm_record.specs.Tick.{ticked}
+use Rattle.tpm_auth.specs.declared.session_grant.Grant.{Grant}
+use Rattle.tpm_record.specs.rows.Answer.{AnswerParts}
+use Rattle.tpm_record.specs.rows.Request.{Request, first_handle}
+use Rattle.tpm_actions_object.specs.Load.{parameters_in, sensitive_of}
+use Rattle.tpm_actions_object.specs.Loaded.{loaded_at}
+use Rattle.tpm_step.specs.Events.{PlainEvent, Given, Cycled}
+use Rattle.tpm_step.specs.Step.{Accepted, accepted}
+use Rattle.tpm_step.specs.declared.refused_command.RefusedCommand.{RefusedCommand}
+use Rattle.tpm_step.specs.View.{View, view_of}
+
+-- the sensitive area that a TPM2_Load takes in: its private area wraps it for its parent
+unfoldable pub loaded_sensitive : Record → Request → Result Sensitive Refused
+loaded_sensitive r q = do
+  handle ← first_handle q.handles
+  parent ← loaded_at r handle
+  p ← parameters_in q.parameters
+  sensitive_of parent p.public p.private
+
+abbrev pub if_ok : {X E : Type 0} → Result X E → Option X
+if_ok (Ok x) = Some x
+if_ok (Err e) = None
+
+abbrev pub sensitive_in : CommandCode → Record → Request → Option Sensitive
+sensitive_in command.Load r q = if_ok (loaded_sensitive r q)
+sensitive_in _ r q = None
+
+-- an accepted command: as it was sent, with its handles and entries; what each entry authorizes;
+-- its request, with its parameters in plain, its locality and the event's random bytes; what it was
+-- answered, and how many of the random bytes its row drew; what everybody could read of its handles
+-- before it; and for a TPM2_Load the sensitive area
+pub record AcceptedCommand : Type 0 where
+  pub command : Whole
+  pub grants : List (Option Grant)
+  pub request : Request
+  pub answer : AnswerParts
+  pub views : List View
+  pub sensitive : Option Sensitive
+
+-- what is recorded of a command to this record, with these grants, this request and this answer
+abbrev pub command_on : Record → Whole → List (Option Grant) → Request → AnswerParts
+    → AcceptedCommand
+command_on r command grants q answer = record {
+  command = command;
+  grants = grants;
+  request = q;
+  answer = answer;
+  views = map (view_of r) command.handles;
+  sensitive = sensitive_in command.code r q;
+}
+
+-- what is recorded of a command that this record accepted
+abbrev pub command_of : Record → Accepted → AcceptedCommand
+command_of r a = command_on r a.command a.grants a.request a.success.answer
+
+-- an event that a device accepted: a command, or power going off and on again
+pub data PastEvent : Type 0 where
+  Done : (command : AcceptedCommand) → PastEvent
+  PowerCycled : PastEvent
+
+-- what a device accepted since it was manufactured, the latest first
+abbrev pub History : Type 0
+History = List PastEvent
+
+-- the history with one command more, where its row reports check 0: a refusal is not recorded, nor
+-- MEMORY in place of a success
+abbrev pub with_command : Record → Result Accepted RefusedCommand → (check : ℕ)
+    → History → History
+with_command r (Ok a) zero history = Done (command_of r a) ∷ history
+with_command r (Ok a) (suc check) history = history
+with_command r (Err e) check history = history
+
+-- the history with one more event, which happened to this record, and whose row reported this check
+abbrev pub recorded : Record → PlainEvent → (check : ℕ) → History → History
+recorded r (Given buffer locality elapsed random) check history =
+    let t = ticked r elapsed in
+    with_command t (accepted t buffer locality random) check history
+recorded r Cycled check history = PowerCycled ∷ history

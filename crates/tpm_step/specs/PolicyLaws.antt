@@ -1,0 +1,70 @@
+-- What a policy of one assertion says of each use of an entity that has it. TPM 2.0 Library, Part
+-- 3, sections 23.7 (TPM2_PolicyPCR), 23.11 (TPM2_PolicyCommandCode) and 23.20
+-- (TPM2_PolicyNvWritten).
+use Rattle.std.specs.Prelude.{◌≡◌, ◌<◌, ℕ, Bool, false, List, [], ◌∷◌, Option, Some, None}
+use Rattle.tpm_mac.specs.declared.algorithm.HashAlg.{HashAlg}
+use Rattle.tpm_policy.specs.Assertion.{Assertion, CommandCode, NvWritten, Pcr, PcrParts}
+use Rattle.tpm_policy.specs.Use.{EntityParts}
+use Rattle.tpm_types.specs.PcrSelection.{selection_text}
+use Rattle.tpm_types.specs.declared.handle.Handle.{Handle}
+use Rattle.tpm_types.specs.declared.pcr_selection.BankSelection.{BankSelection}
+use Rattle.tpm_types.specs.declared.session_type.SessionType.TheVariants as type
+use Rattle.tpm_types_command.specs.AuthEntry.{Entry}
+use Rattle.tpm_commands.specs.CommandCode.{code_number}
+use Rattle.tpm_policy_meaning.specs.Asserted.{evaluated}
+use Rattle.tpm_step.specs.Grounds.{MeetsPolicy, policy_at, written_at}
+use Rattle.tpm_step.specs.History.{AcceptedCommand, History}
+use Rattle.tpm_step.specs.Pcrs.{digest_in, pcr_of}
+use Rattle.tpm_step.specs.QuietPcrs.{AreQuietSince}
+use Rattle.tpm_step.specs.Sessions.{LiveSession}
+
+-- The authPolicy of an entity is the digest of these assertions, the latest first.
+abbrev pub HasPolicyOf : HashAlg → List Assertion → Option EntityParts → Type 0
+HasPolicyOf hash assertions (Some entity) = entity.digest ≡ (evaluated hash false assertions).digest
+HasPolicyOf hash assertions None = ⊥
+
+-- the assertion that the PCRs of a selection have the values that they have after a history; a
+-- policy's digest does not depend on what was given, nor on the update counter
+abbrev pub pcrs_as_in : History → HashAlg → List BankSelection → PcrParts
+pcrs_as_in history hash selection = record {
+  given = [];
+  selection = selection_text selection;
+  digest = digest_in history hash selection;
+  update_count = 0;
+}
+
+-- An entity that is used by a session with TPM2_PolicyPCR as its only assertion has the policy that
+-- the PCRs of a selection have the values that they have at the use.
+abbrev pub UsesPcrsAsTheyAre : Type 0
+UsesPcrsAsTheyAre =
+    (history : History) (c : AcceptedCommand) (place : ℕ) (e : Entry) (s : LiveSession)
+    (parts : PcrParts) → MeetsPolicy history c place e s → s.kind ≡ type.Policy
+    → s.assertions ≡ Pcr parts ∷ []
+    → (selection : List BankSelection) × (parts.selection ≡ selection_text selection)
+    × HasPolicyOf s.hash (Pcr (pcrs_as_in history s.hash selection) ∷ []) (policy_at c place)
+
+-- An entity that is used by a session with TPM2_PolicyCommandCode as its only assertion has the
+-- policy of the command that uses it.
+abbrev pub UsesItsCommand : Type 0
+UsesItsCommand =
+    (history : History) (c : AcceptedCommand) (place : ℕ) (e : Entry) (s : LiveSession) (number : ℕ)
+    → MeetsPolicy history c place e s → s.kind ≡ type.Policy
+    → s.assertions ≡ CommandCode number ∷ []
+    → HasPolicyOf s.hash (CommandCode (code_number c.command.code) ∷ []) (policy_at c place)
+
+-- An entity that is used by a session with TPM2_PolicyNvWritten as its only assertion is an NV
+-- index that is written, or not, as its policy wants it: where the policy wants it unwritten, it
+-- has no WRITTEN as it is used.
+abbrev pub UsesAsWritten : Type 0
+UsesAsWritten =
+    (history : History) (c : AcceptedCommand) (place : ℕ) (e : Entry) (s : LiveSession)
+    (is_written : Bool) → MeetsPolicy history c place e s → s.kind ≡ type.Policy
+    → s.assertions ≡ NvWritten is_written ∷ []
+    → (written_at c place ≡ Some is_written)
+    × HasPolicyOf s.hash (NvWritten is_written ∷ []) (policy_at c place)
+
+-- No PCR has another value than at the first TPM2_PolicyPCR of a session.
+abbrev pub KeepsQuietValues : Type 0
+KeepsQuietValues =
+    (history : History) (handle : Handle) (quiet : AreQuietSince handle history) (bank : HashAlg)
+    (pcr : ℕ) → pcr < 24 → pcr_of quiet.before bank pcr ≡ pcr_of history bank pcr

@@ -1,0 +1,113 @@
+-- What an authPolicy says of each use that a policy session authorizes. TPM 2.0 Library, Part 1,
+-- section 19.7 (enhanced authorization), and Part 3, section 23, where the section of each
+-- assertion says what a use must meet.
+use Rattle.std.specs.Prelude.{◌≡◌, ◌⊎◌, ℕ, List, [], ◌∷◌, Some, slice_get}
+use Rattle.std.specs.Int.{bit_at}
+use Rattle.tpm_mac.specs.declared.algorithm.HashAlg.{HashAlg}
+use Rattle.tpm_types.specs.declared.handle.Handle.{Handle}
+use Rattle.tpm_types.specs.declared.pcr_selection.BankSelection.{BankSelection}
+use Rattle.tpm_types_command.specs.AuthEntry.{Entry}
+use Rattle.tpm_commands.specs.CommandCode.{code_number}
+use Rattle.tpm_policy_meaning.specs.Expression.{PolicyAssertion, PolicyPcr, PolicyAuthValue}
+use Rattle.tpm_policy_meaning.specs.Expression.{PolicyPassword, PolicyCommandCode, PolicyLocality}
+use Rattle.tpm_policy_meaning.specs.Expression.{PolicyCpHash, PolicyNvWritten, PolicySecret}
+use Rattle.tpm_policy_meaning.specs.Expression.{PolicyNv, PolicyExpression}
+use Rattle.tpm_policy_meaning.specs.Meaning.{BreaksHash, IsMet, IsPolicyExpression}
+use Rattle.tpm_policy_meaning.specs.PolicyDigest.{policy_digest}
+use Rattle.tpm_step.specs.AssertedBy.{ComparesIndex, ShowsSecret}
+use Rattle.tpm_step.specs.AuthValues.{auth_of}
+use Rattle.tpm_step.specs.EntryHmacs.{HasHmac, HasPassword, cp_hash_in, used_in, value_in_key}
+use Rattle.tpm_step.specs.Grounds.{ByHmac, ByPassword, ByPolicy, Ground, policy_at, written_at}
+use Rattle.tpm_step.specs.History.{AcceptedCommand, Done, History, PowerCycled}
+use Rattle.tpm_step.specs.Pcrs.{digest_in}
+use Rattle.tpm_step.specs.QuietPcrs.{AreQuietSince}
+use Rattle.tpm_step.specs.Sessions.{LiveSession}
+
+-- a use by a policy session: the history before it; the command; the place of what it uses among
+-- the command's handles, from 0, and that handle; the entry in the same place; and the session that
+-- the entry names
+pub record PolicyUse : Type 0 where
+  pub history : History
+  pub command : AcceptedCommand
+  pub place : ℕ
+  pub handle : Handle
+  pub entry : Entry
+  pub session : LiveSession
+
+-- ---- what is met at a use
+
+-- The selected PCRs have this digest now, and no PCR was written since the first TPM2_PolicyPCR of
+-- the session (Part 3, section 23.7).
+pub record HasPcrsNow (u : PolicyUse) (selection : List BankSelection) (digest : List ℕ) : Type 0
+  where
+    pub quiet : AreQuietSince u.entry.session u.history
+    pub now : digest_in u.history u.session.hash selection ≡ digest
+
+-- The entry has the authorization value of the entity that is used: as its password, or in the key
+-- of its HMAC (Part 3, sections 23.17 and 23.18).
+abbrev pub ShowsAuthValue : PolicyUse → Type 0
+ShowsAuthValue u =
+    HasPassword u.history u.command u.place u.entry
+    ⊎ HasHmac u.history u.command u.place u.entry u.session
+    × (value_in_key u.history u.command u.place u.session (Some u.handle)
+    ≡ auth_of u.history u.handle)
+
+-- An assertion of a policy is met at a use. The command code, the cpHash, the locality and whether
+-- an NV index is written are those of the use itself (Part 3, sections 23.11, 23.13, 23.8 and
+-- 23.20); TPM2_PolicySecret and TPM2_PolicyNV were accepted on its session before it.
+abbrev pub IsMetBy : PolicyUse → PolicyAssertion → Type 0
+IsMetBy u (PolicyPcr selection digest) = HasPcrsNow u selection digest
+IsMetBy u PolicyAuthValue = ShowsAuthValue u
+IsMetBy u PolicyPassword = ShowsAuthValue u
+IsMetBy u (PolicyCommandCode number) = code_number u.command.command.code ≡ number
+IsMetBy u (PolicyLocality localities) = bit_at localities u.command.request.locality ≡ 1
+IsMetBy u (PolicyCpHash cp_hash) = cp_hash_in u.command u.session.hash ≡ cp_hash
+IsMetBy u (PolicyNvWritten is_written) = written_at u.command u.place ≡ Some is_written
+IsMetBy u (PolicySecret name reference) =
+    ShowsSecret u.history u.entry.session name reference
+IsMetBy u (PolicyNv name operand offset operation) =
+    ComparesIndex u.history u.entry.session name operand offset operation
+
+-- ---- every use
+
+-- The entity in a place of a command's handles has a policy: with this hash, its nameAlg, the
+-- digest of the policy is its authPolicy.
+pub record HasAuthPolicy (c : AcceptedCommand) (place : ℕ) (hash : HashAlg)
+    (policy : PolicyExpression) : Type 0
+  where
+    pub is_policy : IsPolicyExpression hash policy
+    pub auth_policy : policy_at c place
+        ≡ Some (record { hash = hash; digest = policy_digest hash policy })
+
+-- Where a policy session authorizes a use, the use meets every policy that has the authPolicy of
+-- the entity that is used, along one branch at each TPM2_PolicyOR; or the hash is broken, by texts
+-- that the policy and the session spell.
+abbrev pub MeetsPolicies : (history : History) (c : AcceptedCommand) (place : ℕ) → Handle
+    → (e : Entry) → Ground history c place e → Type 0
+MeetsPolicies history c place handle e (ByPassword names takes has) = Unit {0}
+MeetsPolicies history c place handle e (ByHmac s lives kind takes has) = Unit {0}
+MeetsPolicies history c place handle e (ByPolicy s lives kind meets has) =
+    let u : PolicyUse = record {
+      history = history;
+      command = c;
+      place = place;
+      handle = handle;
+      entry = e;
+      session = s;
+    } in
+    (hash : HashAlg) (policy : PolicyExpression) → HasAuthPolicy c place hash policy
+    → IsMet (IsMetBy u) policy ⊎ BreaksHash hash policy s.assertions
+
+-- Each handle of a command that needs authorization has an entry in its place, which authorizes it
+-- on a ground, and every policy of the handle's entity is met.
+abbrev pub UsesMeetPolicies : History → AcceptedCommand → Type 0
+UsesMeetPolicies history c =
+    (place : ℕ) (handle : Handle) → used_in c.command place ≡ Some handle
+    → (e : Entry) × (slice_get c.command.entries place ≡ Some e)
+    × (ground : Ground history c place e) × MeetsPolicies history c place handle e ground
+
+-- Each command of a history met the policies of what it used, by the history before it.
+abbrev pub AllMeetPolicies : History → Type 0
+AllMeetPolicies [] = Unit {0}
+AllMeetPolicies (Done c ∷ history) = UsesMeetPolicies history c × AllMeetPolicies history
+AllMeetPolicies (PowerCycled ∷ history) = AllMeetPolicies history

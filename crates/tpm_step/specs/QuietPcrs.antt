@@ -1,0 +1,85 @@
+-- PCRs that did not change since TPM2_PolicyPCR. TPM 2.0 Library, Part 3, section 23.7, where the
+-- update counter of PCRs is recorded, and section 24.6 (TPM2_Clear counts as an update).
+use Rattle.std.specs.Prelude.{◌≡◌, ◌≤◌, ℕ, Bool, true, false, List, [], ◌∷◌, ◌++◌, Some, Ok}
+use Rattle.std.specs.List.{AllByRecursion, list_any}
+use Rattle.std.specs.Option.{option_map_or}
+use Rattle.tpm_mac.specs.declared.algorithm.HashAlg.{HashAlg}
+use Rattle.tpm_policy.specs.Assertion.{Assertion, Pcr}
+use Rattle.tpm_types.specs.PcrSelection.{selection_text}
+use Rattle.tpm_types.specs.declared.handle.Handle.{Handle}
+use Rattle.tpm_types.specs.declared.pcr_selection.BankSelection.{BankSelection}
+use Rattle.tpm_types.specs.declared.session_type.SessionType.TheVariants as type
+use Rattle.tpm_commands.specs.declared.command_code.CommandCode.TheVariants as command
+use Rattle.tpm_record.specs.rows.Request.{first_handle}
+use Rattle.tpm_step.specs.General.{is_startup}
+use Rattle.tpm_step.specs.History.{AcceptedCommand, Done, History, PastEvent, PowerCycled}
+use Rattle.tpm_step.specs.Pcrs.{digest_in, updates_of, writes}
+use Rattle.tpm_step.specs.Sessions.{LiveSession, policy_in, sessions_of}
+
+-- whether an assertion is one of TPM2_PolicyPCR, and whether one of these assertions is
+abbrev pub is_pcr : Assertion → Bool
+is_pcr (Pcr parts) = true
+is_pcr _ = false
+
+abbrev pub asserts_pcrs : LiveSession → Bool
+asserts_pcrs s = list_any is_pcr s.assertions
+
+-- whether TPM2_PolicyPCR is among the assertions of the session of a handle, if one lives
+abbrev pub has_pcrs : History → Handle → Bool
+has_pcrs history handle = option_map_or asserts_pcrs (sessions_of history handle) false
+
+-- An event writes no value of a bank, and is neither a TPM2_Clear, nor a TPM2_Startup, nor a power
+-- cycle.
+abbrev pub IsQuiet : PastEvent → Type 0
+IsQuiet (Done c) =
+    (is_startup c.command.code ≡ false) × (writes c.command.code c.request ≡ 0)
+IsQuiet PowerCycled = ⊥
+
+-- After each of these events, the latest first, PCRs are asserted on the session of a handle.
+abbrev pub KeepsPcrs : Handle → (events before : History) → Type 0
+KeepsPcrs handle [] before = Unit {0}
+KeepsPcrs handle (event ∷ events) before =
+    (has_pcrs (event ∷ events ++ before) handle ≡ true) × KeepsPcrs handle events before
+
+-- A history ends in the first TPM2_PolicyPCR that is asserted on the session of a handle, and in
+-- quiet events alone after it; since then some TPM2_PolicyPCR is asserted on that session.
+pub record AreQuietSince (handle : Handle) (history : History) : Type 0 where
+  pub since : History
+  pub first : AcceptedCommand
+  pub before : History
+  pub is : history ≡ since ++ Done first ∷ before
+  pub code : first.command.code ≡ command.PolicyPcr
+  pub names : first_handle first.request.handles ≡ Ok handle
+  pub begins : has_pcrs before handle ≡ false
+  pub keeps : KeepsPcrs handle (since ++ Done first ∷ []) before
+  pub quiet : AllByRecursion IsQuiet since
+
+-- What TPM2_PolicyPCR asserted on a session of this hash holds where the selected PCRs have the
+-- asserted digest after a history; other assertions always do.
+abbrev pub HoldsOf : History → HashAlg → Assertion → Type 0
+HoldsOf history hash (Pcr parts) =
+    (selection : List BankSelection) × (parts.selection ≡ selection_text selection)
+    × (parts.digest ≡ digest_in history hash selection)
+HoldsOf history hash _ = Unit {0}
+
+-- No PCR was updated since the first TPM2_PolicyPCR on the session of a handle, and so all that was
+-- asserted of PCRs holds.
+pub record HoldsPcrs (handle : Handle) (history : History) (s : LiveSession) : Type 0 where
+  pub quiet : AreQuietSince handle history
+  pub hold : AllByRecursion (HoldsOf history s.hash) s.assertions
+
+-- ---- the update counter that a policy records
+
+-- The update counter that a session records is not above that of the history; and where the two are
+-- the same, what the session asserts of PCRs holds.
+pub record RecordsUpdates (handle : Handle) (history : History) (s : LiveSession) : Type 0 where
+  pub count : ℕ
+  pub recorded : (policy_in s).update_count ≡ Some count
+  pub within : count ≤ updates_of history
+  pub hold : count ≡ updates_of history → HoldsPcrs handle history s
+
+-- Each live policy session on which PCRs are asserted records such an update counter.
+abbrev pub AllRecordUpdates : History → Type 0
+AllRecordUpdates history =
+    (handle : Handle) (s : LiveSession) → sessions_of history handle ≡ Some s
+    → s.kind ≡ type.Policy → asserts_pcrs s ≡ true → RecordsUpdates handle history s

@@ -1,0 +1,199 @@
+-- Failed tries among the events of a device. TPM 2.0 Library, Part 1, section 19.8 (dictionary
+-- attacks).
+use Rattle.std.specs.Prelude.{◌≡◌, ◌≢◌, ◌⊎◌, ◌≤◌, ◌+◌, ◌/◌, ℕ, Bool, true, false, List, [], Option, Some, None, slice_get, Result, Ok, Err}
+use Rattle.std.specs.List.{AllByRecursion, count_by, sum_by}
+use Rattle.std.specs.Option.{option_map_or}
+use Rattle.tpm_policy.specs.declared.state.Demand.{Demand}
+use Rattle.tpm_session.specs.declared.session.Protection.{Protection}
+use Rattle.tpm_session.specs.declared.session.Protection.TheVariants as protection
+use Rattle.tpm_session.specs.declared.session.Session.{Session}
+use Rattle.tpm_types.specs.Check.{check_number}
+use Rattle.tpm_types.specs.Handle.{session_kind}
+use Rattle.tpm_types.specs.Rc.{entry_fault}
+use Rattle.tpm_types.specs.declared.check.Check.{Check}
+use Rattle.tpm_types.specs.declared.check.Check.TheVariants as check
+use Rattle.tpm_types.specs.declared.handle.Handle.{Handle}
+use Rattle.tpm_types.specs.declared.handle.SessionKind.{SessionKind}
+use Rattle.tpm_types.specs.declared.handle.SessionKind.TheVariants as kind
+use Rattle.tpm_types.specs.declared.rc.ResponseCode.TheVariants as code
+use Rattle.tpm_types.specs.declared.refused.Counted.{Counted}
+use Rattle.tpm_types.specs.declared.refused.Counted.TheVariants as counted
+use Rattle.tpm_types.specs.declared.refused.Refused.{Refused}
+use Rattle.tpm_types_command.specs.AuthEntry.{Entry}
+use Rattle.tpm_types_command.specs.Command.{Whole}
+use Rattle.tpm_commands.specs.declared.command_code.CommandCode.{CommandCode}
+use Rattle.tpm_commands.specs.declared.command_code.CommandCode.TheVariants as command
+use Rattle.tpm_record.specs.Record.{Record}
+use Rattle.tpm_record.specs.Tick.{ticked}
+use Rattle.tpm_auth.specs.Comparison.{failure}
+use Rattle.tpm_auth.specs.Entries.{session_of}
+use Rattle.tpm_auth.specs.Grant.{authorize, used_protection}
+use Rattle.tpm_auth.specs.SessionGrant.{demanded, entry_protection}
+use Rattle.tpm_step.specs.Answer.{refusal_text}
+use Rattle.tpm_step.specs.Events.{PlainEvent, Given, Cycled}
+use Rattle.tpm_step.specs.General.{general}
+use Rattle.tpm_step.specs.Step.{Accepted, Stepped, accepted}
+use Rattle.tpm_step.specs.declared.refused_command.RefusedCommand.{RefusedCommand}
+use Rattle.tpm_step.specs.EntryHmacs.{used_in}
+use Rattle.tpm_step.specs.Executions.{Execution, Leads, history_after}
+use Rattle.tpm_step.specs.History.{AcceptedCommand, Done, History, PastEvent, PowerCycled}
+use Rattle.tpm_step.specs.Potential.{period}
+
+-- ---- an event that fails a try
+
+-- whether a refusal counts a failed try, at a protected entity other than LOCKOUT
+abbrev pub is_try : Counted → Bool
+is_try counted.None = false
+is_try counted.Try = true
+is_try counted.Lockout = false
+
+-- whether a command is refused, and the refusal counts a failed try
+abbrev pub counts_try : Result Accepted RefusedCommand → Bool
+counts_try (Ok a) = false
+counts_try (Err e) = is_try e.refused.counted
+
+-- whether an event is a command whose refusal counts a failed try
+abbrev pub fails_try : Record → PlainEvent → Bool
+fails_try r (Given buffer locality elapsed random) =
+    counts_try (accepted (ticked r elapsed) buffer locality random)
+fails_try r Cycled = false
+
+-- What an entry touches is what its comparison uses: the authorization value of the entity that it
+-- is to authorize, where the password is compared with it or it is part of the HMAC's key; and
+-- otherwise that of the entity to which the entry's session was bound at the start. Where a session
+-- may not authorize the entity, nothing is compared, and nothing is touched.
+
+-- the protection of the entity that a session's entry touches, where the entry is to authorize this
+-- handle, by what the session demands for that, or by why it may not
+abbrev pub touched_where : Record → Session → Handle → Result Demand Refused → Protection
+touched_where r s handle (Ok demand) =
+    entry_protection r s (Some (record { handle = handle; demand = demand }))
+touched_where r s handle (Err e) = protection.None
+
+-- the protection of the entity that entry n touches, of a session, which is to authorize this
+-- handle or none
+abbrev pub touched_of_session : Record → Whole → (locality n : ℕ) → Option Handle → Session
+    → Protection
+touched_of_session r c locality n (Some handle) s =
+    touched_where r s handle (demanded r c locality n handle s)
+touched_of_session r c locality n None s = entry_protection r s None
+
+-- the protection of the entity that any entry touches: a password touches what it is to authorize
+abbrev pub touched_by : SessionKind → Record → Whole → (locality n : ℕ) → Option Handle → Entry
+    → Protection
+touched_by kind.Password r c locality n used e = used_protection r used
+touched_by kind.Session r c locality n used e =
+    option_map_or (touched_of_session r c locality n used) (session_of r e) protection.None
+touched_by kind.Other r c locality n used e = protection.None
+
+abbrev pub touched : Record → Whole → (locality n : ℕ) → Option Handle → Entry → Protection
+touched r c locality n used e = touched_by (session_kind e.session) r c locality n used e
+
+-- A command's authorization is refused with AUTH_FAIL for the entry in this place, counted from 0,
+-- and that entry touches a protected entity other than LOCKOUT.
+pub record FailsTry (r : Record) (locality : ℕ) (buffer : List ℕ) : Type 0 where
+  pub command : Whole
+  pub place : ℕ
+  pub entry : Entry
+  pub refused : Refused
+  pub decoded : general r buffer ≡ Ok command
+  pub there : slice_get command.entries place ≡ Some entry
+  pub touches : touched r command locality (place + 1) (used_in command place) entry
+      ≡ protection.Tries
+  pub is : authorize r command locality ≡ Err refused
+  pub fails : refused.rc ≡ entry_fault (place + 1) code.AuthFail
+
+-- An event is a command that fails a try.
+abbrev pub IsRefusedTry : Record → PlainEvent → Type 0
+IsRefusedTry r (Given buffer locality elapsed random) =
+    FailsTry (ticked r elapsed) locality buffer
+IsRefusedTry r Cycled = ⊥
+
+-- ---- how a failed try is answered
+
+-- the check by which an entry whose comparison fails is refused: G9 where the entry is to authorize
+-- a handle, else G10
+abbrev pub check_for : Option Handle → Check
+check_for (Some handle) = check.Authorization
+check_for None = check.Others
+
+-- the refusal of the entry in a place that touches a protected entity other than LOCKOUT: AUTH_FAIL
+abbrev pub try_refusal : Whole → (place : ℕ) → Refused
+try_refusal c place = failure (check_for (used_in c place)) (place + 1) protection.Tries
+
+-- The response and the row of an event are those of this refusal.
+pub record IsAnsweredFailure (e : Refused) (x : Stepped) : Type 0 where
+  pub response : x.response ≡ refusal_text e
+  pub check : x.row.check ≡ check_number e.check
+
+-- An event is a command that fails a try, and is answered with that refusal for its entry.
+abbrev pub IsAnsweredTry : Record → PlainEvent → Stepped → Type 0
+IsAnsweredTry r (Given buffer locality elapsed random) x =
+    (fails : FailsTry (ticked r elapsed) locality buffer)
+    × IsAnsweredFailure (try_refusal fails.command fails.place) x
+IsAnsweredTry r Cycled x = ⊥
+
+-- ---- a stretch of events
+
+abbrev pub elapsed_of : PlainEvent → ℕ
+elapsed_of (Given buffer locality elapsed random) = elapsed
+elapsed_of Cycled = 0
+
+-- the milliseconds that pass in a stretch of events, and how many of its events fail a try
+abbrev pub elapsed_in : List Execution → ℕ
+elapsed_in executions = sum_by (λ (one : Execution). elapsed_of one.event) executions
+
+abbrev pub failures_in : List Execution → ℕ
+failures_in executions = count_by (λ (one : Execution). fails_try one.before one.event) executions
+
+-- whether a command takes failed tries back, or sets their parameters
+abbrev pub resets_tries : CommandCode → Bool
+resets_tries command.DictionaryAttackLockReset = true
+resets_tries command.DictionaryAttackParameters = true
+resets_tries command.Clear = true
+resets_tries _ = false
+
+abbrev pub is_reset : PastEvent → Bool
+is_reset (Done c) = resets_tries c.command.code
+is_reset PowerCycled = false
+
+-- No command of a history takes failed tries back, or sets their parameters.
+abbrev pub HasNoReset : History → Type 0
+HasNoReset history = AllByRecursion (λ (one : PastEvent). is_reset one ≡ false) history
+
+-- how many tries may fail in a stretch of events: maxTries, and one for each recoveryTime that
+-- passes
+abbrev pub tries_within : Record → List Execution → ℕ
+tries_within old executions =
+    old.fixed.lockout.fields.max_tries + elapsed_in executions / period old.fixed.lockout
+
+-- In a stretch of events without a reset, where tries are counted, no more tries fail than
+-- `tries_within` allows.
+abbrev pub FailsWithin : Bool → Record → List Execution → Record → Type 0
+FailsWithin can old executions new =
+    Leads can old executions new
+    → HasNoReset (history_after [] executions)
+    → old.fixed.lockout.fields.recovery_time ≢ 0
+    → failures_in executions ≤ tries_within old executions
+
+-- the bound on the tries that may fail in a stretch of events: maxTries, one more, and one for each
+-- recoveryTime that passes
+abbrev pub tries_at_most : Record → List Execution → ℕ
+tries_at_most old executions =
+    old.fixed.lockout.fields.max_tries + 1
+    + elapsed_in executions / period old.fixed.lockout
+
+abbrev pub FailsFew : Bool → Record → List Execution → Record → Type 0
+FailsFew can old executions new =
+    Leads can old executions new
+    → HasNoReset (history_after [] executions)
+    → old.fixed.lockout.fields.recovery_time ≢ 0
+    → failures_in executions ≤ tries_at_most old executions
+
+-- An event is an accepted command that takes failed tries back, or sets their parameters.
+pub record IsReset (one : PastEvent) : Type 0 where
+  pub accepted : AcceptedCommand
+  pub is : one ≡ Done accepted
+  pub code : (accepted.command.code ≡ command.DictionaryAttackLockReset)
+      ⊎ (accepted.command.code ≡ command.DictionaryAttackParameters)
+      ⊎ (accepted.command.code ≡ command.Clear)

@@ -1,0 +1,39 @@
+-- What an accepted command is, and what happens to sessions after its row.
+use Rattle.std.specs.Prelude.{◌≡◌, ℕ, true, false, List, [], Ok}
+use Rattle.tpm_commands.specs.CommandCode.{shape_of}
+use Rattle.tpm_commands.specs.declared.command_code.CommandCode.{CommandCode}
+use Rattle.tpm_commands.specs.declared.command_code.CommandCode.TheVariants as command
+use Rattle.tpm_record.specs.Record.{Record}
+use Rattle.tpm_auth.specs.Grant.{authorize}
+use Rattle.tpm_step.specs.Step.{Accepted, request_in}
+use Rattle.tpm_step.specs.Table.{row_of}
+use Rattle.tpm_step.specs.rows.Handles.{HandlesFit}
+
+-- A command is due: TPM2_Startup on a device that is not started, and every other command on one
+-- that is.
+abbrev pub IsDue : CommandCode → Record → Type 0
+IsDue command.Startup r = r.fixed.started ≡ false
+IsDue _ r = r.fixed.started ≡ true
+
+-- A command that is accepted is due, its handles fit its shape, it has no entries where its shape
+-- forbids sessions, its entries authorize what they are granted, and its row, asked with its
+-- parameters in plain, succeeds.
+pub record IsAcceptance (r : Record) (locality : ℕ) (random : List ℕ) (a : Accepted) : Type 0 where
+  pub due : IsDue a.command.code r
+  pub fits : HandlesFit r (shape_of a.command.code).handles a.command.handles
+  pub alone : (shape_of a.command.code).forbids_sessions ≡ true → a.command.entries ≡ []
+  pub granted : authorize r a.command locality ≡ Ok a.grants
+  pub requested : a.request ≡ request_in r a.command a.grants locality random
+  pub row : row_of r a.command.code a.request ≡ Ok a.success
+
+-- Nothing of a record changes but its sessions.
+abbrev pub OnlySessions : Record → Record → Type 0
+OnlySessions old new = new ≡ record old { sessions = new.sessions }
+
+-- Nothing of a record changes but its sessions and what a shutdown saved.
+abbrev pub LeavesEffect : Record → Record → Type 0
+LeavesEffect old new =
+    new ≡ record old {
+      sessions = new.sessions;
+      fixed = record old.fixed { saved = new.fixed.saved };
+    }

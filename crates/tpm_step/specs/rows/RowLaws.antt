@@ -1,0 +1,37 @@
+-- All that holds of the row of a command, as one record.
+use Rattle.std.specs.Prelude.{◌≡◌, ◌≤◌, false, length, Result, IfOk}
+use Rattle.tpm_types.specs.declared.refused.Refused.{Refused}
+use Rattle.tpm_commands.specs.CommandCode.{part_of, shape_of}
+use Rattle.tpm_commands.specs.declared.command_code.CommandCode.{CommandCode}
+use Rattle.tpm_record.specs.Record.{Record}
+use Rattle.tpm_record.specs.rows.Request.{Request}
+use Rattle.tpm_record.specs.rows.Rows.{Success}
+use Rattle.tpm_step.specs.rows.Draws.{DrawsAsSaid}
+use Rattle.tpm_step.specs.rows.Footprint.{Touches}
+use Rattle.tpm_step.specs.rows.IndexChanges.{ChangesIndices}
+use Rattle.tpm_step.specs.rows.Order.{Orders, Plain}
+use Rattle.tpm_step.specs.rows.Sessions.{SessionsStay}
+use Rattle.tpm_step.specs.rows.Shapes.{AnswersItsShape, GrowsAsShaped}
+use Rattle.tpm_step.specs.rows.Sizes.{AreSized}
+
+-- A success touches its command's part of the state alone, and makes of the NV indices what is said
+-- of that part; it takes as many places, and answers what, its shape says, and draws as many random
+-- bytes as are said of its command; where the command may have sessions they all stay, and keep
+-- their sizes.
+pub record SuccessLaws (c : CommandCode) (r : Record) (q : Request) (s : Success) : Type 0 where
+  pub touches : Touches (part_of c) r s.after
+  pub changes : ChangesIndices (part_of c) q r.nv s.after.nv
+  pub grows : GrowsAsShaped c r s.after
+  pub answers : AnswersItsShape c s
+  pub draws : DrawsAsSaid c q s
+  pub stays : (shape_of c).forbids_sessions ≡ false → SessionsStay r s.after
+  pub sized : 32 ≤ length q.random → AreSized r → AreSized s.after
+
+-- Each success of a row has these laws; and its refusals come in order, and count nothing against
+-- dictionary attacks.
+pub record RowLaws (c : CommandCode) (row : Record → Request → Result Success Refused)
+    : Type 0 where
+  pub success : (r : Record) (q : Request) → IfOk (row r q) (SuccessLaws c r q)
+  pub order : (r : Record) (q : Request)
+      → Orders r (shape_of c).handles q.handles (shape_of c).parameters q.parameters (row r q)
+  pub plain : (r : Record) (q : Request) → Plain (row r q)

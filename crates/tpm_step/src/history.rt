@@ -1,0 +1,292 @@
+//! What a device has accepted, and that this decides what the device is: its PCRs, its sessions and
+//! their policies, its authorization values and its counters. It also says on what grounds the
+//! device let itself be used, what a replay repeats, and how many tries may fail.
+//!
+//! Each law is the contract of a function that does nothing. The laws follow from the definitions
+//! of the step and from the laws over all rows, which [`crate::rows`] has; beside those, only the
+//! rows are opened that set what a history tells. The contracts of the calls of tpm_machine, and of
+//! tpm_image and tpm_wire above it, have them.
+
+ghost use Rattle.std.specs.Prelude.{◌≡◌, ◌↔◌, ◌+◌, ◌++◌, ℕ, Bool, true, false, List, [], ◌∷◌, None, Some, map};
+ghost use Rattle.tpm_mac.specs.declared.algorithm.HashAlg.{HashAlg};
+ghost use Rattle.tpm_nv.specs.Index.{NvIndex};
+ghost use Rattle.tpm_session.specs.Sessions.{session_at};
+ghost use Rattle.tpm_session.specs.declared.session.Session.{Session};
+ghost use Rattle.tpm_types.specs.AuthValue.{trimmed};
+ghost use Rattle.tpm_types.specs.Handle.{hierarchy_auth_of};
+ghost use Rattle.tpm_types.specs.declared.handle.Handle.{Handle};
+ghost use Rattle.tpm_record.specs.Cycle.{cycled};
+ghost use Rattle.tpm_record.specs.Entity.{auth_value_of, is_present, names_kept};
+ghost use Rattle.tpm_record.specs.IsRecord.{IsRecord};
+ghost use Rattle.tpm_record.specs.Record.{Record, manufactured};
+ghost use Rattle.tpm_step.specs.Events.{Given, PlainEvent};
+ghost use Rattle.tpm_step.specs.Execution.{Executes};
+ghost use Rattle.tpm_step.specs.Run.{Runs};
+ghost use Rattle.tpm_step.specs.Step.{Stepped};
+ghost use Rattle.tpm_step.specs.Alike.{AuthorizeAlike};
+ghost use Rattle.tpm_step.specs.AuthValues.{auth_of};
+ghost use Rattle.tpm_step.specs.Counters.{CountLaws};
+ghost use Rattle.tpm_step.specs.DeviceAuthValues.{HasAuthValues};
+ghost use Rattle.tpm_step.specs.DeviceCounters.{BeginsAbove, ExceedsEarlier, HasCounters};
+ghost use Rattle.tpm_step.specs.DeviceCounters.{KeepsCounter};
+ghost use Rattle.tpm_step.specs.DeviceSessions.{HasSessions, IsLive};
+ghost use Rattle.tpm_step.specs.Executions.{Execution, Leads, history_after, power_cycle};
+ghost use Rattle.tpm_step.specs.FailedRun.{IsFailedRun};
+ghost use Rattle.tpm_step.specs.Follows.{After, Follows, RunFollows, StretchFollows, Tells};
+ghost use Rattle.tpm_step.specs.Grounds.{AllHaveGrounds};
+ghost use Rattle.tpm_step.specs.History.{AcceptedCommand, Done, History, PastEvent};
+ghost use Rattle.tpm_step.specs.History.{PowerCycled};
+ghost use Rattle.tpm_step.specs.History.{recorded};
+ghost use Rattle.tpm_step.specs.Pcrs.{before_shutdown, pcr_of, pcrs_after};
+ghost use Rattle.tpm_step.specs.PolicyLaws.{KeepsQuietValues, UsesItsCommand};
+ghost use Rattle.tpm_step.specs.PolicyLaws.{UsesAsWritten, UsesPcrsAsTheyAre};
+ghost use Rattle.tpm_step.specs.PolicyReviews.{IsWrittenOnce, NeedsCount, NeedsItsPolicy};
+ghost use Rattle.tpm_step.specs.PolicyReviews.{NeedsPcrs, NeedsPcrsAndPin, NeedsPinOrSecret};
+ghost use Rattle.tpm_step.specs.PolicyReviews.{OfEachAccepted};
+ghost use Rattle.tpm_step.specs.PolicyUses.{AllMeetPolicies};
+ghost use Rattle.tpm_step.specs.Potential.{IsForgiving};
+ghost use Rattle.tpm_step.specs.RunReplays.{IsRecorded, RunReplaysRepeat};
+ghost use Rattle.tpm_step.specs.Sessions.{IsNewSession, LiveSession, started};
+ghost use Rattle.tpm_step.specs.Tries.{FailsFew, FailsWithin, IsAnsweredTry, IsReset};
+ghost use Rattle.tpm_step.specs.Tries.{IsRefusedTry, fails_try, is_reset};
+ghost use Rattle.tpm_step.specs.Tries.{tries_at_most, tries_within};
+ghost use Rattle.tpm_step.specs.View.{view_of};
+ghost use Rattle.tpm_step.specs.Views.{TellsOf};
+
+use crate::event::Outcome;
+
+/// A manufactured device follows the empty history; every execution of an event leads from a
+/// history to that with the event, if it was accepted; and so does a power cycle.
+#[inline(always)]
+pub fn following_laws()
+    ensures manufactured { (random : List ℕ) → Follows (manufactured random) [] }
+    ensures executed { (can : Bool) (old : Record) (event : PlainEvent) (x : Stepped)
+        → Executes can old event x → After Follows old event x }
+    ensures cycled { (r : Record) (history : History)
+        → Follows r history → Follows (cycled r) (PowerCycled ∷ history) }
+{}
+
+/// A power cycle, and the opening of what was saved, is one execution more of a stretch of events;
+/// two stretches, of which the second begins where the first ended, are one; and a stretch in which
+/// no memory can be refused is one in which it may be.
+#[inline(always)]
+pub fn stretch_laws()
+    ensures power_cycle { (can : Bool) (r : Record)
+        → IsRecord r → Leads can r (power_cycle r ∷ []) (cycled r) }
+    ensures joined { (can : Bool) (old : Record) (first : List Execution) (mid : Record)
+        (second : List Execution) (new : Record)
+        → Leads can old first mid → Leads can mid second new → Leads can old (first ++ second) new }
+    ensures wider { (can : Bool) (old : Record) (executions : List Execution) (new : Record)
+        → Leads false old executions new → Leads can old executions new }
+{}
+
+/// A stretch of events leads a device that follows a history to one that follows the history with
+/// all of the events that were accepted. The law also says what else holds of such a stretch.
+#[inline(always)]
+pub fn stretch_history_laws()
+    ensures { (can : Bool) (old : Record) (executions : List Execution) (new : Record)
+        (history : History) → Leads can old executions new → Follows old history
+        → StretchFollows can old executions new history }
+{}
+
+/// A run executes its events one after another, and leads to the history with all of them that were
+/// accepted. Executions that lead so, each outcome of which was told, are a run.
+#[inline(always)]
+pub fn run_history_laws<F: FnMut(&Outcome)>()
+    ensures follows { (can : Bool) (old : Record) (p : F) (events : List PlainEvent) (new : Record)
+        (q : F) (history : History) → Runs F.FnMut can old p events new q → Follows old history
+        → RunFollows F.FnMut can old p events new q history }
+    ensures runs { (can : Bool) (old : Record) (p : F) (executions : List Execution) (new : Record)
+        (q : F) → Leads can old executions new → Tells F.FnMut p executions q
+        → Runs F.FnMut can old p (map (λ (one : Execution). one.event) executions) new q }
+{}
+
+/// What everybody may read of a handle tells what the record has: the Name, the policy, the
+/// protection, and what authorizes it; and the record of a command is of what was so before the
+/// command.
+#[inline(always)]
+pub fn view_laws()
+    ensures tell { (r : Record) (handle : Handle) → TellsOf (view_of r handle) r handle }
+    ensures recorded { (r : Record) (event : PlainEvent) (check : ℕ) (history : History)
+        (c : AcceptedCommand) → recorded r event check history ≡ Done c ∷ history
+        → c.views ≡ map (view_of r) c.command.handles }
+{}
+
+/// A TPM Resume restores the values that the PCRs had at the last shutdown.
+#[inline(always)]
+#[tactic(auto, using(crate::proofs::DevicePcrs::saved_are))]
+pub fn shutdown_laws()
+    ensures { (history : History) (bank : HashAlg) (pcr : ℕ)
+        → (pcrs_after history).saved bank pcr ≡ pcr_of (before_shutdown history) bank pcr }
+{}
+
+/// A session of a device has the start, the key, the nonceTPM and the policy that the history gives
+/// its handle.
+#[inline(always)]
+#[tactic(auto, using(crate::proofs::DeviceSessions::live_sessions))]
+pub fn live_session_laws()
+    ensures { (r : Record) (history : History) (handle : Handle) (s : Session)
+        → HasSessions r history → session_at r.sessions handle ≡ Some s
+        → IsLive history handle s }
+{}
+
+/// What a handle names, if it is there, has the authorization value that the history gives the
+/// handle. What is neither a hierarchy nor lockout, nor an NV index or an object, has the empty
+/// one: a PCR and TPM_RH_NULL. No authorization value ends in a zero.
+#[inline(always)]
+#[tactic(auto, using(crate::proofs::DeviceAuthValues::present_auth_value, crate::proofs::TrimmedValues::told_values_are_trimmed))]
+pub fn auth_value_laws()
+    ensures present { (r : Record) (history : History) (handle : Handle) → HasAuthValues r history
+        → is_present r handle ≡ true → auth_value_of r handle ≡ auth_of history handle }
+    ensures others { (r : Record) (history : History) (handle : Handle) → HasAuthValues r history
+        → names_kept handle ≡ false → hierarchy_auth_of handle ≡ None
+        → auth_of history handle ≡ [] }
+    ensures trimmed { (history : History) (handle : Handle)
+        → trimmed (auth_of history handle) ≡ auth_of history handle }
+{}
+
+/// By the history alone the first value of a counter exceeds all that any counter had before it,
+/// and a counter does not go down as long as no index is defined anew under its handle.
+#[inline(always)]
+#[tactic(auto, using(crate::proofs::CountLaws::count_laws))]
+pub fn count_laws()
+    ensures { CountLaws }
+{}
+
+/// No counter of a device goes down as long as no index is defined anew under its handle; a counter
+/// that has no value yet begins above all that any counter had; and so does one that is defined
+/// meanwhile.
+#[inline(always)]
+pub fn counter_laws()
+    ensures keeps { (old new : Record) (history meanwhile : History) (handle : Handle)
+        (before after : NvIndex) → HasCounters old history
+        → HasCounters new (meanwhile ++ history)
+        → KeepsCounter old new meanwhile handle before after }
+    ensures begins { (old new : Record) (history meanwhile : History) (handle : Handle)
+        (before after : NvIndex) → HasCounters old history
+        → HasCounters new (meanwhile ++ history)
+        → BeginsAbove old new history handle before after }
+    ensures exceeds { (new : Record) (history meanwhile : History) (handle : Handle)
+        (after : NvIndex) → HasCounters new (meanwhile ++ history)
+        → ExceedsEarlier new history meanwhile handle after }
+{}
+
+/// A command that an execution with check 0 accepted is recorded, and the event's buffer spells it.
+#[inline(always)]
+pub fn recorded_laws()
+    ensures { (can : Bool) (old : Record) (buffer : List ℕ) (locality elapsed : ℕ)
+        (random : List ℕ) (x : Stepped)
+        → Executes can old (Given buffer locality elapsed random) x → x.row.check ≡ 0
+        → IsRecorded old (Given buffer locality elapsed random) x buffer }
+{}
+
+/// In every history of a device each use of an entity was authorized on one of three grounds, by
+/// the history before the use: a password, an HMAC session, or a policy session each of whose
+/// conditions is true.
+#[inline(always)]
+pub fn grounds_laws()
+    ensures { (can : Bool) (random : List ℕ) (executions : List Execution) (new : Record)
+        → Leads can (manufactured random) executions new
+        → AllHaveGrounds (history_after [] executions) }
+{}
+
+/// A buffer that is accepted twice, with an HMAC for an HMAC session that lives all the while,
+/// finds the nonceTPM of the first event again; or two texts have one HMAC, each under the key of
+/// its event.
+#[inline(always)]
+pub fn replay_laws()
+    ensures { (can : Bool) (random : List ℕ) (executions : List Execution) (new : Record)
+        → Leads can (manufactured random) executions new → RunReplaysRepeat [] executions }
+{}
+
+/// An entity that is used by a policy session with TPM2_PolicyPCR as its only assertion has the
+/// policy of PCRs with the values that they have at the use; they had them since the first
+/// TPM2_PolicyPCR. If TPM2_PolicyCommandCode is the only assertion, the entity has the policy of
+/// the command that uses it; if TPM2_PolicyNvWritten is, the entity is an NV index, written or not
+/// as that says.
+#[inline(always)]
+pub fn policy_laws()
+    ensures pcrs { UsesPcrsAsTheyAre }
+    ensures quiet { KeepsQuietValues }
+    ensures written { UsesAsWritten }
+    ensures command { UsesItsCommand }
+{}
+
+/// An event fails a try exactly where its authorization is refused with AUTH_FAIL for an entry that
+/// touches a protected entity other than LOCKOUT; and AUTH_FAIL for that entry is its answer.
+#[inline(always)]
+pub fn failed_try_laws()
+    ensures exactly { (old : Record) (event : PlainEvent)
+        → (fails_try old event ≡ true ↔ IsRefusedTry old event) }
+    ensures answered { (can : Bool) (old : Record) (event : PlainEvent) (x : Stepped)
+        → Executes can old event x → fails_try old event ≡ true → IsAnsweredTry old event x }
+{}
+
+/// A session that starts has had no nonceTPM before, and no assertion.
+#[inline(always)]
+pub fn session_start_laws()
+    ensures { (c : AcceptedCommand) (auth_values : List (List ℕ)) (s : LiveSession)
+        → started c auth_values ≡ Some s → IsNewSession s }
+{}
+
+/// Only an accepted TPM2_DictionaryAttackLockReset, TPM2_DictionaryAttackParameters or TPM2_Clear
+/// takes failed tries back, or sets their parameters.
+#[inline(always)]
+pub fn reset_laws()
+    ensures { (one : PastEvent) → (is_reset one ≡ true ↔ IsReset one) }
+{}
+
+/// As many tries can fail as the sharper bound says: an example is a run of reads of an NV index
+/// with a wrong password.
+#[inline(always)]
+pub fn failed_run_laws()
+    ensures { IsFailedRun }
+{}
+
+/// In a stretch of events in which no TPM2_DictionaryAttackLockReset, no
+/// TPM2_DictionaryAttackParameters and no TPM2_Clear is accepted, where recoveryTime is not 0, no
+/// more tries fail than maxTries and one for each whole recoveryTime that passes. The bound
+/// `tries_at_most` is one higher.
+#[inline(always)]
+pub fn few_tries_laws()
+    ensures sharply { (can : Bool) (old : Record) (executions : List Execution) (new : Record)
+        → IsForgiving old.fixed.lockout → FailsWithin can old executions new }
+    ensures few { (can : Bool) (old : Record) (executions : List Execution) (new : Record)
+        → IsForgiving old.fixed.lockout → FailsFew can old executions new }
+    ensures one_more { (old : Record) (executions : List Execution)
+        → tries_at_most old executions ≡ tries_within old executions + 1 }
+{}
+
+/// Two devices that follow one history, and of whose handles everybody may read the same, with the
+/// same failed tries, authorize each command alike: with the same grants, or with the same refusal.
+#[inline(always)]
+pub fn alike_laws()
+    ensures { AuthorizeAlike }
+{}
+
+/// In every history of a device each use has a ground, and each use by a policy session meets every
+/// policy whose digest is the authPolicy of the entity that is used, along one branch at each
+/// TPM2_PolicyOR; or the hash is broken, by texts that the policy and the session spell.
+#[inline(always)]
+pub fn auth_policy_laws()
+    ensures { (can : Bool) (random : List ℕ) (executions : List Execution) (new : Record)
+        → Leads can (manufactured random) executions new
+        → AllMeetPolicies (history_after [] executions) }
+{}
+
+/// Since a device was manufactured, an object without userWithAuth was used by policy sessions
+/// alone, and each use met its policy. With a policy of PCRs the object was used only while they
+/// had the values of the policy, and if the policy asks for a PIN too, only by someone who had it;
+/// with a policy of a PIN or a recovery secret, only by someone who had one of them; with a policy
+/// that compares a counter, only where TPM2_PolicyNV was accepted. An NV index without AUTHWRITE,
+/// whose policy is that it is not written, was written only while it was not. All this is so, or
+/// the hash is broken.
+#[inline(always)]
+pub fn policy_review_laws()
+    ensures every { OfEachAccepted NeedsItsPolicy }
+    ensures pcrs { OfEachAccepted NeedsPcrs }
+    ensures pcrs_and_pin { OfEachAccepted NeedsPcrsAndPin }
+    ensures pin_or_secret { OfEachAccepted NeedsPinOrSecret }
+    ensures written_once { OfEachAccepted IsWrittenOnce }
+    ensures count { OfEachAccepted NeedsCount }
+{}
