@@ -8,12 +8,12 @@ use Rattle.tpm_types.specs.declared.handle.Handle.{Handle}
 use Rattle.tpm_types.specs.Handle.{password_handle}
 use Rattle.tpm_text.specs.Draft.{Drafts, grown}
 use Rattle.tpm_text.specs.Entry.{SessionPieces, handle_in, octet_in, password_entry, session_entry, session_pieces_of, text_of_entry}
-use Rattle.tpm_text.specs.Number.{bytes_in}
+use Rattle.tpm_number.specs.Number.{bytes_in}
 use Rattle.tpm_text.specs.Parameter.{buffer_text}
 use Rattle.tpm_text.specs.Pieces.{colon, pieces_of}
 use Rattle.tpm_text.proofs.Growing.{grown-grown}
-use Rattle.tpm_text.specs.declared.fault.TokenFault.{TokenFault}
-use Rattle.tpm_text.specs.declared.fault.TokenFault.TheVariants.{Bad}
+use Rattle.tpm_number.specs.declared.fault.TokenFault.{TokenFault}
+use Rattle.tpm_number.specs.declared.fault.TokenFault.TheVariants.{Bad}
 
 -- the front of a password's entry, before the size of the password
 abbrev pub password_front : List ℕ

@@ -8,12 +8,12 @@ use Rattle.hex.specs.Hex.{decode_of, decode_pairs, is_hex_digit}
 use Rattle.hex.specs.declared.error.FromHexError.{FromHexError}
 use Rattle.hex.proofs.HexLemmas.{decode_of-digits, decode_of-odd, decode_of-ok}
 use Rattle.tpm_text.specs.Hex.{IsChecked}
-use Rattle.tpm_text.specs.Number.{hex_in}
+use Rattle.tpm_number.specs.Number.{hex_in}
 use Rattle.tpm_bytes.specs.Reading.{or_fault}
 use Rattle.tpm_bytes.proofs.Fields.{or_fault_ok}
 use Rattle.tpm_text.specs.Draft.{Drafts, grown}
-use Rattle.tpm_text.specs.declared.fault.TokenFault.{TokenFault}
-use Rattle.tpm_text.specs.declared.fault.TokenFault.TheVariants.{Bad}
+use Rattle.tpm_number.specs.declared.fault.TokenFault.{TokenFault}
+use Rattle.tpm_number.specs.declared.fault.TokenFault.TheVariants.{Bad}
 
 -- an odd number of digits is refused
 pub odd_is_bad : (digits : List ℕ) → length digits % 2 ≡ 1 → IsChecked (hex_in digits) (Err Bad)

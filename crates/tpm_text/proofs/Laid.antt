@@ -11,7 +11,7 @@ use Rattle.tpm_types_command.specs.Command.{handle_text, handles_text}
 use Rattle.tpm_text.specs.declared.draft.Draft.{Draft}
 use Rattle.tpm_text.specs.declared.fault.AsmFault.{AsmFault}
 use Rattle.tpm_text.specs.declared.fault.AsmFault.TheVariants as fault
-use Rattle.tpm_text.specs.declared.fault.TokenFault.{TokenFault}
+use Rattle.tpm_number.specs.declared.fault.TokenFault.{TokenFault}
 use Rattle.tpm_text.specs.Draft.{drafted, grown}
 use Rattle.tpm_text.specs.Entry.{begins_entry, entry_in, handle_in, text_of_entry}
 use Rattle.tpm_bytes.specs.Reading.{Gives}

@@ -1,5 +1,4 @@
 pub mod Cutting
-pub mod Numerals
 pub mod HexDigits
 pub mod Growing
 pub mod Lists

@@ -4,11 +4,11 @@ use Rattle.std.specs.List.{flat_map, fold}
 use Rattle.tpm_bytes.specs.Reading.{◌>>=◌}
 use Rattle.tpm_types.specs.Pcr.{with_pcr}
 use Rattle.tpm_text.specs.Draft.{Drafts, grown}
-use Rattle.tpm_text.specs.Number.{number_in}
+use Rattle.tpm_number.specs.Number.{number_in}
 use Rattle.tpm_text.specs.Parameter.{element_text, elements_text, pcrs_in}
 use Rattle.tpm_text.specs.Pieces.{comma, each_in, pieces_of}
 use Rattle.tpm_text.specs.declared.element.Element.{Element}
-use Rattle.tpm_text.specs.declared.fault.TokenFault.{TokenFault}
+use Rattle.tpm_number.specs.declared.fault.TokenFault.{TokenFault}
 use Rattle.tpm_bytes.proofs.Fields.{ok_is}
 use Rattle.tpm_text.proofs.Growing.{grown-grown}
 

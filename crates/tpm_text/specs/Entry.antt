@@ -7,9 +7,9 @@ use Rattle.tpm_bytes.specs.Reading.{◌>>=◌, refused_if}
 use Rattle.tpm_types.specs.declared.handle.Handle.{Handle}
 use Rattle.tpm_types.specs.Handle.{endorsement_handle, lockout_handle, null_handle, numbered, owner_handle, password_handle, platform_handle}
 use Rattle.tpm_types_command.specs.AuthEntry.{Entry, auth_entry_text}
-use Rattle.tpm_text.specs.declared.fault.TokenFault.{TokenFault}
-use Rattle.tpm_text.specs.declared.fault.TokenFault.TheVariants.{Bad}
-use Rattle.tpm_text.specs.Number.{bytes_in, hex_in, is_word}
+use Rattle.tpm_number.specs.declared.fault.TokenFault.{TokenFault}
+use Rattle.tpm_number.specs.declared.fault.TokenFault.TheVariants.{Bad}
+use Rattle.tpm_number.specs.Number.{bytes_in, hex_in, is_word}
 use Rattle.tpm_text.specs.Pieces.{colon, pieces_of}
 
 unfoldable pub hex_handle_in : List ℕ → Result Handle TokenFault

@@ -2,8 +2,8 @@
 use Rattle.std.specs.Prelude.{◌≡◌, ℕ, Result, Ok, Err}
 use Rattle.tpm_text.specs.declared.fault.AsmFault.{AsmFault}
 use Rattle.tpm_text.specs.declared.fault.AsmFault.TheVariants as line
-use Rattle.tpm_text.specs.declared.fault.TokenFault.{TokenFault}
-use Rattle.tpm_text.specs.declared.fault.TokenFault.TheVariants as token
+use Rattle.tpm_number.specs.declared.fault.TokenFault.{TokenFault}
+use Rattle.tpm_number.specs.declared.fault.TokenFault.TheVariants as token
 
 -- the fault of a line whose token at this column is at fault
 abbrev pub fault_at : ℕ → TokenFault → AsmFault

@@ -1,7 +1,6 @@
 pub mod Pieces
 pub mod Tokens
 pub mod Fault
-pub mod Number
 pub mod Hex
 pub mod Parameter
 pub mod Entry

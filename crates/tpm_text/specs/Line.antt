@@ -12,7 +12,7 @@ use Rattle.tpm_types_command.specs.Command.{Whole, command_size, command_text}
 use Rattle.tpm_commands.specs.CommandCode.{code_called, handle_count, shape_of}
 use Rattle.tpm_text.specs.declared.fault.AsmFault.{AsmFault}
 use Rattle.tpm_text.specs.declared.fault.AsmFault.TheVariants as fault
-use Rattle.tpm_text.specs.declared.fault.TokenFault.{TokenFault}
+use Rattle.tpm_number.specs.declared.fault.TokenFault.{TokenFault}
 use Rattle.tpm_text.specs.Entry.{begins_entry, entry_in, handle_in}
 use Rattle.tpm_text.specs.Fault.{at_column}
 use Rattle.tpm_text.specs.Parameter.{parameter_text}

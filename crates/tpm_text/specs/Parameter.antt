@@ -18,9 +18,9 @@ use Rattle.tpm_commands.specs.declared.shape.ParameterKind.{ParameterKind}
 use Rattle.tpm_commands.specs.declared.shape.ParameterKind.TheVariants as kind
 use Rattle.tpm_text.specs.declared.element.Element.{Element}
 use Rattle.tpm_text.specs.declared.element.Element.TheVariants as element
-use Rattle.tpm_text.specs.declared.fault.TokenFault.{TokenFault}
-use Rattle.tpm_text.specs.declared.fault.TokenFault.TheVariants.{Bad}
-use Rattle.tpm_text.specs.Number.{bytes_in, hex_in, is_word, number_in, number_text}
+use Rattle.tpm_number.specs.declared.fault.TokenFault.{TokenFault}
+use Rattle.tpm_number.specs.declared.fault.TokenFault.TheVariants.{Bad}
+use Rattle.tpm_number.specs.Number.{bytes_in, hex_in, is_word, number_in, number_text}
 use Rattle.tpm_text.specs.Pieces.{colon, comma, each_in, pieces_of, plus}
 
 abbrev pub hash_in : List ℕ → Result HashAlg TokenFault

@@ -4,7 +4,7 @@ use Rattle.std.specs.Prelude.{Result, Ok}
 use Rattle.std.specs.List.{slice_split}
 use Rattle.tpm_bytes.specs.Reading.{◌>>=◌}
 use Rattle.tpm_text.specs.declared.token.Token as declared
-use Rattle.tpm_text.specs.declared.fault.TokenFault.{TokenFault}
+use Rattle.tpm_number.specs.declared.fault.TokenFault.{TokenFault}
 
 -- the separators: of tokens, of the elements of a list, of numbers, and of a word from what stands
 -- after it

@@ -7,9 +7,10 @@ ghost use Rattle.std.specs.Option.{ForSome};
 ghost use Rattle.tpm_types_command.specs.Header.{header_text};
 
 use crate::digits::{check_hex, digits_of};
-use crate::fault::{AsmFault, TokenFault};
+use crate::fault::AsmFault;
 use tpm_bytes::Sink;
 use tpm_commands::CommandCode;
+use tpm_number::TokenFault;
 use tpm_types::BUFFER_LIMIT;
 use tpm_types_command::{HEADER_SIZE, Tag};
 
@@ -25,7 +26,7 @@ pub struct Draft {
 
 impl Draft {
     ghost use Rattle.tpm_text.specs.Draft.{Drafts, Finishes, drafted, finished, grown, with_area};
-    ghost use Rattle.tpm_text.specs.Number.{hex_in};
+    ghost use Rattle.tpm_number.specs.Number.{hex_in};
     ghost use Rattle.tpm_text.specs.Parameter.{buffer_text};
 
     /// An empty draft.

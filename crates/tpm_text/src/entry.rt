@@ -9,9 +9,8 @@ ghost use Rattle.tpm_bytes.specs.Reading.{Gives};
 ghost use Rattle.tpm_text.specs.Pieces.{colon, pieces_of};
 
 use crate::draft::Draft;
-use crate::fault::TokenFault;
-use crate::number::is_word;
 use crate::token::cut;
+use tpm_number::{TokenFault, is_word};
 use tpm_types::Handle;
 
 /// The handle that eight hex digits write.

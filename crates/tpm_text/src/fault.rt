@@ -1,8 +1,10 @@
 //! Why a line spells no command: the first fault from the left, with its column.
 
 ghost use Rattle.std.specs.Prelude.{◌≡◌};
+ghost use Rattle.tpm_text.specs.Fault.{fault_at};
 
 use std::alloc::AllocError;
+use tpm_number::TokenFault;
 
 /// Why a line spells no command, or one that no buffer can hold: the first fault from the left. A
 /// column is the place of a token's first byte, from 1.
@@ -32,25 +34,12 @@ impl From<AllocError> for AsmFault {
     }
 }
 
-/// Why a token is not what is wanted in its place.
-#[derive(Clone, Copy, PartialEq, Eq)]
-pub enum TokenFault {
-    /// The token is not written as it should be.
-    Bad,
-    /// A number is too large.
-    Range,
-}
-
-impl TokenFault {
-    ghost use Rattle.tpm_text.specs.Fault.{fault_at};
-
-    /// The fault of a line whose token at this column is at fault.
-    pub fn at(self, column: usize) -> AsmFault
-        ensures { result ≡ fault_at column self }
-    {
-        match self {
-            TokenFault::Bad => AsmFault::BadField { column },
-            TokenFault::Range => AsmFault::Range { column },
-        }
+/// The fault of a line whose token at this column is at fault.
+pub fn fault_at(column: usize, fault: TokenFault) -> AsmFault
+    ensures { result ≡ fault_at column fault }
+{
+    match fault {
+        TokenFault::Bad => AsmFault::BadField { column },
+        TokenFault::Range => AsmFault::Range { column },
     }
 }

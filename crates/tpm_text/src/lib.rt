@@ -5,7 +5,7 @@
 //! A line is a command in words: its name, its handles, its authorization entries and its
 //! parameters, a space between two. [`line`] reads it token by token ([`token`]) by the shape of
 //! the command, which says what is wanted where, and writes the buffer of the command ([`draft`]):
-//! handles and entries ([`entry`]), and parameters ([`parameter`]): numbers ([`number`]), words
+//! handles and entries ([`entry`]), and parameters ([`parameter`]): numbers (tpm_number), words
 //! ([`word`]), bytes in hex ([`digits`]) and lists ([`list`]). The first fault from the left is
 //! told with its column ([`fault`]). A trace ([`trace`]) tells of an event in one line which
 //! command came from which locality, which row of the table it took, and what was answered.
@@ -21,7 +21,6 @@ mod entry;
 pub mod fault;
 pub mod line;
 mod list;
-mod number;
 mod parameter;
 mod token;
 pub mod trace;
@@ -30,6 +29,5 @@ mod word;
 pub use draft::Draft;
 pub use fault::AsmFault;
 pub use line::{assemble, assemble_in, read_back_laws};
-pub use number::{decimal, is_word, locality};
 pub use token::position_of;
 pub use trace::{trace_line, trace_text, traceable_laws};

@@ -5,18 +5,17 @@ ghost use Rattle.std.specs.Int.{w32, to_be_bytes};
 ghost use Rattle.std.specs.List.{count_by};
 ghost use Rattle.tpm_text.specs.Draft.{Drafts, drafted};
 ghost use Rattle.tpm_bytes.specs.Reading.{Gives};
-ghost use Rattle.tpm_text.specs.Number.{number_in};
+ghost use Rattle.tpm_number.specs.Number.{number_in};
 ghost use Rattle.tpm_text.specs.Parameter.{bank_word_text, digest_word_text, element_text, hash_and_rest_in, elements_text, list_or_none_text, list_text, pcrs_in};
 ghost use Rattle.tpm_text.specs.Pieces.{pieces_of, plus};
 
 use crate::draft::Draft;
 use crate::element::Element;
-use crate::fault::TokenFault;
-use crate::number::{is_word, number_in};
 use crate::token::{cut, position_of};
 use crate::word::hash_in;
 use tpm_bytes::Sink;
 use tpm_mac::HashAlg;
+use tpm_number::{TokenFault, is_word, number_in};
 use tpm_types::{BankSelection, PcrIndex, PcrSelect, hash_number};
 
 /// The hash algorithm before the first colon, and all that stands after the colon.

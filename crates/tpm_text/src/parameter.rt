@@ -3,17 +3,16 @@
 ghost use Rattle.std.specs.Prelude.{◌≡◌, MatchResult};
 ghost use Rattle.tpm_text.specs.Draft.{Drafts, drafted};
 ghost use Rattle.tpm_bytes.specs.Reading.{Gives};
-ghost use Rattle.tpm_text.specs.Number.{number_text};
+ghost use Rattle.tpm_number.specs.Number.{number_text};
 ghost use Rattle.tpm_text.specs.Parameter.{bank_word_text, buffer_text, digest_word_text, element_text, hash_in, hash_text, list_or_none_text, list_text, parameter_text, symmetric_in};
 
 use crate::digits::digits_of;
 use crate::draft::Draft;
 use crate::element::Element;
-use crate::fault::TokenFault;
 use crate::list::{put_list, put_list_or_none};
-use crate::number::{is_word, number_in};
 use crate::word::{hash_in, put_hash, put_symmetric};
 use tpm_commands::ParameterKind;
+use tpm_number::{TokenFault, is_word, number_in};
 
 /// Writes a parameter of this kind, given as a token.
 #[tactic(auto, unfolding(crate::specs::Parameter::parameter_text))]

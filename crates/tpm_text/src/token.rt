@@ -6,8 +6,9 @@ ghost use Rattle.std.specs.Option.{ForSome, option_map_or};
 ghost use Rattle.tpm_text.specs.Pieces.{pieces_of};
 
 use crate::entry::begins_entry;
-use crate::fault::{AsmFault, TokenFault};
+use crate::fault::{AsmFault, fault_at};
 use memchr::memchr;
+use tpm_number::TokenFault;
 
 /// The place of the first such byte in a text.
 pub fn position_of(byte: u8, bytes: &[u8]) -> Option<usize>
@@ -57,7 +58,7 @@ impl<'a> Token<'a> {
     {
         match read {
             Ok(value) => Ok(value),
-            Err(fault) => Err(fault.at(self.column)),
+            Err(fault) => Err(fault_at(self.column, fault)),
         }
     }
 }

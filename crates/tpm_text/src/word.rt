@@ -6,10 +6,9 @@ ghost use Rattle.tpm_bytes.specs.Reading.{Gives};
 ghost use Rattle.tpm_text.specs.Parameter.{hash_in, hash_text, symmetric_in, symmetric_word_text};
 
 use crate::draft::Draft;
-use crate::fault::TokenFault;
-use crate::number::is_word;
 use tpm_bytes::Sink;
 use tpm_mac::HashAlg;
+use tpm_number::{TokenFault, is_word};
 use tpm_types::{SymmetricDefinition, hash_number, hash_or_null_number};
 
 /// The hash algorithm of a word.

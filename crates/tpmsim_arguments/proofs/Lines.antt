@@ -5,7 +5,7 @@ use Rattle.std.specs.Str.{bytes_eq}
 use Rattle.clap.specs.Lexer.{long_of, short_of, strip_byte}
 use Rattle.clap.specs.Words.{Text}
 use Rattle.clap.proofs.OnLiterals.{clap_on_literals}
-use Rattle.tpm_text.specs.Number.{decimal_of, locality_of}
+use Rattle.tpm_number.specs.Number.{decimal_of, locality_of}
 use Rattle.tpmsim_arguments.specs.Answers.{AreTaken}
 use Rattle.tpmsim_arguments.specs.Invocation.{Invocation, Kept, asked_by, assemble, check, cycle_power, forms, in_image, in_state, name_code, retell, run, serve, spell}
 use Rattle.tpmsim_arguments.specs.Lines.{AskFor, AskForDevice, AskForSavedDevice, AskForService, IsScript, asm_line, begins_with_hyphen, check_line, code_line, form_line, forms_line, line_line, logging_line, played_line, power_line, joined_line, saving_line, script_line, state_line}

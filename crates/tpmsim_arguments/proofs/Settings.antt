@@ -8,7 +8,7 @@ use Rattle.clap.specs.Faults.{built_fault, check_fault, defaults_fault, entered_
 use Rattle.clap.specs.declared.builder.value_parser.Reading.TheVariants.{AsWritten}
 use Rattle.clap.specs.declared.parser.matches.ValueSource.TheVariants.{CommandLine}
 use Rattle.clap.proofs.OnLiterals.{clap_on_literals}
-use Rattle.tpm_text.specs.Number.{decimal_of}
+use Rattle.tpm_number.specs.Number.{decimal_of}
 use Rattle.tpmsim_arguments.specs.Invocation.{asked_in, asked_of, in_image}
 use Rattle.tpmsim_arguments.specs.CommandLine.{program}
 use Rattle.tpmsim_arguments.specs.Lines.{AskForDevice, NoneBeginsWithHyphen, begins_with_hyphen, serve_line}

@@ -3,7 +3,7 @@ use Rattle.std.specs.Prelude.{◌≡◌, ◌≤◌, ◌⊎◌, ◌==◌, ◌++�
 use Rattle.std.specs.Prelude.{Option, Some, None, codes}
 use Rattle.std.specs.List.{AllByRecursion}
 use Rattle.clap.specs.Words.{Text}
-use Rattle.tpm_text.specs.Number.{decimal_of}
+use Rattle.tpm_number.specs.Number.{decimal_of}
 use Rattle.tpmsim_arguments.specs.Answers.{AreTaken}
 use Rattle.tpmsim_arguments.specs.Invocation.{Invocation, Kept, asked_by, in_image, serve}
 

@@ -17,7 +17,7 @@ use crate::storage::Storage;
 use clap::ArgMatches;
 use std::alloc::Global;
 use std::convert::AsStr;
-use tpm_text::{decimal, locality};
+use tpm_number::{decimal, locality};
 
 /// What the command line asks for.
 #[derive(Drop)]

@@ -2,7 +2,7 @@
 use Rattle.std.proofs.Common.{◌≡◌, ℕ, List, [], ◌∷◌, Bool, true, false, length, refl, is_some, cond, Some, None, ap}
 use Rattle.std.specs.List.{list_all}
 use Rattle.std.specs.Str.Parse.{digits_value}
-use Rattle.tpm_text.specs.Number.{is_digit, numeral}
+use Rattle.tpm_number.specs.Number.{is_digit, numeral}
 
 some_if : (b : Bool) (number : ℕ) → is_some (cond b (Some number) None) ≡ b
 some_if true number = refl

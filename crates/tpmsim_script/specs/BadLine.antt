@@ -1,7 +1,7 @@
 -- Why a line is not one that a script may have. A column is counted in what follows the line's word
 -- and its space.
 use Rattle.std.specs.Prelude.{List, ℕ, is_some, if◌then◌else◌}
-use Rattle.tpm_text.specs.Number.{numeral}
+use Rattle.tpm_number.specs.Number.{numeral}
 use Rattle.tpm_text.specs.declared.fault.AsmFault.{AsmFault}
 use Rattle.tpm_text.specs.declared.fault.AsmFault.TheVariants as fault
 use Rattle.tpmsim_script.specs.declared.bad_line.BadLine.{BadLine}

@@ -4,14 +4,15 @@
 ghost use Rattle.std.specs.Prelude.{◌≡◌, ◌+◌, ◌*◌, ◌==◌, ◌≤◌, [], IfOk, is_some, length};
 ghost use Rattle.std.specs.List.{list_all, position};
 ghost use Rattle.tpm_bytes.specs.Reading.{Gives};
-ghost use Rattle.tpm_text.specs.Number.{is_digit, numeral};
+ghost use Rattle.tpm_number.specs.Number.{is_digit, numeral};
 ghost use Rattle.tpmsim_script.specs.BadLine.{missing, misplaced, number_fault, too_large};
 ghost use Rattle.tpmsim_script.specs.Line.{Tells, bytes_of, hex_of, line_meaning, line_reading};
 ghost use Rattle.tpmsim_script.specs.Line.{locality_reading, meaning_of, reading_alone, reading_by};
 ghost use Rattle.tpmsim_script.specs.Line.{reading_with, wait_reading};
 
 use crate::bad_line::{BadLine, Wanted};
-use tpm_text::{AsmFault, decimal, is_word, locality, position_of};
+use tpm_number::{decimal, is_word, locality};
+use tpm_text::{AsmFault, position_of};
 use tpm_types::Locality;
 
 /// A line of a script.

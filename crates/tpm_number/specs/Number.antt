@@ -9,10 +9,10 @@ use Rattle.std.specs.Result.{result_ok}
 use Rattle.std.specs.Str.Parse.{digits_value}
 use Rattle.hex.specs.Hex.{decode_of}
 use Rattle.tpm_bytes.specs.Reading.{◌>>=◌, or_fault, refused_if}
-use Rattle.tpm_text.specs.declared.number.Radix.{Radix}
-use Rattle.tpm_text.specs.declared.number.Radix.TheVariants as radix
-use Rattle.tpm_text.specs.declared.fault.TokenFault.{TokenFault}
-use Rattle.tpm_text.specs.declared.fault.TokenFault.TheVariants.{Bad, Range}
+use Rattle.tpm_number.specs.declared.number.Radix.{Radix}
+use Rattle.tpm_number.specs.declared.number.Radix.TheVariants as radix
+use Rattle.tpm_number.specs.declared.fault.TokenFault.{TokenFault}
+use Rattle.tpm_number.specs.declared.fault.TokenFault.TheVariants.{Bad, Range}
 
 -- whether a text is this word
 abbrev pub is_word : List ℕ → List ℕ → Bool

@@ -11,8 +11,8 @@ use Rattle.std.proofs.lemmas.Bool.Decides.{Decides-and, Decides-ltb, nat_tests}
 use Rattle.std.proofs.lemmas.Str.{IsUtf8-from_ascii}
 use Rattle.std.proofs.lemmas.Str.Parse.{without_leading_plus_none}
 use Rattle.tpm_bytes.proofs.Fields.{ok_is}
-use Rattle.tpm_text.specs.Number.{at_most, is_digit, numeral}
-use Rattle.tpm_text.specs.declared.fault.TokenFault.TheVariants.{Bad, Range}
+use Rattle.tpm_number.specs.Number.{at_most, is_digit, numeral}
+use Rattle.tpm_number.specs.declared.fault.TokenFault.TheVariants.{Bad, Range}
 
 each_decides : (radix : ℕ) (digits : List ℕ) → Decides (list_all (is_digit radix) digits) (AllDigits radix digits)
 each_decides radix [] = (λ _. tt, λ _. refl)

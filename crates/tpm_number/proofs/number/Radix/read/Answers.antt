@@ -1,8 +1,8 @@
 use Rattle.std.proofs.Common.{rules}
-use Rattle.tpm_text.specs.Number.{radix_number}
-use Rattle.tpm_text.proofs.Numerals.{digits_are_utf8, no_digits, number_read, number_too_large, other_bytes}
-use Rattle.tpm_text.proofs.number.Radix.read.Goals as goal
-use Rattle.tpm_text.proofs.number.Radix.read.Goals.{then-is_empty-via-then-is_empty, then-is_empty-via-else-is_empty+then-not-has_digits}
+use Rattle.tpm_number.specs.Number.{radix_number}
+use Rattle.tpm_number.proofs.Numerals.{digits_are_utf8, no_digits, number_read, number_too_large, other_bytes}
+use Rattle.tpm_number.proofs.number.Radix.read.Goals as goal
+use Rattle.tpm_number.proofs.number.Radix.read.Goals.{then-is_empty-via-then-is_empty, then-is_empty-via-else-is_empty+then-not-has_digits}
 
 pub returns-then-is_empty : goal.returns-then-is_empty
 returns-then-is_empty c = elim c.then-is_empty.branch [

@@ -4,8 +4,8 @@ ghost use Rattle.std.specs.Prelude.{◌≡◌, ◌<◌, ◌≤◌, ◌^◌, ◌-
 ghost use Rattle.std.specs.List.{list_all};
 ghost use Rattle.tpm_types.specs.Locality.{locality_number};
 ghost use Rattle.tpm_bytes.specs.Reading.{Gives};
-ghost use Rattle.tpm_text.specs.Number.{at_most, decimal_of, is_digit, is_word, locality_of};
-ghost use Rattle.tpm_text.specs.Number.{number_in, number_of, numeral, radix_number};
+ghost use Rattle.tpm_number.specs.Number.{at_most, decimal_of, is_digit, is_word, locality_of};
+ghost use Rattle.tpm_number.specs.Number.{number_in, number_of, numeral, radix_number};
 
 use crate::fault::TokenFault;
 use std::str;
