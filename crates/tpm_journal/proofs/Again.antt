@@ -5,7 +5,6 @@ use Rattle.std.proofs.lemmas.List.{length-take-le, take-append-drop}
 use Rattle.tpm_record.specs.Cycle.{cycled}
 use Rattle.tpm_record.specs.IsRecord.{IsRecord}
 use Rattle.tpm_record.specs.Record.{Record}
-use Rattle.tpm_completion.specs.Completed.{completed}
 use Rattle.tpm_completion.specs.Completion.{new_completion}
 use Rattle.tpm_completion.specs.Execution.{Seen}
 use Rattle.tpm_completion.specs.declared.completion.Completion.{Completion}

@@ -1,5 +1,5 @@
 -- The number of random bytes that a command draws, with the layer or without it, is bounded.
-use Rattle.std.proofs.Common.{◌≡◌, ◌≤◌, ◌+◌, ◌&&◌, ℕ, zero, suc, Bool, true, false, List, [], ◌∷◌, ◌++◌, length, Option, Some, None, Result, Ok, Err, refl, subst, sym, ap, ◌∙◌, get_or, if◌then◌else◌}
+use Rattle.std.proofs.Common.{◌≡◌, ◌≤◌, ◌&&◌, ℕ, zero, suc, Bool, true, false, List, [], ◌∷◌, ◌++◌, length, Option, Some, None, Result, Ok, Err, refl, subst, ap, get_or, if◌then◌else◌}
 use native.Mathlib.Omega.{arith}
 use Rattle.std.specs.Int.{w32, to_be_bytes}
 use Rattle.std.proofs.lemmas.Bool.{false≢true}
@@ -9,7 +9,7 @@ use Rattle.tpm_record.specs.Tick.{ticked}
 use Rattle.tpm_types.specs.declared.handle.Handle.{Handle}
 use Rattle.tpm_types_command.specs.AuthEntry.{Entry}
 use Rattle.tpm_step.specs.Answer.{answer_to, framed, handle_answer, success_text}
-use Rattle.tpm_step.specs.Events.{Given, PlainEvent}
+use Rattle.tpm_step.specs.Events.{Given}
 use Rattle.tpm_step.specs.Step.{Accepted, Stepped, accepted, step, stepped_of}
 use Rattle.tpm_step.specs.declared.event.Row.{Row}
 use Rattle.tpm_step.specs.declared.refused_command.RefusedCommand.{RefusedCommand}

@@ -1,5 +1,5 @@
 -- Random bytes that a command did not draw have no influence on it, nor on what its layer does.
-use Rattle.std.proofs.Common.{◌≡◌, ◌≤◌, ◌-◌, ◌+◌, ℕ, zero, suc, Bool, true, false, List, [], ◌++◌, length, replicate, take, Option, Some, None, Result, Ok, Err, refl, subst, sym, ap, ◌∙◌}
+use Rattle.std.proofs.Common.{◌≡◌, ◌≤◌, ◌-◌, ℕ, Bool, true, false, List, [], ◌++◌, length, replicate, take, Option, Some, None, refl, subst, sym, ap, ◌∙◌}
 use native.Mathlib.Omega.{arith}
 use Rattle.std.proofs.lemmas.List.{length-append, length-replicate, length-take-le}
 use Rattle.tpm_record.specs.Record.{Record}
@@ -9,11 +9,11 @@ use Rattle.tpm_machine.specs.Drawn.{drawn_by}
 use Rattle.tpm_machine.proofs.Following.{execution_follows}
 use Rattle.tpm_journal.specs.draw_laws.Bytes.{AgreeOnDrawn, zeros_behind}
 use Rattle.tpm_journal.proofs.draw_laws.Executions.{draws_alike, executes_alike, replays, replay_draws}
-use Rattle.tpm_completion.specs.Execution.{AsksFirst, Behind, Completes, CompletesBy, CompletesIf, GivesUp, Notes, Passes, Seen, given_up_behind}
+use Rattle.tpm_completion.specs.Execution.{Behind, CompletesBy, CompletesIf, Passes, Seen, given_up_behind}
 use Rattle.tpm_completion.specs.Room.{flush_asked}
 use Rattle.tpm_completion.specs.declared.completion.Completion.{Completion}
 use Rattle.tpm_journal_text.specs.Entry.{PlainEntry}
-use Rattle.tpm_journal.specs.Command.{Command, Executed, given}
+use Rattle.tpm_journal.specs.Command.{given}
 use Rattle.tpm_journal.specs.Living.{Answers, IgnoresUndrawn, Lives}
 use Rattle.tpm_journal.proofs.Again.{lives_again}
 use Rattle.tpm_journal.proofs.Drawing.{draws_within, gives_up_draws_none, no_more_drawn}

@@ -26,7 +26,7 @@ entries_more sum (x ∷ entries) e =
     ap (λ (l : List ℕ). entry_text sum x ++ l) (entries_more (sum_after sum x) entries e)
     ∙ sym (append_assoc (entry_text sum x) (entries_text (sum_after sum x) entries) (entry_text (sum_after_all (sum_after sum x) entries) e))
 
-are_more : (entries : List PlainEntry) (e : PlainEntry) → AllByRecursion IsEntry entries → IsEntry e → AllByRecursion IsEntry (entries ++ e ∷ [])
+pub are_more : (entries : List PlainEntry) (e : PlainEntry) → AllByRecursion IsEntry entries → IsEntry e → AllByRecursion IsEntry (entries ++ e ∷ [])
 are_more [] e are is = (is, tt)
 are_more (x ∷ entries) e are is = (are.0, are_more entries e are.1 is)
 
@@ -40,9 +40,9 @@ take_further n m text within =
     ∙ ap (λ (l : List ℕ). take n text ++ l) (drop-take n m text)
 
 -- a performance at the front of a text is one at the front of an equal text
-pub performs_at : (can : Bool) (before : Journal) (old : Record) (left text : List ℕ) (size : ℕ) (after : Journal) (new : Record)
-    (Holds : ℕ → ℕ → Type 0) → left ≡ text → Performs can before old left size after new Holds → Performs can before old text size after new Holds
-performs_at can before old left text size after new Holds is p = rw (← is) p
+pub performs_at : (can : Bool) (before : Journal) (old : Record) (left text : List ℕ) (size : ℕ) (one : Performance) (after : Journal)
+    (Holds : ℕ → ℕ → Type 0) → left ≡ text → Performs can before old left size one after Holds → Performs can before old text size one after Holds
+performs_at can before old left text size one after Holds is p = rw (← is) p
 
 -- the sum of a journal to which entries lead
 pub journal_sum : (can : Bool) (before : Journal) (old : Record) (performances : List Performance) (after : Journal) (new : Record)
@@ -52,7 +52,7 @@ journal_sum can before old (one ∷ performances) after new leads =
     journal_sum can (journal_after before one.entry one.seen.layer) one.seen.step.after performances after new leads.1
 
 -- one performance more at the end of others
-leads_more : (can : Bool) (before : Journal) (old : Record) (performances : List Performance) (mid : Journal) (here : Record)
+pub leads_more : (can : Bool) (before : Journal) (old : Record) (performances : List Performance) (mid : Journal) (here : Record)
     (one : Performance) (after : Journal) (new : Record) → LeadsBy can before old performances mid here
     → IsPerformed can mid.layer here one.entry one.seen → after ≡ journal_after mid one.entry one.seen.layer → new ≡ one.seen.step.after
     → LeadsBy can before old (performances ++ one ∷ []) after new
@@ -70,65 +70,60 @@ leads_more can before old (first ∷ performances) mid here one after new leads 
 -- ---- what was executed so far, and one entry more
 
 module _ (can : Bool) (before : Journal) (old : Record) (text : List ℕ) (taken : ℕ) (mid : Journal) (here : Record)
-    (size : ℕ) (after : Journal) (new : Record) (Holds : ℕ → ℕ → Type 0)
-    (r : Repeats can before old text taken None mid here) (p : Performs can mid here (drop taken text) size after new Holds) where
-  one : Performance
-  one = record { entry = p.entry; seen = p.seen }
-
+    (size : ℕ) (one : Performance) (after : Journal) (Holds : ℕ → ℕ → Type 0)
+    (r : Repeats can before old text taken None mid here) (p : Performs can mid here (drop taken text) size one after Holds) where
   abbrev entries : List PlainEntry
   entries = map entry_in r.performances
 
-  sums_are : map response_sum (r.performances ++ one ∷ []) ≡ map answer_said r.performances ++ response_sum one ∷ []
+  pub sums_are : map response_sum (r.performances ++ one ∷ []) ≡ map answer_said r.performances ++ response_sum one ∷ []
   sums_are = map-append response_sum r.performances (one ∷ []) ∙ ap (λ (l : List ℕ). l ++ response_sum one ∷ []) r.answers
 
-  said_are : map answer_said (r.performances ++ one ∷ []) ≡ map answer_said r.performances ++ answer_said one ∷ []
+  pub said_are : map answer_said (r.performances ++ one ∷ []) ≡ map answer_said r.performances ++ answer_said one ∷ []
   said_are = map-append answer_said r.performances (one ∷ [])
 
-  entries_are : map entry_in (r.performances ++ one ∷ []) ≡ entries ++ p.entry ∷ []
-  unfolding one
+  pub entries_are : map entry_in (r.performances ++ one ∷ []) ≡ entries ++ one.entry ∷ []
   entries_are = map-append entry_in r.performances (one ∷ [])
 
-  front_is : take (taken + size) text ≡ entries_text before.sum (entries ++ p.entry ∷ [])
+  pub front_is : take (taken + size) text ≡ entries_text before.sum (entries ++ one.entry ∷ [])
   front_is =
       take_further taken size text (omega (arith, r.within, p.within, length-drop taken text)) ∙ ap (λ (l : List ℕ). l ++ take size (drop taken text)) r.front
       ∙ ap (λ (l : List ℕ). entries_text before.sum entries ++ l)
-      (p.front ∙ ap (λ (s : ℕ). entry_text s p.entry) (journal_sum can before old r.performances mid here r.leads))
-      ∙ sym (entries_more before.sum entries p.entry)
+      (p.front ∙ ap (λ (s : ℕ). entry_text s one.entry) (journal_sum can before old r.performances mid here r.leads))
+      ∙ sym (entries_more before.sum entries one.entry)
 
-  joined : (fault : Option FollowFault) → AnswersAre fault (map response_sum (r.performances ++ one ∷ [])) (map answer_said (r.performances ++ one ∷ []))
-      → Repeats can before old text (taken + size) fault after new
-  unfolding one
+  unfoldable pub joined : (fault : Option FollowFault)
+      → AnswersAre fault (map response_sum (r.performances ++ one ∷ [])) (map answer_said (r.performances ++ one ∷ []))
+      → Repeats can before old text (taken + size) fault after one.seen.step.after
   joined fault answers = record {
     performances = r.performances ++ one ∷ [];
-    are = subst (AllByRecursion IsEntry) (sym entries_are) (are_more entries p.entry r.are p.is);
+    are = subst (AllByRecursion IsEntry) (sym entries_are) (are_more entries one.entry r.are p.is);
     within = omega (arith, r.within, p.within, length-drop taken text);
     front = front_is ∙ ap (entries_text before.sum) (sym entries_are);
-    leads = leads_more can before old r.performances mid here one after new r.leads p.performed p.journal p.leaves;
+    leads = leads_more can before old r.performances mid here one after _ r.leads p.performed p.journal refl;
     answers = answers;
   }
 
-pub repeats_more : (can : Bool) (before : Journal) (old : Record) (text : List ℕ) (taken : ℕ) (mid : Journal) (here : Record)
-    (size : ℕ) (after : Journal) (new : Record) → Repeats can before old text taken None mid here
-    → Performs can mid here (drop taken text) size after new (λ sum said. sum ≡ said) → Repeats can before old text (taken + size) None after new
-unfolding one
-repeats_more can before old text taken mid here size after new r p =
-    joined can before old text taken mid here size after new _ r p None
-    (sums_are can before old text taken mid here size after new _ r p
+unfoldable pub repeats_more : (can : Bool) (before : Journal) (old : Record) (text : List ℕ) (taken : ℕ) (mid : Journal) (here : Record)
+    (size : ℕ) (one : Performance) (after : Journal) → Repeats can before old text taken None mid here
+    → Performs can mid here (drop taken text) size one after (λ sum said. sum ≡ said)
+    → Repeats can before old text (taken + size) None after one.seen.step.after
+repeats_more can before old text taken mid here size one after r p =
+    joined can before old text taken mid here size one after _ r p None
+    (sums_are can before old text taken mid here size one after _ r p
     ∙ ap (λ (n : ℕ). map answer_said r.performances ++ n ∷ []) p.answer
-    ∙ sym (said_are can before old text taken mid here size after new _ r p))
+    ∙ sym (said_are can before old text taken mid here size one after _ r p))
 
-pub repeats_otherwise : (can : Bool) (before : Journal) (old : Record) (text : List ℕ) (taken : ℕ) (mid : Journal) (here : Record)
-    (size : ℕ) (after : Journal) (new : Record) → Repeats can before old text taken None mid here
-    → Performs can mid here (drop taken text) size after new (λ sum said. sum ≢ said)
-    → Replays can before old text (record { taken = taken + size; fault = Some Otherwise }) after new
-unfolding one
-repeats_otherwise can before old text taken mid here size after new r p = record {
-  repeats = joined can before old text taken mid here size after new _ r p (Some Otherwise) (
+unfoldable pub repeats_otherwise : (can : Bool) (before : Journal) (old : Record) (text : List ℕ) (taken : ℕ) (mid : Journal) (here : Record)
+    (size : ℕ) (one : Performance) (after : Journal) → Repeats can before old text taken None mid here
+    → Performs can mid here (drop taken text) size one after (λ sum said. sum ≢ said)
+    → Replays can before old text (record { taken = taken + size; fault = Some Otherwise }) after one.seen.step.after
+repeats_otherwise can before old text taken mid here size one after r p = record {
+  repeats = joined can before old text taken mid here size one after _ r p (Some Otherwise) (
     map answer_said r.performances,
-    response_sum (one can before old text taken mid here size after new _ r p),
-    p.entry.answered,
-    sums_are can before old text taken mid here size after new _ r p,
-    said_are can before old text taken mid here size after new _ r p,
+    response_sum one,
+    answer_said one,
+    sums_are can before old text taken mid here size one after _ r p,
+    said_are can before old text taken mid here size one after _ r p,
     p.answer,
   );
   ends = tt;
@@ -136,7 +131,7 @@ repeats_otherwise can before old text taken mid here size after new r p = record
 
 -- ---- the beginning and the end
 
-pub repeats_none : (can : Bool) (before : Journal) (old : Record) (text : List ℕ) → Repeats can before old text 0 None before old
+unfoldable pub repeats_none : (can : Bool) (before : Journal) (old : Record) (text : List ℕ) → Repeats can before old text 0 None before old
 repeats_none can before old text = record {
   performances = [];
   are = tt;
@@ -146,10 +141,10 @@ repeats_none can before old text = record {
   answers = refl;
 }
 
-pub performs_some : (can : Bool) (before : Journal) (old : Record) (text : List ℕ) (size : ℕ) (after : Journal) (new : Record)
-    (Holds : ℕ → ℕ → Type 0) → Performs can before old text size after new Holds → 0 < size
-performs_some can before old text size after new Holds p =
-    omega (arith, length-take-le size text p.within, ap length p.front, entry_text_some before.sum p.entry)
+pub performs_some : (can : Bool) (before : Journal) (old : Record) (text : List ℕ) (size : ℕ) (one : Performance) (after : Journal)
+    (Holds : ℕ → ℕ → Type 0) → Performs can before old text size one after Holds → 0 < size
+performs_some can before old text size one after Holds p =
+    omega (arith, length-take-le size text p.within, ap length p.front, entry_text_some before.sum one.entry)
 
 pub ends_cut : (can : Bool) (before : Journal) (old : Record) (text : List ℕ) (taken : ℕ) (mid : Journal) (here : Record)
     (after : Journal) (new : Record) → Repeats can before old text taken None mid here
@@ -158,7 +153,7 @@ pub ends_cut : (can : Bool) (before : Journal) (old : Record) (text : List ℕ) 
 ends_cut can before old text taken mid here after new r end =
     rw (end.1, end.2) (record { repeats = r; ends = end.0 })
 
-repeats_so : (can : Bool) (before : Journal) (old : Record) (text : List ℕ) (taken : ℕ) (mid : Journal) (here : Record)
+unfoldable pub repeats_so : (can : Bool) (before : Journal) (old : Record) (text : List ℕ) (taken : ℕ) (mid : Journal) (here : Record)
     → Repeats can before old text taken None mid here → Repeats can before old text taken (Some Damaged) mid here
 repeats_so can before old text taken mid here r = record {
   performances = r.performances;

@@ -6,7 +6,7 @@ use Rattle.tpm_completion.specs.Run.{run_of}
 use Rattle.tpm_completion.specs.declared.completion.Completion.{Completion}
 use Rattle.tpm_record.specs.Record.{Record}
 use Rattle.tpm_machine.specs.Executions.{Execution}
-use Rattle.tpm_journal_text.specs.Entry.{IsEntry, PlainEntry, entry_text}
+use Rattle.tpm_journal_text.specs.Entry.{IsEntry, PlainEntry, entry_text, plain_entry}
 use Rattle.tpm_journal_text.specs.Journal.{IsCutOff, IsDamaged, entries_text}
 use Rattle.tpm_journal_text.specs.Sum.{sum_of}
 use Rattle.tpm_journal.specs.Command.{IsPerformed, event_of}
@@ -89,31 +89,30 @@ pub record Replays (can : Bool) (before : Journal) (old : Record) (text : List �
 
 -- ---- one entry
 
--- The entry at the front of a text was performed, and `Holds` relates the sum of its response and
--- the sum that the entry says.
+-- This is the performance of the entry at the front of a text, and `Holds` relates the sum of its
+-- response and the sum that the entry says.
 pub record Performs (can : Bool) (before : Journal) (old : Record) (text : List ℕ) (size : ℕ)
-    (after : Journal) (new : Record) (Holds : ℕ → ℕ → Type 0) : Type 0
+    (one : Performance) (after : Journal) (Holds : ℕ → ℕ → Type 0) : Type 0
   where
-    pub entry : PlainEntry
-    pub is : IsEntry entry
+    pub is : IsEntry one.entry
     pub within : size ≤ length text
-    pub front : take size text ≡ entry_text before.sum entry
-    pub seen : Seen
-    pub performed : IsPerformed can before.layer old entry seen
-    pub leaves : new ≡ seen.step.after
-    pub answer : Holds (sum_of seen.step.response) entry.answered
-    pub journal : after ≡ journal_after before entry seen.layer
+    pub front : take size text ≡ entry_text before.sum one.entry
+    pub performed : IsPerformed can before.layer old one.entry one.seen
+    pub answer : Holds (response_sum one) (answer_said one)
+    pub journal : after ≡ journal_after before one.entry one.seen.layer
 
--- What was done about the front of a text.
-abbrev pub Does : Bool → Journal → Record → List ℕ → Deed → Journal → Record → Type 0
-Does can before old text (deed.Executed size) after new =
-    Performs can before old text size after new (λ sum said. sum ≡ said)
-Does can before old text (deed.Otherwise size) after new =
-    Performs can before old text size after new (λ sum said. sum ≢ said)
-Does can before old text deed.CutOff after new =
-    IsCutOff before.sum text × (after ≡ before) × (new ≡ old)
-Does can before old text deed.Damaged after new =
-    IsDamaged before.sum text × (after ≡ before) × (new ≡ old)
+-- What was done about the front of a text; what is seen is the effect, if an entry was executed.
+abbrev pub Does : Bool → Journal → Record → List ℕ → Deed → (after : Journal) → Seen → Type 0
+Does can before old text (deed.Executed entry size) after seen =
+    Performs can before old text size (record { entry = plain_entry entry; seen = seen }) after
+    (λ sum said. sum ≡ said)
+Does can before old text (deed.Otherwise entry size) after seen =
+    Performs can before old text size (record { entry = plain_entry entry; seen = seen }) after
+    (λ sum said. sum ≢ said)
+Does can before old text deed.CutOff after seen =
+    IsCutOff before.sum text × (after ≡ before) × (seen.step.after ≡ old)
+Does can before old text deed.Damaged after seen =
+    IsDamaged before.sum text × (after ≡ before) × (seen.step.after ≡ old)
 
 -- ---- followed whole
 

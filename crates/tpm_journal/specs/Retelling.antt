@@ -1,12 +1,12 @@
 -- A journal as a script, which is a map over the entries that are executed again.
-use Rattle.std.specs.Prelude.{◌≡◌, ◌≢◌, ℕ, false, true, Bool, List, [], ◌∷◌, ◌++◌, codes, flat_map, Option, Some, None, Result, Ok, Err}
+use Rattle.std.specs.Prelude.{◌≡◌, ℕ, false, true, Bool, List, [], ◌∷◌, ◌++◌, codes, flat_map, Option, Some, None, Result, Ok, Err}
 use Rattle.std.specs.Io.KnownBytes.{Appends, Keeps}
 use Rattle.tpm_bytes.specs.Tap.{Marks}
 use Rattle.tpm_image_text.specs.Image.{image_of}
 use Rattle.tpm_image_text.specs.NonVolatile.{NonVolatile, powered_on}
 use Rattle.tpm_journal.specs.Command.{event_of}
 use Rattle.tpm_journal.specs.Opening.{BeginsWith}
-use Rattle.tpm_journal.specs.Replay.{Performance, Performs, Repeats, Replays}
+use Rattle.tpm_journal.specs.Replay.{Performance, Repeats, Replays}
 use Rattle.tpm_journal.specs.State.{journal_begun}
 use Rattle.tpm_journal.specs.declared.following.Followed.{Followed}
 use Rattle.tpm_journal.specs.declared.following.FollowFault.{FollowFault}
@@ -14,13 +14,10 @@ use Rattle.tpm_journal.specs.declared.journal.Journal.{Journal}
 use Rattle.tpm_journal.specs.declared.opening.OpenFault.TheVariants as fault
 use Rattle.tpm_journal_text.specs.Entry.{PlainEntry, executing_lines, setting_lines}
 use Rattle.tpm_journal_text.specs.Head.{head_text}
-use Rattle.tpm_journal_text.specs.Journal.{IsCutOff, IsDamaged}
 use Rattle.tpm_record.specs.Record.{Record}
 use Rattle.tpm_step.specs.Events.{PlainEvent}
 use Rattle.tpm_step.specs.declared.event.Row.{Row}
 use Rattle.tpm_text.specs.Trace.{IsAnswered, IsRow, trace_text}
-use Rattle.tpm_journal.specs.declared.retelling.front.Front.{Front}
-use Rattle.tpm_journal.specs.declared.retelling.front.Front.TheVariants as front
 use Rattle.tpm_journal.specs.declared.retelling.RetellFault.{RetellFault}
 use Rattle.tpm_journal.specs.declared.retelling.RetellFault.TheVariants.{Open, Write}
 
@@ -96,25 +93,3 @@ RetellsJournal text held holds marks (Err (Open (fault.Image why))) =
 RetellsJournal text held holds marks (Err (Open (fault.Follow why))) =
     RetellsText text held holds (Some why)
 RetellsJournal text held holds marks (Err Write) = marks.failed ≡ true
-
--- ---- one entry
-
--- The entry at the front of a text was performed, and its words are these; `Holds` relates the sum
--- of its response and the sum that it says.
-pub record PerformsSo (can : Bool) (before : Journal) (old : Record) (text : List ℕ) (size : ℕ)
-    (words : List ℕ) (after : Journal) (new : Record) (Holds : ℕ → ℕ → Type 0) : Type 0
-  where
-    pub performs : Performs can before old text size after new Holds
-    pub words_are : words
-        ≡ comment_of (record { entry = performs.entry; seen = performs.seen })
-
--- What was done about the front of a text.
-abbrev pub TellsFront : Bool → Journal → Record → List ℕ → Front → Journal → Record → Type 0
-TellsFront can before old text (front.Executed size comment) after new =
-    PerformsSo can before old text size comment.bytes after new (λ sum said. sum ≡ said)
-TellsFront can before old text (front.Otherwise size comment) after new =
-    PerformsSo can before old text size comment.bytes after new (λ sum said. sum ≢ said)
-TellsFront can before old text front.CutOff after new =
-    IsCutOff before.sum text × (after ≡ before) × (new ≡ old)
-TellsFront can before old text front.Damaged after new =
-    IsDamaged before.sum text × (after ≡ before) × (new ≡ old)

@@ -33,11 +33,12 @@ pub struct Followed {
 }
 
 /// What was done about the front of a text.
-enum Deed {
-    /// The entry, of this many bytes, was executed, and answered as it says.
-    Executed(usize),
-    /// The entry, of this many bytes, was executed, and answered otherwise than it says.
-    Otherwise(usize),
+#[derive(Clone, Copy)]
+pub(crate) enum Deed<'a> {
+    /// The entry, whose text has `size` bytes, was executed, and answered as it says.
+    Executed { entry: Entry<'a>, size: usize },
+    /// The entry, whose text has `size` bytes, was executed, and answered otherwise than it says.
+    Otherwise { entry: Entry<'a>, size: usize },
     /// The text is less than an entry.
     CutOff,
     /// The text is damaged.
@@ -78,16 +79,16 @@ fn padded(drawn: &[u8]) -> [u8; 256]
 impl Journal {
     /// Executes the entry at the front of a text. The entry's bytes go to the first room, and its
     /// text is written to the second, to be compared.
-    fn follow_one<K: Keep>(
+    pub(crate) fn follow_one<'a, K: Keep>(
         &mut self,
         machine: &mut Machine<K>,
         text: &[u8],
-        bytes: &mut [u8; BYTES_ROOM],
+        bytes: &'a mut [u8; BYTES_ROOM],
         room: &mut [u8; ENTRY_ROOM],
         outcome: &mut Outcome,
-    ) -> Deed
+    ) -> Deed<'a>
         ensures { Does K.can_refuse self.old (state_of K.record_of machine.old) text.now result
-            self.new (state_of K.record_of machine.new) }
+            self.new (seen_of K.record_of machine.new self.new.layer outcome.new) }
     {
         let (entry, size, sum) = match read_entry(self.sum, text, bytes, room) {
             Next::CutOff => return Deed::CutOff,
@@ -98,9 +99,9 @@ impl Journal {
         self.sum = sum;
         self.time = self.time.saturating_add(u64::from(entry.elapsed_ms));
         if sum_of(outcome.response.as_slice()) == entry.answered {
-            Deed::Executed(size)
+            Deed::Executed { entry, size }
         } else {
-            Deed::Otherwise(size)
+            Deed::Otherwise { entry, size }
         }
     }
 
@@ -120,8 +121,8 @@ impl Journal {
         loop {
             let (_, left) = text.split_at(taken);
             match self.follow_one(machine, left, &mut bytes, &mut room, outcome) {
-                Deed::Executed(size) => taken += size,
-                Deed::Otherwise(size) => {
+                Deed::Executed { size, .. } => taken += size,
+                Deed::Otherwise { size, .. } => {
                     return Followed {
                         taken: taken + size,
                         fault: Some(FollowFault::Otherwise),

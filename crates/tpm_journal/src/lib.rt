@@ -8,8 +8,8 @@
 //! their entries, follows a text, and is opened from a text. An entry says whether the layer was
 //! on, and has the random bytes that its command drew: others have no influence, as [`draw_laws`]
 //! says. The device and the layer that are opened executed exactly the answered commands.
-//! [`retelling`] tells what happened to a device as a script. The crate does no input or output but
-//! through the writer that this is given: texts are read from the caller's memory and written to it.
+//! [`retell`] writes what happened to a device as a script to a writer. The crate does no other
+//! input or output: texts are read from the caller's memory and written to it.
 
 pub mod draw_laws;
 pub mod following;

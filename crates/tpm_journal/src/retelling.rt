@@ -5,22 +5,19 @@
 //! which is a map over exactly the entries that were executed. It does no input or output but
 //! through the writer that it is given.
 
-ghost use Rattle.std.specs.Prelude.{◌≡◌, ◌≤◌, ◌++◌, ◌∷◌, [], IfOk, OnErr, OnOk, codes, drop, false, length};
-ghost use Rattle.std.specs.Prelude.{replicate, take, true};
-ghost use Rattle.std.specs.Io.KnownBytes.{Appends};
+ghost use Rattle.std.specs.Prelude.{◌≡◌, IfOk, OnErr, false, replicate, true};
 ghost use Rattle.tpm_bytes.specs.Tap.{device_of, marks_of};
 ghost use Rattle.tpm_machine.specs.State.{state_of};
 ghost use Rattle.tpm_record.specs.Record.{manufactured};
 ghost use Rattle.tpm_journal.specs.Retelling.{RetellsEntries, RetellsJournal};
 
 mod comment;
-mod front;
+mod lines;
 
-use crate::following::{FollowFault, Followed};
+use crate::following::{Deed, FollowFault, Followed};
 use crate::journal::Journal;
 use crate::opening::OpenFault;
-use crate::retelling::comment::Comment;
-use crate::retelling::front::{Front, execute_front, put_entry};
+use crate::retelling::lines::put_entry;
 use std::io::Write;
 use tpm_bytes::{Failed, Tap};
 use tpm_image::open_into;
@@ -83,7 +80,8 @@ fn retell_entries<K: Keep, W: Write>(
 ) -> Result<Followed, Failed>
     ensures told { IfOk result (λ followed. RetellsEntries K.can_refuse journal.old
         (state_of K.record_of machine.old) text.now (W.contents (device_of writer.old))
-        (W.contents (device_of writer.new)) followed journal.new (state_of K.record_of machine.new)) }
+        (W.contents (device_of writer.new)) followed journal.new
+        (state_of K.record_of machine.new)) }
     ensures failed { OnErr result ((marks_of writer.new).failed ≡ true) }
 {
     let mut bytes = [0; BYTES_ROOM];
@@ -91,17 +89,17 @@ fn retell_entries<K: Keep, W: Write>(
     let mut taken = 0;
     loop {
         let (_, left) = text.split_at(taken);
-        match execute_front(journal, machine, left, &mut bytes, &mut room, outcome) {
-            Front::Executed { size, comment } => {
-                put_front(writer, &comment, left, size)?;
+        match journal.follow_one(machine, left, &mut bytes, &mut room, outcome) {
+            Deed::Executed { entry, size } => {
+                put_entry(writer, &entry, outcome, left, size)?;
                 taken += size;
             }
-            Front::Otherwise { size, comment } => {
-                put_front(writer, &comment, left, size)?;
+            Deed::Otherwise { entry, size } => {
+                put_entry(writer, &entry, outcome, left, size)?;
                 return Ok(ended(taken + size, Some(FollowFault::Otherwise)));
             }
-            Front::CutOff => return Ok(ended(taken, None)),
-            Front::Damaged => return Ok(ended(taken, Some(FollowFault::Damaged))),
+            Deed::CutOff => return Ok(ended(taken, None)),
+            Deed::Damaged => return Ok(ended(taken, Some(FollowFault::Damaged))),
         }
     }
 }
@@ -110,22 +108,4 @@ fn ended(taken: usize, fault: Option<FollowFault>) -> Followed
     ensures { result ≡ record { taken = taken; fault = fault } }
 {
     Followed { taken, fault }
-}
-
-/// Tells the entry at the front of a text, whose size is `size`.
-fn put_front<W: Write>(
-    writer: &mut Tap<W>,
-    comment: &Comment,
-    text: &[u8],
-    size: usize,
-) -> Result<(), Failed>
-    requires entry { 72 ≤ size }
-    requires within { size ≤ length text.now }
-    ensures written { OnOk result (Appends (W.contents (device_of writer.old))
-        (W.contents (device_of writer.new))
-        (codes "# " ++ comment.now.bytes ++ 10 ∷ [] ++ drop 72 (take size text.now))) }
-    ensures failed { OnErr result ((marks_of writer.new).failed ≡ true) }
-{
-    let (entry, _) = text.split_at(size);
-    put_entry(writer, comment, entry)
 }

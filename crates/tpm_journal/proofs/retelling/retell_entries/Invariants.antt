@@ -5,11 +5,11 @@ use Rattle.tpm_journal.specs.Retelling.{Retells}
 use Rattle.tpm_journal.proofs.retelling.retell_entries.Given as goal
 
 -- The entries so far were executed and told.
-abbrev pub invariant-loop-size : goal.invariant-loop-size
-invariant-loop-size g l =
+abbrev pub invariant-loop-entry : goal.invariant-loop-entry
+invariant-loop-entry g l =
     let record_of = g.K.Keep.record_of in
     Retells g.K.Keep.can_refuse l.fn.journal (state_of record_of l.fn.machine) l.text
     (g.W.Write.contents (device_of l.fn.writer)) (g.W.Write.contents (device_of l.writer)) l.taken None l.journal (state_of record_of l.machine)
 
-abbrev pub decreases-loop-size : goal.decreases-loop-size
-decreases-loop-size g l = length l.text - l.taken
+abbrev pub decreases-loop-entry : goal.decreases-loop-entry
+decreases-loop-entry g l = length l.text - l.taken
