@@ -1,14 +1,12 @@
--- Numbers and hex in a token.
-use Rattle.std.specs.Prelude.{ℕ, ◌-◌, ◌^◌, ◌==◌, nat_eq, nat_le, nat_lt, if◌then◌else◌, Bool, List, [], ◌∷◌, length, drop, codes}
-use Rattle.std.specs.Prelude.{Option, Some, None, Result, Ok, Err, ok_or}
+-- Numbers in a token.
+use Rattle.std.specs.Prelude.{ℕ, ◌-◌, ◌^◌, nat_eq, nat_le, nat_lt, if◌then◌else◌, Bool, List, [], ◌∷◌, drop, codes}
+use Rattle.std.specs.Prelude.{Option, Some, None, Result, Ok, ok_or}
 use Rattle.std.specs.Char.{digit_value}
 use Rattle.std.specs.Cmp.Lexicographic.{pointwise}
-use Rattle.std.specs.Int.{Width, to_be_bytes}
 use Rattle.std.specs.List.{list_all, starts_with}
 use Rattle.std.specs.Result.{result_ok}
 use Rattle.std.specs.Str.Parse.{digits_value}
-use Rattle.hex.specs.Hex.{decode_of}
-use Rattle.tpm_bytes.specs.Reading.{◌>>=◌, or_fault, refused_if}
+use Rattle.tpm_bytes.specs.Reading.{◌>>=◌, refused_if}
 use Rattle.tpm_number.specs.declared.number.Radix.{Radix}
 use Rattle.tpm_number.specs.declared.number.Radix.TheVariants as radix
 use Rattle.tpm_number.specs.declared.fault.TokenFault.{TokenFault}
@@ -55,19 +53,3 @@ decimal_of digits = result_ok (at_most (2 ^ 32 - 1) (numeral 10 digits))
 -- a locality's number, 0 to 4
 abbrev pub locality_of : ℕ → Option ℕ
 locality_of number = if nat_le number 4 then Some number else None
-
--- the bytes of the number that a token writes, which is at most this one
-abbrev pub number_text : Width → (most : ℕ) → List ℕ → Result (List ℕ) TokenFault
-number_text width most token = do
-  number ← number_in most token
-  Ok (to_be_bytes width number)
-
--- the bytes that hex digits of either case write, two digits for each byte
-abbrev pub hex_in : List ℕ → Result (List ℕ) TokenFault
-hex_in digits = or_fault (decode_of digits) Bad
-
--- the bytes that a token writes in hex; the token - writes no bytes
-unfoldable pub bytes_in : List ℕ → Result (List ℕ) TokenFault
-bytes_in token =
-    if is_word (codes "-") token then Ok []
-    else (if length token == 0 then Err Bad else hex_in token)

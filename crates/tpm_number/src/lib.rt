@@ -1,8 +1,8 @@
 #![tactic(auto)]
 
 //! Numbers as people write and read them, decimal or in hex, up to the largest that is wanted; and
-//! localities. What a number is part of, a line of a script or of a command, says where its fault
-//! stands.
+//! localities. A [`TokenFault`] says what is wrong with a token. The caller has the whole line, and
+//! says where in it that token stands.
 //!
 //! The crate uses `tpm_types` for localities. Each call equals its definition in `specs/Number`.
 

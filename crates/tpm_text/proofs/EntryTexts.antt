@@ -8,7 +8,7 @@ use Rattle.tpm_types.specs.declared.handle.Handle.{Handle}
 use Rattle.tpm_types.specs.Handle.{password_handle}
 use Rattle.tpm_text.specs.Draft.{Drafts, grown}
 use Rattle.tpm_text.specs.Entry.{SessionPieces, handle_in, octet_in, password_entry, session_entry, session_pieces_of, text_of_entry}
-use Rattle.tpm_number.specs.Number.{bytes_in}
+use Rattle.tpm_text.specs.Hex.{bytes_in}
 use Rattle.tpm_text.specs.Parameter.{buffer_text}
 use Rattle.tpm_text.specs.Pieces.{colon, pieces_of}
 use Rattle.tpm_text.proofs.Growing.{grown-grown}

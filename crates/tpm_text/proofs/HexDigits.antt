@@ -7,8 +7,7 @@ use Rattle.std.proofs.lemmas.List.Sums.{AllPass-from_list_all, list_all-from_All
 use Rattle.hex.specs.Hex.{decode_of, decode_pairs, is_hex_digit}
 use Rattle.hex.specs.declared.error.FromHexError.{FromHexError}
 use Rattle.hex.proofs.HexLemmas.{decode_of-digits, decode_of-odd, decode_of-ok}
-use Rattle.tpm_text.specs.Hex.{IsChecked}
-use Rattle.tpm_number.specs.Number.{hex_in}
+use Rattle.tpm_text.specs.Hex.{IsChecked, hex_in}
 use Rattle.tpm_bytes.specs.Reading.{or_fault}
 use Rattle.tpm_bytes.proofs.Fields.{or_fault_ok}
 use Rattle.tpm_text.specs.Draft.{Drafts, grown}

@@ -20,7 +20,7 @@ use Rattle.tpm_number.specs.declared.fault.TokenFault.TheVariants.{Bad}
 use Rattle.tpm_text.specs.Entry.{begins_entry, begins_password, begins_session, entry_in, handle_in, hex_handle_in, octet_in, password_entry, session_entry, session_pieces_of}
 use Rattle.tpm_text.specs.Fault.{at_column}
 use Rattle.tpm_text.specs.Line.{ended, entry_tokens_in, handles_in, name_in, parameters_in, spelled}
-use Rattle.tpm_number.specs.Number.{bytes_in, hex_in}
+use Rattle.tpm_text.specs.Hex.{bytes_in, hex_in}
 use Rattle.tpm_text.specs.Pieces.{Token, colon, pieces_of, tokens_of}
 use Rattle.tpm_text.proofs.Laid.{column_ok}
 

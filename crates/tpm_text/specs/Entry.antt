@@ -9,7 +9,8 @@ use Rattle.tpm_types.specs.Handle.{endorsement_handle, lockout_handle, null_hand
 use Rattle.tpm_types_command.specs.AuthEntry.{Entry, auth_entry_text}
 use Rattle.tpm_number.specs.declared.fault.TokenFault.{TokenFault}
 use Rattle.tpm_number.specs.declared.fault.TokenFault.TheVariants.{Bad}
-use Rattle.tpm_number.specs.Number.{bytes_in, hex_in, is_word}
+use Rattle.tpm_number.specs.Number.{is_word}
+use Rattle.tpm_text.specs.Hex.{bytes_in, hex_in}
 use Rattle.tpm_text.specs.Pieces.{colon, pieces_of}
 
 unfoldable pub hex_handle_in : List ℕ → Result Handle TokenFault

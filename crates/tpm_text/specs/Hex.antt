@@ -1,5 +1,20 @@
--- Checks of hex digits that decode none of them.
-use Rattle.std.specs.Prelude.{◌≡◌, Result, Ok, Err}
+-- Hex digits in a token, and checks of hex digits that decode none of them.
+use Rattle.std.specs.Prelude.{◌≡◌, ℕ, ◌==◌, if◌then◌else◌, List, [], length, codes, Result, Ok, Err}
+use Rattle.hex.specs.Hex.{decode_of}
+use Rattle.tpm_bytes.specs.Reading.{or_fault}
+use Rattle.tpm_number.specs.declared.fault.TokenFault.{TokenFault}
+use Rattle.tpm_number.specs.declared.fault.TokenFault.TheVariants.{Bad}
+use Rattle.tpm_number.specs.Number.{is_word}
+
+-- the bytes that hex digits of either case write, two digits for each byte
+abbrev pub hex_in : List ℕ → Result (List ℕ) TokenFault
+hex_in digits = or_fault (decode_of digits) Bad
+
+-- the bytes that a token writes in hex; the token - writes no bytes
+unfoldable pub bytes_in : List ℕ → Result (List ℕ) TokenFault
+bytes_in token =
+    if is_word (codes "-") token then Ok []
+    else (if length token == 0 then Err Bad else hex_in token)
 
 -- A check found what the definition gives to be there, or its fault where it is not.
 abbrev pub IsChecked : {X E : Type 0} → Result X E → Result (Unit {0}) E → Type 0

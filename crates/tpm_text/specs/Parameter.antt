@@ -2,7 +2,7 @@
 use Rattle.std.specs.Prelude.{ℕ, ◌==◌, ◌+◌, ◌*◌, not, if◌then◌else◌, List, ◌++◌, length, take, drop, codes}
 use Rattle.std.specs.Prelude.{Some, None, Result, Ok, Err, ok_or}
 use Rattle.std.specs.List.{flat_map, fold, position}
-use Rattle.std.specs.Int.{w8, w16, w32, w64, to_be_bytes}
+use Rattle.std.specs.Int.{Width, w8, w16, w32, w64, to_be_bytes}
 use Rattle.tpm_bytes.specs.Reading.{◌>>=◌, refused_if}
 use Rattle.tpm_bytes.specs.Writing.{sized_text}
 use Rattle.tpm_mac.specs.declared.algorithm.HashAlg.{HashAlg}
@@ -20,8 +20,15 @@ use Rattle.tpm_text.specs.declared.element.Element.{Element}
 use Rattle.tpm_text.specs.declared.element.Element.TheVariants as element
 use Rattle.tpm_number.specs.declared.fault.TokenFault.{TokenFault}
 use Rattle.tpm_number.specs.declared.fault.TokenFault.TheVariants.{Bad}
-use Rattle.tpm_number.specs.Number.{bytes_in, hex_in, is_word, number_in, number_text}
+use Rattle.tpm_number.specs.Number.{is_word, number_in}
+use Rattle.tpm_text.specs.Hex.{bytes_in, hex_in}
 use Rattle.tpm_text.specs.Pieces.{colon, comma, each_in, pieces_of, plus}
+
+-- the bytes of the number that a token writes, which is at most this one
+abbrev pub number_text : Width → (most : ℕ) → List ℕ → Result (List ℕ) TokenFault
+number_text width most token = do
+  number ← number_in most token
+  Ok (to_be_bytes width number)
 
 abbrev pub hash_in : List ℕ → Result HashAlg TokenFault
 hash_in word =

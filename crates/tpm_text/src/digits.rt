@@ -3,8 +3,7 @@
 ghost use Rattle.std.specs.Prelude.{◌≡◌, Err, MatchResult};
 ghost use Rattle.std.specs.List.{list_all};
 ghost use Rattle.hex.specs.Hex.{is_hex_digit};
-ghost use Rattle.tpm_text.specs.Hex.{IsChecked};
-ghost use Rattle.tpm_number.specs.Number.{bytes_in, hex_in};
+ghost use Rattle.tpm_text.specs.Hex.{IsChecked, bytes_in, hex_in};
 
 use tpm_number::{TokenFault, is_word};
 
@@ -33,7 +32,7 @@ pub fn check_hex(digits: &[u8]) -> Result<(), TokenFault>
 }
 
 /// The hex digits of a token, where the token `-` has none: Bad where it is empty.
-#[tactic(auto, using(crate::proofs::HexDigits::none_is_good), unfolding(tpm_number::specs::Number::bytes_in))]
+#[tactic(auto, using(crate::proofs::HexDigits::none_is_good), unfolding(crate::specs::Hex::bytes_in))]
 pub fn digits_of(token: &[u8]) -> Result<&[u8], TokenFault>
     ensures { MatchResult result
         (λ digits. bytes_in token.now ≡ hex_in digits.now)

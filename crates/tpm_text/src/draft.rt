@@ -26,7 +26,7 @@ pub struct Draft {
 
 impl Draft {
     ghost use Rattle.tpm_text.specs.Draft.{Drafts, Finishes, drafted, finished, grown, with_area};
-    ghost use Rattle.tpm_number.specs.Number.{hex_in};
+    ghost use Rattle.tpm_text.specs.Hex.{hex_in};
     ghost use Rattle.tpm_text.specs.Parameter.{buffer_text};
 
     /// An empty draft.

@@ -3,8 +3,7 @@
 ghost use Rattle.std.specs.Prelude.{◌≡◌, MatchResult};
 ghost use Rattle.tpm_text.specs.Draft.{Drafts, drafted};
 ghost use Rattle.tpm_bytes.specs.Reading.{Gives};
-ghost use Rattle.tpm_number.specs.Number.{number_text};
-ghost use Rattle.tpm_text.specs.Parameter.{bank_word_text, buffer_text, digest_word_text, element_text, hash_in, hash_text, list_or_none_text, list_text, parameter_text, symmetric_in};
+ghost use Rattle.tpm_text.specs.Parameter.{bank_word_text, buffer_text, digest_word_text, element_text, hash_in, hash_text, list_or_none_text, list_text, number_text, parameter_text, symmetric_in};
 
 use crate::digits::digits_of;
 use crate::draft::Draft;
