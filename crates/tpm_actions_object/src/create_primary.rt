@@ -31,8 +31,8 @@ fn named_hierarchy(handle: Handle) -> Result<HierarchyHandle, Refused>
     }
 }
 
-/// Writes what is answered: what there is to say of the creation of an object below a hierarchy, and
-/// the object's Name.
+/// Writes what is answered: what there is to say of the creation of an object below a hierarchy,
+/// and the object's Name.
 fn put_primary<K: Keep>(
     keep: &K,
     locality: Locality,

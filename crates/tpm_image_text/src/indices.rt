@@ -95,7 +95,8 @@ fn add_index<N: Indices>(indices: &mut N, lowest: u64, text: &mut Cursor) -> Res
     requires below { AllBelow lowest (N.contents indices.old).indices }
     requires room { length (N.contents indices.old).indices < nv_index_limit }
     ensures added { Appends N.can_refuse (index_in text.old) lowest
-        (λ e. (e.0 < lowest) ⊎ (nv_space_limit < data_bytes (N.contents indices.old) + e.1.public.data_size))
+        (λ e. (e.0 < lowest)
+        ⊎ (nv_space_limit < data_bytes (N.contents indices.old) + e.1.public.data_size))
         (N.contents indices.old).indices result (N.contents indices.new).indices text.new }
     ensures count { (N.contents indices.new).max_count ≡ (N.contents indices.old).max_count }
 {

@@ -2,9 +2,9 @@
 
 //! What is done with the device's state in lists that grow.
 //!
-//! The type of that state has containers of containers. A call's proof puts the impls of all of them
-//! together anew, and takes the longer the deeper they are nested; so each function here names one
-//! layer of them, and no crate above names that type.
+//! The type of that state has containers of containers. A call's proof puts the impls of all of
+//! them together anew, and takes the longer the deeper they are nested; so each function here names
+//! one layer of them, and no crate above names that type.
 
 ghost use Rattle.std.specs.Prelude.{Result};
 

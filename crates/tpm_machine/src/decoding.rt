@@ -74,7 +74,8 @@ fn read_handle<K: Keep>(
     text: &mut Cursor,
 ) -> Result<Handle, Rc>
     ensures { Reads (λ handle. handle)
-        (present_handle_at (K.record_of keep.now) number rule.now text.old) text.old result text.new }
+        (present_handle_at (K.record_of keep.now) number rule.now text.old)
+        text.old result text.new }
 {
     let mut ahead = Cursor::new(text.rest());
     let handle = Handle::read(number, rule, &mut ahead)?;

@@ -11,8 +11,8 @@
 //!
 //! The crate uses tpm_step, whose definitions say the same: General, Table, Answer, the step of an
 //! event (Step) and runs of events (Run). [`machine::Machine::execute`] and
-//! [`machine::Machine::run`] are proved to be these, for each way of keeping the record. A [`Saver`]
-//! saves a device while it is used, and a [`Witness`] is told what it executed.
+//! [`machine::Machine::run`] are proved to be these, for each way of keeping the record. A
+//! [`Saver`] saves a device while it is used, and a [`Witness`] is told what it executed.
 
 pub mod decoding;
 mod draws;

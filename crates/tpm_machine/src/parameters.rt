@@ -34,7 +34,8 @@ fn encrypt_first(session: &Session, value: &[u8], newer: &[u8], older: &[u8], te
     requires value { length value.now ≤ 32 }
     requires size { length text.old ≤ buffer_limit }
     ensures { text.new
-        ≡ with_first_buffer (encrypted_parameter session.now value.now newer.now older.now) text.old }
+        ≡ with_first_buffer
+        (encrypted_parameter session.now value.now newer.now older.now) text.old }
 {
     if let Some(size) = first_size(text) {
         let _ = session.close_parameter(value, newer, older, &mut text[2..2 + size]);

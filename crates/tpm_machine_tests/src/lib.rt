@@ -5,8 +5,8 @@
 //! each public call on sessions and indices once, with values that were computed outside, and
 //! connections that take turns.
 //!
-//! The crate uses `tpm_wire` and `tpm_slots`, and no crate uses it. It waits for both, so it is proved
-//! beside the program.
+//! The crate uses `tpm_wire` and `tpm_slots`, and no crate uses it. It waits for both, so it is
+//! proved beside the program.
 
 #[cfg(test)]
 mod comparison;

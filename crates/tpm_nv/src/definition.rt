@@ -57,7 +57,8 @@ fn has_reader(attributes: NvAttributes) -> bool
 }
 
 fn has_attribute_conflict(by_platform: bool, attributes: NvAttributes) -> bool
-    ensures { result ≡ list_any (λ wrong. wrong) (index_attribute_conflicts by_platform attributes) }
+    ensures { result
+        ≡ list_any (λ wrong. wrong) (index_attribute_conflicts by_platform attributes) }
 {
     attributes.index_type().is_none()
         || is_undefinable(attributes)

@@ -83,8 +83,8 @@ pub trait Indices: Drop + Sized {
 
     /// Writes data from an offset on (Part 3, section 31.7).
     fn write(&mut self, handle: Handle, offset: u16, bytes: &[u8]) -> Result<(), WriteFault>
-        ensures { ChangesContents (written (contents self.old) handle offset bytes.now) (contents self.old)
-            result (contents self.new) };
+        ensures { ChangesContents (written (contents self.old) handle offset bytes.now)
+            (contents self.old) result (contents self.new) };
 
     /// Raises a counter (Part 3, section 31.8).
     fn increment(&mut self, handle: Handle) -> Result<(), WriteFault>
@@ -98,8 +98,8 @@ pub trait Indices: Drop + Sized {
 
     /// Extends the digest of an index (Part 3, section 31.9).
     fn extend(&mut self, handle: Handle, bytes: &[u8]) -> Result<(), WriteFault>
-        ensures { ChangesContents (extended (contents self.old) handle bytes.now) (contents self.old)
-            result (contents self.new) };
+        ensures { ChangesContents (extended (contents self.old) handle bytes.now)
+            (contents self.old) result (contents self.new) };
 
     /// A number of bytes of the data from an offset on (Part 3, section 31.13).
     fn read(&self, handle: Handle, offset: u16, size: u16) -> Result<&[u8], ReadFault>
@@ -118,8 +118,8 @@ pub trait Indices: Drop + Sized {
 
     /// Gives an index another authorization value (Part 3, section 31.15).
     fn change_auth(&mut self, handle: Handle, value: AuthValue) -> Result<(), Undefined>
-        ensures { ChangesContents (with_auth_value (contents self.old) handle value) (contents self.old)
-            result (contents self.new) };
+        ensures { ChangesContents (with_auth_value (contents self.old) handle value)
+            (contents self.old) result (contents self.new) };
 
     /// Does to all indices what a startup with CLEAR does (Part 3, section 9.3).
     fn startup(&mut self)

@@ -36,7 +36,8 @@ pub(crate) fn put_between<R: Area>(
     requires fits { length (R.bytes area.old) + size ≤ nv_space_limit }
     requires within { length bytes.now ≤ size }
     ensures put { OnOk result (R.bytes area.new ≡ take start (R.bytes area.old)
-        ++ ((bytes.now ++ replicate (size - length bytes.now) 0) ++ drop start (R.bytes area.old))) }
+        ++ ((bytes.now ++ replicate (size - length bytes.now) 0)
+        ++ drop start (R.bytes area.old))) }
     ensures unchanged { OnErr result (R.bytes area.new ≡ R.bytes area.old) }
     ensures refused { OnErr result (R.can_refuse ≡ true) }
 {

@@ -142,7 +142,8 @@ pub trait Keep: Drop + Sized {
 
     /// NV indices that are written through their loan are in the record.
     ghost nv_written: { (keep : Self) (nv : Self.NvIndices)
-        → record_of (with_nv keep nv) ≡ record (record_of keep) { nv = Self.NvIndices.contents nv } };
+        → record_of (with_nv keep nv)
+        ≡ record (record_of keep) { nv = Self.NvIndices.contents nv } };
 
     /// Memory can be refused to the whole state if it can be refused to the sessions, to the
     /// objects, transient or persistent, or to the NV indices.

@@ -19,7 +19,8 @@ pub struct ParameterHashes<'a> {
     sha1: Option<Digest>,
     sha256: Option<Digest>,
     ghost few: { HasFewNames (hashed_parts hashed) },
-    ghost is_sha1: { ForSome sha1 (λ d. d.items ≡ parameter_hash_of alg.Sha1 (hashed_parts hashed)) },
+    ghost is_sha1: { ForSome sha1
+        (λ d. d.items ≡ parameter_hash_of alg.Sha1 (hashed_parts hashed)) },
     ghost is_sha256: { ForSome sha256
         (λ d. d.items ≡ parameter_hash_of alg.Sha256 (hashed_parts hashed)) },
 }

@@ -45,7 +45,8 @@ fn serve_with(
     served
 }
 
-/// Opens the device in the folder. Where none is there a new one begins, with the next random bytes.
+/// Opens the device in the folder. Where none is there a new one begins, with the next random
+/// bytes.
 fn open_or_begin(kept: &mut Kept<'_>, entropy: &mut Entropy) -> Result<(), Fault> {
     if !kept.is_there()? {
         let random = Fault::Entropy.unless(entropy.random())?;

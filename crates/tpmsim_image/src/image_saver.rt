@@ -40,7 +40,8 @@ impl<'a> ImageSaver<'a> {
     /// Takes note that this device is the one of the file. The file is written anew all the same
     /// where the clock is to be saved too: it may be of an older version, or open to others.
     pub fn opened<K: Keep>(&mut self, machine: &Machine<K>)
-        ensures { self.new ≡ record self.old { kept = kept_text (state_of K.record_of machine.now) } }
+        ensures { self.new
+            ≡ record self.old { kept = kept_text (state_of K.record_of machine.now) } }
     {
         let _ = self.kept.renew(machine);
     }

@@ -122,8 +122,8 @@ impl Device {
         save_into(&self.machine, room)
     }
 
-    /// Writes what the device keeps without power, but for its clock, to the front of a room, if that
-    /// fits. Gives how many bytes it has.
+    /// Writes what the device keeps without power, but for its clock, to the front of a room, if
+    /// that fits. Gives how many bytes it has.
     pub fn kept_into(&self, room: &mut [u8]) -> usize
         ensures { PutsFront (kept_text (record_of self.now)) room.old result room.new }
     {

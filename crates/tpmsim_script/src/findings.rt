@@ -68,9 +68,11 @@ impl Findings {
         line: &[u8],
     ) -> Result<(), AllocError>
         ensures text { OnOk result (self.new.text.bytes.items ≡ self.old.text.bytes.items
-            ++ flat_map told (fault_at (line_check (waited_of checker.old) line.now) number line.now)) }
+            ++ flat_map told
+            (fault_at (line_check (waited_of checker.old) line.now) number line.now)) }
         ensures first { OnOk result (self.new.first ≡ option_or self.old.first
-            (first_number (fault_at (line_check (waited_of checker.old) line.now) number line.now))) }
+            (first_number
+            (fault_at (line_check (waited_of checker.old) line.now) number line.now))) }
         ensures waited { OnOk result (waited_of checker.new
             ≡ waited_behind (line_check (waited_of checker.old) line.now) (waited_of checker.old)) }
     {

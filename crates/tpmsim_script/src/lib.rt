@@ -2,7 +2,8 @@
 
 //! Scripts of commands: [`run::run_device`] plays a script on a device and writes what the device
 //! answers, and [`run::run_script`] on a new device; [`checker::Checker`] reads the lines and runs
-//! none, and [`report::report_of`] reports what is wrong with them, a line of text for each bad line.
+//! none, and [`report::report_of`] reports what is wrong with them, a line of text for each bad
+//! line.
 //!
 //! A script is a text whose lines are read one after another ([`lines`], [`line`]), set what the
 //! next command is given ([`script`]) and are performed on the device ([`player`]), a command in

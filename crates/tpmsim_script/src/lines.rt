@@ -154,7 +154,8 @@ impl Lines {
         ensures failed { OnErr result ((marks_of reader.new).failed ≡ true) }
         ensures line { line_of self.new ≡ line_of self.old }
         ensures more { OnOk result
-            (Consumes (R.remaining (device_of reader.old)) (R.remaining (device_of reader.new)) (rest_of self.new)) }
+            (Consumes (R.remaining (device_of reader.old)) (R.remaining (device_of reader.new))
+            (rest_of self.new)) }
         ensures agrees { OnOk result (Agrees (R.remaining (device_of reader.new)) self.new) }
         ensures ended { OnOk result (self.new.ended ≡ (length (rest_of self.new) == 0)) }
         ensures none { OnErr result (rest_of self.new ≡ []) }

@@ -83,9 +83,10 @@ impl<K: Keep> Player<K> {
             (state_of K.record_of self.new.machine) saver.old) saver.old result saver.new }
         ensures did { K.can_refuse ≡ false → Did
             (perform_line (playing_of K.record_of self.old) line.now)
-            (printout (W.contents (device_of writer.old)) self.old.answers) (playing_of K.record_of self.old)
-            result
-            (printout (W.contents (device_of writer.new)) self.new.answers) (playing_of K.record_of self.new) }
+            (printout (W.contents (device_of writer.old)) self.old.answers)
+            (playing_of K.record_of self.old) result
+            (printout (W.contents (device_of writer.new)) self.new.answers)
+            (playing_of K.record_of self.new) }
     {
         let said = Line::parse(line)?;
         self.perform(said, room, writer, saver)
@@ -126,9 +127,10 @@ impl<K: Keep> Player<K> {
             (state_of K.record_of self.new.machine) saver.old) saver.old result saver.new }
         ensures did { K.can_refuse ≡ false → Did
             (perform (playing_of K.record_of self.old) (meaning_of line.entry))
-            (printout (W.contents (device_of writer.old)) self.old.answers) (playing_of K.record_of self.old)
-            result
-            (printout (W.contents (device_of writer.new)) self.new.answers) (playing_of K.record_of self.new) }
+            (printout (W.contents (device_of writer.old)) self.old.answers)
+            (playing_of K.record_of self.old) result
+            (printout (W.contents (device_of writer.new)) self.new.answers)
+            (playing_of K.record_of self.new) }
     {
         match line {
             Line::Command(digits) => self.execute(room.decode(digits)?, writer, saver)?,
@@ -156,9 +158,10 @@ impl<K: Keep> Player<K> {
             saver.old result saver.new }
         ensures did { K.can_refuse ≡ false → Did
             (Some (execute (playing_of K.record_of self.old) buffer.now))
-            (printout (W.contents (device_of writer.old)) self.old.answers) (playing_of K.record_of self.old)
-            result
-            (printout (W.contents (device_of writer.new)) self.new.answers) (playing_of K.record_of self.new) }
+            (printout (W.contents (device_of writer.old)) self.old.answers)
+            (playing_of K.record_of self.old) result
+            (printout (W.contents (device_of writer.new)) self.new.answers)
+            (playing_of K.record_of self.new) }
     {
         let event = self.script.command(buffer);
         self.machine.execute_into(&event, &mut self.outcome);
@@ -185,9 +188,10 @@ impl<K: Keep> Player<K> {
             (S.saves saver.old (state_of K.record_of self.new.machine)) saver.old result saver.new }
         ensures did { K.can_refuse ≡ false → Did
             (Some (cycle (playing_of K.record_of self.old)))
-            (printout (W.contents (device_of writer.old)) self.old.answers) (playing_of K.record_of self.old)
-            result
-            (printout (W.contents (device_of writer.new)) self.new.answers) (playing_of K.record_of self.new) }
+            (printout (W.contents (device_of writer.old)) self.old.answers)
+            (playing_of K.record_of self.old) result
+            (printout (W.contents (device_of writer.new)) self.new.answers)
+            (playing_of K.record_of self.new) }
     {
         let event = Event::PowerCycle;
         self.machine.execute_into(&event, &mut self.outcome);

@@ -44,7 +44,8 @@ pub fn run_script<K: Keep, R: Read, W: Write>(
         (W.contents (device_of writer.old)) (W.contents (device_of writer.new))
         (at_first trace new_device)) }
     ensures too_many { K.can_refuse ≡ false → OnTooMany result (PlaysAllAllowed
-        (R.remaining (device_of reader.old)) (W.contents (device_of writer.old)) (W.contents (device_of writer.new))
+        (R.remaining (device_of reader.old))
+        (W.contents (device_of writer.old)) (W.contents (device_of writer.new))
         (at_first trace new_device)) }
     ensures failed { AreTheirs result (marks_of reader.new) (marks_of writer.new) false }
     ensures no_memory { OnNoMemory result
@@ -101,14 +102,16 @@ pub fn run_device<K: Keep, S: Saver, R: Read, W: Write>(
     // The fault of too many lines is answered only where as many as a script may have were played
     // and written, and one more is there.
     ensures too_many { K.can_refuse ≡ false → OnTooMany result (PlaysAllAllowed
-        (R.remaining (device_of reader.old)) (W.contents (device_of writer.old)) (W.contents (device_of writer.new))
+        (R.remaining (device_of reader.old))
+        (W.contents (device_of writer.old)) (W.contents (device_of writer.new))
         (at_first trace (state_of K.record_of machine))) }
 
     // The saver was told the device at each line that was played, and at last where the lines
     // ended; what was written is what these lines print, up to the first whose save failed.
     ensures kept { K.can_refuse ≡ false → KeepsDevice S.saves S.saves_change
         (R.remaining (device_of reader.old)) (R.remaining (device_of reader.new))
-        (W.contents (device_of writer.old)) (W.contents (device_of writer.new)) (marks_of writer.new)
+        (W.contents (device_of writer.old)) (W.contents (device_of writer.new))
+        (marks_of writer.new)
         (kept (at_first trace (state_of K.record_of machine)) saver.old) result
         (λ end. S.saves end.saver end.playing.device saver.new) }
 
@@ -179,7 +182,8 @@ impl<K: Keep> Run<K> {
             (printout (W.contents (device_of writer.new)) self.new.player.answers)
             (playing_of K.record_of self.old.player) 1) result }
         ensures read { K.can_refuse ≡ false → OnUnread result (PlaysToFailure
-            (text_left (R.remaining (device_of reader.old)) self.old.lines) (R.remaining (device_of reader.new))
+            (text_left (R.remaining (device_of reader.old)) self.old.lines)
+            (R.remaining (device_of reader.new))
             (printout (W.contents (device_of writer.old)) self.old.player.answers)
             (printout (W.contents (device_of writer.new)) self.new.player.answers)
             (playing_of K.record_of self.old.player)) }
@@ -189,9 +193,11 @@ impl<K: Keep> Run<K> {
             (printout (W.contents (device_of writer.new)) self.new.player.answers)
             (playing_of K.record_of self.old.player)) }
         ensures kept { K.can_refuse ≡ false → KeepsDevice S.saves S.saves_change
-            (text_left (R.remaining (device_of reader.old)) self.old.lines) (R.remaining (device_of reader.new))
+            (text_left (R.remaining (device_of reader.old)) self.old.lines)
+            (R.remaining (device_of reader.new))
             (printout (W.contents (device_of writer.old)) self.old.player.answers)
-            (printout (W.contents (device_of writer.new)) self.new.player.answers) (marks_of writer.new)
+            (printout (W.contents (device_of writer.new)) self.new.player.answers)
+            (marks_of writer.new)
             (kept (playing_of K.record_of self.old.player) saver.old) result
             (λ end. end ≡ kept (playing_of K.record_of self.new.player) saver.new) }
         ensures failed { AreTheirs result (marks_of reader.new) (marks_of writer.new)
@@ -225,7 +231,8 @@ impl<K: Keep> Run<K> {
         ensures played { playing_of K.record_of self.new.player
             ≡ playing_of K.record_of self.old.player }
         ensures found { NextFound number
-            (text_left (R.remaining (device_of reader.old)) self.old.lines) result (line_of self.new.lines)
+            (text_left (R.remaining (device_of reader.old)) self.old.lines) result
+            (line_of self.new.lines)
             (text_left (R.remaining (device_of reader.new)) self.new.lines) }
         ensures agrees { OnOk result (Agrees (R.remaining (device_of reader.new)) self.new.lines) }
         ensures printed { UnlessFailed result (Keeps
@@ -235,7 +242,8 @@ impl<K: Keep> Run<K> {
             (printout (W.contents (device_of writer.old)) self.old.player.answers)
             (printout (W.contents (device_of writer.new)) self.new.player.answers)) }
         ensures read { OnUnread result (LosesStart
-            (text_left (R.remaining (device_of reader.old)) self.old.lines) (R.remaining (device_of reader.new))) }
+            (text_left (R.remaining (device_of reader.old)) self.old.lines)
+            (R.remaining (device_of reader.new))) }
     {
         self.lines.next();
         loop {

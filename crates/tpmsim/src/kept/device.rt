@@ -93,7 +93,8 @@ impl Device {
         now_ms: u64,
         outcome: &mut Outcome,
     ) -> Result<Vec<u8>, NoMemory>
-        ensures head { IfOk result (λ head. head.items ≡ head_text now_ms (image_at_power self.old)) }
+        ensures head { IfOk result
+            (λ head. head.items ≡ head_text now_ms (image_at_power self.old)) }
         ensures begins { OnOk result (BeginsJournal self.old now_ms outcome.new self.new) }
         ensures nothing { OnErr result ((record_of self.new ≡ record_of self.old)
             × (self.new.journal ≡ self.old.journal)) }
@@ -109,8 +110,10 @@ impl Device {
     /// Cycles the power, and writes the head of the new journal to the front of a room, if the head
     /// fits. Gives how many bytes it has.
     fn put_head(&mut self, now_ms: u64, outcome: &mut Outcome, room: &mut [u8]) -> usize
-        ensures head { PutsFront (head_text now_ms (image_at_power self.old)) room.old result room.new }
-        ensures begins { result ≤ length room.old → BeginsJournal self.old now_ms outcome.new self.new }
+        ensures head { PutsFront (head_text now_ms (image_at_power self.old))
+            room.old result room.new }
+        ensures begins { result ≤ length room.old
+            → BeginsJournal self.old now_ms outcome.new self.new }
         ensures nothing { length room.old < result → (record_of self.new ≡ record_of self.old)
             × (self.new.journal ≡ self.old.journal) }
     {
