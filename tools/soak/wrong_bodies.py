@@ -1,7 +1,7 @@
 #!/usr/bin/env python3
 """Tries the wrong bodies under wrong/: each turns the meaning of one function or definition, and the
 prover must refuse it. They are like those in the crates' must-fail/, which every run of the gate
-tries; these are run whole before a piece of work is called done (docs/GATE.md says with which code).
+tries; these are run whole before a piece of work is called done (docs/gate.json says of which commit).
 
     tools/soak/wrong_bodies.py                       all of them
     tools/soak/wrong_bodies.py tpm_pcr               those of one crate, or of several
