@@ -1,0 +1,239 @@
+"""Compares the public calls that were asked for with the crates, and with docs/CALLS.md:
+
+    python3 tests/common/public_calls.py ASKED PAGE FOLDER
+
+ASKED lists what was asked for; PAGE has tables of what is otherwise in the crates of FOLDER. What was
+asked for must be in its crate under its name, or PAGE says what stands for it, and that must be there.
+What PAGE says must be otherwise than asked for. Each difference has a line; the status is 1 where
+there is one.
+"""
+
+import pathlib
+import re
+import sys
+from collections.abc import Iterator
+from dataclasses import dataclass, field
+
+from tests.common.crate_names import Call, Crates
+
+NAMES = ("asked for", "is", "why")
+SHAPES = ("call", "asked for", "is", "why")
+FAULTS = ("fault", "asked for", "is", "why")
+PREMISES = ("call", "premise", "asked for", "why")
+LINES = ("crate", "asked for", "is", "why")
+PARTS = ("crate", "parts", "why")
+SELF = re.compile(r"\((?:&mut |&)?self(?:, )?")
+SPAN = re.compile(r"`([^`]+)`")
+TABLE = re.compile(r"^\|(.+)\|\n\|[-|]+\|\n((?:\|.*\|\n)*)", re.M)
+
+
+@dataclass
+class Asked:
+    """What was asked for: crates with their limits of lines, calls with their shapes, as far as these
+    were said, and types with their cases."""
+
+    limits: dict[str, int] = field(default_factory=dict)
+    calls: dict[str, str] = field(default_factory=dict)
+    types: dict[str, list[str]] = field(default_factory=dict)
+
+    def calls_of(self, crate: str) -> list[str]:
+        """The calls of a crate."""
+        return [call for call in self.calls if call.startswith(f"{crate}::")]
+
+
+def read_asked(text: str) -> Asked:
+    """Reads the list, whose lines begin with `lines`, `call` or `type`."""
+    asked = Asked()
+    for line in text.splitlines():
+        if not line or line.startswith("#"):
+            continue
+        kind, crate, rest = line.split(maxsplit=2)
+        name, _, more = rest.partition(": ")
+        if kind == "lines":
+            asked.limits[crate] = int(rest)
+        elif kind == "call":
+            asked.calls[f"{crate}::{name}"] = more
+        else:
+            asked.types[f"{crate}::{name}"] = more.split()
+    return asked
+
+
+Row = tuple[str, ...]
+
+
+def tables_of(text: str) -> dict[Row, list[Row]]:
+    """The rows of all tables of a page, by the words of their heads."""
+    tables: dict[Row, list[Row]] = {}
+    for head, rows in TABLE.findall(text):
+        cells = tuple(cell.strip() for cell in head.split("|"))
+        for row in rows.splitlines():
+            tables.setdefault(cells, []).append(tuple(c.strip() for c in row[1:-1].split("|")))
+    return tables
+
+
+def names_in(cell: str) -> list[str]:
+    """The names in a cell: one without `::` is in the crate or type of the name before it."""
+    names: list[str] = []
+    for name in SPAN.findall(cell):
+        if "::" not in name and names:
+            name = f"{names[-1].rpartition('::')[0]}::{name}"
+        names.append(name)
+    return names
+
+
+class Comparison:
+    """What was asked for beside the crates and the page; each method yields the differences."""
+
+    def __init__(self, asked: Asked, page: str, crates: Crates) -> None:
+        self.asked = asked
+        self.crates = crates
+        self.tables = tables_of(page)
+        self.others: dict[str, list[str]] = {}
+        for row in self.rows(NAMES):
+            names, others = names_in(row[0]), names_in(row[1])
+            for place, name in enumerate(names[: len(others)]):
+                self.others[name] = others if len(names) == 1 else [others[place]]
+        self.known = [self.standing(call) for call in asked.calls]
+
+    def rows(self, head: Row) -> list[Row]:
+        """The rows of the tables with this head."""
+        return self.tables.get(head, [])
+
+    def standing(self, name: str) -> str:
+        """What stands for a name that was asked for, by the page; else the name itself."""
+        if name in self.others:
+            return self.others[name][0]
+        owner, _, member = name.rpartition("::")
+        return f"{self.others[owner][0]}::{member}" if owner in self.others else name
+
+    def calls_in(self, cell: str) -> list[str]:
+        """The calls that a cell names, as they stand; a crate that was asked for has all of its."""
+        if set(SPAN.findall(cell)) <= set(self.asked.limits):
+            calls = [call for crate in SPAN.findall(cell) for call in self.asked.calls_of(crate)]
+        else:
+            calls = names_in(cell)
+        return [self.standing(call) for call in calls]
+
+    def call(self, name: str) -> Call | None:
+        """The call of this name, if it is there."""
+        found = self.crates.find(name)
+        return found.call if found else None
+
+    def names(self) -> Iterator[str]:
+        """Names that are not there, by the list or by the page."""
+        for name in [*self.asked.calls, *self.asked.types]:
+            if not self.crates.find(self.standing(name)):
+                yield f"{name}: neither as asked for nor by the page"
+        for row in self.rows(NAMES):
+            for name in names_in(row[0]):
+                if name not in self.asked.calls and name not in self.asked.types:
+                    yield f"{name}: the page says that it was asked for"
+                if self.crates.find(name):
+                    yield f"{name}: as asked for, and the page says otherwise"
+            for name in names_in(row[1]):
+                if not self.crates.find(name):
+                    yield f"{name}: not there, as the page says"
+
+    def is_as_asked(self, call: Call, asked: str) -> bool:
+        """Whether a call has the shape that was asked for, by the names that its types have now."""
+        for name, others in self.others.items():
+            old, new = name.rpartition("::")[2], others[0].rpartition("::")[2]
+            asked = re.sub(rf"\b{old}\b", new, asked)
+        shape = SELF.sub("(", call.shape)
+        return bool(re.fullmatch(re.escape(asked).replace("_", ".+") or ".*", shape))
+
+    def shapes(self) -> Iterator[str]:
+        """Calls that have another shape than was asked for, or than the page says."""
+        told = {name: row for row in self.rows(SHAPES) for name in self.calls_in(row[0])}
+        for name, asked in self.asked.calls.items():
+            row, call = told.pop(self.standing(name), None), self.call(self.standing(name))
+            if not call or (name in self.others and not row):
+                continue
+            if row and "".join(SPAN.findall(row[1])) not in asked:
+                yield f"{name}: the page says that another shape was asked for"
+            if row and asked and self.is_as_asked(call, asked):
+                yield f"{name}: its shape is as asked for, and the page says otherwise"
+            right = [call.shape] == SPAN.findall(row[2]) if row else self.is_as_asked(call, asked)
+            if not right:
+                yield f"{name}: its shape is {call.shape}"
+        for name in told:
+            yield f"{name}: the page says its shape, and it was not asked for"
+
+    def cases_of(self, name: str) -> list[str]:
+        """The cases of all that stands for a type that was asked for."""
+        found = map(self.crates.find, self.others.get(name, [name]))
+        return [case for one in found if one for case in one.cases]
+
+    def cases(self) -> Iterator[str]:
+        """Faults and other enums whose cases are not those asked for, or not those of the page."""
+        told = {names_in(row[0])[0]: row for row in self.rows(FAULTS)}
+        for name, asked in self.asked.types.items():
+            row, cases = told.pop(name, None), self.cases_of(name)
+            if asked and set(cases) != set(SPAN.findall(row[2]) if row else asked):
+                yield f"{name}: its cases are {', '.join(cases)}"
+            if row and set(SPAN.findall(row[1])) != set(asked):
+                yield f"{name}: the page says that other cases were asked for"
+            if row and set(cases) == set(asked):
+                yield f"{name}: its cases are as asked for, and the page says otherwise"
+        for name in told:
+            yield f"{name}: the page says its cases, and it was not asked for"
+
+    def premises(self) -> Iterator[str]:
+        """Premises of calls that the page does not name, and those that it names and are not there."""
+        told: dict[str, list[str]] = {}
+        for row in self.rows(PREMISES):
+            for name in self.calls_in(row[0]):
+                told.setdefault(name, []).extend(SPAN.findall(row[1]))
+        for name in self.known:
+            call, clauses = self.call(name), told.pop(name, [])
+            premises = call.premises if call else ()
+            for premise in premises:
+                if not any(clause in premise for clause in clauses):
+                    yield f"{name}: the page does not name its premise {premise}"
+            for clause in clauses:
+                if call and not any(clause in premise for premise in premises):
+                    yield f"{name}: it has no premise {clause}"
+        for name in told:
+            yield f"{name}: the page names its premise, and it was not asked for"
+
+    def lines(self) -> Iterator[str]:
+        """Crates that are not there, or have more lines than were asked for or the page says."""
+        told = {SPAN.findall(row[0])[0]: row for row in self.rows(LINES)}
+        for name, limit in self.asked.limits.items():
+            lines = self.crates.crate(name).lines
+            asked, wanted = numbers_of(told[name]) if name in told else (limit, 0)
+            if not lines:
+                yield f"{name}: there is no crate of that name"
+            if asked != limit:
+                yield f"{name}: the page says that {asked} lines were asked for, not {limit}"
+            if lines > limit and abs(lines - wanted) * 10 > lines:
+                yield f"{name}: it has {lines} lines, for {limit}"
+            if lines <= limit and name in told:
+                yield f"{name}: the page says that it has more than {limit} lines"
+        for row in self.rows(PARTS):
+            for name in SPAN.findall(row[0] + row[1]):
+                if not self.crates.crate(name).lines:
+                    yield f"{name}: there is no crate of that name"
+
+
+def numbers_of(row: Row) -> tuple[int, int]:
+    """The lines that a row says were asked for, and that there are."""
+    return int(row[1].replace(",", "")), int(row[2].replace(",", ""))
+
+
+def main(asked_path: str, page_path: str, folder: str) -> int:
+    """Prints the differences, and returns the status."""
+    asked = read_asked(pathlib.Path(asked_path).read_text("utf-8"))
+    page = pathlib.Path(page_path).read_text("utf-8")
+    compared = Comparison(asked, page, Crates(pathlib.Path(folder)))
+    methods = (compared.names, compared.shapes, compared.cases, compared.premises, compared.lines)
+    faults = [fault for method in methods for fault in method()]
+    for fault in faults:
+        print(fault)
+    calls, types, crates = len(asked.calls), len(asked.types), len(asked.limits)
+    print(f"{calls} calls, {types} types, {crates} crates asked for; {len(faults)} differ")
+    return 1 if faults else 0
+
+
+if __name__ == "__main__":
+    sys.exit(main(*sys.argv[1:]))
