@@ -26,7 +26,8 @@
 # output must be. A shell test that cannot run here ends with status 77, and prints one line, its
 # reason: it is skipped, and so counted, as is one whose program is not there. What is said stands
 # in the order of programs and of tests, whichever ends first. The last line is `N passed, M
-# failed`, and behind that `, K skipped` where a test was.
+# failed`, and behind that `, K skipped` where a test was. Before it stands a line with the packages of
+# Debian's that would play what was skipped, where there are any.
 set -u
 
 top=$(CDPATH='' cd "$(dirname "$0")/.." && pwd -P) || exit 1
@@ -50,6 +51,10 @@ if found=$(command -v python3); then
     started=$(python3 -c 'import sys; print(sys.executable)')
     [ "${started:-$found}" = "$found" ] || PATH=${started%/*}:$PATH
 fi
+# Whether Python is whole is found out once.
+. "$top/tools/lib/python.sh"
+unset TPMSIM_PYTHON
+! python_is_whole || export TPMSIM_PYTHON=whole
 # The tests share what Python compiles, which the environment may forbid it to keep, and what several
 # of them compile of C.
 export PYTHONPYCACHEPREFIX="$work/python" TPMSIM_BUILT="$work/built"
@@ -244,8 +249,16 @@ count() {
     find "$work/told" -type f -exec cat {} + | grep -c "^$1: "
 }
 
+# packages: those that the reasons of skipped tests name, as in `there is no cc, nm (Debian: gcc, binutils)`.
+packages() {
+    find "$work/told" -type f -exec cat {} + | sed -n 's/^skipped: .* (Debian: \(.*\))$/\1/p' |
+        sed 's/, */\n/g' | LC_ALL=C sort -u | tr '\n' ' '
+}
+
 [ "$asked" = shipped ] || [ -x "$out/tpmsim" ] ||
     echo 'No proof was run: nothing was proved and built here.'
+packages=$(packages)
+[ -z "$packages" ] || echo "More is played after: apt-get install ${packages% }"
 failed=$(count FAILED)
 skipped=$(count skipped)
 counts="$(count ok) passed, $failed failed"

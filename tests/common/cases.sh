@@ -33,12 +33,7 @@ skip() {
     exit 77
 }
 
-# needs TOOL..: skips the test where one of these is not there.
-needs() {
-    for tool do
-        (unset -f "$tool"; command -v "$tool") >"$room/found" || skip "there is no $tool"
-    done
-}
+. "$tests/common/needs.sh"
 
 # script NAME: the path of a script of tests/.
 script() {

@@ -2,9 +2,7 @@
 # behind cases.sh. It builds libtpms.so.0 over that archive, and a caller in swtpm's place, both of them
 # with sanitizers too.
 # shellcheck shell=sh disable=SC2154 # cases.sh has `program`, `room` and `tests`
-needs cc nm strip python3
-echo '#include <libtpms/tpm_library.h>' | cc -E - >"$room/found" 2>&1 ||
-    skip 'there is no libtpms/tpm_library.h (Debian: libtpms-dev)'
+needs cc nm strip python3 libtpms/tpm_library.h
 TPMSIM_ARCHIVE=$(readlink -f "$program")
 export TPMSIM_ARCHIVE
 unset CFLAGS

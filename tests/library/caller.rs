@@ -14,7 +14,7 @@ struct Answered {
 }
 
 #[link(name = "tpmsim", kind = "static")]
-unsafe extern "C" {
+extern "C" {
     fn tpmsim_manufacture(device: &mut Device, random: &[u8; 256]) -> u8;
     fn tpmsim_execute(
         device: &mut Device,

@@ -1,7 +1,8 @@
 # Lines that are none of a script's lines. Each stands as the third of four, between two commands,
 # of which the first is answered and the second is not. Lines are written and shown as printf takes
 # them: \t is a tab, \r a carriage return, and \ooo a byte in octal.
-. "$(dirname "$0")/../common/cases.sh"
+tests=$(cd "$(dirname "$0")/.." && pwd -P)
+. "$tests/common/cases.sh"
 
 # third LINE [LABEL]: a script of which this is the third line.
 third() {

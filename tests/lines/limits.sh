@@ -1,6 +1,7 @@
 # How much a script may have: bytes in a line, lines, milliseconds; and that no response is lost
 # where there are many.
-. "$(dirname "$0")/../common/cases.sh"
+tests=$(cd "$(dirname "$0")/.." && pwd -P)
+. "$tests/common/cases.sh"
 
 # padded START BYTES: a line without its line break, of so many bytes, the rest of them zeros.
 padded() {

@@ -2,7 +2,7 @@
 # program tells that no tpmsim has yet.
 tests=$(cd "$(dirname "$0")/.." && pwd -P)
 . "$tests/common/cases.sh"
-needs bash
+needs bash python3
 top=${tests%/*}
 
 # complete_words FOLDER: reads lines of words, and tells what the last word may become, with the

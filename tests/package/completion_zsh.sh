@@ -1,7 +1,7 @@
 # What zsh completes, as completion_bash.sh has it for bash, and how each is explained.
 tests=$(cd "$(dirname "$0")/.." && pwd -P)
 . "$tests/common/cases.sh"
-needs zsh
+needs zsh python3
 top=${tests%/*}
 
 # complete_words FOLDER: reads lines of words, and tells what the last word may become, with the

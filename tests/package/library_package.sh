@@ -8,7 +8,7 @@ root=$room/root
 # said COMMAND..: what a command prints, at its head, and its status where that is not 0.
 said() {
     "$@" >said 2>&1 || echo "status $?" >>said
-    head -n "${lines:-3}" said | sed -e "s|$root|ROOT|g" -e "s|$top|TOP|g"
+    head -n "${lines:-3}" said | sed -e "s|$root|ROOT|g" -e "s|$room|ROOM|g" -e "s|$top|TOP|g"
 }
 
 # A compiler that has no header of others, so that the modules are left out.
@@ -23,7 +23,7 @@ chmod +x headers/cc
 echo '== it is made'
 version=$("$top/dist/tpmsim" --version | sed 's/.* //')
 said env PATH="$room/folder/headers:$PATH" TPMSIM_PACKING=none "$top/tools/deb.sh" "$room/made" |
-    sed -e "s/$version/VERSION/" -e "s|$room|ROOM|"
+    sed -e "s/$version/VERSION/"
 package=$room/made/tpmsim_${version}_amd64.deb
 dpkg-deb -f "$package" Package Architecture Depends Description | head -n 4
 dpkg-deb -x "$package" "$root" && dpkg-deb -e "$package" control

@@ -1,7 +1,8 @@
 # What `tpmsim check` says of scripts: the number of each bad line, its fault with its column, and
 # what is wanted there (docs/SCRIPTS.md, docs/LINES.md). Each line stands between two good ones.
 # Lines are written and shown as printf takes them.
-. "$(dirname "$0")/../common/cases.sh"
+tests=$(cd "$(dirname "$0")/.." && pwd -P)
+. "$tests/common/cases.sh"
 
 # second LINE [LABEL]: a script of which this is the second line.
 second() {

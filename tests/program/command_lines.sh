@@ -2,7 +2,8 @@
 # whose line is one word, and `line HEX`. kept_scripts.sh has those of `run --image`, and check.sh
 # those of `check`. Help and the version are told on standard output. All others are refused, though
 # the files that they name are there and hold scripts.
-. "$(dirname "$0")/../common/cases.sh"
+tests=$(cd "$(dirname "$0")/.." && pwd -P)
+. "$tests/common/cases.sh"
 
 # Each of the three scripts is answered in its own way.
 echo "$startup" >a

@@ -1,5 +1,6 @@
 # Scripts and streams that cannot be opened, read or written: status 3 and `tpmsim: file`.
-. "$(dirname "$0")/../common/cases.sh"
+tests=$(cd "$(dirname "$0")/.." && pwd -P)
+. "$tests/common/cases.sh"
 
 echo "$startup" >script
 printf '%s\n%s' "$startup" "$startup" >without_line_break

@@ -1,6 +1,7 @@
 # Each response comes before more of the script is read, so that whoever types or pipes a script
 # sees it before giving the next line.
-. "$(dirname "$0")/../common/cases.sh"
+tests=$(cd "$(dirname "$0")/.." && pwd -P)
+. "$tests/common/cases.sh"
 
 # A program that ends early is no reason for this test to end.
 trap '' PIPE

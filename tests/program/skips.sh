@@ -8,7 +8,7 @@ mkdir -p "$copy/tools/lib" "$copy/tests" "$copy/.ci" "$copy/crates/tpmsim/out" \
     "$copy/crates/tpmsim_lists/out"
 cp "$tests/../tools/scripts.sh" "$copy/tools"
 cp "$tests/../tools/lib/play_tests.sh" "$tests/../tools/lib/rt_ci.sh" "$tests/../tools/lib/memory.sh" \
-    "$copy/tools/lib"
+    "$tests/../tools/lib/python.sh" "$copy/tools/lib"
 cp "$tests/../.ci/run" "$copy/.ci"
 for built in tpmsim/out/tpmsim tpmsim_lists/out/tpmsim_lists; do
     ln -s "$program" "$copy/crates/$built"
@@ -47,36 +47,53 @@ ln -s "$program" "$copy/crates/tpmsim_lists/out/tpmsim_lists"
 played 'tests that fail, and one that cannot run' is_wrong ends_otherwise gives_no_reason \
     gives_an_empty_reason goes_on cannot_run
 
-# All that is on the path, but for one tool each time, and the tests that need it. Where the machine
-# itself has no such tool, one stands there in its place that does nothing.
+# All that is on the path, but for one tool each time, and the tests that need it. In the place of each
+# tool that a test here needs, or the gate, stands one that does nothing: the machine may have none.
 mkdir "$room/path"
 IFS=:
 for folder in $PATH; do
     ln -s "$folder"/* "$room/path" 2>"$room/told"
 done
 unset IFS
-for tool in cc nm git python3 unshare; do
-    if [ ! -x "$room/path/$tool" ]; then
-        printf '#!/bin/sh\n' >"$room/path/$tool"
-        chmod +x "$room/path/$tool"
-    fi
+for tool in cc g++ nm git python3 unshare; do
+    rm -f "$room/path/$tool"
+    printf '#!/bin/sh\n' >"$room/path/$tool"
+    chmod +x "$room/path/$tool"
 done
 rm -r "$copy/tests"
 ln -s "$tests" "$copy/tests"
 
-# without TOOL NAME..: what is said of tests where a tool is missing.
-without() {
-    missing=$1
-    shift
-    mv "$room/path/$missing" "$room/$missing"
+# on_this_path LABEL NAME..: what is said of tests by the tools that are there.
+on_this_path() {
     # shellcheck disable=SC2123 # the tools are found there
-    (PATH=$room/path && played "without $missing" "$@")
-    mv "$room/$missing" "$room/path/$missing"
+    (PATH=$room/path && played "$@")
+}
+
+# without TOOLS NAME..: what is said of tests where some tools are missing.
+mkdir "$room/away"
+without() {
+    for tool in $1; do mv "$room/path/$tool" "$room/away/"; done
+    label="without $1"
+    shift
+    on_this_path "$label" "$@"
+    mv "$room/away"/* "$room/path/"
+}
+
+# failing TOOL NAME..: what is said of tests where a tool fails, whatever it is asked.
+failing() {
+    printf '#!/bin/sh\nexit 1\n' >"$room/path/$1"
+    label="$1 fails"
+    shift
+    on_this_path "$label" "$@"
+    printf '#!/bin/sh\n' >"$room/path/${label%% *}"
 }
 without cc starved torn torn_scripts lists_starved serve_moved_clock
 without nm starved torn torn_scripts lists_starved
 without python3 serve images line
 without unshare serve_full_disk
+without 'cc nm' starved
+failing cc torn
+failing python3 images line
 
 # The gate. Its stand-ins end well, and tools/scripts.sh says what it is told, of the shipped program and
 # of those that were built.
@@ -110,13 +127,15 @@ gate() {
 PATH=$room/stubs:$room/path
 gate 'the gate' '9 passed, 0 failed' 0
 gate 'two were skipped' '9 passed, 0 failed, 2 skipped' 0
-there_is_none='skipped: tests/library/library_go.sh: there is no go'
+there_is_none='skipped: tests/library/library_go.sh: there is no go (Debian: golang-go)'
 gate 'two were skipped for what is not there' "$there_is_none
-skipped: tests/attached/attached_tcti.sh: there is no header
+skipped: tests/attached/attached_tcti.sh: there is no tss2/tss2_tcti.h (Debian: libtss2-dev)
 9 passed, 0 failed, 2 skipped" 0
 gate 'one of two was skipped for what is not there' "$there_is_none
 skipped: tests/serving/serve_full_disk.sh with tpmsim: no disk can be mounted
 9 passed, 0 failed, 2 skipped" 0
+gate 'one was skipped, as Python is not whole' "skipped: tests/lines/line.sh with tpmsim: python3 lacks modules
+9 passed, 0 failed, 1 skipped" 0
 gate 'one failed, and two were skipped' '9 passed, 1 failed, 2 skipped' 1
 gate 'none was skipped, in these words' '9 passed, 0 failed, 0 skipped' 0
 gate 'no count' 'all is well' 0

@@ -2,6 +2,7 @@
 tests=$(cd "$(dirname "$0")/.." && pwd -P)
 . "$tests/common/cases.sh"
 . "$tests/common/typed.sh"
+needs python3
 ln -s "$program" tpmsim
 ln -s "${tests%/*}/tools" tools
 ln -s "${tests%/*}/python" python

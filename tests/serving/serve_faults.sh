@@ -1,7 +1,8 @@
 # The command lines of `tpmsim serve`, and the files that it cannot take. The faults are looked for in
 # this order: the command line, the image, the random bytes, the socket, and then each connection.
 common=$(cd "$(dirname "$0")/.." && pwd -P)/common
-. "$(dirname "$0")/../common/cases.sh"
+tests=$(cd "$(dirname "$0")/.." && pwd -P)
+. "$tests/common/cases.sh"
 needs python3
 
 startup=80010000000c000001440000

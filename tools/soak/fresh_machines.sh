@@ -1,0 +1,127 @@
+#!/bin/sh
+# Plays tools/scripts.sh, as the last commit has it, in empty Debians: with git and python3; with a C
+# compiler too; with python3-minimal; with all that packaging/debian_packages names; and without git and
+# python3. No test may fail there. Then it installs what the line before the last one names, and plays again:
+# nothing is named any more. It is no part of the gate.
+#
+#   tools/soak/fresh_machines.sh           each machine of the list below
+#   tools/soak/fresh_machines.sh NAME..    these
+#
+# Needs root, Debian's debootstrap and util-linux, some 5 GB in TMPDIR, and a mirror: MIRROR, else
+# deb.debian.org. It mounts in a namespace of its own, which ends with it, and removes the folder that it made.
+set -u
+top=$(CDPATH='' cd "$(dirname "$0")/../.." && pwd -P) || exit 1
+mirror=${MIRROR:-http://deb.debian.org/debian}
+
+# A machine: its name, what /dev/shm is (a size of a folder in memory, or none), the user who plays, and
+# the packages that it has.
+machines="
+python    4g   root  git python3
+no_shm    none root  git python3
+compiler  64m  root  git python3 gcc libc6-dev
+user      4g   user  git python3 gcc libc6-dev
+minimal   4g   root  git python3-minimal
+nothing   4g   root
+all       4g   root  git $(tr '\n' ' ' <"$top/packaging/debian_packages")
+"
+
+# fail REASON: ends the script.
+fail() {
+    echo "$0: $1" >&2
+    exit 2
+}
+
+# in_machine SHM WORDS..: runs a command in the machine, as root. What is mounted for it ends with it.
+in_machine() {
+    # shellcheck disable=SC2016 # the shell within expands them
+    unshare --mount --propagation private --pid --fork --kill-child sh -c '
+        machine=$1 shm=$2
+        shift 2
+        mount --bind "$machine" "$machine" && mount -t proc proc "$machine/proc" &&
+            mount --bind "$machine/../cache" "$machine/var/cache/apt/archives" || exit 125
+        if [ "$shm" = none ]; then
+            rm -rf "$machine/dev/shm"
+        else
+            mkdir -p "$machine/dev/shm" &&
+                mount -t tmpfs -o "mode=1777,size=$shm" shm "$machine/dev/shm" || exit 125
+        fi
+        exec chroot "$machine" env -i HOME=/root DEBIAN_FRONTEND=noninteractive \
+            PATH=/usr/local/sbin:/usr/local/bin:/usr/sbin:/usr/bin:/sbin:/bin "$@"
+    ' sh "$machine" "$@" </dev/null
+}
+
+# apt WORDS..: has apt-get do something in the machine.
+apt() {
+    in_machine none apt-get -y --no-install-recommends "$@" >"$work/told" 2>&1 ||
+        { tail -n 5 "$work/told"; fail "apt-get $1 fails"; }
+}
+
+# play SHM USER: plays the tests in the machine, and leaves what they say in `said`.
+play() {
+    as=
+    [ "$2" = root ] || as='setpriv --reuid 1000 --regid 1000 --clear-groups env HOME=/home/user'
+    # shellcheck disable=SC2086 # they are words
+    in_machine "$1" $as timeout 1800 sh -c 'cd /home/user/tpmsim && tools/scripts.sh' >"$work/said" 2>&1
+}
+
+# judge NAME STATUS: whether no test failed in the machine of this name.
+judge() {
+    echo "$1: $(tail -n 1 "$work/said")"
+    [ "$2" -eq 0 ] && tail -n 1 "$work/said" | grep -q '^[0-9]* passed, 0 failed' && return
+    failed=$((failed + 1))
+    grep -v -e '^ok: ' -e '^skipped: ' "$work/said" | sed 's/^/    /'
+}
+
+# named: the packages that the tests name, which would play more of them.
+named() {
+    sed -n 's/^More is played after: apt-get install //p' "$work/said"
+}
+
+# play_machine NAME SHM USER PACKAGE..: plays the tests in a machine of this kind, before and after it has what
+# they name.
+play_machine() {
+    name=$1 shm=$2 user=$3
+    shift 3
+    cp -a "$work/base" "$machine" || fail 'the machine is not copied'
+    [ "$#" -eq 0 ] || apt install "$@"
+    mkdir -p "$machine/home/user" || fail 'the machine has no home'
+    git clone -q "$top" "$machine/home/user/tpmsim" || fail 'the repository is not copied'
+    [ "$user" = root ] || chown -R 1000:1000 "$machine/home/user"
+    status=0
+    play "$shm" "$user" || status=$?
+    judge "$name" "$status"
+    packages=$(named)
+    if [ -n "$packages" ]; then
+        # shellcheck disable=SC2086 # they are words
+        apt install $packages
+        status=0
+        play "$shm" "$user" || status=$?
+        judge "$name, and $packages" "$status"
+        [ -z "$(named)" ] || { failed=$((failed + 1)) && echo "    it names $(named)"; }
+    fi
+    rm -rf --one-file-system "$machine"
+}
+
+[ "$(id -u)" -eq 0 ] || fail 'only root can make a machine'
+for tool in debootstrap unshare chroot git; do
+    command -v "$tool" >/dev/null || fail "there is no $tool"
+done
+work=$(mktemp -d) || exit 1
+trap 'rm -rf --one-file-system "$work"' EXIT
+trap 'exit 130' INT TERM
+failed=0
+mkdir "$work/cache" || exit 1
+debootstrap --cache-dir="$work/cache" --variant=minbase bookworm "$work/base" "$mirror" \
+    >"$work/told" 2>&1 || { tail -n 5 "$work/told"; fail 'no Debian is made'; }
+machine=$work/base
+apt update
+machine=$work/machine
+# shellcheck disable=SC2046 # they are words
+[ "$#" -gt 0 ] || set -- $(echo "$machines" | awk 'NF { print $1 }')
+for wanted do
+    echo "$machines" | grep -q "^$wanted " || fail "$wanted is no machine"
+    # shellcheck disable=SC2046 # they are words
+    play_machine $(echo "$machines" | grep "^$wanted ")
+done
+echo "$failed failed"
+[ "$failed" -eq 0 ]
