@@ -2,10 +2,10 @@
 # `--help` has the subcommands, the options, and the kind of what follows each, as in
 # `--image <FILE>`; `tpmsim lines` has the names of commands.
 
-# Each of these reads a help. They print the subcommands that it names, the options, the kind of word
-# that follows an option, and the kind of the first argument.
+# Each of these reads a help. They print the subcommands that it names, the options of the lines that are
+# set in, the kind of word that follows an option, and the kind of the first argument.
 _tpmsim_subcommands() { sed -n '/^Commands:/,/^$/s/^  \([a-z][a-z-]*\) .*/\1/p'; }
-_tpmsim_options() { grep -oE '(^|[ [|])--[a-z][a-z0-9-]*' | grep -oE -- '--.*' | sort -u; }
+_tpmsim_options() { grep '^  ' | grep -oE '(^|[ [|])--[a-z][a-z0-9-]*' | grep -oE -- '--.*' | sort -u; }
 _tpmsim_after() { sed -n "s/.*$1[ =]<\{0,1\}\([A-Z][A-Z_]*\).*/\1/p" | head -n 1; }
 _tpmsim_argument() { sed -n '/^Arguments:/,/^$/s/^  [[<]\([A-Z][A-Z_]*\).*/\1/p' | head -n 1; }
 

@@ -149,7 +149,8 @@ class Devices(unittest.TestCase):
     def test_wrong_words(self):
         """Those of a caller, whichever device it has."""
         tpm = Caller(ModelDevice())
-        self.assertRaises(KeyError, tpm.call, "NoCommand")
+        with self.assertRaisesRegex(KeyError, "Quote is not a command that the device serves"):
+            tpm.call("Quote")
         self.assertRaises(TypeError, tpm.call, "PCR_Reset")
         for arguments in ({}, {"bytesRequested": 1, "more": 1}):
             self.assertRaises(TypeError, tpm.call, "GetRandom", **arguments)

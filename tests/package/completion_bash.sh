@@ -46,7 +46,9 @@ tpmsim|help|serv
 tpmsim|none|_
 tpmsim-explain|--h
 tpmsim-explain|files/s
+tpmsim-explain|--
 tpmsim-audit|--pol
+tpmsim-audit|--
 CODE
 
 echo '== what it has, and is not completed'

@@ -43,6 +43,10 @@ said sh -c 'cd / && command -v tpmsim'
 lines=4 said tpmsim run --trace log
 said tpmsim-explain log
 tpmsim run --trace log | tpmsim-audit log - | tail -n 2
+for tool in audit explain; do
+    lines=1 said "tpmsim-$tool"
+    "tpmsim-$tool" --help | grep '^    tpmsim'
+done
 lines=1 said tpmsim-compare
 lines=1 said tpmsim-simulator --help
 

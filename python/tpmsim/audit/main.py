@@ -1,6 +1,6 @@
 """Judges a script by what was printed of it, for who reviews the log of a device:
 
-    tools/audit.py SCRIPT OUTPUT [--image START] [--policy FILE]..
+    tpmsim-audit SCRIPT OUTPUT [--image START] [--policy FILE]..
 
 OUTPUT is what `tpmsim run --trace SCRIPT` printed; `-` is standard input. With --image the device
 was no new one, but the one of an image, as `tpmsim serve --image` leaves it, behind a power cycle.
@@ -23,11 +23,13 @@ from dataclasses import dataclass, field
 from tpmsim.audit import start
 from tpmsim.audit.auditor import Auditor, report
 from tpmsim.audit.log import Disagreement, Log
-from tpmsim.explain.main import read, Usage
+from tpmsim.explain.main import called, read, Usage
 from tpmsim.model.image import Fault
 from tpmsim.policies.policy_file import Fault as PolicyFault, PolicyFile
 
-USAGE = "usage: tools/audit.py SCRIPT OUTPUT [--image START] [--policy FILE].."
+NAME = called("tpmsim-audit", "tools/audit.py")
+USAGE = f"usage: {NAME} SCRIPT OUTPUT [--image START] [--policy FILE].."
+HELP = (__doc__ or "").strip().replace("tpmsim-audit", NAME)
 
 AGREES = (
     "At each event the answer is that of a device with this start, and the device is what its "
@@ -76,7 +78,7 @@ def auditor_of(asked: Asked, log: Log) -> Auditor:
 
 def main(*words: str) -> int:
     if "--help" in words:
-        print((__doc__ or "").strip())
+        print(HELP)
         return 0
     try:
         asked = asked_of(list(words))

@@ -32,6 +32,8 @@ class PreparedCommands(Knowledge):
         """Any command, by its name and those of its parameters in Part 3; TypeError where a handle
         or a parameter is missing, and KeyError where there is no such command.
         """
+        if not isinstance(name, CC) and name not in CC.__members__:
+            raise KeyError(f"{name} is not a command that the device serves")
         code = name if isinstance(name, CC) else CC[name]
         numbers = [it.handle if isinstance(it, Session) else it for it in those]
         if len(numbers) != len(code.handles):

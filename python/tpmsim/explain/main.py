@@ -30,7 +30,15 @@ from tpmsim.explain import page, text
 from tpmsim.explain.play import Event, Play
 from tpmsim.model.image import Fault
 
-USAGE = "usage: tpmsim-explain LOG [ANSWERS] [--image START] [--at LINE] [--json | --html]"
+
+def called(installed: str, here: str) -> str:
+    """The name by which a program was called: the installed one, or its path in the repository."""
+    return installed if pathlib.Path(sys.argv[0]).name == installed else here
+
+
+NAME = called("tpmsim-explain", "tools/explain.py")
+USAGE = f"usage: {NAME} LOG [ANSWERS] [--image START] [--at LINE] [--json | --html]"
+HELP = (__doc__ or "").strip().replace("tpmsim-explain", NAME)
 
 
 class Usage(Exception):
@@ -111,7 +119,7 @@ def tell(words: str) -> None:
 
 def main(*words: str) -> int:
     if "--help" in words:
-        tell((__doc__ or "").strip())
+        tell(HELP)
         return 0
     counts = text.Counts()
     try:
