@@ -12,7 +12,7 @@ package_of() {
     man) echo man-db ;;
     nm | objdump | strip) echo binutils ;;
     setpriv) echo util-linux ;;
-    tpm2_startup) echo tpm2-tools ;;
+    tpm2 | tpm2_startup) echo tpm2-tools ;;
     tss2/tss2_tcti.h) echo libtss2-dev ;;
     *) echo "$1" ;;
     esac

@@ -1,0 +1,22 @@
+# The lines of docs/USING.md that serve a device and seal a key by tpm2-tools, as they are written: the last
+# tool prints the key.
+tests=$(cd "$(dirname "$0")/.." && pwd -P)
+. "$tests/common/cases.sh"
+needs tpm2 socat
+
+# block HEADING: the first lines for sh below a heading.
+block() {
+    awk -v heading="## $1" '
+        /^## / { is_there = $0 == heading }
+        /^```/ { shown = is_there && $0 == "```sh" && !blocks++; next }
+        shown
+    ' "$tests/../docs/USING.md"
+}
+
+ln -s "$program" tpmsim
+# shellcheck disable=SC2016 # the lines expand it
+{ block 'A device on a socket' && echo 'echo "$!" >served' && block 'tpm2-tools and libtss2'; } >lines
+timeout 60 sh lines >"$room/output" 2>"$room/told" || cat "$room/told"
+kill "$(cat served)"
+echo "$(grep -c . lines) lines"
+tail -n 1 "$room/output"
