@@ -32,13 +32,6 @@ put() {
     install -D -m "$1" "$2" "$root/$3" || fail "$root/$3 is not written"
 }
 
-# put_all FOLDER FILE..: files of the mode 644, into a folder by its place in PREFIX.
-put_all() {
-    place=$root/$1
-    shift
-    install -D -m 644 -t "$place" "$@" || fail "$place is not written"
-}
-
 # link TARGET PLACE: a link, which leads from its own place.
 link() {
     if ! { mkdir -p "$root/$(dirname "$2")" && ln -sf "$1" "$root/$2"; }; then
@@ -107,10 +100,10 @@ put_documents() {
         link tpmsim "share/bash-completion/completions/tpmsim-$tool"
     done
     put 644 packaging/_tpmsim "$functions/_tpmsim"
-    put_all share/doc/tpmsim README.md CHANGELOG.md "$proved"
-    put_all share/doc/tpmsim/docs docs/*.*
-    put_all share/doc/tpmsim/docs/table docs/table/*.*
-    put_all share/doc/tpmsim/examples examples/*.*
+    put 644 "$proved" share/doc/tpmsim/PROVED
+    tools/man/documents.py "$root/share/doc/tpmsim" dist/PROVED=PROVED \
+        dist/tpmsim.h=../../../include/tpmsim.h library/tpmsim.h=../../../include/tpmsim.h \
+        "dist/tpmsim.pc=../../../$libraries/pkgconfig/tpmsim.pc" || fail 'the documents are not written'
 }
 
 work=$(mktemp -d) || exit 1

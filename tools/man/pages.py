@@ -12,7 +12,6 @@ import functools
 import pathlib
 import re
 import sys
-import tomllib
 from collections.abc import Iterator
 from dataclasses import dataclass, field
 
@@ -20,10 +19,15 @@ from dataclasses import dataclass, field
 sys.dont_write_bytecode = sys.pycache_prefix is None
 
 import roff  # noqa: E402
-from sources import TOP, Missing, Part, declarations_of, help_parts  # noqa: E402
-from sources import part_of, said, usage_of  # noqa: E402
+from sources import TOP, Missing, Part, declarations_of, help_parts, installed  # noqa: E402
+from sources import pages_told, part_of, said, usage_of  # noqa: E402
 
 DOCUMENT_NAME = re.compile(r"[A-Z_]+(\.md)?")
+FOLDER = re.compile(
+    r"(?<![\w/.~-])((?:attached|bench|crates|dist|docs|examples|library|tests|tools)/)"
+)
+FONT = re.compile(r"\\f[BIR]")
+INSTALLED = re.compile("docs/|examples/")
 OPTION = re.compile(r"^ {2,6}(\S.*?)(?: {2,}(.*))?$")
 FLAGS = "cc PROGRAM.c $(pkg-config --cflags --libs tpmsim)"
 
@@ -67,11 +71,8 @@ class Manual:
     """All pages, and which of them has a section of a document."""
 
     def __init__(self, program: str) -> None:
-        with open(TOP / "packaging" / "pages.toml", "rb") as file:
-            told = tomllib.load(file)
         self.program = program
-        self.names: dict[str, str] = told["names"]
-        self.pages = {name: Page(name, **page) for name, page in told["pages"].items()}
+        self.pages = {name: Page(name, **page) for name, page in pages_told()["pages"].items()}
         self.version = said(["tpmsim", "--version"], program).split()[-1]
         self.parts: dict[str, list[Part]] = {}
         self.places: dict[tuple[str, str], Page] = {}
@@ -79,12 +80,6 @@ class Manual:
             self.parts[page.name] = [part_of(part) for part in page.parts]
             for part in self.parts[page.name]:
                 self.places |= {(part.document, anchor): page for anchor in part.anchors}
-
-    def installed(self, text: str) -> str:
-        """A text in which programs have the names that they have where they are installed."""
-        for path, name in self.names.items():
-            text = re.sub(rf"(?<![\w/.]){re.escape(path)}(?![\w/])", name, text)
-        return text
 
     def place_of(self, path: str, anchor: str) -> Page | None:
         """The page of a section; without an anchor, the one that most of a document is in."""
@@ -130,7 +125,7 @@ class Manual:
                 for word in ("COMMAND ..", "--help", "--version")
             ]
         if page.help:
-            return [self.installed(line) for line in usage_of(said(page.help, self.program))]
+            return [installed(line) for line in usage_of(said(page.help, self.program))]
         return page.usage
 
     def head(self, page: Page) -> Iterator[str]:
@@ -141,19 +136,36 @@ class Manual:
         yield from (".SH NAME", f"{roff.escaped(names)} \\- {words_of(purpose)}", ".SH SYNOPSIS")
         yield from roff.code(self.synopsis(page))
 
+    def files(self, lines: list[str]) -> Iterator[str]:
+        """Where the folders are that lines name by their paths in the repository."""
+        named = sorted({f"\\fB{it}\\fR" for it in FOLDER.findall(FONT.sub("", "\n".join(lines)))})
+        ours = [it for it in named if INSTALLED.search(it)]
+        others = [it for it in named if it not in ours]
+        if named:
+            yield ".SH FILES"
+        if ours:
+            yield from (".PP", f"Below the prefix, in share/doc/tpmsim: {', '.join(ours)}")
+        if others:
+            yield from (".PP", f"In the sources, and not installed: {', '.join(others)}")
+
     def lines(self, page: Page) -> Iterator[str]:
         """The lines of roff of a page."""
+        lines = list(self.body(page))
+        yield from (*lines, *self.files(lines))
+        others = ", ".join(other.title() for other in self.pages.values() if other is not page)
+        yield from (".SH SEE ALSO", words_of(others))
+
+    def body(self, page: Page) -> Iterator[str]:
+        """The lines of all sections that are not of the page itself."""
         yield from self.head(page)
         if page.commands:
             yield from self.commands(page.commands)
         for part in self.parts[page.name]:
             link = functools.partial(self.link, page, part.document)
-            yield from roff.roff(self.installed(part.text), link, part.depth)
+            yield from roff.roff(installed(part.text), link, part.depth)
         for heading, words in page.listing.items():
             yield f".SH {heading.upper()}"
             yield from roff.code(said(words, self.program).rstrip().split("\n"))
-        others = ", ".join(other.title() for other in self.pages.values() if other is not page)
-        yield from (".SH SEE ALSO", words_of(others))
 
     def write(self, folder: pathlib.Path) -> None:
         """Writes all pages, and for each other name of one a page that leads to it."""

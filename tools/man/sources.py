@@ -1,9 +1,12 @@
 """What man pages are made from: sections of documents, what programs say, and a header."""
 
+import functools
 import pathlib
 import re
 import subprocess
+import tomllib
 from dataclasses import dataclass
+from typing import Any
 
 TOP = pathlib.Path(__file__).resolve().parents[2]
 FENCED = re.compile(r"^```.*?^```$", re.M | re.S)
@@ -14,6 +17,20 @@ DECLARATION = re.compile(r"^\w[\w *]*\([^;{}]*\);", re.M)
 
 class Missing(Exception):
     """What a page is made from, and is not there."""
+
+
+@functools.cache
+def pages_told() -> dict[str, Any]:
+    """What packaging/pages.toml says."""
+    with open(TOP / "packaging" / "pages.toml", "rb") as file:
+        return tomllib.load(file)
+
+
+def installed(text: str) -> str:
+    """A text in which programs have the names that they have where they are installed."""
+    for path, name in pages_told()["names"].items():
+        text = re.sub(rf"(?<![\w/.]){re.escape(path)}(?![\w/])", name, text)
+    return text
 
 
 @dataclass

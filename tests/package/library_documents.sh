@@ -1,0 +1,55 @@
+# What is installed beside the program: each link of a document leads to an installed file, the examples
+# run, and what man pages and documents name is installed, or said to be in the sources.
+tests=$(cd "$(dirname "$0")/.." && pwd -P)
+. "$tests/common/cases.sh"
+needs python3
+top=${tests%/*}
+
+# The modules are left out: this compiler has no header.
+mkdir none
+printf '#!/bin/sh\nexit 1\n' >none/cc
+chmod +x none/cc
+PATH=$room/folder/none:$PATH DESTDIR=$room/root PREFIX=/usr "$top/tools/install.sh" 2>"$room/told" ||
+    cat "$room/told"
+documents=$room/root/usr/share/doc/tpmsim
+pages=$room/root/usr/share/man
+
+# follow: what is said of the links of all documents.
+follow() {
+    (cd "$documents" && find . -name '*.md' | sed 's|^\./||' | LC_ALL=C sort | tr '\n' '\0') |
+        xargs -0 env PYTHONPATH= python3 -S "$tests/common/links.py" "$documents"
+}
+
+echo '== links'
+follow
+echo '[a test](../tests/README.md), [a heading](LINES.md#none)' >>"$documents/docs/SCRIPTS.md"
+follow | sed 's/:[0-9]*:/:N:/'
+
+echo '== examples'
+PATH=$room/root/usr/bin:$PATH
+unset PYTHONPATH
+cd "$documents/examples" || exit 1
+for script in *.tpm; do
+    tpmsim run "$script" 2>&1 | cmp - "${script%.tpm}.out"
+    tpmsim run --trace "$script" 2>&1 | cmp - "${script%.tpm}.trace"
+done
+grep -l '[a-z]\.py' ./* | sed 's/^/it names a program: /'
+[ "$(find . -name '*.tpm' | grep -c .)" -ge 10 ] && echo 'at least 10 run'
+
+echo '== names'
+cd "$documents" || exit 1
+grep -rlE '(^|[^a-z/.])(\./tpmsim|tools/(explain|audit)\.py)' . | sed 's/^/it names a program of the sources: /'
+sed -n '3,4p' README.md
+for page in "$pages"/man*/*.gz; do
+    gzip -dc "$page" | sed 's/\\f[BIR]//g' >"$room/page"
+    sed '/^\.SH FILES$/,$d' "$room/page" | grep -oE '(^|[^a-z/.])(docs|examples)/[A-Za-z_/]*\.[a-z]*' |
+        sed 's/^[^a-z]//' | while read -r file; do
+        [ -e "$file" ] || echo "$(basename "$page") names $file"
+    done
+    for folder in docs examples tests tools dist; do
+        sed '/^\.SH FILES$/,$d' "$room/page" | grep -qE "(^|[^a-z/.])$folder/" || continue
+        sed '1,/^\.SH FILES$/d' "$room/page" | grep -q "$folder/" ||
+            echo "$(basename "$page") does not say where $folder/ is"
+    done
+done
+zcat "$pages/man1/tpmsim-swtpm.1.gz" | sed -n '/^\.SH FILES/,/^\.SH SEE/p'

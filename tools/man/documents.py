@@ -1,0 +1,98 @@
+#!/usr/bin/env python3
+"""Installs the documents and the examples.
+
+    tools/man/documents.py FOLDER [PATH=PLACE]..
+
+FOLDER has them then, by their paths in the repository. PATH is what else is installed of the
+repository, and PLACE where, by its way from FOLDER. A link of a document leads to what is installed;
+any other link becomes its text. Programs have their installed names, as packaging/pages.toml has
+them. A script does not say which program wrote it, as that is not installed. It needs python3 alone.
+"""
+
+import functools
+import os
+import pathlib
+import re
+import shutil
+import sys
+
+# What Python compiles is not kept in the repository.
+sys.dont_write_bytecode = sys.pycache_prefix is None
+
+from sources import TOP, installed  # noqa: E402
+
+DOCUMENTS = "*.md", "docs/*.md", "docs/table/*.md", "python/README.md"
+DEVELOPERS = {"CONTRIBUTING.md"}
+COPIED = "docs/*.png", "docs/*.json", "examples/*.out", "examples/*.trace"
+SCRIPTS = "examples/*.tpm"
+PIECE = re.compile(
+    r"^```.*?^```$|(?P<ticks>`+)(?!`).+?(?<!`)(?P=ticks)(?!`)"
+    r"|\[(?P<text>(?:[^][]|\[[^]]*\])*)\]\((?P<file>[^()\s#]*)(?P<anchor>#[^()\s]*)?\)",
+    re.M | re.S,
+)
+SITE = re.compile(r"[a-z]+:")
+WRITTEN_BY = re.compile(r"\s+(# )?Written\s+(# )?by\s+(# )?\w+\.py\s+(# )?beside\s+(# )?it\.$", re.M)
+NOTE = """
+Folders such as crates/, dist/, tests/ and tools/, which these documents name, are in the sources and
+are not installed.
+"""
+
+
+def paths(*patterns: str) -> list[str]:
+    """The files of the repository that are of these patterns."""
+    found = sorted(it for pattern in patterns for it in TOP.glob(pattern))
+    return [str(it.relative_to(TOP)) for it in found if it.name not in DEVELOPERS]
+
+
+class Documents:
+    """Where what is installed of the repository is, by its way from the folder of documents."""
+
+    def __init__(self, others: dict[str, str]) -> None:
+        self.places = {it: it for it in paths(*DOCUMENTS, *COPIED, SCRIPTS)} | others
+        folders = {os.path.dirname(it) for it in self.places if it not in others}
+        self.places |= {folder: folder for folder in folders if folder}
+
+    def piece(self, document: str, found: re.Match[str]) -> str:
+        """Code as it is, and of a link what becomes of it."""
+        text, file = found["text"], found["file"]
+        if text is None or not file or SITE.match(file):
+            return found[0]
+        path = os.path.normpath(os.path.join(os.path.dirname(document), file))
+        if path not in self.places:
+            return text
+        way = os.path.relpath(self.places[path], os.path.dirname(document) or ".")
+        return f"[{text}]({way}{found['anchor'] or ''})"
+
+    def document(self, name: str) -> str:
+        text = (TOP / name).read_text("utf-8")
+        text = installed(PIECE.sub(functools.partial(self.piece, name), text))
+        if name == "README.md":
+            heading, _, rest = text.partition("\n")
+            text = f"{heading}\n{NOTE}{rest}"
+        return text
+
+    def install(self, folder: pathlib.Path) -> None:
+        made = {it: self.document(it) for it in paths(*DOCUMENTS)}
+        scripts = {it: (TOP / it).read_text("utf-8") for it in paths(SCRIPTS)}
+        made |= {name: WRITTEN_BY.sub("", text) for name, text in scripts.items()}
+        for name in [*made, *paths(*COPIED)]:
+            target = folder / name
+            target.parent.mkdir(parents=True, exist_ok=True)
+            if name in made:
+                target.write_text(made[name], "utf-8")
+            else:
+                shutil.copyfile(TOP / name, target)
+
+
+def main(words: list[str]) -> int:
+    """Installs by these words, and answers the exit status."""
+    if not words or not all("=" in it for it in words[1:]):
+        print("usage: tools/man/documents.py FOLDER [PATH=PLACE]..", file=sys.stderr)
+        return 2
+    others = dict(it.split("=", 1) for it in words[1:])
+    Documents(others).install(pathlib.Path(words[0]))
+    return 0
+
+
+if __name__ == "__main__":
+    sys.exit(main(sys.argv[1:]))
