@@ -1,42 +1,48 @@
 """A device that is kept in a folder (docs/ATTACHED.md): to open it is to execute its journal again."""
 
-import contextlib
 import ctypes
-import fcntl
+import io
 import os
-import pathlib
 import time
+import warnings
 from dataclasses import replace
-from typing import Iterator
+from typing import Callable, TypeVar
 
-from tpmsim.device.base import Answered, BadImage, DeviceEnded, Unsupported
+from tpmsim.device.base import Answered, BadImage, DeviceEnded
+from tpmsim.device.folder import Folder, telling, write
 from tpmsim.device.library import AnsweredInC, CHECKS, IMAGE_FAULTS, library, NO_MEMORY
 from tpmsim.device.library import RESPONSE_BYTES, saved
 from tpmsim.device.served import LocatedDevice
 from tpmsim.device.told import Path, RANDOM_BYTES
 
-JOURNAL, NEW, LOCK = "journal", "journal.new", "lock"
-OWNER_ALONE, RECORD_BYTES = 0o600, 9216
+JOURNAL, NEW = "journal", "journal.new"
+RECORD_BYTES = 9216
 
 # What else a call tells (library/tpmsim.h).
-NO_COMPLETION = 13
 FAULTS = {
-    10: "it is no journal of a device",
-    11: "it is damaged, and stays as it is",
-    12: "it was written by a library that answers otherwise than this one, and stays as it is",
+    1: "has no device",
+    2: "has the localities 0 to 4, and no other",
+    10: "is no journal of a device",
+    11: "is damaged, and stays as it is",
+    12: "was written by a library that answers otherwise than this one, and stays as it is",
+}
+OF_IMAGES = {
+    "Version": "holds an image of a version that this library does not know",
+    "Digest": "holds a damaged image",
+    "Body": "holds an image of no state that a device can be in",
 }
 
-
-def now() -> int:
-    return time.time_ns() // 1_000_000
+Done = TypeVar("Done")
 
 
 class KeptDevice(LocatedDevice):
     """The device of a folder, which is made where it is not there, with a new device of fresh random
     bytes. Other processes may hold it at once: each executes what the others added, and then its own
     command. What was answered is in the journal; with `forces` a journal that begins is forced to
-    the disk. With `completes` the completing layer of the library stands above the device, where it
-    has one. DeviceEnded tells why a journal is none, and BadImage that of its image.
+    the disk, and so is the name of one that is opened. With `completes` the completing layer of the
+    library stands above the device, where it has one. DeviceEnded says in a sentence of
+    docs/ATTACHED.md why a file cannot be used, or is no journal, and BadImage why its image is none.
+    What a killed process left of a record is cut off, and a RuntimeWarning says so.
 
     >>> import tempfile
     >>> with tempfile.TemporaryDirectory() as folder:
@@ -47,171 +53,198 @@ class KeptDevice(LocatedDevice):
     4
     """
 
+    file: io.FileIO | None = None
+    executed, size, is_whole = 0, 0, True
+
     def __init__(self, folder: Path, forces: bool = True, completes: bool = False) -> None:
         super().__init__()
         self.library, self.holder = library(), ctypes.c_void_p()
         self.handle, self.answered = ctypes.addressof(self.holder), AnsweredInC()
         self.forces, self.completes = forces, completes
-        self.file, self.executed, self.drawn = -1, 0, b""
-        pathlib.Path(folder).mkdir(0o700, exist_ok=True)
-        flags = os.O_RDONLY | os.O_DIRECTORY | os.O_NOFOLLOW | os.O_CLOEXEC
-        self.folder, self.name = os.open(folder, flags), os.fspath(folder)
+        self.folder, is_open = Folder(folder), False
+        self.path = self.folder.path_of(JOURNAL)
         try:
-            with self.locked():
-                if JOURNAL in os.listdir(self.folder):
-                    self.catch_up()
-                else:
-                    random = os.urandom(RANDOM_BYTES)
-                    self.check(self.library.tpmsim_manufacture(self.handle, random))
-                    self.begin()
-        except (BadImage, DeviceEnded, MemoryError):
-            self.close()
-            raise
-
-    @contextlib.contextmanager
-    def locked(self) -> Iterator[None]:
-        """Holds the lock of the folder, whichever file has its name by then."""
-        flags = os.O_RDWR | os.O_CREAT | os.O_NOFOLLOW | os.O_CLOEXEC
-        while True:
-            lock = os.open(LOCK, flags, OWNER_ALONE, dir_fd=self.folder)
-            fcntl.flock(lock, fcntl.LOCK_EX)
-            named = os.stat(LOCK, dir_fd=self.folder, follow_symlinks=False)
-            if os.path.samestat(os.fstat(lock), named):
-                break
-            os.close(lock)
-        try:
-            yield
+            self.held(self.open_or_begin)
+            is_open = True
         finally:
-            os.close(lock)
+            if not is_open:
+                self.close()
 
-    def ended(self, words: str) -> DeviceEnded:
-        """The device is opened anew from its journal by the next command."""
-        self.drop()
-        return DeviceEnded(f"{self.name}/{JOURNAL}: {words}")
+    def held(self, work: Callable[[], Done]) -> Done:
+        """Does the work with the lock of the folder. Where it does not end, whatever the reason, the
+        device may be ahead of its journal: it is dropped, and the next work opens it from there.
+        """
+        return self.folder.locked(lambda: self.whole(work))
+
+    def whole(self, work: Callable[[], Done]) -> Done:
+        if not self.is_whole:
+            self.drop()  # where an interrupt came before it was dropped
+        self.is_whole = False
+        try:
+            done = work()
+            self.is_whole = True
+            return done
+        finally:
+            if not self.is_whole:
+                self.drop()
+
+    def open_or_begin(self) -> None:
+        if self.folder.look(JOURNAL):
+            self.catch_up()
+        else:
+            self.check(self.library.tpmsim_manufacture(self.handle, os.urandom(RANDOM_BYTES)))
+            self.begin()
 
     def check(self, told: int) -> None:
         if told == NO_MEMORY:
-            raise MemoryError
+            raise MemoryError(f"{self.path} wants memory that is not there")
         if NO_MEMORY < told <= NO_MEMORY + len(IMAGE_FAULTS):
-            raise BadImage(IMAGE_FAULTS[told - NO_MEMORY - 1])
-        if told == NO_COMPLETION:
-            raise Unsupported("this library has no completing layer")
+            fault = IMAGE_FAULTS[told - NO_MEMORY - 1]
+            raise BadImage(f"{self.path} {OF_IMAGES.get(fault, 'holds no image')}: {fault}")
         if told:
-            raise self.ended(FAULTS.get(told, f"the library tells {told}"))
+            sentence = FAULTS.get(told, "is refused by the library for a reason without a name")
+            raise DeviceEnded(f"{self.path} {sentence}")
 
-    def catch_up(self) -> None:
+    def catch_up(self) -> io.FileIO:
         """Executes what other processes did since, or the whole journal where it is another one."""
-        try:
-            status = os.stat(JOURNAL, dir_fd=self.folder, follow_symlinks=False)
-        except FileNotFoundError:
-            raise self.ended("it is gone") from None
-        if self.file < 0 or not os.path.samestat(os.fstat(self.file), status):
+        status = self.folder.look(JOURNAL)
+        if not status:
+            raise DeviceEnded(f"{self.path} is gone")
+        if self.file is None or not os.path.samestat(os.fstat(self.file.fileno()), status):
             self.drop()
-            flags = os.O_RDWR | os.O_NOFOLLOW | os.O_CLOEXEC
-            self.file = os.open(JOURNAL, flags, dir_fd=self.folder)
-        if status.st_size < self.executed:
-            raise self.ended("it was shortened by something else")
-        text, taken = b"", ctypes.c_size_t()
-        while len(text) < status.st_size - self.executed:
-            at = self.executed + len(text)
-            text += os.pread(self.file, status.st_size - at, at)
-        if text or not self.executed:
-            found = self.library
-            call = found.tpmsim_journal_follow if self.executed else found.tpmsim_journal_open
-            told = call(self.handle, text, len(text), ctypes.byref(taken))
-            self.executed += taken.value
-            self.check(told)
+            self.file = self.folder.open(JOURNAL)
+            if self.forces:
+                self.folder.force()
+        self.size = os.fstat(self.file.fileno()).st_size
+        if self.size < self.executed:
+            raise DeviceEnded(f"{self.path} was shortened by something else")
+        if self.size > self.executed or not self.executed:
+            self.execute_rest(self.read(self.file, self.executed, self.size))
+        return self.file
+
+    def read(self, file: io.FileIO, at: int, end: int) -> bytes:
+        parts = []
+        while at < end:
+            with telling(self.path, "cannot be read"):
+                parts.append(os.pread(file.fileno(), end - at, at))
+            if not parts[-1]:
+                raise DeviceEnded(f"{self.path} was shortened while it was read")
+            at += len(parts[-1])
+        return b"".join(parts)
+
+    def execute_rest(self, text: bytes) -> None:
+        found, taken = self.library, ctypes.c_size_t()
+        call = found.tpmsim_journal_follow if self.executed else found.tpmsim_journal_open
+        self.check(call(self.handle, text, len(text), ctypes.byref(taken)))
+        self.executed += taken.value
+
+    def cut(self, file: io.FileIO) -> None:
+        """Cuts the journal to its whole records. The host may have crashed within another one, or
+        its process been killed.
+        """
+        torn = self.size - self.executed
+        if torn:
+            with telling(self.path, "cannot be cut to whole records"):
+                os.ftruncate(file.fileno(), self.executed)
+            words = f"{self.path} was cut to its whole records, by {torn} bytes"
+            warnings.warn(words, RuntimeWarning)
+
+    def now(self) -> int:
+        clock = time.time_ns() // 1_000_000
+        if clock < 0:
+            words = "needs the host's clock, which cannot be read or is before 1970"
+            raise DeviceEnded(f"{self.folder.path} {words}")
+        return clock
 
     def begin(self) -> None:
-        size = self.library.tpmsim_journal_begin(self.handle, now(), None, 0)
-        room = ctypes.create_string_buffer(size)
-        self.library.tpmsim_journal_begin(self.handle, now(), room, size)
-        self.replace(room.raw)
-        self.executed = size
+        clock, call = self.now(), self.library.tpmsim_journal_begin
+        head = ctypes.create_string_buffer(call(self.handle, clock, b"", 0))
+        if not head or call(self.handle, clock, head, len(head)) != len(head):
+            raise DeviceEnded(f"{self.path} has no device")
+        self.replace(head.raw)
+        self.executed = len(head)
 
     def replace(self, text: bytes) -> None:
-        if NEW in os.listdir(self.folder):
-            os.unlink(NEW, dir_fd=self.folder)
-        flags = os.O_RDWR | os.O_CREAT | os.O_EXCL | os.O_NOFOLLOW | os.O_CLOEXEC
-        file = os.open(NEW, flags, OWNER_ALONE, dir_fd=self.folder)
-        try:
-            write(file, text, 0, self.forces)
-            os.rename(NEW, JOURNAL, src_dir_fd=self.folder, dst_dir_fd=self.folder)
-        except OSError as fault:
-            os.close(file)
-            raise self.ended(f"it cannot be written: {fault}") from None
-        if self.file >= 0:
-            os.close(self.file)
-        self.file = file
+        before, self.file = self.file, self.folder.replace(JOURNAL, NEW, text, self.forces)
+        if before:
+            before.close()
         if self.forces:
-            os.fsync(self.folder)
+            self.folder.force()
 
     def execute(self, buffer: bytes) -> Answered:
         return replace(super().execute(buffer), check=CHECKS[self.answered.check])
 
     def exchange(self, buffer: bytes) -> bytes:
+        return self.held(lambda: self.answer(buffer))
+
+    def answer(self, buffer: bytes) -> bytes:
         room, record = (ctypes.create_string_buffer(it) for it in (RESPONSE_BYTES, RECORD_BYTES))
         size, answered = ctypes.c_size_t(), ctypes.byref(self.answered)
-        with self.locked():
-            self.catch_up()
-            told = self.library.tpmsim_journal_execute(
-                *(self.handle, buffer, len(buffer), self.locality, now(), int(self.completes)),
-                *(os.urandom(RANDOM_BYTES), room, answered, record, ctypes.byref(size)),
-            )
-            self.check(told)
-            try:
-                os.ftruncate(self.file, self.executed)
-                write(self.file, record.raw[: size.value], self.executed, False)
-            except OSError as fault:
-                os.ftruncate(self.file, self.executed)
-                raise self.ended(f"it cannot be written: {fault}") from None
-            self.executed += size.value
+        file = self.catch_up()
+        self.cut(file)
+        told = self.library.tpmsim_journal_execute(
+            *(self.handle, buffer, len(buffer), self.locality, self.now(), int(self.completes)),
+            *(os.urandom(RANDOM_BYTES), room, answered, record, ctypes.byref(size)),
+        )
+        self.check(told)
+        self.add(file, record.raw[: size.value])
         return room.raw[: self.answered.size]
+
+    def add(self, file: io.FileIO, record: bytes) -> None:
+        """Adds a record; where it cannot be written, the journal is cut to what it was."""
+        with telling(self.path, "cannot be written"):
+            try:
+                write(file, record, self.executed)
+            except OSError:
+                os.ftruncate(file.fileno(), self.executed)
+                raise
+        self.executed += len(record)
 
     def power_cycle(self) -> None:
         """For every process that holds the device."""
-        with self.locked():
-            self.catch_up()
-            self.begin()
+        self.held(self.cycle)
         self.events.append("power")
 
+    def cycle(self) -> None:
+        self.catch_up()
+        self.begin()
+
     def save(self) -> bytes:
-        with self.locked():
-            self.catch_up()
-            return saved(self.library, self.handle)
+        return self.held(self.image)
+
+    def image(self) -> bytes:
+        self.catch_up()
+        return saved(self.library, self.handle)
 
     def snapshot(self) -> object:
         """The journal, and what was told here."""
-        with self.locked():
-            self.catch_up()
-            return os.pread(self.file, self.executed, 0), tuple(self.events), self.at
+        return self.held(self.journal), tuple(self.events), self.at
+
+    def journal(self) -> bytes:
+        return self.read(self.catch_up(), 0, self.executed)
 
     def restore(self, snapshot: object) -> None:
         assert isinstance(snapshot, tuple)
-        text, events, self.at = snapshot
-        self.events = list(events)
-        with self.locked():
-            self.replace(text)
-            self.drop()
-            self.catch_up()
+        text, events, place = snapshot
+        self.held(lambda: self.put_back(text))
+        self.events, self.at = list(events), place
+
+    def put_back(self, text: bytes) -> None:
+        self.replace(text)
+        self.drop()
+        self.catch_up()
 
     def drop(self) -> None:
+        self.executed = 0
         self.library.tpmsim_free(self.handle)
-        if self.file >= 0:
-            os.close(self.file)
-        self.file, self.executed = -1, 0
+        if self.file:
+            self.file.close()
+            self.file = None
 
     def close(self) -> None:
         self.drop()
-        if self.folder >= 0:
-            os.close(self.folder)
-        self.folder = -1
+        self.folder.close()
 
-
-def write(file: int, text: bytes, at: int, forces: bool) -> None:
-    """Writes all of a text at a place of a file; OSError where it cannot be written."""
-    while text:
-        done = os.pwrite(file, text, at)
-        text, at = text[done:], at + done
-    if forces:
-        os.fsync(file)
+    def __del__(self) -> None:
+        if hasattr(self, "handle"):
+            self.drop()

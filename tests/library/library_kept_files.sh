@@ -1,0 +1,8 @@
+# A device that Python keeps in a folder, beside files that are not what they are to be, and beside
+# forked processes: library/kept_files.py.
+tests=$(cd "$(dirname "$0")/.." && pwd -P)
+. "$tests/common/cases.sh"
+. "$tests/common/library.sh"
+needs python3
+
+python3 "$sources/kept_files.py" "$shared"

@@ -1,0 +1,7 @@
+# A device that Python keeps in a folder, whose calls are interrupted: library/kept_interrupts.py.
+tests=$(cd "$(dirname "$0")/.." && pwd -P)
+. "$tests/common/cases.sh"
+. "$tests/common/library.sh"
+needs python3
+
+python3 "$sources/kept_interrupts.py" "$shared"
