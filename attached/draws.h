@@ -2,10 +2,10 @@
  * those that were told. */
 #ifndef DRAWS_H
 #define DRAWS_H
+#include "fork_mark.h"
 #include <stdbool.h>
 #include <stddef.h>
 #include <stdint.h>
-#include <sys/types.h>
 
 enum { DRAWS_BYTES = 256 };
 
@@ -14,13 +14,15 @@ struct draws {
     bool are_told;
     /* How many of them, from the front, are not to be used again. */
     size_t drawn;
-    /* The process that has these bytes: a child that was forked must not use them too. */
-    pid_t process;
+    /* Set by the process that has these bytes: a child that was forked must not use them too. */
+    struct fork_mark mark;
 };
 
 /* Begins with bytes that were told, 1 to 256 of them, repeated to 256; or, where there are none,
  * with those of the system. */
 void draws_begin(struct draws *draws, const uint8_t *told, size_t size);
+
+void draws_end(struct draws *draws);
 
 /* Puts fresh bytes into the place of those that were drawn. False where the system gives none. */
 bool draws_renew(struct draws *draws);

@@ -51,6 +51,7 @@ static bool open_descriptor(struct folder *folder, struct reason *reason) {
 
 bool folder_open(struct folder *folder, const char *path, bool makes, struct reason *reason) {
     *folder = (struct folder){.descriptor = -1, .lock = -1};
+    fork_mark_begin(&folder->mark);
     if (strlen(path) >= PATH_MAX)
         return refuse(reason, "the path of the folder", NULL, "is too long", 0);
     folder->path = copy_path(path);
@@ -61,6 +62,7 @@ bool folder_open(struct folder *folder, const char *path, bool makes, struct rea
 void folder_close(struct folder *folder) {
     if (folder->lock >= 0) close(folder->lock);
     if (folder->descriptor >= 0) close(folder->descriptor);
+    fork_mark_end(&folder->mark);
     free(folder->path);
     *folder = (struct folder){.descriptor = -1, .lock = -1};
 }
@@ -125,7 +127,7 @@ static bool open_lock(struct folder *folder, struct reason *reason) {
     folder->lock = folder_open_file(folder, LOCK, &status, reason);
     if (folder->lock < 0) return false;
     folder->lock_identity = identity_of(&status);
-    folder->process = getpid();
+    fork_mark_set(&folder->mark);
     return true;
 }
 
@@ -136,7 +138,7 @@ static void close_lock(struct folder *folder) {
 
 bool folder_lock(struct folder *folder, struct reason *reason) {
     enum { TRIES = 100 };
-    if (folder->process != getpid()) close_lock(folder);
+    if (!fork_mark_is_here(&folder->mark)) close_lock(folder);
     for (int i = 0; i < TRIES; i++) {
         struct stat status;
         if (folder->lock < 0 && !open_lock(folder, reason)) return false;

@@ -4,6 +4,7 @@
  * followed. What is made here is the user's alone, whatever the umask is. */
 #ifndef FOLDER_H
 #define FOLDER_H
+#include "fork_mark.h"
 #include "reason.h"
 #include <stdbool.h>
 #include <sys/stat.h>
@@ -21,8 +22,8 @@ struct folder {
     int descriptor;
     int lock;
     struct identity lock_identity;
-    /* The process that opened the lock: a child that was forked would share it. */
-    pid_t process;
+    /* Set by the process that opened the lock: a child that was forked would share it. */
+    struct fork_mark mark;
     bool was_made;
 };
 

@@ -152,6 +152,7 @@ void kept_close(struct kept *kept) {
     if (!kept) return;
     journal_drop(&kept->journal);
     folder_close(&kept->journal.folder);
+    draws_end(&kept->draws);
     explicit_bzero(kept, sizeof *kept);
     free(kept);
 }

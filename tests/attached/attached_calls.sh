@@ -7,7 +7,7 @@ needs python3
 
 wrap=
 for call in mkdir fchmod fchmodat fstat fstatat flock ftruncate fsync fdatasync unlinkat renameat \
-    clock_gettime pread pwrite getrandom malloc calloc strndup open openat geteuid; do
+    clock_gettime mmap munmap madvise pread pwrite getrandom malloc calloc strndup open openat geteuid; do
     wrap="$wrap -Wl,--wrap=$call"
 done
 # shellcheck disable=SC2086 # they are words

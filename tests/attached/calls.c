@@ -151,6 +151,7 @@ static bool try_one(const struct trial *trial, enum fault kind, const struct val
     if (kept) look(kept, trial, outcome, values);
     kept_close(kept);
     must(open_files() == files, "a file is left open");
+    must(mapped == 0, "a page is left");
     kept = opened(FOLDER);
     if (trial->has_state && trial->act != power)
         must(extends_of(kept, values) >= EXTENDS, "extends are lost");

@@ -6,6 +6,7 @@
 #include <errno.h>
 #include <stdarg.h>
 #include <sys/file.h>
+#include <sys/mman.h>
 #include <sys/random.h>
 #include <sys/stat.h>
 #include <time.h>
@@ -20,6 +21,9 @@ static const char *name_of_it;
 
 /* How often files and folders were forced to the disk, whole or without their times. */
 static unsigned forced, forced_data;
+
+/* How many pages were mapped, and are so still. */
+static int mapped;
 
 /* Whether this call is one of a kind that is counted, and the one of the number. */
 static bool is_the_one(const char *name, bool is_counted) {
@@ -75,6 +79,7 @@ WRAPPED(int, ftruncate, (int file, off_t size), (file, size), true)
 WRAPPED(int, unlinkat, (int folder, const char *path, int flags), (folder, path, flags), false)
 WRAPPED(int, renameat, (int folder, const char *path, int into, const char *name),
         (folder, path, into, name), false)
+WRAPPED(int, madvise, (void *page, size_t size, int advice), (page, size, advice), false)
 WRAPPED(int, clock_gettime, (clockid_t clock, struct timespec *now), (clock, now), false)
 WRAPPED_MOVE(pread, (int file, void *room, size_t size, off_t place), (file, room, size, place))
 WRAPPED_MOVE(pwrite, (int file, const void *room, size_t size, off_t place),
@@ -83,6 +88,21 @@ WRAPPED_MOVE(getrandom, (void *room, size_t size, unsigned flags), (room, size, 
 WRAPPED_MEMORY(void *, malloc, (size_t size), (size))
 WRAPPED_MEMORY(void *, calloc, (size_t count, size_t size), (count, size))
 WRAPPED_MEMORY(char *, strndup, (const char *text, size_t size), (text, size))
+
+void *__real_mmap(void *at, size_t size, int protection, int flags, int file, off_t place);
+void *__wrap_mmap(void *at, size_t size, int protection, int flags, int file, off_t place);
+void *__wrap_mmap(void *at, size_t size, int protection, int flags, int file, off_t place) {
+    if (fails("mmap", false) || has_none("mmap")) return MAP_FAILED;
+    mapped++;
+    return __real_mmap(at, size, protection, flags, file, place);
+}
+
+int __real_munmap(void *page, size_t size);
+int __wrap_munmap(void *page, size_t size);
+int __wrap_munmap(void *page, size_t size) {
+    mapped--;
+    return __real_munmap(page, size);
+}
 
 int __real_open(const char *path, int flags, ...);
 int __wrap_open(const char *path, int flags, ...);

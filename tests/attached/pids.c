@@ -1,0 +1,141 @@
+/* A process that has the number 1, and its forked child in a namespace of its own that has the number
+ * 1 too, use one device at once. This is played with the page that a fork wipes, and on a kernel that
+ * has none. The argument is the file of the values of the PCR. */
+#include "common.h"
+#include <errno.h>
+#include <poll.h>
+#include <sched.h>
+#include <sys/mman.h>
+#include <sys/wait.h>
+
+/* So long the parent stays within a command, for its child to come into another one. */
+enum { EXTENDS = 500, RANDOM_BYTES = 64, WITHIN_MS = 100 };
+
+static const char FOLDER[] = "state";
+
+/* TPM2_GetRandom of more bytes than the one before it drew. */
+static const uint8_t GET_MORE[] = {0x80, 0x01, 0, 0, 0, 12, 0, 0, 0x01, 0x7b, 0, RANDOM_BYTES};
+
+/* Whether the kernel wipes a page at a fork, as far as the device hears. */
+static bool wipes;
+
+/* The pipes by which a parent and its child tell each other that they go on; and whether the parent's
+ * next record waits for the child. */
+static int go[2], told[2];
+static bool is_to_wait;
+
+int __real_madvise(void *page, size_t size, int advice);
+int __wrap_madvise(void *page, size_t size, int advice);
+int __wrap_madvise(void *page, size_t size, int advice) {
+    if (wipes) return __real_madvise(page, size, advice);
+    errno = EINVAL;
+    return -1;
+}
+
+/* Lets the child execute a command, and waits until it has, or has had the time. */
+ssize_t __real_pwrite(int file, const void *bytes, size_t size, off_t place);
+ssize_t __wrap_pwrite(int file, const void *bytes, size_t size, off_t place);
+ssize_t __wrap_pwrite(int file, const void *bytes, size_t size, off_t place) {
+    struct pollfd answer = {.fd = told[0], .events = POLLIN};
+    if (is_to_wait) {
+        is_to_wait = false;
+        must(write(go[1], "x", 1) == 1, "nothing was written");
+        must(poll(&answer, 1, WITHIN_MS) == 0, "two commands were executed at once");
+    }
+    return __real_pwrite(file, bytes, size, place);
+}
+
+/* Forks a child that has the number 1. */
+static pid_t forked(void) {
+    fflush(stdout);
+    must(unshare(CLONE_NEWPID) == 0, "there is no namespace of numbers");
+    pid_t child = fork();
+    must(child >= 0, "there is no process");
+    must(child > 0 || getpid() == 1, "a process has another number than 1");
+    return child;
+}
+
+static void must_end_well(pid_t child) {
+    int status;
+    must(waitpid(child, &status, 0) == child && status == 0, "a process ended with a fault");
+}
+
+static void draw(struct kept *kept, uint8_t room[RANDOM_BYTES]) {
+    uint8_t response[RESPONSE_BYTES];
+    accepted(kept, GET_MORE, sizeof GET_MORE, response);
+    memcpy(room, response + 12, RANDOM_BYTES);
+}
+
+/* Starts a device, which draws random bytes: those behind them are ready for the next commands. */
+static void start_and_draw(struct kept *kept) {
+    uint8_t response[RESPONSE_BYTES];
+    start(kept);
+    accepted(kept, GET_RANDOM, sizeof GET_RANDOM, response);
+}
+
+/* What the child does: draws by the device in memory; and, once the parent is within a command, by the
+ * other one, which it extends then. */
+static void use(struct kept *memory, struct kept *kept) {
+    uint8_t own[RANDOM_BYTES];
+    char byte;
+    draw(memory, own);
+    must(write(told[1], own, sizeof own) == sizeof own, "nothing was written");
+    must(read(go[0], &byte, 1) == 1, "nothing was read");
+    draw(kept, own);
+    must(write(told[1], own, sizeof own) == sizeof own, "nothing was written");
+    for (int i = 0; i < EXTENDS; i++) extend(kept);
+    _exit(0);
+}
+
+/* Draws, and says whether the child has drawn the same bytes. */
+static void compare_draws(struct kept *kept, const char *label) {
+    uint8_t own[RANDOM_BYTES], others[RANDOM_BYTES];
+    size_t half = RANDOM_BYTES / 2;
+    draw(kept, own);
+    must(read(told[0], others, sizeof others) == sizeof others, "nothing was read");
+    printf("%s: %s random bytes\n", label,
+           memcmp(own + half, others + half, half) ? "other" : "THE SAME");
+    fflush(stdout);
+}
+
+/* The first process 1: opens the devices, forks the second one, and does as that does. */
+static void open_and_fork(const struct values *values) {
+    struct kept_options in_memory = {.folder = NULL};
+    struct kept *memory = kept_open(&in_memory, &(struct reason){{0}}), *kept = opened(FOLDER);
+    must(memory != NULL, "there is no device in memory");
+    start_and_draw(memory);
+    start_and_draw(kept);
+    must(pipe(go) == 0 && pipe(told) == 0, "there is no pipe");
+    pid_t child = forked();
+    if (child == 0) use(memory, kept);
+    compare_draws(memory, "    in memory");
+    is_to_wait = true;
+    compare_draws(kept, "    in a folder");
+    for (int i = 0; i < EXTENDS; i++) extend(kept);
+    must_end_well(child);
+    printf("    %ld extends of %d\n", extends_of(kept, values), 2 * EXTENDS);
+    must(kept_power(kept, &(struct reason){{0}}), "the power cycle failed");
+    fflush(stdout);
+    _exit(0);
+}
+
+int main(int count, char **words) {
+    must(count == 2, "usage: pids VALUES");
+    struct values values = values_of(words[1]);
+    for (int i = 0; i < 2; i++) {
+        wipes = i == 0;
+        puts(wipes ? "a page that a fork wipes" : "no such page");
+        fflush(stdout);
+        pid_t outer = fork();
+        must(outer >= 0, "there is no process");
+        if (outer == 0) {
+            pid_t first = forked();
+            if (first == 0) open_and_fork(&values);
+            must_end_well(first);
+            _exit(0);
+        }
+        must_end_well(outer);
+    }
+    free(values.bytes);
+    return 0;
+}
