@@ -60,7 +60,8 @@ static bool replace(struct journal *journal, const uint8_t *head, size_t size, b
     if (journal->file >= 0) close(journal->file);
     journal->file = file;
     journal->size = journal->executed = size;
-    return !forces || folder_force(&journal->folder, reason);
+    journal->is_settled = forces && folder_force(&journal->folder, reason);
+    return journal->is_settled || !forces;
 }
 
 /* The head of the device's new journal, which the caller frees; NULL with the reason. */

@@ -29,7 +29,6 @@ static char *copy_path(const char *path) {
 /* Makes the folder where it is not there. The umask may have taken bits that its user needs. */
 static bool make(struct folder *folder, struct reason *reason) {
     if (mkdir(folder->path, 0700) == 0) {
-        folder->was_made = true;
         if (fchmodat(AT_FDCWD, folder->path, 0700, AT_SYMLINK_NOFOLLOW) == 0) return true;
         return refuse(reason, folder->path, NULL, "cannot be given its mode", errno);
     }
@@ -157,20 +156,21 @@ void folder_unlock(struct folder *folder) {
     if (folder->lock >= 0 && flock(folder->lock, LOCK_UN) != 0) close_lock(folder);
 }
 
-/* Forces the folder that this one stands in. */
+/* Forces the folder that this one stands in. If its user may not read that one, or its file system
+ * does not force folders, the whole file system of this one is forced instead. */
 static bool force_name(const struct folder *folder, struct reason *reason) {
     int above = openat(folder->descriptor, "..", O_RDONLY | O_DIRECTORY | O_CLOEXEC);
-    bool is_forced = above >= 0 && fsync(above) == 0;
-    int error = errno;
+    int error = above < 0 || fsync(above) != 0 ? errno : 0;
     if (above >= 0) close(above);
-    return is_forced ||
+    if (error == EACCES || error == EINVAL)
+        error = syncfs(folder->descriptor) == 0 ? 0 : errno;
+    return error == 0 ||
            refuse(reason, folder->path, "..", "cannot be forced to the disk", error);
 }
 
 bool folder_force(struct folder *folder, struct reason *reason) {
     if (fsync(folder->descriptor) != 0)
         return refuse(reason, folder->path, NULL, "cannot be forced to the disk", errno);
-    if (folder->was_made && !force_name(folder, reason)) return false;
-    folder->was_made = false;
-    return true;
+    folder->name_is_forced = folder->name_is_forced || force_name(folder, reason);
+    return folder->name_is_forced;
 }

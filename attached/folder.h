@@ -24,7 +24,8 @@ struct folder {
     struct identity lock_identity;
     /* Set by the process that opened the lock: a child that was forked would share it. */
     struct fork_mark mark;
-    bool was_made;
+    /* Whether this holder has forced the folder's own name to the disk. */
+    bool name_is_forced;
 };
 
 bool is_identity(struct identity identity, const struct stat *status);
@@ -50,7 +51,7 @@ int folder_make_file(const struct folder *folder, const char *name, struct reaso
 bool folder_lock(struct folder *folder, struct reason *reason);
 void folder_unlock(struct folder *folder);
 
-/* Forces what stands in the folder to the disk; where it was made here, its own name too. */
+/* Forces the names in the folder to the disk, and the folder's own name, unless that was done. */
 bool folder_force(struct folder *folder, struct reason *reason);
 
 #endif

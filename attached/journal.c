@@ -19,6 +19,7 @@ void journal_drop(struct journal *journal) {
     if (journal->file >= 0) close(journal->file);
     journal->file = -1;
     journal->size = journal->executed = 0;
+    journal->is_settled = false;
 }
 
 /* Opens the journal that stands in the folder, where it is another than the one that is open. */
@@ -80,8 +81,15 @@ static bool execute_rest(struct journal *journal, struct reason *reason) {
     return is_done;
 }
 
-bool journal_catch_up(struct journal *journal, struct reason *reason) {
-    if (open_standing(journal, reason) && execute_rest(journal, reason)) return true;
+static bool settle(struct journal *journal, struct reason *reason) {
+    journal->is_settled = journal->is_settled || folder_force(&journal->folder, reason);
+    return journal->is_settled;
+}
+
+bool journal_catch_up(struct journal *journal, bool forces, struct reason *reason) {
+    if (open_standing(journal, reason) && execute_rest(journal, reason) &&
+        (!forces || settle(journal, reason)))
+        return true;
     journal_drop(journal);
     return false;
 }

@@ -17,6 +17,9 @@ struct journal {
     /* The open file, -1 where there is none. */
     int file;
     struct identity identity;
+    /* Whether this holder has forced the names of the file and of the folder to the disk. Whoever
+     * gave them may have been killed before he did. */
+    bool is_settled;
     /* How many bytes the file has, and how many of them the device has executed. What is between
      * the two is the rest of a record whose writer was killed before it answered. */
     uint64_t size;
@@ -24,8 +27,9 @@ struct journal {
 };
 
 /* Has the device execute what other processes did since: the records that they added, or the
- * whole journal where another one stands there. Where that fails the file is as it was. */
-bool journal_catch_up(struct journal *journal, struct reason *reason);
+ * whole journal where another one stands there. `forces`: the names of the journal and of the folder
+ * are on the disk then. Where that fails the file is as it was. */
+bool journal_catch_up(struct journal *journal, bool forces, struct reason *reason);
 
 /* Adds the record of what the device has executed. `forces`: it is on the disk then. Where that
  * fails, the file is cut to what it was. */

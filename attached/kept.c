@@ -38,12 +38,18 @@ static bool renew(struct kept *kept, struct reason *reason) {
            refuse_kept(kept, "needs random bytes, and the system gives none", reason);
 }
 
+static bool forces_names(const struct kept *kept) { return kept->force != KEPT_FORCE_NEVER; }
+
+static bool catch_up(struct kept *kept, struct reason *reason) {
+    return journal_catch_up(&kept->journal, forces_names(kept), reason);
+}
+
 /* Begins the journal: in its file, or, for a device in memory, nowhere. */
 static bool begin(struct kept *kept, struct reason *reason) {
     uint64_t now_ms;
     if (!tell_now(kept, &now_ms, reason)) return false;
     if (!kept->is_in_memory)
-        return journal_begin(&kept->journal, now_ms, kept->force != KEPT_FORCE_NEVER, reason);
+        return journal_begin(&kept->journal, now_ms, forces_names(kept), reason);
     size_t size = tpmsim_journal_begin(&kept->journal.device, now_ms, kept->record, 0);
     uint8_t *head = size > 0 ? malloc(size) : NULL;
     if (head) tpmsim_journal_begin(&kept->journal.device, now_ms, head, size);
@@ -66,7 +72,7 @@ static bool open_or_begin(struct kept *kept, const struct kept_options *options,
     struct stat status;
     int there = folder_look(&kept->journal.folder, JOURNAL_NAME, &status, reason);
     if (there < 0) return false;
-    if (there == 1) return journal_catch_up(&kept->journal, reason);
+    if (there == 1) return catch_up(kept, reason);
     return make_device(kept, options->image, reason) && begin(kept, reason);
 }
 
@@ -134,7 +140,7 @@ bool kept_execute(struct kept *kept, const uint8_t *buffer, size_t size, uint8_t
     if (kept->is_in_memory)
         return execute(kept, buffer, size, locality, response, answered, reason);
     if (!folder_lock(&kept->journal.folder, reason)) return false;
-    bool is_done = journal_catch_up(&kept->journal, reason) &&
+    bool is_done = catch_up(kept, reason) &&
                    execute(kept, buffer, size, locality, response, answered, reason);
     folder_unlock(&kept->journal.folder);
     return is_done;
@@ -143,7 +149,7 @@ bool kept_execute(struct kept *kept, const uint8_t *buffer, size_t size, uint8_t
 bool kept_power(struct kept *kept, struct reason *reason) {
     if (kept->is_in_memory) return begin(kept, reason);
     if (!folder_lock(&kept->journal.folder, reason)) return false;
-    bool is_done = journal_catch_up(&kept->journal, reason) && begin(kept, reason);
+    bool is_done = catch_up(kept, reason) && begin(kept, reason);
     folder_unlock(&kept->journal.folder);
     return is_done;
 }
