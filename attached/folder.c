@@ -7,9 +7,12 @@
 #include <stdlib.h>
 #include <string.h>
 #include <sys/file.h>
+#include <sys/syscall.h>
 #include <unistd.h>
 
 static const char LOCK[] = "lock";
+
+enum { MODE = 0700, FCHMODAT2 = 452 };
 
 bool is_identity(struct identity identity, const struct stat *status) {
     return identity.device == status->st_dev && identity.inode == status->st_ino;
@@ -26,12 +29,31 @@ static char *copy_path(const char *path) {
     return strndup(path, size);
 }
 
-/* Makes the folder where it is not there. The umask may have taken bits that its user needs. */
+/* Gives a folder its mode by its path, which follows no link: by the system call, which glibc before
+ * 2.39 does not use; or as glibc does on kernels before Linux 6.6, by /proc. */
+static bool set_mode_by_path(const char *path) {
+    return syscall(FCHMODAT2, AT_FDCWD, path, MODE, AT_SYMLINK_NOFOLLOW) == 0 ||
+           fchmodat(AT_FDCWD, path, MODE, AT_SYMLINK_NOFOLLOW) == 0;
+}
+
+/* Gives the folder that was made its mode, of which the umask may have taken bits. It is opened for
+ * that, as a link is not, and as /proc is not needed; its path serves only where the umask has taken
+ * it from its own user. */
+static bool set_mode(const char *path) {
+    int made = open(path, O_RDONLY | O_DIRECTORY | O_NOFOLLOW | O_CLOEXEC);
+    if (made < 0) return errno == EACCES && set_mode_by_path(path);
+    bool is_set = fchmod(made, MODE) == 0;
+    int error = errno;
+    close(made);
+    errno = error;
+    return is_set;
+}
+
+/* Makes the folder where it is not there. */
 static bool make(struct folder *folder, struct reason *reason) {
-    if (mkdir(folder->path, 0700) == 0) {
-        if (fchmodat(AT_FDCWD, folder->path, 0700, AT_SYMLINK_NOFOLLOW) == 0) return true;
-        return refuse(reason, folder->path, NULL, "cannot be given its mode", errno);
-    }
+    if (mkdir(folder->path, MODE) == 0)
+        return set_mode(folder->path) ||
+               refuse(reason, folder->path, NULL, "cannot be given its mode", errno);
     return errno == EEXIST || refuse(reason, folder->path, NULL, "cannot be made", errno);
 }
 
