@@ -49,4 +49,8 @@ archive=$room/empty.a
 make "$top" third
 archive=$(readlink -f "$program")
 make "$top" "$room/empty.a/folder" | tail -n 1
+archive=$dist/libtpmsim.a
+make "$room/other" "$room/other/attached"
+make "$room/other" "$room/other/attached/new"
+diff -r "$top/attached" "$room/other/attached"
 ls

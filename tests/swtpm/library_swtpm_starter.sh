@@ -70,3 +70,12 @@ CC=nowhere "$build" "$room/twice" 2>&1 | sed "s|$build|tool|"
 printf '#!/bin/sh\n[ "$*" != "-E -" ] || exit 1\nexec cc "$@"\n' >"$room/bin/without_headers"
 chmod +x "$room/bin/without_headers"
 CC=$room/bin/without_headers "$build" "$room/twice" 2>&1 | sed "s|$build|tool|"
+
+# Into the folder of its sources it writes nothing.
+mkdir "$room/copy" && cp -R "$tests/../attached" "$tests/../tools" "$room/copy"
+cd "$room/copy" || exit 1
+find . | sort >"$room/before"
+for folder in attached attached/swtpm/new ../copy/attached/; do
+    tools/interop/attached_swtpm.sh "$folder" 2>&1 | sed 's|^[^:]*:|tool:|'
+done
+find . | sort | diff "$room/before" -

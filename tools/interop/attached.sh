@@ -20,6 +20,9 @@ fail() {
 
 [ "$#" -eq 1 ] || fail 'one word is wanted, the folder that the module goes to'
 folder=$1
+case $(realpath -m "$folder")/ in
+"$sources/"*) fail "$folder is a folder of the sources" ;;
+esac
 for tool in cc ar nm strip; do
     command -v "$tool" >/dev/null || fail "there is no $tool: Debian has it in gcc and binutils"
 done

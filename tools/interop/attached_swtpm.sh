@@ -23,8 +23,11 @@ fail() {
 [ "$#" -eq 1 ] || fail 'usage: tools/interop/attached_swtpm.sh FOLDER'
 archive=${TPMSIM_ARCHIVE:-$top/dist/libtpmsim.a}
 archive=$(realpath -e "$archive") || fail 'there is no archive of the library'
-mkdir -p "$1" || fail "$1 is no folder"
-folder=$(realpath "$1") || exit 1
+folder=$(realpath -m "$1") || exit 1
+case $folder/ in
+"$top/attached/"*) fail "$1 is a folder of the sources" ;;
+esac
+mkdir -p "$folder" || fail "$1 is no folder"
 compiler=${CC:-cc}
 for tool in "$compiler" nm strip; do
     command -v "$tool" >/dev/null || fail "$tool is missing"
