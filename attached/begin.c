@@ -57,6 +57,7 @@ static bool replace(struct journal *journal, const uint8_t *head, size_t size, b
         close(file);
         return false;
     }
+    journal_note_cut(journal, journal->size);
     if (journal->file >= 0) close(journal->file);
     journal->file = file;
     journal->size = journal->executed = size;

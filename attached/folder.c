@@ -29,16 +29,16 @@ static char *copy_path(const char *path) {
     return strndup(path, size);
 }
 
-/* Gives a folder its mode by its path, which follows no link: by the system call, which glibc before
- * 2.39 does not use; or as glibc does on kernels before Linux 6.6, by /proc. */
+/* Gives a folder its mode by its path, which follows no link: by the system call, which glibc
+ * before 2.39 does not use; or as glibc does on kernels before Linux 6.6, by /proc. */
 static bool set_mode_by_path(const char *path) {
     return syscall(FCHMODAT2, AT_FDCWD, path, MODE, AT_SYMLINK_NOFOLLOW) == 0 ||
            fchmodat(AT_FDCWD, path, MODE, AT_SYMLINK_NOFOLLOW) == 0;
 }
 
-/* Gives the folder that was made its mode, of which the umask may have taken bits. It is opened for
- * that, as a link is not, and as /proc is not needed; its path serves only where the umask has taken
- * it from its own user. */
+/* Gives the folder that was made its mode, of which the umask may have taken bits. It is opened
+ * for that, which follows no link and needs no /proc. Its path serves only where the umask has
+ * taken it from its own user. */
 static bool set_mode(const char *path) {
     int made = open(path, O_RDONLY | O_DIRECTORY | O_NOFOLLOW | O_CLOEXEC);
     if (made < 0) return errno == EACCES && set_mode_by_path(path);

@@ -3,6 +3,8 @@
 #include "told.h"
 #include "transfer.h"
 #include <errno.h>
+#include <inttypes.h>
+#include <stdio.h>
 #include <stdlib.h>
 #include <unistd.h>
 
@@ -19,7 +21,7 @@ void journal_drop(struct journal *journal) {
     if (journal->file >= 0) close(journal->file);
     journal->file = -1;
     journal->size = journal->executed = 0;
-    journal->is_settled = false;
+    journal->is_settled = journal->is_damaged = false;
 }
 
 /* Opens the journal that stands in the folder, where it is another than the one that is open. */
@@ -39,42 +41,83 @@ static bool open_standing(struct journal *journal, struct reason *reason) {
            refuse_journal(journal, "was shortened by something else", 0, reason);
 }
 
-/* Has the device execute the whole records of the next part. `is_last`: the file has nothing
- * behind it. What is left then is the rest of a record; elsewhere a part has a whole one. */
-static bool execute_part(struct journal *journal, const uint8_t *part, size_t size, bool is_last,
-                         struct reason *reason) {
+/* Opens the device of the head alone, which ends with one of the first lines. */
+static uint8_t open_head(struct journal *journal, const uint8_t *part, size_t size, size_t *head) {
+    uint8_t told = TPMSIM_NO_JOURNAL;
+    for (size_t at = 0; at < size && told == TPMSIM_NO_JOURNAL; at++)
+        if (part[at] == '\n') told = tpmsim_journal_open(&journal->device, part, at + 1, head);
+    return told;
+}
+
+/* Opens the device of the first part; if damage is to be cut, that of the records before it. */
+static uint8_t open_part(struct journal *journal, const uint8_t *part, size_t size, size_t *taken) {
+    size_t head = 0;
+    uint8_t told = tpmsim_journal_open(&journal->device, part, size, taken);
+    if (told != TPMSIM_DAMAGED || !journal->cuts) return told;
+    told = open_head(journal, part, size, &head);
+    if (told != TPMSIM_DONE) return told;
+    told = tpmsim_journal_follow(&journal->device, part + head, size - head, taken);
+    *taken += head;
+    return told;
+}
+
+/* Has the device execute the whole records of the next part. */
+static uint8_t execute_part(struct journal *journal, const uint8_t *part, size_t size) {
     size_t taken = 0;
     uint8_t told = journal->executed == 0
-                       ? tpmsim_journal_open(&journal->device, part, size, &taken)
+                       ? open_part(journal, part, size, &taken)
                        : tpmsim_journal_follow(&journal->device, part, size, &taken);
-    if (told == TPMSIM_DONE && taken == 0 && !is_last) told = TPMSIM_DAMAGED;
     journal->executed += taken;
-    return told == TPMSIM_DONE || refuse_journal(journal, told_words(told), 0, reason);
+    return told;
 }
 
-/* How many bytes the next part has. */
-static size_t next_part(const struct journal *journal) {
-    uint64_t left = journal->size - journal->executed;
-    return left < PART ? (size_t)left : PART;
+/* How many bytes the next part has, where so many are left. */
+static size_t next_part(uint64_t left) { return left < PART ? (size_t)left : PART; }
+
+static bool read_part(const struct journal *journal, uint8_t *part, size_t size, uint64_t place,
+                      struct reason *reason) {
+    ssize_t got = transfer_read(journal->file, part, size, (off_t)place);
+    if (got < 0) return refuse_journal(journal, "cannot be read", errno, reason);
+    return (size_t)got == size ||
+           refuse_journal(journal, "was shortened while it was read", 0, reason);
 }
 
-/* Has the device execute all that stands behind what it executed, part by part. */
-static bool execute_parts(struct journal *journal, uint8_t *part, struct reason *reason) {
-    for (bool is_last = false; !is_last;) {
-        size_t wanted = next_part(journal);
-        ssize_t got = transfer_read(journal->file, part, wanted, (off_t)journal->executed);
-        if (got < 0) return refuse_journal(journal, "cannot be read", errno, reason);
-        if ((size_t)got < wanted)
-            return refuse_journal(journal, "was shortened while it was read", 0, reason);
-        is_last = wanted == journal->size - journal->executed;
-        if (!execute_part(journal, part, wanted, is_last, reason)) return false;
+/* Looks at what is left if a part has no whole record and the file has more. The front of a record
+ * is shorter than a part, so zeros follow it, and they have to go on to the end of the file. */
+static bool look_at_rest(const struct journal *journal, uint8_t *part, uint8_t *told,
+                         struct reason *reason) {
+    uint64_t place = journal->executed + TPMSIM_RECORD_ROOM;
+    while (place < journal->size) {
+        size_t size = next_part(journal->size - place);
+        if (!read_part(journal, part, size, place, reason)) return false;
+        for (size_t i = 0; i < size; i++)
+            if (part[i]) *told = TPMSIM_DAMAGED;
+        place += size;
     }
     return true;
 }
 
+/* Has the device execute all that stands behind what it executed, part by part. */
+static bool execute_parts(struct journal *journal, uint8_t *part, struct reason *reason) {
+    uint8_t told = TPMSIM_DONE;
+    for (bool is_last = false; !is_last && told == TPMSIM_DONE;) {
+        uint64_t before = journal->executed, left = journal->size - before;
+        size_t size = next_part(left);
+        if (!read_part(journal, part, size, before, reason)) return false;
+        told = execute_part(journal, part, size);
+        is_last = size == left || journal->executed == before;
+        if (told == TPMSIM_DONE && is_last && size < left &&
+            !look_at_rest(journal, part, &told, reason))
+            return false;
+    }
+    journal->is_damaged = told == TPMSIM_DAMAGED && journal->cuts && journal->executed > 0;
+    return told == TPMSIM_DONE || journal->is_damaged ||
+           refuse_journal(journal, told_words(told), 0, reason);
+}
+
 static bool execute_rest(struct journal *journal, struct reason *reason) {
     if (journal->executed > 0 && journal->executed == journal->size) return true;
-    uint8_t *part = malloc(next_part(journal) + 1);
+    uint8_t *part = malloc(next_part(journal->size - journal->executed) + 1);
     if (!part) return refuse_journal(journal, told_words(TPMSIM_NO_MEMORY), 0, reason);
     bool is_done = execute_parts(journal, part, reason);
     free(part);
@@ -102,10 +145,26 @@ static bool cut(struct journal *journal) {
     return true;
 }
 
+void journal_note_cut(struct journal *journal, uint64_t size) {
+    char said[128];
+    uint64_t kept = journal->executed, dropped = size - kept;
+    if (dropped == 0) return;
+    if (journal->is_damaged)
+        snprintf(said, sizeof said, "%" PRIu64 " bytes after the first %" PRIu64 " were dropped",
+                 dropped, kept);
+    else
+        snprintf(said, sizeof said, "%" PRIu64 " bytes after the last whole record were cut off",
+                 dropped);
+    refuse(&journal->notice, journal->folder.path, JOURNAL_NAME ":", said, 0);
+    journal->is_damaged = false;
+}
+
 /* What cannot be done with a record, NULL where all was done. */
 static const char *fault_of_adding(struct journal *journal, const uint8_t *record, size_t size,
                                    bool forces) {
-    if (journal->size > journal->executed && !cut(journal)) return "cannot be cut to whole records";
+    uint64_t found = journal->size;
+    if (found > journal->executed && !cut(journal)) return "cannot be cut to whole records";
+    journal_note_cut(journal, found);
     if (!transfer_write(journal->file, record, size, (off_t)journal->executed))
         return "cannot be written";
     return forces && fdatasync(journal->file) != 0 ? "cannot be forced to the disk" : NULL;

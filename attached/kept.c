@@ -15,6 +15,7 @@ struct kept {
     enum kept_force force;
     bool completes;
     bool is_in_memory;
+    void (*tell)(const char *sentence);
     uint8_t record[TPMSIM_RECORD_ROOM];
 };
 
@@ -114,6 +115,8 @@ struct kept *kept_open(const struct kept_options *options, struct reason *reason
     kept->journal.folder.descriptor = kept->journal.folder.lock = kept->journal.file = -1;
     kept->force = options->force;
     kept->completes = options->completes;
+    kept->journal.cuts = options->cuts;
+    kept->tell = options->tell;
     kept->is_in_memory = !options->folder;
     if (open_all(kept, options, reason)) return kept;
     kept_close(kept);
@@ -135,6 +138,14 @@ static bool execute(struct kept *kept, const uint8_t *buffer, size_t size, uint8
                                              kept->force == KEPT_FORCE_ALWAYS, reason);
 }
 
+/* Lets the others go on, and tells what was cut off the journal. */
+static void unlock_and_tell(struct kept *kept) {
+    char *sentence = kept->journal.notice.text;
+    folder_unlock(&kept->journal.folder);
+    if (*sentence && kept->tell) kept->tell(sentence);
+    *sentence = 0;
+}
+
 bool kept_execute(struct kept *kept, const uint8_t *buffer, size_t size, uint8_t locality,
                   uint8_t response[4096], tpmsim_answered *answered, struct reason *reason) {
     if (kept->is_in_memory)
@@ -142,7 +153,7 @@ bool kept_execute(struct kept *kept, const uint8_t *buffer, size_t size, uint8_t
     if (!folder_lock(&kept->journal.folder, reason)) return false;
     bool is_done = catch_up(kept, reason) &&
                    execute(kept, buffer, size, locality, response, answered, reason);
-    folder_unlock(&kept->journal.folder);
+    unlock_and_tell(kept);
     return is_done;
 }
 
@@ -150,7 +161,7 @@ bool kept_power(struct kept *kept, struct reason *reason) {
     if (kept->is_in_memory) return begin(kept, reason);
     if (!folder_lock(&kept->journal.folder, reason)) return false;
     bool is_done = catch_up(kept, reason) && begin(kept, reason);
-    folder_unlock(&kept->journal.folder);
+    unlock_and_tell(kept);
     return is_done;
 }
 

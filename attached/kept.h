@@ -35,6 +35,10 @@ struct kept_options {
     bool completes;
     /* A folder without a device is a fault; else a new device begins there. */
     bool is_there;
+    /* What stands behind the whole records of a damaged journal is cut off; else it is refused. */
+    bool cuts;
+    /* Is told a sentence when something was cut off a journal; NULL: nobody is. */
+    void (*tell)(const char *sentence);
 };
 
 struct kept;

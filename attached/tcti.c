@@ -29,8 +29,10 @@ static struct context *context_of(TSS2_TCTI_CONTEXT *handed) {
     return handed && TSS2_TCTI_MAGIC(handed) == MAGIC ? (struct context *)handed : NULL;
 }
 
+static void tell_line(const char *sentence) { fprintf(stderr, "tcti-tpmsim: %s\n", sentence); }
+
 static TSS2_RC tell(const struct reason *reason, TSS2_RC code) {
-    fprintf(stderr, "tcti-tpmsim: %s\n", reason->text);
+    tell_line(reason->text);
     return code;
 }
 
@@ -138,6 +140,7 @@ TSS2_RC Tss2_Tcti_Tpmsim_Init(TSS2_TCTI_CONTEXT *handed, size_t *size, const cha
     if (!handed) return TSS2_RC_SUCCESS;
     if (room < sizeof(struct context)) return TSS2_TCTI_RC_INSUFFICIENT_BUFFER;
     if (!words_read(&words, config, &reason)) return tell(&reason, TSS2_TCTI_RC_BAD_VALUE);
+    words.options.tell = tell_line;
     struct kept *kept = kept_open(&words.options, &reason);
     if (kept) begin(handed, kept, words.locality);
     words_free(&words);

@@ -3,9 +3,9 @@
 #include <stdlib.h>
 #include <string.h>
 
-enum word { STATE, COMPLETE, LOCALITY, IMAGE, RANDOM, FORCE, WORDS };
+enum word { STATE, COMPLETE, CUT, LOCALITY, IMAGE, RANDOM, FORCE, WORDS };
 
-static const char *const NAMES[WORDS] = {"state=", "complete", "locality=",
+static const char *const NAMES[WORDS] = {"state=", "complete", "cut",   "locality=",
                                          "image=", "random=",  "force="};
 
 static bool read_locality(struct words *words, const char *value) {
@@ -51,6 +51,7 @@ static bool read_value(struct words *words, enum word word, const char *value) {
     switch (word) {
     case STATE: words->options.folder = value; return *value != 0;
     case COMPLETE: words->options.completes = true; return *value == 0;
+    case CUT: words->options.cuts = true; return *value == 0;
     case LOCALITY: return read_locality(words, value);
     case IMAGE: words->options.image = value; return *value != 0;
     case RANDOM: return read_random(words, value);
@@ -77,6 +78,12 @@ static bool read_word(struct words *words, bool seen[WORDS], const char *text,
     return refuse_word(text, "is none of the words " WORDS_WANTED, reason);
 }
 
+/* Whether a word that is of use beside the folder alone does not stand without it. */
+static bool has_folder(const bool seen[WORDS], enum word word, struct reason *reason) {
+    return !seen[word] || seen[STATE] ||
+           refuse(reason, NAMES[word], NULL, "is of use beside state=DIR alone", 0);
+}
+
 static bool read_words(struct words *words, struct reason *reason) {
     bool seen[WORDS] = {false};
     char *rest = words->text;
@@ -84,8 +91,7 @@ static bool read_words(struct words *words, struct reason *reason) {
         const char *text = strsep(&rest, ",");
         if (!read_word(words, seen, text, reason)) return false;
     }
-    return !seen[FORCE] || seen[STATE] ||
-           refuse(reason, "force=", NULL, "is of use beside state=DIR alone", 0);
+    return has_folder(seen, FORCE, reason) && has_folder(seen, CUT, reason);
 }
 
 bool words_read(struct words *words, const char *text, struct reason *reason) {

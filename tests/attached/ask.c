@@ -27,6 +27,8 @@ static bool ask(struct kept *kept, const char *hex, struct reason *reason) {
     return true;
 }
 
+static void tell(const char *sentence) { printf("told: %s\n", sentence); }
+
 static bool act(struct kept *kept, char **words, int *at, struct reason *reason) {
     if (strcmp(words[*at], "power") == 0) return kept_power(kept, reason);
     if (strcmp(words[*at], "locality") != 0) return ask(kept, words[*at], reason);
@@ -44,6 +46,7 @@ int main(int count, char **words) {
         return 2;
     }
     locality = asked.locality;
+    asked.options.tell = tell;
     struct kept *kept = kept_open(&asked.options, &reason);
     bool is_done = kept != NULL;
     for (int i = 2; is_done && i < count; i++) is_done = act(kept, words, &i, &reason);

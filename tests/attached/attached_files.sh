@@ -33,13 +33,30 @@ echo 'tpmsim-power:'
 mkdir empty
 attach ask ask
 "$room/ask" state=kept 80010000000c000001440000 80010000000c0000017b0000
-for words in '' 'one two' none empty kept; do
+for words in '' 'one two' '--cut kept' none empty kept; do
     # shellcheck disable=SC2086 # they are words
     first/tpmsim-power $words
     echo "status $?"
 done 2>&1
 ls empty
 "$room/ask" state=kept 80010000000c0000017b0000
+echo 'tpmsim-power with a journal that is cut, and with one that is damaged:'
+"$room/ask" state=kept 80010000000c000001440000
+cp kept/journal journal
+for words in kept 'kept --cut'; do
+    head -c -1 journal >kept/journal
+    # shellcheck disable=SC2086 # they are words
+    first/tpmsim-power $words
+    echo "status $?"
+    { head -c -2 journal && printf xx; } >kept/journal
+    cp kept/journal damaged
+    # shellcheck disable=SC2086 # they are words
+    first/tpmsim-power $words
+    echo "status $?"
+    cmp -s damaged kept/journal && echo 'the journal is as it was'
+done 2>&1
+"$room/ask" state=kept 80010000000c0000017b0000
+rm journal damaged
 echo 'faults:'
 sh "$top/tools/interop/attached.sh" 2>&1 | sed 's,^[^:]*attached.sh: ,,'
 archive=$room/none

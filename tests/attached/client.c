@@ -190,6 +190,34 @@ static void try_two(void) {
     ended(two);
 }
 
+/* A journal behind which stands the front of a record, and one whose last record is damaged: the
+ * module says what it cuts off. */
+static void try_cut(void) {
+    static const char JOURNAL[] = "state/journal";
+    uint8_t response[RESPONSE_BYTES];
+    size_t size;
+    fflush(stdout);
+    uint8_t *journal = bytes_of(JOURNAL, &size);
+    journal = realloc(journal, size + 2);
+    must(journal != NULL, "there is no memory");
+    memcpy(journal + size, "# ", 2);
+    put_bytes(JOURNAL, journal, size + 2);
+    TSS2_TCTI_CONTEXT *context = begun("state=state");
+    executed(context, GET_RANDOM, sizeof GET_RANDOM, response);
+    ended(context);
+    journal[size - 2] ^= 1;
+    put_bytes(JOURNAL, journal, size);
+    free(journal);
+    TSS2_TCTI_CONTEXT_COMMON_V2 *room = malloc(CONTEXT_ROOM);
+    size = CONTEXT_ROOM;
+    must(room != NULL, "there is no memory");
+    told("init with a damaged journal", info->init((void *)room, &size, "state=state"));
+    free(room);
+    context = begun("state=state,cut");
+    executed(context, GET_RANDOM, sizeof GET_RANDOM, response);
+    ended(context);
+}
+
 int main(int count, char **words) {
     must(count == 2, "usage: client MODULE");
     void *module = dlopen(words[1], RTLD_NOW | RTLD_LOCAL);
@@ -214,6 +242,7 @@ int main(int count, char **words) {
     try_no_context(context);
     free(context);
     try_two();
+    try_cut();
     must(dlclose(module) == 0, "the module is not unloaded");
     return 0;
 }

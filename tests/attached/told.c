@@ -57,10 +57,15 @@ static void must_be(const uint8_t *wanted, size_t size) {
     free(bytes);
 }
 
-/* Opens the device, which has to fail. */
+/* Opens the device, which has to fail, also where damage is to be cut: no number but that of damage
+ * stands for it, and that one only where there is a head. */
 static void refuse_opening(struct reason *reason) {
     struct kept_options options = {.folder = FOLDER, .force = KEPT_FORCE_NEVER};
+    struct reason another;
     must(!kept_open(&options, reason), "a device opens in spite of a fault");
+    options.cuts = true;
+    must(!kept_open(&options, &another), "a device opens by a cut");
+    must(strcmp(reason->text, another.text) == 0, "another sentence is said of a cut");
 }
 
 /* Executes an extend, which has to fail. */

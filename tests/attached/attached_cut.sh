@@ -1,0 +1,10 @@
+# What is cut off a journal, and what is told of it: attached/cut.c is the caller.
+tests=$(cd "$(dirname "$0")/.." && pwd -P)
+. "$tests/common/cases.sh"
+. "$tests/common/library.sh"
+. "$tests/common/attached.sh"
+needs python3
+
+attach_both cut
+extended 3002 >"$room/values"
+both cut "$room/values"
