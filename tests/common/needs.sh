@@ -44,19 +44,30 @@ is_there() {
     esac
 }
 
+# lack_of TOOL: what a tool is there without, where is_there finds it wanting.
+lack_of() {
+    case $1 in
+    cc) echo 'the headers of the C library' ;;
+    python3) echo 'the modules of 3.11' ;;
+    esac
+}
+
 # needs NAME..: skips the test if a tool or a header is not there. The reason ends with the packages
-# that have what is missing: tools/scripts.sh gathers them. Where only the standard library of Python is
-# missing, the reason does not begin with `there is no`, which .ci/run allows.
+# that have what is missing: tools/scripts.sh gathers them. It begins with `there is no`, which .ci/run
+# allows, unless all tools are there and one lacks its library.
 needs() {
-    absent='' packages=''
+    absent='' poor='' packages=''
     for name do
         ! is_there "$name" || continue
-        absent="$absent, $name"
         packages="$packages, $(package_of "$name")"
+        if has_tool "$name"; then
+            poor="$poor, $name without $(lack_of "$name")"
+        else
+            absent="$absent, $name"
+        fi
     done
-    [ -n "$absent" ] || return 0
-    reason="there is no ${absent#, }"
-    [ "$absent" != ', python3' ] || ! has_tool python3 ||
-        reason='python3 lacks modules of the standard library of 3.11'
+    [ -n "$packages" ] || return 0
+    reason="there is ${poor#, }"
+    [ -z "$absent" ] || reason="there is no ${absent#, }$poor"
     skip "$reason (Debian: ${packages#, })"
 }

@@ -134,7 +134,7 @@ skipped: tests/attached/attached_tcti.sh: there is no tss2/tss2_tcti.h (Debian: 
 gate 'one of two was skipped for what is not there' "$there_is_none
 skipped: tests/serving/serve_full_disk.sh with tpmsim: no disk can be mounted
 9 passed, 0 failed, 2 skipped" 0
-gate 'one was skipped, as Python is not whole' "skipped: tests/lines/line.sh with tpmsim: python3 lacks modules
+gate 'one was skipped, as Python is not whole' "skipped: tests/lines/line.sh with tpmsim: there is python3 without the modules of 3.11 (Debian: python3)
 9 passed, 0 failed, 1 skipped" 0
 gate 'one failed, and two were skipped' '9 passed, 1 failed, 2 skipped' 1
 gate 'none was skipped, in these words' '9 passed, 0 failed, 0 skipped' 0
