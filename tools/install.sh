@@ -101,9 +101,10 @@ put_documents() {
     done
     put 644 packaging/_tpmsim "$functions/_tpmsim"
     put 644 "$proved" share/doc/tpmsim/PROVED
-    tools/man/documents.py "$root/share/doc/tpmsim" dist/PROVED=PROVED \
-        dist/tpmsim.h=../../../include/tpmsim.h library/tpmsim.h=../../../include/tpmsim.h \
-        "dist/tpmsim.pc=../../../$libraries/pkgconfig/tpmsim.pc" || fail 'the documents are not written'
+    tools/man/documents.py "${DESTDIR:-}" "$prefix/share/doc/tpmsim" \
+        "dist/PROVED=$prefix/share/doc/tpmsim/PROVED" "dist/tpmsim.h=$prefix/include/tpmsim.h" \
+        "library/tpmsim.h=$prefix/include/tpmsim.h" \
+        "dist/tpmsim.pc=$prefix/$libraries/pkgconfig/tpmsim.pc" || fail 'the documents are not written'
 }
 
 work=$(mktemp -d) || exit 1

@@ -1,11 +1,11 @@
 #!/usr/bin/env python3
 """Installs the documents and the examples.
 
-    tools/man/documents.py FOLDER [PATH=PLACE]..
+    tools/man/documents.py ROOT FOLDER [PATH=PLACE]..
 
-FOLDER has them then, by their paths in the repository. PATH is what else is installed of the
-repository, and PLACE where, by its way from FOLDER. A link of a document leads to what is installed;
-any other link becomes its text. Programs have their installed names, as packaging/pages.toml has
+FOLDER below ROOT has them then, by their paths in the repository. PATH is what else is installed of
+the repository, and PLACE where, below ROOT too. A link of a document leads to what is installed; any
+other link becomes its text. Programs have their installed names, as packaging/pages.toml has
 them. A script does not say which program wrote it, as that is not installed. It needs python3 alone.
 """
 
@@ -45,12 +45,13 @@ def paths(*patterns: str) -> list[str]:
 
 
 class Documents:
-    """Where what is installed of the repository is, by its way from the folder of documents."""
+    """Where what is installed of the repository is, below the root."""
 
-    def __init__(self, others: dict[str, str]) -> None:
-        self.places = {it: it for it in paths(*DOCUMENTS, *COPIED, SCRIPTS)} | others
-        folders = {os.path.dirname(it) for it in self.places if it not in others}
-        self.places |= {folder: folder for folder in folders if folder}
+    def __init__(self, folder: str, others: dict[str, str]) -> None:
+        self.folder = os.path.join("/", folder)
+        ours = set(paths(*DOCUMENTS, *COPIED, SCRIPTS))
+        ours |= {os.path.dirname(it) for it in ours} - {""}
+        self.places = {it: os.path.join(self.folder, it) for it in ours} | others
 
     def piece(self, document: str, found: re.Match[str]) -> str:
         """Code as it is, and of a link what becomes of it."""
@@ -60,7 +61,7 @@ class Documents:
         path = os.path.normpath(os.path.join(os.path.dirname(document), file))
         if path not in self.places:
             return text
-        way = os.path.relpath(self.places[path], os.path.dirname(document) or ".")
+        way = os.path.relpath(self.places[path], os.path.dirname(self.places[document]))
         return f"[{text}]({way}{found['anchor'] or ''})"
 
     def document(self, name: str) -> str:
@@ -71,12 +72,12 @@ class Documents:
             text = f"{heading}\n{NOTE}{rest}"
         return text
 
-    def install(self, folder: pathlib.Path) -> None:
+    def install(self, root: str) -> None:
         made = {it: self.document(it) for it in paths(*DOCUMENTS)}
         scripts = {it: (TOP / it).read_text("utf-8") for it in paths(SCRIPTS)}
         made |= {name: WRITTEN_BY.sub("", text) for name, text in scripts.items()}
         for name in [*made, *paths(*COPIED)]:
-            target = folder / name
+            target = pathlib.Path(f"{root}{self.places[name]}")
             target.parent.mkdir(parents=True, exist_ok=True)
             if name in made:
                 target.write_text(made[name], "utf-8")
@@ -86,11 +87,10 @@ class Documents:
 
 def main(words: list[str]) -> int:
     """Installs by these words, and answers the exit status."""
-    if not words or not all("=" in it for it in words[1:]):
-        print("usage: tools/man/documents.py FOLDER [PATH=PLACE]..", file=sys.stderr)
+    if len(words) < 2 or not all("=" in it for it in words[2:]):
+        print("usage: tools/man/documents.py ROOT FOLDER [PATH=PLACE]..", file=sys.stderr)
         return 2
-    others = dict(it.split("=", 1) for it in words[1:])
-    Documents(others).install(pathlib.Path(words[0]))
+    Documents(words[1], dict(it.split("=", 1) for it in words[2:])).install(words[0])
     return 0
 
 
