@@ -6,18 +6,19 @@
 #     PREFIX     the folder that all is put in; /usr/local
 #     DESTDIR    what stands before that, as of a package that is made; nothing
 #     LIBRARIES  the folder of libraries in PREFIX; lib
-#     PACKAGES   the folder of Python packages in PREFIX; lib/tpmsim/python
+#     PACKAGES   the folder of Python packages in PREFIX; the one where python3 looks, if it is in
+#                PREFIX, else lib/tpmsim/python
 #     FUNCTIONS  the folder of zsh's functions in PREFIX; share/zsh/site-functions
 #
 # The modules for libtss2 and for swtpm are made where the headers are there that they need, and are
-# left out with a line else. Needs python3.
+# left out with a line else. Without DESTDIR it has root's ldconfig tell the loader of the libraries, and
+# says what a user sets to find what neither the loader nor python3 finds. Needs python3.
 set -u
 umask 022
 cd "$(dirname "$0")/.." || exit 1
 . tools/lib/proved.sh
 prefix=${PREFIX:-/usr/local}
 libraries=${LIBRARIES:-lib}
-packages=${PACKAGES:-lib/tpmsim/python}
 functions=${FUNCTIONS:-share/zsh/site-functions}
 root=${DESTDIR:-}$prefix
 
@@ -25,6 +26,15 @@ root=${DESTDIR:-}$prefix
 fail() {
     echo "$0: $1" >&2
     exit 1
+}
+
+# packages_of_python: the folder in PREFIX where python3 looks for packages, or nothing.
+packages_of_python() {
+    python3 -c '
+import site, sys
+start = sys.argv[1] + "/"
+print(*[it.removeprefix(start) for it in site.getsitepackages() if it.startswith(start + "lib/")][:1])
+' "$prefix"
 }
 
 # put MODE SOURCE PLACE: a file, by its place in PREFIX.
@@ -89,6 +99,25 @@ put_modules() {
     fi
 }
 
+# tell_loader: has the loader find the libraries, or says what finds them.
+tell_loader() {
+    PATH=$PATH:/usr/sbin:/sbin
+    if [ "$(id -u)" -eq 0 ] && command -v ldconfig >"$work/told"; then
+        ldconfig || fail 'ldconfig does not tell the loader of the libraries'
+    fi
+    ldconfig -p 2>"$work/told" | grep -qF "$prefix/$libraries/libtpmsim.so.0" ||
+        echo "The loader finds the libraries by LD_LIBRARY_PATH=$prefix/$libraries"
+}
+
+# tell_python: says what finds the package, where python3 does not.
+tell_python() {
+    (cd / && python3 -B -c '
+import sys, tpmsim
+sys.exit(not tpmsim.__file__.startswith(sys.argv[1]))
+' "$prefix/$packages/" 2>"$work/told") ||
+        echo "python3 finds tpmsim by PYTHONPATH=$prefix/$packages"
+}
+
 put_documents() {
     tools/man/pages.py "$work/man" || fail 'the man pages are not made'
     for page in "$work"/man/*; do
@@ -107,9 +136,15 @@ put_documents() {
         "dist/tpmsim.pc=$prefix/$libraries/pkgconfig/tpmsim.pc" || fail 'the documents are not written'
 }
 
+packages=${PACKAGES:-$(packages_of_python)}
+packages=${packages:-lib/tpmsim/python}
 work=$(mktemp -d) || exit 1
 trap 'rm -rf "$work"' EXIT
 put_program
 put_library
 put_modules
 put_documents
+if [ -z "${DESTDIR:-}" ]; then
+    tell_loader
+    tell_python
+fi

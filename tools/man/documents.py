@@ -48,10 +48,9 @@ class Documents:
     """Where what is installed of the repository is, below the root."""
 
     def __init__(self, folder: str, others: dict[str, str]) -> None:
-        self.folder = os.path.join("/", folder)
         ours = set(paths(*DOCUMENTS, *COPIED, SCRIPTS))
         ours |= {os.path.dirname(it) for it in ours} - {""}
-        self.places = {it: os.path.join(self.folder, it) for it in ours} | others
+        self.places = {it: os.path.join(folder, it) for it in ours} | others
 
     def piece(self, document: str, found: re.Match[str]) -> str:
         """Code as it is, and of a link what becomes of it."""

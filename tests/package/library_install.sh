@@ -1,0 +1,46 @@
+# What `tools/install.sh` does for the loader and for Python, and what it says to a user, where nothing
+# stands before the prefix: root's ldconfig is called, and the package goes where python3 looks.
+tests=$(cd "$(dirname "$0")/.." && pwd -P)
+. "$tests/common/cases.sh"
+needs python3
+top=${tests%/*}
+unset PYTHONPATH DESTDIR
+
+# The modules are left out: this compiler has no header. What ldconfig was asked is in `asked`, and it knows
+# what is in `known`.
+mkdir bin
+printf '#!/bin/sh\nexit 1\n' >bin/cc
+cat >bin/ldconfig <<END
+#!/bin/sh
+echo "ldconfig\${*:+ \$*}" >>"$room/folder/asked"
+cat "$room/folder/known"
+END
+# shellcheck disable=SC2016 # the stand-in expands it
+printf '#!/bin/sh\necho "$USER_NUMBER"\n' >bin/id
+chmod +x bin/*
+
+# install_as USER PREFIX: what is said to this user who installs there, and what ldconfig was asked.
+install_as() {
+    : >asked
+    USER_NUMBER=$1 PREFIX=$2 PATH=$room/folder/bin:$PATH "$top/tools/install.sh" >said 2>&1 ||
+        echo "status $?"
+    grep -v 'there is no module' said | cat - asked | sed "s|$room|ROOM|g"
+}
+
+# import: whether python3 finds the package.
+import() {
+    (cd / && command python3 -c 'import tpmsim; print(tpmsim.__version__)') | grep -c '^[0-9.]*$'
+}
+
+echo '== root, and a prefix where neither looks'
+: >known
+install_as 0 "$room/opt"
+path=$(sed -n 's/^python3 finds tpmsim by PYTHONPATH=//p' said)
+(PYTHONPATH=$path && export PYTHONPATH && import)
+
+echo '== a user, and a prefix where both look'
+command python3 -m venv --without-pip "$room/venv"
+PATH=$room/venv/bin:$PATH
+echo "libtpmsim.so.0 (libc6,x86-64) => $room/venv/lib/libtpmsim.so.0" >known
+install_as 1000 "$room/venv"
+import
