@@ -7,6 +7,7 @@ import subprocess
 import tempfile
 
 from tpmsim.device.base import DeviceEnded, Executed, line_in_bytes, Unsupported
+from tpmsim.device.in_step import CLOSED, InStep, NOT_ENDED
 from tpmsim.device.told import Device, Path, Snapshot
 from tpmsim.standard import CC
 
@@ -23,7 +24,7 @@ def program_found() -> str:
     return found
 
 
-class ChildDevice(Device):
+class ChildDevice(InStep, Device):
     """A device that a child process has. Without an image it is manufactured with the bytes 00 to
     ff; with one it is the device of that file, or a new one with random seeds, and what it changes
     is in the file before it is answered.
@@ -50,6 +51,7 @@ class ChildDevice(Device):
 
     def begin(self, base: bytes) -> None:
         """BadImage is told by the first command, as DeviceEnded."""
+        self.why_closed = NOT_ENDED
         self.end()
         self.told_locality, image = 0, self.image
         if base:
@@ -58,6 +60,7 @@ class ChildDevice(Device):
             image.write_bytes(base)
             self.image = image
         self.process, self.base, self.since = self.started(image), base, len(self.events)
+        self.why_closed = ""
 
     def say(self, *lines: str) -> None:
         assert self.process.stdin is not None
@@ -80,6 +83,9 @@ class ChildDevice(Device):
         return DeviceEnded(f"status {self.process.wait()}: {words}")
 
     def answer(self, buffer: bytes, locality: int, elapsed: int, random: bytes) -> Executed:
+        return self.whole(lambda: self.told(buffer, locality, elapsed, random))
+
+    def told(self, buffer: bytes, locality: int, elapsed: int, random: bytes) -> Executed:
         before = [f"wait {elapsed}"] if elapsed else []
         if locality != self.told_locality:
             before.append(f"loc {locality}")
@@ -90,6 +96,9 @@ class ChildDevice(Device):
         return Executed(buffer, response, locality, elapsed, random, check, code)
 
     def cycle(self) -> None:
+        self.whole(self.told_power)
+
+    def told_power(self) -> None:
         self.say("power")
         self.heard()
 
@@ -114,8 +123,14 @@ class ChildDevice(Device):
                 pass  # it had ended before
         self.process.wait()
 
+    def hang_up(self) -> None:
+        """Ends the process at once, which may be within a command; its image is whole all the same."""
+        self.process.kill()
+        self.end()
+
     def close(self) -> None:
         """Ends the process, and waits for it; its image is then whole, with the clock."""
+        self.why_closed = self.why_closed or CLOSED
         self.end()
         if self.folder:
             self.folder.cleanup()

@@ -1,10 +1,12 @@
 """Devices at the other end of a socket or a file, where time and random bytes are the host's."""
 
+import io
 import os
 import socket
 from typing import Self
 
 from tpmsim.device.base import Answered, checked_locality, DeviceEnded, Executed, Transport
+from tpmsim.device.in_step import InStep
 from tpmsim.standard import number
 
 # A Unix socket's path, or a host and a port.
@@ -99,9 +101,10 @@ class LocatedDevice(OtherDevice):
         self.events.append(f"loc {place}")
 
 
-class ServedDevice(OtherDevice):
+class ServedDevice(InStep, OtherDevice):
     """A connection to `tpmsim serve` on a Unix socket, or to another that takes commands alone. The
-    locality is that of the run. A response has to come within so many seconds.
+    locality is that of the run. A response has to come within so many seconds; else it is a
+    TimeoutError, and the connection is closed.
 
     >>> ServedDevice("/nowhere")
     Traceback (most recent call last):
@@ -114,13 +117,13 @@ class ServedDevice(OtherDevice):
         self.data = Connection(os.fspath(path), seconds)
 
     def exchange(self, buffer: bytes) -> bytes:
-        return self.data.send(buffer).response()
+        return self.whole(lambda: self.data.send(buffer).response())
 
-    def close(self) -> None:
+    def hang_up(self) -> None:
         self.data.close()
 
 
-class FileDevice(OtherDevice):
+class FileDevice(InStep, OtherDevice):
     """A file that takes a command and gives the response, as /dev/tpmrm0 and /dev/tpm0 do. What is
     done to a TPM of this computer is done.
 
@@ -132,25 +135,24 @@ class FileDevice(OtherDevice):
 
     def __init__(self, path: str | os.PathLike[str]) -> None:
         super().__init__()
-        self.descriptor: int | None = os.open(path, os.O_RDWR | os.O_CLOEXEC)
+        self.file = io.FileIO(os.fspath(path), "r+")
 
     def exchange(self, buffer: bytes) -> bytes:
-        if self.descriptor is None:
-            raise DeviceEnded("the file is closed")
-        os.write(self.descriptor, buffer)
-        return os.read(self.descriptor, RESPONSE_BYTES)
+        return self.whole(lambda: self.answer(buffer))
 
-    def close(self) -> None:
-        if self.descriptor is not None:
-            os.close(self.descriptor)
-            self.descriptor = None
+    def answer(self, buffer: bytes) -> bytes:
+        os.write(self.file.fileno(), buffer)
+        return os.read(self.file.fileno(), RESPONSE_BYTES)
+
+    def hang_up(self) -> None:
+        self.file.close()
 
 
 # Microsoft's protocol (the simulator of the TPM 2.0 Library): requests of its two ports.
 POWER_ON, POWER_OFF, SEND_COMMAND, NV_ON, SESSION_END = 1, 2, 8, 11, 20
 
 
-class SimulatorDevice(LocatedDevice):
+class SimulatorDevice(InStep, LocatedDevice):
     """A device behind Microsoft's protocol: commands at a port, and the platform at the next one.
     Its power is switched on, and off again where `power_cycle` asks for it.
 
@@ -168,30 +170,37 @@ class SimulatorDevice(LocatedDevice):
         except OSError:
             self.data.close()
             raise
-        self.tell(POWER_ON)
-        self.tell(NV_ON)
+        self.whole(lambda: self.tell(POWER_ON, NV_ON))
 
-    def tell(self, request: int) -> None:
-        told = self.platform.send(number(request, 4)).number()
-        if told:
-            raise DeviceEnded(f"the platform refuses request {request} with {told}")
+    def tell(self, *requests: int) -> None:
+        for request in requests:
+            told = self.platform.send(number(request, 4)).number()
+            if told:
+                raise DeviceEnded(f"the platform refuses request {request} with {told}")
 
     def power_cycle(self) -> None:
-        for request in (POWER_OFF, POWER_ON, NV_ON):
-            self.tell(request)
+        self.whole(lambda: self.tell(POWER_OFF, POWER_ON, NV_ON))
         self.events.append("power")
 
     def exchange(self, buffer: bytes) -> bytes:
+        return self.whole(lambda: self.answer(buffer))
+
+    def answer(self, buffer: bytes) -> bytes:
         head = number(SEND_COMMAND, 4) + number(self.locality, 1) + number(len(buffer), 4)
         response = self.data.send(head + buffer).receive(self.data.number())
         if self.data.number():
             raise DeviceEnded("the simulator refuses a command")
         return response
 
-    def close(self) -> None:
+    def hang_up(self) -> None:
         for connection in (self.data, self.platform):
-            try:
-                connection.send(number(SESSION_END, 4))
-            except (DeviceEnded, OSError):
-                pass  # the other end was quicker
             connection.close()
+
+    def close(self) -> None:
+        if not self.why_closed:
+            for connection in (self.data, self.platform):
+                try:
+                    connection.send(number(SESSION_END, 4))
+                except (DeviceEnded, OSError):
+                    pass  # the other end was quicker
+        super().close()

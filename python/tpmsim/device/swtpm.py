@@ -4,9 +4,10 @@ import shutil
 import subprocess
 import tempfile
 import time
-from typing import Self
+from typing import Iterable, Self
 
 from tpmsim.device.base import DeviceEnded
+from tpmsim.device.in_step import InStep
 from tpmsim.device.served import Address, Connection, LocatedDevice
 from tpmsim.standard import CC, frames, handle_kinds, number, RH_PLATFORM, SHA1, SHA256
 
@@ -22,7 +23,7 @@ PCR_ALLOCATE, SHA384, SHA512 = 0x12B, 0x000C, 0x000D
 STARTUP, SHUTDOWN = (frames.command(it, number(0, 2)) for it in (CC.Startup, CC.Shutdown))
 
 
-class SwtpmDevice(LocatedDevice):
+class SwtpmDevice(InStep, LocatedDevice):
     """A device behind swtpm's protocol, at the addresses of both channels. The power is as it was.
     An answer has to come within so many seconds.
 
@@ -51,19 +52,30 @@ class SwtpmDevice(LocatedDevice):
             raise DeviceEnded(f"the control channel refuses request {request} with {told:#x}")
 
     def exchange(self, buffer: bytes) -> bytes:
+        return self.whole(lambda: self.answer(buffer))
+
+    def answer(self, buffer: bytes) -> bytes:
         if self.locality != self.told_locality:
             self.tell(SET_LOCALITY, number(self.locality, 1))
             self.told_locality = self.locality
         return self.data.send(buffer).response()
 
     def power_cycle(self) -> None:
-        self.tell(STOP)
-        self.tell(INIT, number(0, 4))
+        self.whole(lambda: self.begin_again([]))
         self.events.append("power")
+
+    def begin_again(self, blobs: Iterable[tuple[int, bytes]]) -> None:
+        """Takes the power away, and gives it back where the state has these parts."""
+        self.tell(STOP)
+        for kind, blob in blobs:
+            if blob:
+                asked = number(0, 4) + number(kind, 4) + number(len(blob), 4)
+                self.tell(SET_BLOB, asked + blob)
+        self.tell(INIT, number(0, 4))
 
     def save(self) -> bytes:
         """swtpm's blob of what it keeps without power."""
-        return self.blob(PERMANENT)
+        return self.whole(lambda: self.blob(PERMANENT))
 
     def blob(self, kind: int) -> bytes:
         text, size = b"", 1
@@ -78,20 +90,16 @@ class SwtpmDevice(LocatedDevice):
         return text
 
     def snapshot(self) -> object:
-        return self.at, tuple(self.events), [(kind, self.blob(kind)) for kind in BLOBS]
+        blobs = self.whole(lambda: [(kind, self.blob(kind)) for kind in BLOBS])
+        return self.at, tuple(self.events), blobs
 
     def restore(self, snapshot: object) -> None:
         assert isinstance(snapshot, tuple)
-        self.at, events, blobs = snapshot
-        self.events = list(events)
-        self.tell(STOP)
-        for kind, blob in blobs:
-            if blob:
-                asked = number(0, 4) + number(kind, 4) + number(len(blob), 4)
-                self.tell(SET_BLOB, asked + blob)
-        self.tell(INIT, number(0, 4))
+        place, events, blobs = snapshot
+        self.whole(lambda: self.begin_again(blobs))
+        self.at, self.events = place, list(events)
 
-    def close(self) -> None:
+    def hang_up(self) -> None:
         self.data.close()
         self.control.close()
 
@@ -102,18 +110,25 @@ class StartedSwtpm(SwtpmDevice):
     def __init__(self, program: str = "swtpm", seconds: float = 60) -> None:
         if not shutil.which(program):
             raise FileNotFoundError(f"there is no {program}")
-        self.folder = tempfile.TemporaryDirectory()
+        self.program, self.folder = program, tempfile.TemporaryDirectory()
         data, control = (f"{self.folder.name}/{it}" for it in ("data", "control"))
         words = f"socket --tpm2 --terminate --tpmstate dir={self.folder.name}".split()
         words += ["--flags", "not-need-init"]
         words += ["--server", f"type=unixio,path={data}", "--ctrl", f"type=unixio,path={control}"]
-        nothing = subprocess.DEVNULL
+        nothing, is_begun = subprocess.DEVNULL, False
         self.process = subprocess.Popen([program, *words], stdout=nothing, stderr=nothing)
+        try:
+            self.begin(data, control, seconds)
+            is_begun = True
+        finally:
+            if not is_begun:
+                self.end()
+
+    def begin(self, data: str, control: str, seconds: float) -> None:
         until = time.monotonic() + seconds
         while not self.is_connected(data, control, seconds):
             if self.process.poll() is not None or time.monotonic() > until:
-                self.end()
-                raise DeviceEnded(f"{program} does not begin to serve")
+                raise DeviceEnded(f"{self.program} does not begin to serve")
             time.sleep(0.001)
         self.allocate()
 

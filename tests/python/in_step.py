@@ -1,0 +1,245 @@
+"""Devices at the other end of a connection, whose commands do not end:
+
+    tools/python.sh tests/python/in_step.py PROGRAM
+
+Each command is interrupted at each of its lines, and one is answered too late. Then no command is given
+the answer of another one: the connection is closed, and says so. PROGRAM is the child's.
+"""
+
+import os
+import pathlib
+import signal
+import socketserver
+import sys
+import threading
+import time
+
+import tpmsim.device
+from tpmsim.device import ChildDevice, DeviceEnded, FileDevice, ServedDevice, SimulatorDevice
+from tpmsim.device import SwtpmDevice
+from tpmsim.standard import number
+
+PACKAGE = str(pathlib.Path(tpmsim.device.__file__).parent)
+FIRST, SECOND, LATE = 8, 16, 24
+SECONDS_LATE, SECONDS, LEAST_LINES = 0.3, 0.15, 10
+
+# How many bytes come after the number of a request on swtpm's control channel; elsewhere there are none.
+ARGUMENTS = {2: 4, 5: 1}
+SESSION_END, INITIALIZE = 20, number(0x100, 4)
+
+
+def asking(count):
+    """TPM2_GetRandom of so many bytes."""
+    return bytes.fromhex("80010000000c0000017b") + number(count, 2)
+
+
+def answer_to(command):
+    """Random bytes, as many as are asked for; they come late where LATE are."""
+    count = int.from_bytes(command[10:12], "big")
+    if count == LATE:
+        time.sleep(SECONDS_LATE)
+    return (
+        bytes.fromhex("8001") + number(12 + count, 4) + bytes(4) + number(count, 2) + bytes(count)
+    )
+
+
+class Handler(socketserver.StreamRequestHandler):
+    def number(self):
+        """Where the client ends the connection, so does this."""
+        text = self.rfile.read(4)
+        if len(text) < 4:
+            raise EOFError
+        return int.from_bytes(text, "big")
+
+    def handle(self):
+        try:
+            while True:
+                self.wfile.write(self.answered())
+        except (EOFError, OSError):
+            pass  # the client has ended
+
+
+class Commands(Handler):
+    def answered(self):
+        text = self.rfile.read(12)
+        if not text:
+            raise EOFError
+        return answer_to(text)
+
+
+class Control(Handler):
+    def answered(self):
+        self.rfile.read(ARGUMENTS.get(self.number(), 0))
+        return bytes(4)
+
+
+class Platform(Handler):
+    def answered(self):
+        if self.number() == SESSION_END:
+            raise EOFError
+        return bytes(4)
+
+
+class Simulated(Handler):
+    def answered(self):
+        if self.number() == SESSION_END:
+            raise EOFError
+        self.rfile.read(1)
+        answer = answer_to(self.rfile.read(self.number()))
+        return number(len(answer), 4) + answer + bytes(4)
+
+
+class Unix(socketserver.ThreadingUnixStreamServer):
+    daemon_threads, request_queue_size = True, 100
+
+
+class Tcp(socketserver.ThreadingTCPServer):
+    daemon_threads, request_queue_size, allow_reuse_address = True, 100, True
+
+
+def serving(server):
+    threading.Thread(target=server.serve_forever, daemon=True).start()
+    return server.server_address
+
+
+def simulated():
+    """Two ports, one after the other."""
+    while True:
+        commands = Tcp(("127.0.0.1", 0), Simulated)
+        host, port = commands.server_address
+        try:
+            platform = Tcp((host, port + 1), Platform)
+        except (OSError, OverflowError):
+            commands.server_close()
+            continue
+        serving(platform)
+        return serving(commands)
+
+
+def interrupted(act, left):
+    """Whether an act comes to so many lines of the package's devices, where it is interrupted."""
+
+    def trace(frame, event, _):
+        nonlocal left
+        if not frame.f_code.co_filename.startswith(PACKAGE):
+            return None
+        if event == "line":
+            left -= 1
+            if not left:
+                raise KeyboardInterrupt
+        return trace
+
+    try:
+        sys.settrace(trace)
+        act()
+    except KeyboardInterrupt:
+        return True
+    finally:
+        sys.settrace(None)
+    return False
+
+
+def told(device, size):
+    """What a command of another size is answered, after one that did not end. A pipe answers it by
+    itself, and a device whose power is just on by INITIALIZE.
+    """
+    try:
+        response = device.execute(asking(size)).response
+    except DeviceEnded as fault:
+        return f"{fault}"
+    if response[6:10] == INITIALIZE or response == asking(size) or len(response) == 12 + size:
+        return "its own answer"
+    return "the answer of another command"
+
+
+def at_each_line(made, act):
+    """What is told behind each interrupt."""
+    said, count = set(), 1
+    while True:
+        with made() as device:
+            if not interrupted(lambda: act(device), count):
+                break
+            said.add(told(device, SECOND))
+        count += 1
+    assert count > LEAST_LINES, count
+    return ", or ".join(sorted(said))
+
+
+def late(made):
+    """What is told where the answer comes too late; and then, where it has come."""
+    with made() as device:
+        device.data.socket.settimeout(SECONDS)
+        try:
+            device.execute(asking(LATE))
+        except TimeoutError as fault:
+            said = f"{fault}"
+        time.sleep(SECONDS_LATE)
+        return f"{said}, {told(device, SECOND)}, {told(device, FIRST)}"
+
+
+def alarmed(made):
+    """The same by a signal's handler, which raises what it likes."""
+
+    def raise_fault(*_):
+        raise LookupError("a test's time")
+
+    signal.signal(signal.SIGALRM, raise_fault)
+    with made() as device:
+        signal.setitimer(signal.ITIMER_REAL, SECONDS)
+        try:
+            device.execute(asking(LATE))
+        except LookupError as fault:
+            said = f"{fault}"
+        return f"{said}, {told(device, SECOND)}"
+
+
+def moved(device):
+    """A command from another locality, which is told first."""
+    device.locality = 3
+    device.execute(asking(FIRST))
+
+
+def execute(device):
+    device.execute(asking(FIRST))
+
+
+def child():
+    device = ChildDevice(program=sys.argv[1])
+    device.execute(bytes.fromhex("80010000000c000001440000"))
+    return device
+
+
+def closed(made):
+    device = made()
+    device.close()
+    device.close()
+    return told(device, FIRST)
+
+
+def main():
+    data, control, pipe = (os.path.abspath(it) for it in ("data", "control", "pipe"))
+    serving(Unix(data, Commands))
+    serving(Unix(control, Control))
+    address = simulated()
+    os.mkfifo(pipe)
+    ways = {
+        "served": lambda: ServedDevice(data),
+        "simulator": lambda: SimulatorDevice(*address),
+        "swtpm": lambda: SwtpmDevice(data, control),
+    }
+    for name, made in ways.items():
+        print(f"{name}, late: {late(made)}")
+        print(f"{name}, a signal: {alarmed(made)}")
+        print(f"{name}, interrupted: {at_each_line(made, execute)}")
+        print(f"{name}, closed: {closed(made)}")
+        if made != ways["served"]:
+            print(f"{name}, a locality: {at_each_line(made, moved)}")
+            print(f"{name}, the power: {at_each_line(made, lambda device: device.power_cycle())}")
+    print("file, interrupted:", at_each_line(lambda: FileDevice(pipe), execute))
+    print("file, closed:", closed(lambda: FileDevice(pipe)))
+    print("child, interrupted:", at_each_line(child, execute))
+    print("child, the power:", at_each_line(child, lambda device: device.power_cycle()))
+    print("child, closed:", closed(child))
+
+
+main()
