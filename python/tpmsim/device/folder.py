@@ -48,7 +48,7 @@ def check(status: os.stat_result, path: str, is_folder: bool = False) -> None:
         raise DeviceEnded(f"{path} belongs to another user")
 
 
-def opened(name: str, flags: int, folder: int) -> io.FileIO:
+def opened(name: str, flags: int, folder: int | None = None) -> io.FileIO:
     """Both calls are made by `map`, in C. There no handler of a signal runs between them, so there is
     no descriptor without an object that closes it.
     """

@@ -6,13 +6,13 @@ import functools
 import hashlib
 import os
 import pathlib
+import weakref
 
 import tpmsim
 from tpmsim.device.base import BadImage, DeviceEnded, Executed
+from tpmsim.device.folder import opened, OWNER_ALONE
 from tpmsim.device.told import Device, Path, RANDOM_BYTES
 from tpmsim.model.image import BODY_AT, DIGEST_AT_END, HIERARCHIES
-
-OWNER_ALONE = 0o600
 
 # The seed and the proof of a hierarchy; what is between its authorization values and the clock: one
 # byte, and those of the protection from guessing; and the clock itself.
@@ -29,18 +29,26 @@ def but_clock(image: bytes) -> bytes:
 
 class ImageFile:
     """Takes the lock that `tpmsim` takes, and holds it until `close`. FileExistsError where another
-    has it; OSError where the folder may not be written to.
+    has it; OSError where the folder may not be written to. It is the file of the process that opened
+    it, and of no child that this forks.
     """
 
+    is_left = False
+
     def __init__(self, path: str | os.PathLike[str]) -> None:
-        self.path, self.kept = pathlib.Path(path), b""
+        self.path, self.kept, self.process = pathlib.Path(path), b"", os.getpid()
         flags = os.O_RDWR | os.O_CREAT | os.O_CLOEXEC | os.O_NOFOLLOW
-        self.lock = os.open(f"{self.path}.lock", flags, OWNER_ALONE)
+        self.lock = opened(f"{self.path}.lock", flags)
+        HELD.add(self)
         try:
             fcntl.flock(self.lock, fcntl.LOCK_EX | fcntl.LOCK_NB)
         except BlockingIOError:
-            os.close(self.lock)
+            self.leave()
             raise FileExistsError(f"another device has {self.path}") from None
+
+    @property
+    def is_here(self) -> bool:
+        return not self.is_left and self.process == os.getpid()
 
     def read(self) -> bytes:
         """The image, or no bytes where there is no file."""
@@ -74,13 +82,37 @@ class ImageFile:
     def close(self, image: bytes) -> None:
         """Writes the image with its clock, and gives the lock back."""
         try:
-            self.write(image)
+            if self.is_here:
+                self.write(image)
         finally:
             self.leave()
 
     def leave(self) -> None:
-        """Gives the lock back, and leaves the file as it is."""
-        os.close(self.lock)
+        """Gives the lock back, which a child may have a part in, and leaves the file as it is."""
+        is_here, self.is_left = self.is_here, True
+        if is_here:
+            fcntl.flock(self.lock, fcntl.LOCK_UN)
+        self.lock.close()
+
+    def give_up(self) -> None:
+        """Leaves file and lock to the parent."""
+        self.is_left = True
+        self.lock.close()
+
+
+HELD: weakref.WeakSet[ImageFile] = weakref.WeakSet()
+
+
+def give_up_all() -> None:
+    """A forked child has a part in each lock, which it would hold after its parent, and may have the
+    number of its parent, in a namespace of its own. So it gives them up. Python calls this where it
+    forks itself; of a fork by a library in C only the other number of the process tells.
+    """
+    for file in list(HELD):
+        file.give_up()
+
+
+os.register_at_fork(after_in_child=give_up_all)
 
 
 NAME = "libtpmsim.so.0"
@@ -183,17 +215,17 @@ class LibraryDevice(Device):
         self.answered = AnsweredInC()
         self.at_answered = ctypes.addressof(self.answered)
         self.room = ctypes.create_string_buffer(RESPONSE_BYTES)
-        self.file = None if image is None else ImageFile(image)
+        self.file, is_open = None if image is None else ImageFile(image), False
         try:
             kept = self.file.read() if self.file else b""
             if kept:
                 self.begin(kept)
             else:
                 self.manufacture(manufactured)
-        except (BadImage, DeviceEnded, MemoryError):
-            if self.file:
+            is_open = True
+        finally:
+            if self.file and not is_open:
                 self.file.leave()
-            raise
         self.begun = self.base
 
     def manufacture(self, given: bytes | None) -> None:
@@ -212,7 +244,13 @@ class LibraryDevice(Device):
         """As ever, behind a comment with the image of the start, for `tpmsim run --image`."""
         return [f"# image {self.begun.hex()}", *super().trace]
 
+    def look(self) -> None:
+        """DeviceEnded where the image is another process's."""
+        if self.file and not self.file.is_here:
+            raise DeviceEnded("the image is the one of the process that forked this one")
+
     def begin(self, base: bytes) -> None:
+        self.look()
         told = self.library.tpmsim_open(self.handle, base, len(base))
         if told == NO_MEMORY:
             raise MemoryError
@@ -224,6 +262,7 @@ class LibraryDevice(Device):
         self.keep()
 
     def answer(self, buffer: bytes, locality: int, elapsed: int, random: bytes) -> Executed:
+        self.look()
         event = locality, elapsed, random, self.room, self.at_answered
         if self.library.tpmsim_execute(self.handle, buffer, len(buffer), *event):
             raise ValueError("the device is closed")
@@ -242,6 +281,7 @@ class LibraryDevice(Device):
                 raise DeviceEnded(f"the image is not written: {fault}") from None
 
     def cycle(self) -> None:
+        self.look()
         if self.library.tpmsim_power_cycle(self.handle):
             raise ValueError("the device is closed")
         self.base, self.since = self.save(), len(self.events) + 1
