@@ -4,14 +4,16 @@ speak it: a port of commands, and the next one of the platform.
     python3 -m tpmsim.simulator [--port N] [--bind ADDRESS] [--image FILE]
 
 Port 0 takes two that are free. It prints the address and the port as soon as it serves, and ends by
-SIGTERM, SIGINT or a client's request to stop. The status is 2 for wrong words, and 3 where it cannot
-listen, or where the device cannot be had or saved.
+SIGTERM, SIGINT or a client's request to stop. While few descriptors are left (ulimit -n), it refuses
+clients. The status is 2 for wrong words, and 3 where it cannot listen, or where the device cannot be
+had or saved.
 """
 
 import argparse
 import asyncio
 import hashlib
 import ipaddress
+import resource
 import signal
 import socket
 import sys
@@ -35,6 +37,10 @@ NOTHING_TO_DO = 3, 4, 9, 10, 11, 12, 13, 14
 LAUNCH_LOCALITY, LAUNCH_PCRS, LAUNCH_PCR = 4, range(17, 23), 17
 
 MOST_MILLISECONDS, TRIES_FOR_TWO_PORTS = 2**32 - 1, 100
+
+# Clients that wait to be accepted; descriptors that are left to the device; and how long nobody is
+# accepted where the system refuses.
+MOST_WAITING, FILES_LEFT, SECONDS_TO_NEXT_TRY = 100, 8, 1
 
 # What a request answers in front of its ending, or None where it ends the connection.
 Act = Callable[[asyncio.StreamReader], Awaitable[bytes]]
@@ -125,11 +131,28 @@ class Server:
         if not self.over.done():
             self.over.set_result(words)
 
-    async def listen(self, acts: dict[int, Act], bind: str, port: int) -> asyncio.Server:
+    async def accept(self, listener: socket.socket, acts: dict[int, Act]) -> None:
+        """Serves each client that comes; one too many is refused, and the others are served on."""
+        loop = asyncio.get_running_loop()
+
         def made() -> Acknowledging:
             return Acknowledging(asyncio.StreamReader(), lambda *both: self.serve(acts, *both))
 
-        return await asyncio.get_running_loop().create_server(made, bind, port)
+        while True:
+            try:
+                client, _ = await loop.sock_accept(listener)
+            except OSError:
+                await asyncio.sleep(SECONDS_TO_NEXT_TRY)
+                continue
+            if is_one_too_many(client):
+                client.close()
+            else:
+                await loop.connect_accepted_socket(made, client)
+
+    def ends(self, accepting: asyncio.Task[None]) -> None:
+        """What nobody foresaw ends the server too: it would accept nobody."""
+        if not accepting.cancelled():
+            self.stop(f"no client is accepted: {accepting.exception()}")
 
     async def serve(
         self, acts: dict[int, Act], reader: asyncio.StreamReader, writer: asyncio.StreamWriter
@@ -208,12 +231,26 @@ async def number_from(reader: asyncio.StreamReader, size: int = 4) -> int:
     return int.from_bytes(await reader.readexactly(size), "big")
 
 
-async def both_ports(server: Server, bind: str, port: int) -> tuple[asyncio.Server, asyncio.Server]:
+def is_one_too_many(client: socket.socket) -> bool:
+    """A descriptor has the lowest number that is free. So this tells how many are, of which the device
+    needs some for its image.
+    """
+    most = resource.getrlimit(resource.RLIMIT_NOFILE)[0]
+    return most != resource.RLIM_INFINITY and client.fileno() >= most - FILES_LEFT
+
+
+def listening(bind: str, port: int) -> socket.socket:
+    family = socket.AF_INET6 if ":" in bind else socket.AF_INET
+    listener = socket.create_server((bind, port), family=family, backlog=MOST_WAITING)
+    listener.setblocking(False)
+    return listener
+
+
+def both_ports(bind: str, port: int) -> tuple[socket.socket, socket.socket]:
     for _ in range(TRIES_FOR_TWO_PORTS):
-        commands = await server.listen(server.commands, bind, port)
-        taken = int(commands.sockets[0].getsockname()[1])
+        commands = listening(bind, port)
         try:
-            return commands, await server.listen(server.platform, bind, taken + 1)
+            return commands, listening(bind, commands.getsockname()[1] + 1)
         except (OSError, OverflowError):
             commands.close()
             if port:
@@ -223,11 +260,19 @@ async def both_ports(server: Server, bind: str, port: int) -> tuple[asyncio.Serv
 
 async def serve(device: Device, bind: str, port: int) -> str | None:
     server, loop = Server(device), asyncio.get_running_loop()
-    listeners = await both_ports(server, bind, port)
+    listeners = both_ports(bind, port)
+    accepting = [
+        loop.create_task(server.accept(*both))
+        for both in zip(listeners, (server.commands, server.platform))
+    ]
+    for task in accepting:
+        task.add_done_callback(server.ends)
     for it in (signal.SIGTERM, signal.SIGINT):
         loop.add_signal_handler(it, server.stop)
-    print(*listeners[0].sockets[0].getsockname()[:2], flush=True)
+    print(*listeners[0].getsockname()[:2], flush=True)
     words: str | None = await server.over
+    for task in accepting:
+        task.cancel()
     for listener in listeners:
         listener.close()
     return words

@@ -1,0 +1,86 @@
+"""More clients of the simulator's server than it has descriptors for:
+
+    tools/python.sh tests/python/simulator_clients.py
+
+The server may open few files. Clients that say nothing take all of them; then those that were there are
+served, a change is in the image, the ones too many are refused, and new ones are served once others end.
+"""
+
+import pathlib
+import resource
+import select
+import socket
+import subprocess
+import sys
+import time
+
+from tpmsim.caller import area, Caller
+from tpmsim.device import SimulatorDevice
+from tpmsim.device.base import DeviceEnded
+
+FILES, IDLE, SECONDS = 40, 100, 10
+IMAGE = pathlib.Path("image")
+
+
+def limit():
+    resource.setrlimit(resource.RLIMIT_NOFILE, (FILES, FILES))
+
+
+def served():
+    """The server, and its address."""
+    words = [sys.executable, "-S", "-m", "tpmsim.simulator", "--port", "0", "--image", IMAGE]
+    process = subprocess.Popen(words, stdout=subprocess.PIPE, preexec_fn=limit, text=True)
+    host, port = process.stdout.readline().split()
+    return process, (host, int(port))
+
+
+def refused(idle):
+    """How many the server has closed, on which it says nothing; at least so many have to be."""
+    until, closed = time.monotonic() + SECONDS, []
+    while len(closed) < len(idle) - FILES and time.monotonic() < until:
+        closed = select.select(idle, (), (), 0.05)[0]
+    return len(closed)
+
+
+def changes(tpm, index):
+    """A change, which the server writes into its image."""
+    before = IMAGE.read_bytes()
+    tpm.define(area(index=index))
+    return IMAGE.read_bytes() != before
+
+
+def said(act):
+    """What comes of an act, in words."""
+    try:
+        return act()
+    except (DeviceEnded, OSError) as fault:
+        return f"{type(fault).__name__}: {fault}"
+
+
+def connected(address):
+    """A new client's command, as soon as the server takes one."""
+    until = time.monotonic() + SECONDS
+    while True:
+        try:
+            with SimulatorDevice(*address, SECONDS) as device:
+                return len(Caller(device).call("GetRandom", bytesRequested=8)["randomBytes"])
+        except (DeviceEnded, OSError):
+            if time.monotonic() > until:
+                return "none"
+
+
+process, address = served()
+with SimulatorDevice(*address, SECONDS) as device:
+    tpm = Caller(device)
+    tpm.start_up()
+    idle = [
+        socket.create_connection((address[0], address[1] + i % 2), SECONDS) for i in range(IDLE)
+    ]
+    print("some are refused, and some are not:", IDLE - FILES <= refused(idle) < IDLE)
+    print("a change of the first client:", said(lambda: changes(tpm, 0x0100_0001)))
+    print("another change:", said(lambda: changes(tpm, 0x0100_0002)))
+    for client in idle:
+        client.close()
+    print("a new client's bytes:", connected(address))
+process.terminate()
+print("status", process.wait(SECONDS))
