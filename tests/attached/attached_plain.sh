@@ -33,3 +33,4 @@ done
 chmod 300 above
 ask 'a folder above that may not be read'
 plain "$room/ask" state=above/state 80010000000c0000017b0000
+chmod 700 above
