@@ -28,7 +28,7 @@ struct journal {
     bool is_damaged;
     /* Whether damage after the head is to be cut, and not refused. */
     bool cuts;
-    /* A sentence about what was cut off the file, for the caller to tell; empty where nothing was. */
+    /* What was cut off the file, in a sentence that the caller tells; empty if nothing was. */
     struct reason notice;
 };
 

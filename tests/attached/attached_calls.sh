@@ -5,13 +5,8 @@ tests=$(cd "$(dirname "$0")/.." && pwd -P)
 . "$tests/common/attached.sh"
 needs python3
 
-wrap=
-for call in mkdir fchmod fchmodat fstat fstatat flock ftruncate fsync fdatasync unlinkat renameat \
-    clock_gettime mmap munmap madvise pread pwrite getrandom malloc calloc strndup open openat geteuid; do
-    wrap="$wrap -Wl,--wrap=$call"
-done
 # shellcheck disable=SC2086 # they are words
-attach_both calls $wrap
+attach_both calls $wrapped_calls
 extended 16 >"$room/values"
 python3 -c '
 import sys

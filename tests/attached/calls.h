@@ -1,9 +1,10 @@
 /* Stands between the parts of a kept device and the C library, linked with --wrap: the call of one
- * number fails, or moves half of its bytes. */
+ * number fails, or moves half of its bytes, or the process is killed before it. */
 #ifndef CALLS_H
 #define CALLS_H
 #include "common.h"
 #include <errno.h>
+#include <signal.h>
 #include <stdarg.h>
 #include <sys/file.h>
 #include <sys/mman.h>
@@ -12,8 +13,9 @@
 #include <time.h>
 
 /* What happens to the call of the number: it fails with EIO, or with EINTR; it moves half of its
- * bytes; or it is a request for memory, and there is none. */
-enum fault { NO_FAULT, FAILS, IS_INTERRUPTED, MOVES_HALF, HAS_NO_MEMORY };
+ * bytes; or it is a request for memory, and there is none; or it is not made, as the process is
+ * killed. */
+enum fault { NO_FAULT, FAILS, IS_INTERRUPTED, MOVES_HALF, HAS_NO_MEMORY, IS_KILLED };
 
 static enum fault fault;
 static unsigned counted, number;
@@ -22,6 +24,9 @@ static const char *name_of_it;
 /* How often files and folders were forced to the disk, whole or without their times. */
 static unsigned forced, forced_data;
 
+/* Is told a file or folder that was forced; NULL: nobody is. */
+static void (*when_forced)(int file);
+
 /* How many pages were mapped, and are so still. */
 static int mapped;
 
@@ -29,12 +34,14 @@ static int mapped;
 static bool is_the_one(const char *name, bool is_counted) {
     if (fault == NO_FAULT || !is_counted || ++counted != number) return false;
     name_of_it = name;
+    if (fault == IS_KILLED) kill(getpid(), SIGKILL);
     return true;
 }
 
 /* Whether a call of the system fails; `again` says that it may be interrupted. */
 static bool fails(const char *name, bool again) {
-    if (!is_the_one(name, fault == FAILS || (fault == IS_INTERRUPTED && again))) return false;
+    bool is_counted = fault == FAILS || fault == IS_KILLED;
+    if (!is_the_one(name, is_counted || (fault == IS_INTERRUPTED && again))) return false;
     errno = fault == FAILS ? EIO : EINTR;
     return true;
 }
@@ -128,14 +135,18 @@ int __real_fsync(int file);
 int __wrap_fsync(int file);
 int __wrap_fsync(int file) {
     forced++;
-    return fails("fsync", false) ? -1 : __real_fsync(file);
+    if (fails("fsync", false) || __real_fsync(file) != 0) return -1;
+    if (when_forced) when_forced(file);
+    return 0;
 }
 
 int __real_fdatasync(int file);
 int __wrap_fdatasync(int file);
 int __wrap_fdatasync(int file) {
     forced_data++;
-    return fails("fdatasync", false) ? -1 : __real_fdatasync(file);
+    if (fails("fdatasync", false) || __real_fdatasync(file) != 0) return -1;
+    if (when_forced) when_forced(file);
+    return 0;
 }
 
 /* The user is another one than whose the files are. */

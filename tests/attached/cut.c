@@ -94,8 +94,8 @@ static void must_be_refused(bool cuts) {
     must_be_told("");
 }
 
-/* With a byte of a record turned: the device is that of the records before, and with the next one the
- * journal has just these. */
+/* With a byte of a record turned: the device is that of the records before, and with the next
+ * one the journal has just these. */
 static void cut_at(size_t place, const struct values *values) {
     size_t record = record_at(place), size = whole.ends[record - 1];
     uint8_t response[RESPONSE_BYTES];

@@ -1,6 +1,6 @@
-/* Which names are on the disk before a command is answered: those of the journal, which its folder
- * has, and of the folder, which the one above has. Other processes are killed behind mkdir, and between
- * rename and the forcing of the folder. */
+/* Which names are on the disk before a command is answered: those of the journal, which its
+ * folder has, and of the folder, which the one above has. Other processes are killed behind
+ * mkdir, and between rename and the forcing of the folder. */
 #include "common.h"
 #include <errno.h>
 #include <signal.h>

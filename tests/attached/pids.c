@@ -1,6 +1,6 @@
-/* A process that has the number 1, and its forked child in a namespace of its own that has the number
- * 1 too, use one device at once. This is played with the page that a fork wipes, and on a kernel that
- * has none. The argument is the file of the values of the PCR. */
+/* A process that has the number 1, and its forked child in a namespace of its own that has the
+ * number 1 too, use one device at once. This is played with the page that a fork wipes, and on a
+ * kernel that has none. The argument is the file of the values of the PCR. */
 #include "common.h"
 #include <errno.h>
 #include <poll.h>
@@ -19,8 +19,8 @@ static const uint8_t GET_MORE[] = {0x80, 0x01, 0, 0, 0, 12, 0, 0, 0x01, 0x7b, 0,
 /* Whether the kernel wipes a page at a fork, as far as the device hears. */
 static bool wipes;
 
-/* The pipes by which a parent and its child tell each other that they go on; and whether the parent's
- * next record waits for the child. */
+/* The pipes by which a parent and its child tell each other that they go on; and whether the
+ * parent's next record waits for the child. */
 static int go[2], told[2];
 static bool is_to_wait;
 
@@ -73,8 +73,8 @@ static void start_and_draw(struct kept *kept) {
     accepted(kept, GET_RANDOM, sizeof GET_RANDOM, response);
 }
 
-/* What the child does: draws by the device in memory; and, once the parent is within a command, by the
- * other one, which it extends then. */
+/* What the child does: draws by the device in memory; and, once the parent is within a command,
+ * by the other one, which it extends then. */
 static void use(struct kept *memory, struct kept *kept) {
     uint8_t own[RANDOM_BYTES];
     char byte;

@@ -1,5 +1,5 @@
-/* A library that takes zeros at the end of a text for the rest of a record: linked with --wrap before
- * one that does not. */
+/* A library that takes zeros at the end of a text for the rest of a record: linked with --wrap
+ * before one that does not. */
 #ifndef TRIMS_H
 #define TRIMS_H
 #include "tpmsim.h"

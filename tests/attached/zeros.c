@@ -1,6 +1,7 @@
-/* Zeros behind the whole records of a journal, which a crash of the host can leave, with and without
- * the front of a record before them: they are cut off by the next record, and a sentence tells it. With
- * another byte among them they are damage. The argument is the file of the values of the PCR. */
+/* Zeros behind the whole records of a journal, which a crash of the host can leave, with and
+ * without the front of a record before them: they are cut off by the next record, and a sentence
+ * tells it. With another byte among them they are damage. The argument is the file of the values
+ * of the PCR. */
 #include "common.h"
 #include "trims.h"
 

@@ -81,3 +81,9 @@ for count in range(int(sys.argv[1]) + 1):
     value = hashlib.sha256(value + b"\x5a" * 32).digest()
 ' "$1"
 }
+
+# The words for the linker by which tests/attached/calls.h stands before these calls.
+# shellcheck disable=SC2034 # tests use them
+wrapped_calls=$(printf -- '-Wl,--wrap=%s ' mkdir fchmod fchmodat fstat fstatat flock ftruncate fsync \
+    fdatasync unlinkat renameat clock_gettime mmap munmap madvise pread pwrite getrandom malloc calloc \
+    strndup open openat geteuid)

@@ -1,0 +1,120 @@
+/* What a disk has of a kept device: what was forced to it, and nothing else. A crash of the host
+ * puts that in place of the folder. The processes of a test share it. */
+#ifndef DISK_H
+#define DISK_H
+#include "calls.h"
+
+static const char FOLDER[] = "state", JOURNAL[] = "state/journal";
+
+enum { FILES = 2, FILE_MOST = 1 << 20 };
+
+struct disk {
+    bool has_folder;
+    /* The journal that the folder has on the disk, 0 where it has none. */
+    ino_t journal;
+    struct disk_file {
+        ino_t inode;
+        size_t size;
+        uint8_t bytes[FILE_MOST];
+    } files[FILES];
+};
+
+static struct disk *disk;
+
+/* Memory of zeros that forked processes share. */
+static inline void *shared(size_t size) {
+    void *made =
+        __real_mmap(NULL, size, PROT_READ | PROT_WRITE, MAP_SHARED | MAP_ANONYMOUS, -1, 0);
+    must(made != MAP_FAILED, "there is no memory");
+    return made;
+}
+
+static inline void remove_state(void) {
+    unlink(JOURNAL);
+    unlink("state/journal.new");
+    unlink("state/lock");
+    rmdir(FOLDER);
+    must(access(FOLDER, F_OK) != 0, "there is more in the folder than a state");
+}
+
+/* What the disk has of a file; a place for it where it has nothing, which is not the journal's. */
+static inline struct disk_file *disk_file_of(ino_t inode) {
+    struct disk_file *free_one = NULL;
+    for (int i = 0; i < FILES; i++) {
+        if (disk->files[i].inode == inode) return &disk->files[i];
+        if (disk->files[i].inode != disk->journal || disk->journal == 0) free_one = &disk->files[i];
+    }
+    must(free_one != NULL, "there is no place for a file");
+    free_one->inode = inode;
+    free_one->size = 0;
+    return free_one;
+}
+
+static inline void force_folder(const struct stat *status) {
+    struct stat folder, journal;
+    if (stat(FOLDER, &folder) != 0) return;
+    if (status->st_ino != folder.st_ino) {
+        disk->has_folder = true;
+        return;
+    }
+    disk->journal = stat(JOURNAL, &journal) == 0 ? journal.st_ino : 0;
+}
+
+/* Puts on the disk what was forced. */
+static void put_on_disk(int file) {
+    struct stat status;
+    enum fault before = fault;
+    fault = NO_FAULT;
+    must(fstat(file, &status) == 0 && status.st_size <= FILE_MOST, "a file is too long");
+    if (S_ISDIR(status.st_mode)) {
+        force_folder(&status);
+    } else {
+        struct disk_file *there = disk_file_of(status.st_ino);
+        there->size = (size_t)status.st_size;
+        must(pread(file, there->bytes, there->size, 0) == (ssize_t)there->size, "a file is short");
+    }
+    fault = before;
+}
+
+/* Adds bytes that the file has beyond those on the disk, as many as chance says: they may have come
+ * there without being forced. */
+static inline void add_by_chance(struct disk_file *there) {
+    size_t size;
+    struct stat status;
+    if (stat(JOURNAL, &status) != 0 || status.st_ino != there->inode) return;
+    uint8_t *bytes = bytes_of(JOURNAL, &size);
+    if (size > there->size && memcmp(bytes, there->bytes, there->size) == 0) {
+        size_t more = (size_t)rand() % (size - there->size + 1);
+        memcpy(there->bytes + there->size, bytes + there->size, more);
+        there->size += more;
+    }
+    free(bytes);
+}
+
+/* Puts what the disk has in place of the folder, as a crash of the host does. */
+static inline void crash(void) {
+    struct stat status;
+    struct disk_file *there = disk->journal ? disk_file_of(disk->journal) : NULL;
+    if (there) add_by_chance(there);
+    remove_state();
+    if (!disk->has_folder) {
+        disk->journal = 0;
+        return;
+    }
+    must(mkdir(FOLDER, 0700) == 0, "there is no folder");
+    if (!there) return;
+    put_bytes(JOURNAL, there->bytes, there->size);
+    must(stat(JOURNAL, &status) == 0, "there is no journal");
+    for (int i = 0; i < FILES; i++) disk->files[i].inode = 0;
+    there->inode = disk->journal = status.st_ino;
+}
+
+/* An empty disk. */
+static inline void wipe_disk(void) {
+    remove_state();
+    disk->has_folder = false;
+    disk->journal = 0;
+    for (int i = 0; i < FILES; i++) disk->files[i].inode = 0;
+}
+
+#endif

@@ -1,0 +1,31 @@
+#!/bin/sh
+# Attacks the kept device of attached/ with force=always: its processes are killed before a call of the
+# system, or a call fails, or they fork; and in between the host crashes, and its disk has what was
+# forced, and of a record that was not as much as chance says. Nothing that was answered may be lost. It
+# is no part of the gate; tests/attached/attached_crashes.sh is. Needs cc and python3.
+#
+#   tools/soak/attached.sh             ten minutes, of seed 1
+#   tools/soak/attached.sh 60 7        one minute, of seed 7
+#
+# It ends by saying how much was tried, or what was lost; then the status is 1.
+set -u
+
+tests=$(CDPATH='' cd "$(dirname "$0")/../../tests" && pwd -P) || exit 1
+seconds=${1:-600}
+seed=${2:-1}
+set -- "${TPMSIM_ARCHIVE:-$tests/../dist/libtpmsim.a}"
+. "$tests/../tools/lib/memory.sh"
+if [ -z "${TMPDIR:-}" ] && TMPDIR=$(folder_in_memory 1 2>&1); then
+    export TMPDIR
+    in_memory=$TMPDIR
+fi
+. "$tests/common/cases.sh"
+trap 'rm -rf "$room" ${in_memory:+"$in_memory"}' EXIT
+. "$tests/common/library.sh"
+. "$tests/common/attached.sh"
+needs cc python3
+
+# shellcheck disable=SC2086 # they are words
+attach crashes crashes $wrapped_calls
+extended 4000 >"$room/values"
+"$room/crashes" "$room/values" "$seconds" "$seed" 2>&1
