@@ -1,8 +1,9 @@
-/* Processes that hold a device with force=always are killed, and the host crashes: nothing that
- * was answered is lost. `crashes VALUES` kills a process before each call of the system in turn,
- * lets another one go on or not, and crashes. `crashes VALUES SECONDS SEED` does so at random,
- * with calls that fail and children that are forked, and prints the counts to standard error.
- * VALUES is the file of the values of the PCR. */
+/* Processes that hold a device are killed, and the host crashes. With force=always nothing that was
+ * answered is lost; with force=power the device is one of those that there were since power came
+ * on. `crashes VALUES` kills a process before each call of the system in turn, lets another one go
+ * on or not, and crashes. `crashes VALUES SECONDS SEED` does so at random, with calls that fail and
+ * children that are forked, and prints the counts to standard error. VALUES is the file of the
+ * values of the PCR. */
 #include "disk.h"
 #include <stdatomic.h>
 #include <sys/prctl.h>
@@ -14,6 +15,8 @@ static struct {
     atomic_long extends, asked;
     atomic_bool is_started, is_starting, is_cycling;
     atomic_long answers;
+    /* The file of the journal that the last answer is in. */
+    ino_t journal;
 } *told;
 
 /* What came of all. */
@@ -23,10 +26,21 @@ static struct {
 
 enum { AWAITS_STARTUP = -2 };
 
-static struct kept *opened_always(void) {
-    struct kept_options options = {.folder = FOLDER, .force = KEPT_FORCE_ALWAYS};
+/* By which word the disk is forced, and whether the host has crashed since the last check. */
+static enum kept_force force = KEPT_FORCE_ALWAYS;
+static bool has_crashed;
+
+static struct kept *opened_so(void) {
+    struct kept_options options = {.folder = FOLDER, .force = force};
     struct reason reason;
     return kept_open(&options, &reason);
+}
+
+static void note_answer(void) {
+    struct stat status;
+    must(stat(JOURNAL, &status) == 0, "a device answers without a journal");
+    told->journal = status.st_ino;
+    told->answers++;
 }
 
 /* Whether a command was answered; where it was not, the holder has heard of a fault. */
@@ -36,7 +50,7 @@ static bool is_answered(struct kept *kept, const uint8_t *buffer, size_t size) {
     struct reason reason;
     if (!kept_execute(kept, buffer, size, 0, response, &answered, &reason)) return false;
     must(answered.size >= 10 && response[8] == 0 && response[9] == 0, "a command is refused");
-    told->answers++;
+    note_answer();
     return true;
 }
 
@@ -60,7 +74,7 @@ static bool cycle_telling(struct kept *kept) {
     struct reason reason;
     told->is_cycling = true;
     if (!kept_power(kept, &reason)) return false;
-    told->answers++;
+    note_answer();
     told->is_started = false;
     told->extends = told->asked = 0;
     told->is_cycling = false;
@@ -76,6 +90,8 @@ static long extends_there(struct kept *kept, const struct values *values) {
 }
 
 static bool is_right(long there) {
+    bool may_lose = has_crashed && force == KEPT_FORCE_POWER;
+    if (may_lose) return there != -1 && there <= told->extends + told->asked;
     if (there == AWAITS_STARTUP) return !told->is_started || told->is_cycling;
     if (!told->is_started) return told->is_starting && there == 0;
     return there >= told->extends && there <= told->extends + told->asked;
@@ -83,9 +99,10 @@ static bool is_right(long there) {
 
 /* Opens the device, which has to have what was answered. */
 static void check(const struct values *values, const char *label) {
-    struct kept *kept = opened_always();
+    struct kept *kept = opened_so();
     must(kept != NULL, "the device does not open");
     long there = extends_there(kept, values);
+    note_answer();
     if (!is_right(there)) {
         fprintf(stderr, "%s: %ld extends are there, %ld were answered and %ld asked for\n", label,
                 there, told->extends, told->asked);
@@ -94,13 +111,23 @@ static void check(const struct values *values, const char *label) {
     told->is_started = there != AWAITS_STARTUP;
     told->extends = there > 0 ? there : 0;
     told->asked = 0;
-    told->is_starting = told->is_cycling = false;
+    told->is_starting = told->is_cycling = has_crashed = false;
     kept_close(kept);
 }
 
 static void begin_anew(void) {
     wipe_disk();
     memset(told, 0, sizeof *told);
+}
+
+/* Crashes the host. */
+static void crash_and_check(const struct values *values) {
+    must(told->journal == 0 || told->is_cycling || disk->journal == told->journal,
+         "a device that has answered is lost, or its power cycle");
+    crash();
+    counts.crashes++;
+    has_crashed = true;
+    check(values, "crashed");
 }
 
 /* Runs a process, which may be killed, until it and its children have ended. Whether it was
@@ -126,7 +153,7 @@ static bool is_killed(void (*run)(void), enum fault kind, unsigned at) {
 
 /* Makes a device, and cycles its power. */
 static void run_once(void) {
-    struct kept *kept = opened_always();
+    struct kept *kept = opened_so();
     must(kept && start_telling(kept) && extend_telling(kept) && extend_telling(kept) &&
              cycle_telling(kept) && start_telling(kept) && extend_telling(kept),
          "a command is not answered");
@@ -136,7 +163,7 @@ static void run_once(void) {
 /* Goes on with the device that is there. */
 static void go_on(const struct values *values) {
     check(values, "killed");
-    struct kept *kept = opened_always();
+    struct kept *kept = opened_so();
     must(kept && (told->is_started || start_telling(kept)) && extend_telling(kept),
          "a command is not answered");
     kept_close(kept);
@@ -150,8 +177,7 @@ static void kill_at_each(const struct values *values) {
             begin_anew();
             was_killed = is_killed(run_once, IS_KILLED, at);
             if (goes_on) go_on(values);
-            crash();
-            check(values, "killed, and the host crashed");
+            crash_and_check(values);
         }
         must(at > 50, "there were few calls");
         printf("killed before each call of the system, %s: nothing that was answered is lost\n",
@@ -161,7 +187,7 @@ static void kill_at_each(const struct values *values) {
 
 /* Executes commands at random, until one is not answered. A child that is forked does so too. */
 static void run_at_random(void) {
-    struct kept *kept = opened_always();
+    struct kept *kept = opened_so();
     if (!kept || (!told->is_started && !start_telling(kept))) return;
     bool forks = rand() % 4 == 0, goes_on = true;
     pid_t child = forks ? fork() : -1;
@@ -183,14 +209,13 @@ static void try_at_random(const struct values *values, long seconds) {
         if (counts.runs % 50 == 0 || (size_t)told->extends + 100 > values->count) {
             answers += told->answers;
             begin_anew();
+            force = rand() % 2 ? KEPT_FORCE_ALWAYS : KEPT_FORCE_POWER;
         }
         enum fault kind = kinds[rand() % 4];
         if (is_killed(run_at_random, kind, 1 + (unsigned)rand() % 200)) counts.kills++;
         if (kind == FAILS) counts.faults++;
-        bool crashes = rand() % 2;
-        if (crashes) crash();
-        if (crashes) counts.crashes++;
-        check(values, crashes ? "crashed" : "ended");
+        if (rand() % 2) crash_and_check(values);
+        else check(values, "ended");
     }
     fprintf(stderr, "%ld runs: %ld killed, %ld with a call that fails; %ld crashes; %ld answers\n",
             counts.runs, counts.kills, counts.faults, counts.crashes, answers + told->answers);

@@ -1,8 +1,9 @@
 #!/bin/sh
-# Attacks the kept device of attached/ with force=always: its processes are killed before a call of the
-# system, or a call fails, or they fork; and in between the host crashes, and its disk has what was
-# forced, and of a record that was not as much as chance says. Nothing that was answered may be lost. It
-# is no part of the gate; tests/attached/attached_crashes.sh is. Needs cc and python3.
+# Attacks the kept device of attached/: its processes are killed before a call of the system, or a call
+# fails, or they fork; and in between the host crashes, and its disk has what was forced, and of what was
+# not as much as chance says. With force=always nothing that was answered may be lost, and with
+# force=power no power cycle. It is no part of the gate; tests/attached/attached_crashes.sh is. Needs cc
+# and python3.
 #
 #   tools/soak/attached.sh             ten minutes, of seed 1
 #   tools/soak/attached.sh 60 7        one minute, of seed 7
