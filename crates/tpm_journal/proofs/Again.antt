@@ -17,10 +17,11 @@ use Rattle.tpm_image_text.proofs.RecordLaws.{record_again, record_image}
 use Rattle.tpm_bytes.proofs.Fields.{ok_is}
 use Rattle.tpm_journal_text.specs.Entry.{IsEntry, PlainEntry, entry_text, sum_after}
 use Rattle.tpm_journal_text.specs.Head.{head_sum, head_text}
-use Rattle.tpm_journal_text.specs.Journal.{IsCutOff, entries_text, sum_after_all}
+use Rattle.tpm_journal_text.specs.Journal.{IsTorn, entries_text, sum_after_all}
 use Rattle.tpm_journal_text.specs.Sum.{sum_of}
 use Rattle.tpm_journal_text.proofs.HeadStanding.{same_head}
-use Rattle.tpm_journal_text.proofs.Parsing.{behind_front, cut_off_is_no_entry, others_are_more}
+use Rattle.tpm_journal_text.proofs.Damage.{torn_is_no_entry}
+use Rattle.tpm_journal_text.proofs.Parsing.{behind_front, others_are_more}
 use Rattle.tpm_journal.specs.Command.{IsPerformed, entry_of, event_of}
 use Rattle.tpm_journal.specs.Living.{Answers, IgnoresUndrawn, Lives}
 use Rattle.tpm_journal.specs.Opening.{BeginsWith, IsOpenedAgain, OpensJournal, Reads}
@@ -95,17 +96,17 @@ same_run before old (one ∷ performances) after new layer mid leads answers =
           ∙ ap (λ (l : List ℕ). one.entry.answered ∷ l) next.2,
     )
 
--- a text that ends in less than an entry is followed to its end, where the device answers as it
+-- a text that ends torn is followed to its last entry, where the device answers as it
 -- says
 ended : (fault : Option FollowFault) (sum : ℕ) (sums said : List ℕ) (more : List PlainEntry) (rest left : List ℕ)
     → AnswersAre fault sums said → sums ≡ said → EndsIn fault sum left → left ≡ entries_text sum more ++ rest
-    → AllByRecursion IsEntry more → IsCutOff (sum_after_all sum more) rest → (fault ≡ None) × (more ≡ [])
+    → AllByRecursion IsEntry more → IsTorn (sum_after_all sum more) rest → (fault ≡ None) × (more ≡ [])
 ended None sum sums said [] rest left answers same ends l are cut = (refl, refl)
 ended None sum sums said (e ∷ more) rest left answers same ends l are cut =
-    absurd (cut_off_is_no_entry sum e (entries_text (sum_after sum e) more ++ rest) left are.0
+    absurd (torn_is_no_entry sum e (entries_text (sum_after sum e) more ++ rest) left are.0
     (l ∙ append_assoc (entry_text sum e) (entries_text (sum_after sum e) more) rest) ends)
 ended (Some Damaged) sum sums said [] rest left answers same ends l are cut =
-    absurd (ends.not_cut_off (subst (λ (t : List ℕ). IsCutOff sum t) (sym l) cut))
+    absurd (ends.not_torn (subst (λ (t : List ℕ). IsTorn sum t) (sym l) cut))
 ended (Some Damaged) sum sums said (e ∷ more) rest left answers same ends l are cut =
     absurd (ends.no_entry e (entries_text (sum_after sum e) more ++ rest) are.0
     (l ∙ append_assoc (entry_text sum e) (entries_text (sum_after sum e) more) rest))
@@ -114,7 +115,7 @@ ended (Some Otherwise) sum sums said more rest left answers same ends l are cut 
 
 pub followed_again : (before : Journal) (old : Record) (layer : Completion) (final new : Record) (entries : List PlainEntry) (rest text : List ℕ)
     (followed : Followed) (after : Journal) → Replays false before old text followed after new → AllByRecursion IsEntry entries
-    → text ≡ entries_text before.sum entries ++ rest → IsCutOff (sum_after_all before.sum entries) rest → Answers before.layer old entries layer final
+    → text ≡ entries_text before.sum entries ++ rest → IsTorn (sum_after_all before.sum entries) rest → Answers before.layer old entries layer final
     → IsFollowedWhole before entries layer final followed after new
 followed_again before old layer final new entries rest text followed after replays are t cut answers =
     let r = replays.repeats in
@@ -129,7 +130,7 @@ followed_again before old layer final new entries rest text followed after repla
     let sum_is : after.sum ≡ sum_after_all before.sum mine = journal_sum false before old r.performances after new r.leads in
     let end = ended followed.fault (sum_after_all before.sum mine) (map response_sum r.performances) (map answer_said r.performances) more rest left
     r.answers run.2 (subst (λ (s : ℕ). EndsIn followed.fault s left) sum_is replays.ends) found.3 found.1
-    (subst (λ (s : ℕ). IsCutOff s rest) (ap (sum_after_all before.sum) found.2 ∙ sum_parts before.sum mine more) cut) in
+    (subst (λ (s : ℕ). IsTorn s rest) (ap (sum_after_all before.sum) found.2 ∙ sum_parts before.sum mine more) cut) in
     let all : entries ≡ mine = found.2 ∙ ap (λ (l : List PlainEntry). mine ++ l) end.1 ∙ append-nil mine in
     let last : (layer ≡ parts.0) × (final ≡ parts.1) = subst (λ (l : List PlainEntry). Answers parts.0 parts.1 l layer final) end.1 parts.3 in
     record {
@@ -144,7 +145,7 @@ followed_again before old layer final new entries rest text followed after repla
 
 module _ (clock : ℕ) (r : Record) (entries : List PlainEntry) (rest : List ℕ) (layer : Completion) (final : Record) (text : List ℕ) (is : IsRecord r)
     (begins : BeginsWith text clock (image_text Two (kept_of r)) (entries_text (head_sum clock (image_text Two (kept_of r))) entries ++ rest))
-    (are : AllByRecursion IsEntry entries) (cut : IsCutOff (sum_after_all (head_sum clock (image_text Two (kept_of r))) entries) rest)
+    (are : AllByRecursion IsEntry entries) (cut : IsTorn (sum_after_all (head_sum clock (image_text Two (kept_of r))) entries) rest)
     (answers : Answers (new_completion (head_sum clock (image_text Two (kept_of r)))) (cycled r) entries layer final) where
   heads_same : (other : ℕ) (bytes behind : List ℕ) → BeginsWith text other bytes behind → (clock ≡ other) × (image_text Two (kept_of r) ≡ bytes)
   heads_same other bytes behind others =

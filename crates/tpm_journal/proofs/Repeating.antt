@@ -4,7 +4,7 @@ use Rattle.std.specs.List.{AllByRecursion}
 use Rattle.std.proofs.lemmas.List.{drop-take, length-take-le, map-append, take-append-drop, take-append-le}
 use Rattle.tpm_record.specs.Record.{Record}
 use Rattle.tpm_journal_text.specs.Entry.{IsEntry, PlainEntry, entry_text, sum_after}
-use Rattle.tpm_journal_text.specs.Journal.{IsCutOff, IsDamaged, entries_text, sum_after_all}
+use Rattle.tpm_journal_text.specs.Journal.{IsTorn, IsDamaged, entries_text, sum_after_all}
 use Rattle.tpm_journal_text.proofs.Standing.{entry_text_some}
 use Rattle.tpm_journal.specs.Command.{IsPerformed}
 use Rattle.tpm_journal.specs.Replay.{AnswersAre, LeadsBy, Performance, Performs, Repeats, Replays, answer_said, entry_in, response_sum}
@@ -146,11 +146,11 @@ pub performs_some : (can : Bool) (before : Journal) (old : Record) (text : List 
 performs_some can before old text size one after Holds p =
     omega (arith, length-take-le size text p.within, ap length p.front, entry_text_some before.sum one.entry)
 
-pub ends_cut : (can : Bool) (before : Journal) (old : Record) (text : List ℕ) (taken : ℕ) (mid : Journal) (here : Record)
+pub ends_torn : (can : Bool) (before : Journal) (old : Record) (text : List ℕ) (taken : ℕ) (mid : Journal) (here : Record)
     (after : Journal) (new : Record) → Repeats can before old text taken None mid here
-    → IsCutOff mid.sum (drop taken text) × (after ≡ mid) × (new ≡ here)
+    → IsTorn mid.sum (drop taken text) × (after ≡ mid) × (new ≡ here)
     → Replays can before old text (record { taken = taken; fault = None }) after new
-ends_cut can before old text taken mid here after new r end =
+ends_torn can before old text taken mid here after new r end =
     rw (end.1, end.2) (record { repeats = r; ends = end.0 })
 
 unfoldable pub repeats_so : (can : Bool) (before : Journal) (old : Record) (text : List ℕ) (taken : ℕ) (mid : Journal) (here : Record)

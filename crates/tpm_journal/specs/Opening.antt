@@ -32,7 +32,7 @@ pub record Reads (text : List ℕ) (followed : Followed) (journal : Journal) (ne
   pub replays : Replays false (journal_begun clock image) (powered_on kept) rest followed journal new
 
 -- A text is a journal: its device and the layer above it executed exactly the entries after its
--- head, and less than an entry is left after them.
+-- head, and what a crash leaves of one more is left after them, or nothing.
 pub record IsJournal (text : List ℕ) (opened : Opened) (new : Record) : Type 0 where
   pub followed : Followed
   pub reads : Reads text followed opened.journal new

@@ -7,7 +7,7 @@ use Rattle.tpm_completion.specs.declared.completion.Completion.{Completion}
 use Rattle.tpm_record.specs.Record.{Record}
 use Rattle.tpm_machine.specs.Executions.{Execution}
 use Rattle.tpm_journal_text.specs.Entry.{IsEntry, PlainEntry, entry_text, plain_entry}
-use Rattle.tpm_journal_text.specs.Journal.{IsCutOff, IsDamaged, entries_text}
+use Rattle.tpm_journal_text.specs.Journal.{IsTorn, IsDamaged, entries_text}
 use Rattle.tpm_journal_text.specs.Sum.{sum_of}
 use Rattle.tpm_journal.specs.Command.{IsPerformed, event_of}
 use Rattle.tpm_journal.specs.State.{journal_after, journal_after_all}
@@ -61,10 +61,10 @@ AnswersAre (Some Otherwise) sums said =
     (front : List ℕ) × (sum : ℕ) × (other : ℕ) × (sums ≡ front ++ sum ∷ [])
     × (said ≡ front ++ other ∷ []) × (sum ≢ other)
 
--- The entries that were executed are followed by less than an entry, or by damage; where the device
--- answered otherwise, by anything.
+-- After the entries that were executed the text is torn, or damaged; if the device answered
+-- otherwise, anything is there.
 abbrev pub EndsIn : Option FollowFault → (sum : ℕ) → (left : List ℕ) → Type 0
-EndsIn None sum left = IsCutOff sum left
+EndsIn None sum left = IsTorn sum left
 EndsIn (Some Damaged) sum left = IsDamaged sum left
 EndsIn (Some Otherwise) sum left = Unit {0}
 
@@ -109,8 +109,8 @@ Does can before old text (deed.Executed entry size) after seen =
 Does can before old text (deed.Otherwise entry size) after seen =
     Performs can before old text size (record { entry = plain_entry entry; seen = seen }) after
     (λ sum said. sum ≢ said)
-Does can before old text deed.CutOff after seen =
-    IsCutOff before.sum text × (after ≡ before) × (seen.step.after ≡ old)
+Does can before old text deed.Torn after seen =
+    IsTorn before.sum text × (after ≡ before) × (seen.step.after ≡ old)
 Does can before old text deed.Damaged after seen =
     IsDamaged before.sum text × (after ≡ before) × (seen.step.after ≡ old)
 

@@ -18,7 +18,7 @@ use tpm_types::Locality;
 /// Why a text was not followed to its end.
 #[derive(Clone, Copy, PartialEq, Eq)]
 pub enum FollowFault {
-    /// The text has as many bytes as its first line says, but is no entry.
+    /// The text does not go on with an entry, nor with what a crash leaves of one.
     Damaged,
     /// The device answered the last entry otherwise than the entry says.
     Otherwise,
@@ -39,8 +39,8 @@ pub(crate) enum Deed<'a> {
     Executed { entry: Entry<'a>, size: usize },
     /// The entry, whose text has `size` bytes, was executed, and answered otherwise than it says.
     Otherwise { entry: Entry<'a>, size: usize },
-    /// The text is less than an entry.
-    CutOff,
+    /// The text is torn: less than an entry, and perhaps zeros after it.
+    Torn,
     /// The text is damaged.
     Damaged,
 }
@@ -91,7 +91,7 @@ impl Journal {
             self.new (seen_of K.record_of machine.new self.new.layer outcome.new) }
     {
         let (entry, size, sum) = match read_entry(self.sum, text, bytes, room) {
-            Next::CutOff => return Deed::CutOff,
+            Next::Torn => return Deed::Torn,
             Next::Damaged => return Deed::Damaged,
             Next::Whole { entry, size, sum } => (entry, size, sum),
         };
@@ -128,7 +128,7 @@ impl Journal {
                         fault: Some(FollowFault::Otherwise),
                     };
                 }
-                Deed::CutOff => return Followed { taken, fault: None },
+                Deed::Torn => return Followed { taken, fault: None },
                 Deed::Damaged => {
                     return Followed {
                         taken,

@@ -19,7 +19,7 @@ ghost use Rattle.tpm_journal.specs.declared.opening.OpenFault.{OpenFault};
 ghost use Rattle.tpm_journal.specs.declared.opening.Opened.{Opened};
 ghost use Rattle.tpm_journal_text.specs.Entry.{IsEntry, PlainEntry};
 ghost use Rattle.tpm_journal_text.specs.Head.{head_sum};
-ghost use Rattle.tpm_journal_text.specs.Journal.{IsCutOff, entries_text, sum_after_all};
+ghost use Rattle.tpm_journal_text.specs.Journal.{IsTorn, entries_text, sum_after_all};
 ghost use Rattle.tpm_record.specs.Cycle.{cycled};
 ghost use Rattle.tpm_record.specs.IsRecord.{IsRecord};
 ghost use Rattle.tpm_record.specs.Record.{Record};
@@ -34,21 +34,21 @@ pub fn living_laws()
         (new : Record) → Lives layer old entries after new → Answers layer old entries after new }
 {}
 
-/// A text of entries, followed by less than an entry, is followed to its end, where the device and
-/// its layer answer the entries as they say.
+/// A text of entries, followed by what a crash leaves of another one, is followed to its last whole
+/// entry, if the device and its layer answer the entries as they say.
 #[inline(always)]
 pub fn following_laws()
     ensures { (before : Journal) (old : Record) (layer : Completion) (final new : Record)
         (entries : List PlainEntry) (rest text : List ℕ) (followed : Followed) (after : Journal)
         → Replays false before old text followed after new
         → AllByRecursion IsEntry entries → text ≡ entries_text before.sum entries ++ rest
-        → IsCutOff (sum_after_all before.sum entries) rest
+        → IsTorn (sum_after_all before.sum entries) rest
         → Answers before.layer old entries layer final
         → IsFollowedWhole before entries layer final followed after new }
 {}
 
-/// A text of a device's head and entries, followed by less than an entry, is opened as the device
-/// and the layer to which the entries lead, where they answer as the entries say.
+/// A text of a device's head and entries, followed by what a crash leaves of another entry, is opened
+/// as the device and the layer to which the entries lead, if they answer as the entries say.
 #[inline(always)]
 #[tactic(auto, using(crate::proofs::Again::opened_again))]
 pub fn opening_laws()
@@ -57,7 +57,7 @@ pub fn opening_laws()
         → BeginsWith text clock (image_text Two (kept_of r))
         (entries_text (head_sum clock (image_text Two (kept_of r))) entries ++ rest)
         → AllByRecursion IsEntry entries
-        → IsCutOff (sum_after_all (head_sum clock (image_text Two (kept_of r))) entries) rest
+        → IsTorn (sum_after_all (head_sum clock (image_text Two (kept_of r))) entries) rest
         → Answers (new_completion (head_sum clock (image_text Two (kept_of r)))) (cycled r) entries
         layer final
         → (result : Result Opened OpenFault) (new : Record) → OpensJournal text result new

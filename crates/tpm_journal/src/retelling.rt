@@ -98,7 +98,7 @@ fn retell_entries<K: Keep, W: Write>(
                 put_entry(writer, &entry, outcome, left, size)?;
                 return Ok(ended(taken + size, Some(FollowFault::Otherwise)));
             }
-            Deed::CutOff => return Ok(ended(taken, None)),
+            Deed::Torn => return Ok(ended(taken, None)),
             Deed::Damaged => return Ok(ended(taken, Some(FollowFault::Damaged))),
         }
     }

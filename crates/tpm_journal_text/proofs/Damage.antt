@@ -1,20 +1,32 @@
--- A text is damaged where it is long enough and no entry stands at its front.
-use Rattle.std.proofs.Common.{◌≡◌, ℕ, ◌≤◌, inl, inr, List, ◌++◌, length, take, ap, sym, ◌∙◌, arith}
+-- A text is damaged where it is long enough and no entry stands at its front; and what is torn has
+-- no entry there.
+use Rattle.std.proofs.Common.{◌≡◌, ℕ, zero, suc, ◌-◌, ◌<◌, ◌≤◌, inl, inr, List, [], ◌∷◌, ◌++◌, length, take, replicate, get_or, refl, ap, sym, ◌∙◌, append_assoc, arith, length-append}
+use Rattle.std.specs.Prelude.{codes}
+use Rattle.std.proofs.Math.Seq.{get_or-append_right, get_or-append_seam}
+use Rattle.std.proofs.lemmas.List.{length-take, take-append-le}
+use Rattle.hex.specs.Hex.{encode_lower}
 use Rattle.tpm_bytes.specs.Reading.{AreBytes}
-use Rattle.tpm_journal_text.specs.Entry.{PlainEntry, entry_size, entry_text, entry_word, mark_line, mark_of}
-use Rattle.tpm_journal_text.specs.Journal.{IsDamaged}
+use Rattle.tpm_journal_text.specs.Entry.{IsEntry, PlainEntry, entry_size, entry_text, entry_word, executing_lines, mark_line, mark_of, setting_lines, shown}
+use Rattle.tpm_journal_text.specs.Journal.{BeginsWithMark, HasFewer, IsDamaged, IsTorn}
 use Rattle.tpm_journal_text.specs.Places.{Stands}
 use Rattle.tpm_journal_text.specs.Sum.{sum_from}
 use Rattle.tpm_journal_text.proofs.Pieces.{line_same}
-use Rattle.tpm_journal_text.proofs.Standing.{line_stands, mark_bytes, mark_many, stands}
+use Rattle.tpm_journal_text.proofs.Standing.{entry_text_many, line_stands, mark_bytes, mark_line_many, mark_many, stands}
+
+-- what is torn and begins with a mark's line is in a text that begins with it
+torn_line : (sum : ℕ) (text mark : List ℕ) (torn : IsTorn sum text) → BeginsWithMark sum mark torn.front → take 72 text ≡ mark_line sum mark
+torn_line sum text mark torn begins =
+    let long : 72 ≤ length torn.front =
+    omega (arith, ap length begins.line, mark_line_many sum mark begins.count, length-take 72 torn.front) in
+    ap (take 72) torn.is ∙ take-append-le 72 torn.front (replicate torn.zeros 0) long ∙ begins.line
 
 -- a text that is long enough and begins with no line of a mark is damaged
-pub no_line : (sum : ℕ) (text : List ℕ) → 72 ≤ length text
+pub no_line : (sum : ℕ) (text : List ℕ) → (HasFewer 72 text → ⊥)
     → ((mark : List ℕ) → length mark ≡ 26 → AreBytes mark → take 72 text ≡ mark_line sum mark → ⊥) → IsDamaged sum text
 no_line sum text long none = record {
-  not_cut_off = λ cut. elim cut [
-    | inl short ↦ omega (arith, short, long)
-    | inr found ↦ none found.0 found.1.count found.1.bytes found.1.line
+  not_torn = λ torn. elim torn.cut_off [
+    | inl short ↦ long (record { front = torn.front; zeros = torn.zeros; is = torn.is; fewer = short })
+    | inr found ↦ none found.0 found.1.count found.1.bytes (torn_line sum text found.0 torn found.1)
   ];
   no_entry = λ e rest is t. none (mark_of e) (mark_many e) (mark_bytes e) (line_stands sum e text rest t);
 }
@@ -28,17 +40,64 @@ same_mark sum text mark other many are line other_many other_are other_line =
 -- a text that begins with the line of a mark, and holds no entry of this mark though it is long
 -- enough, is damaged
 pub no_entry_with : (sum : ℕ) (text mark : List ℕ) → length mark ≡ 26 → AreBytes mark → take 72 text ≡ mark_line sum mark
-    → entry_size mark ≤ length text
+    → (HasFewer (entry_size mark) text → ⊥)
     → ((e : PlainEntry) (rest : List ℕ) → Stands e mark text → text ≡ entry_text sum e ++ rest → ⊥) → IsDamaged sum text
 no_entry_with sum text mark many are line long none = record {
-  not_cut_off = λ cut. elim cut [
-    | inl short ↦ omega (arith, short, long)
+  not_torn = λ torn. elim torn.cut_off [
+    | inl short ↦ long (record { front = torn.front; zeros = torn.zeros; is = torn.is; fewer = omega (arith, short) })
     | inr found ↦
-        let same : mark ≡ found.0 = same_mark sum text mark found.0 many are line found.1.count found.1.bytes found.1.line in
+        let same : mark ≡ found.0 =
+        same_mark sum text mark found.0 many are line found.1.count found.1.bytes (torn_line sum text found.0 torn found.1) in
         let size : entry_size mark ≡ entry_size found.0 = ap entry_size same in
-        omega (arith, found.2, long, size)
+        long (record { front = torn.front; zeros = torn.zeros; is = torn.is; fewer = omega (arith, found.2, size) })
   ];
   no_entry = λ e rest is t.
       let same : mark ≡ mark_of e = same_mark sum text mark (mark_of e) many are line (mark_many e) (mark_bytes e) (line_stands sum e text rest t) in
       none e rest (stands sum e mark text rest is same t) t;
 }
+
+-- ---- what is torn is no entry
+
+zero_at : (zeros place : ℕ) → get_or {A = ℕ} (replicate zeros 0) place 0 ≡ 0
+zero_at zero place = refl
+zero_at (suc zeros) zero = refl
+zero_at (suc zeros) (suc place) = zero_at zeros place
+
+-- where a line ends, no zeros stand
+line_feed_is_no_zero : (front : List ℕ) (zeros : ℕ) (line rest : List ℕ) → length front ≤ length line
+    → line ++ (10 ∷ rest) ≡ front ++ replicate zeros 0 → ⊥
+line_feed_is_no_zero front zeros line rest le same =
+    let ten : 10 ≡ 0 =
+    sym (get_or-append_seam line 10 rest 0) ∙ ap (λ (l : List ℕ). get_or l (length line) 0) same
+    ∙ get_or-append_right front (replicate zeros 0) (length line) 0 le ∙ zero_at zeros (length line - length front) in
+    absurd (omega (arith, ten))
+
+-- the text of an entry but for its last line feed
+without_end : (sum : ℕ) → PlainEntry → List ℕ
+without_end sum e =
+    (mark_line sum (mark_of e) ++ setting_lines e) ++ (codes "entropy " ++ encode_lower (shown e.drawn) ++ codes "\ncmd " ++ encode_lower e.buffer)
+
+ends_a_line : (sum : ℕ) (e : PlainEntry) (rest : List ℕ) → entry_text sum e ++ rest ≡ without_end sum e ++ (10 ∷ rest)
+unfolding entry_text executing_lines without_end
+ends_a_line sum e rest =
+    let line = mark_line sum (mark_of e) ++ setting_lines e in
+    let last = codes "entropy " ++ encode_lower (shown e.drawn) ++ codes "\ncmd " ++ encode_lower e.buffer in
+    ap (λ (l : List ℕ). l ++ rest) (sym (append_assoc line last (10 ∷ []))) ∙ append_assoc (line ++ last) (10 ∷ []) rest
+
+pub torn_is_no_entry : (sum : ℕ) (e : PlainEntry) (rest text : List ℕ) → IsEntry e → text ≡ entry_text sum e ++ rest → IsTorn sum text → ⊥
+torn_is_no_entry sum e rest text is t torn =
+    let end = ap length (ends_a_line sum e []) in
+    let a = length-append (entry_text sum e) [] in
+    let b = length-append (without_end sum e) (10 ∷ []) in
+    let size = entry_text_many sum e is in
+    let less : length torn.front < entry_size (mark_of e) = elim torn.cut_off [
+      | inl short ↦ omega (arith, short)
+      | inr found ↦
+          let same : found.0 ≡ mark_of e =
+          same_mark sum text found.0 (mark_of e) found.1.count found.1.bytes (torn_line sum text found.0 torn found.1)
+          (mark_many e) (mark_bytes e) (line_stands sum e text rest t) in
+          let sizes : entry_size found.0 ≡ entry_size (mark_of e) = ap entry_size same in
+          omega (arith, found.2, sizes)
+    ] in
+    line_feed_is_no_zero torn.front torn.zeros (without_end sum e) rest (omega (arith, less, end, a, b, size))
+    (sym (ends_a_line sum e rest) ∙ sym t ∙ torn.is)

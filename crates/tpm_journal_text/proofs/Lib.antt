@@ -2,6 +2,7 @@ pub mod Sums
 pub mod Pieces
 pub mod Standing
 pub mod Bytes
+pub mod Tails
 pub mod Damage
 pub mod HeadStanding
 pub mod Parsing

@@ -3,9 +3,9 @@ use Rattle.std.proofs.Common.{◌≡◌, ℕ, ◌+◌, ◌*◌, inl, inr, Bool, 
 use Rattle.std.specs.List.{AllByRecursion}
 use Rattle.std.proofs.lemmas.List.{drop_at}
 use Rattle.tpm_journal_text.specs.Entry.{IsEntry, PlainEntry, entry_size, entry_text, flag, mark_of, sum_after}
-use Rattle.tpm_journal_text.specs.Journal.{IsCutOff, entries_text, sum_after_all}
+use Rattle.tpm_journal_text.specs.Journal.{IsTorn, entries_text, sum_after_all}
 use Rattle.tpm_journal_text.specs.Places.{Stands}
-use Rattle.tpm_journal_text.proofs.Damage.{same_mark}
+use Rattle.tpm_journal_text.proofs.Damage.{same_mark, torn_is_no_entry}
 use Rattle.tpm_journal_text.proofs.Pieces.{hex_same}
 use Rattle.tpm_journal_text.proofs.Standing.{entry_text_many, line_stands, mark_bytes, mark_many, stands}
 
@@ -66,29 +66,15 @@ same_entry sum e f x y is other same =
     let one : e ≡ f = one_stands e f (mark_of e) text (stands sum e (mark_of e) text x is refl refl) (stands sum f (mark_of e) text y other marks same) in
     (one, behind_front (entry_text sum e) x y (same ∙ ap (λ (g : PlainEntry). entry_text sum g ++ y) (sym one)))
 
-pub cut_off_is_no_entry : (sum : ℕ) (e : PlainEntry) (rest text : List ℕ) → IsEntry e → text ≡ entry_text sum e ++ rest → IsCutOff sum text → ⊥
-cut_off_is_no_entry sum e rest text is t cut =
-    let many = ap length t in
-    let both = length-append (entry_text sum e) rest in
-    let size = entry_text_many sum e is in
-    elim cut [
-      | inl short ↦ omega (arith, short, many, both, size)
-      | inr found ↦
-          let same : found.0 ≡ mark_of e =
-          same_mark sum text found.0 (mark_of e) found.1.count found.1.bytes found.1.line (mark_many e) (mark_bytes e) (line_stands sum e text rest t) in
-          let sizes : entry_size found.0 ≡ entry_size (mark_of e) = ap entry_size same in
-          omega (arith, found.2, sizes, size, many, both)
-    ]
-
 -- ---- entries
 
--- entries that end in less than an entry begin with the entries of any other reading of the text
+-- entries that end torn begin with the entries of any other reading of the text
 pub others_are_more : (sum : ℕ) (entries others : List PlainEntry) (rest left : List ℕ) → AllByRecursion IsEntry entries → AllByRecursion IsEntry others
-    → entries_text sum entries ++ rest ≡ entries_text sum others ++ left → IsCutOff (sum_after_all sum entries) rest
+    → entries_text sum entries ++ rest ≡ entries_text sum others ++ left → IsTorn (sum_after_all sum entries) rest
     → (more : List PlainEntry) × AllByRecursion IsEntry more × (entries ≡ others ++ more) × (left ≡ entries_text (sum_after_all sum others) more ++ rest)
 others_are_more sum entries [] rest left are others_are same cut = (entries, are, refl, sym same)
 others_are_more sum [] (f ∷ others) rest left are others_are same cut =
-    absurd (cut_off_is_no_entry sum f (entries_text (sum_after sum f) others ++ left) rest others_are.0
+    absurd (torn_is_no_entry sum f (entries_text (sum_after sum f) others ++ left) rest others_are.0
     (same ∙ append_assoc (entry_text sum f) (entries_text (sum_after sum f) others) left) cut)
 others_are_more sum (e ∷ entries) (f ∷ others) rest left are others_are same cut =
     let one = same_entry sum e f (entries_text (sum_after sum e) entries ++ rest) (entries_text (sum_after sum f) others ++ left) are.0 others_are.0
@@ -96,7 +82,7 @@ others_are_more sum (e ∷ entries) (f ∷ others) rest left are others_are same
     ∙ append_assoc (entry_text sum f) (entries_text (sum_after sum f) others) left) in
     let next : entries_text (sum_after sum f) entries ++ rest ≡ entries_text (sum_after sum f) others ++ left =
     ap (λ (g : PlainEntry). entries_text (sum_after sum g) entries ++ rest) (sym one.0) ∙ one.1 in
-    let end : IsCutOff (sum_after_all (sum_after sum f) entries) rest =
-    subst (λ (g : PlainEntry). IsCutOff (sum_after_all (sum_after sum g) entries) rest) one.0 cut in
+    let end : IsTorn (sum_after_all (sum_after sum f) entries) rest =
+    subst (λ (g : PlainEntry). IsTorn (sum_after_all (sum_after sum g) entries) rest) one.0 cut in
     let found = others_are_more (sum_after sum f) entries others rest left are.1 others_are.1 next end in
     (found.0, found.1, ap (λ (g : PlainEntry). g ∷ entries) one.0 ∙ ap (λ (l : List PlainEntry). f ∷ l) found.2, found.3)

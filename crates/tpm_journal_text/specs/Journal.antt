@@ -1,9 +1,9 @@
 -- The entries of a journal one after another, and how their text ends.
-use Rattle.std.specs.Prelude.{◌≡◌, ℕ, ◌≤◌, ◌<◌, ◌⊎◌, List, [], ◌∷◌, ◌++◌, length, take}
+use Rattle.std.specs.Prelude.{◌≡◌, ℕ, ◌≤◌, ◌<◌, ◌⊎◌, List, [], ◌∷◌, ◌++◌, length, replicate, take}
 use Rattle.tpm_bytes.specs.Reading.{AreBytes}
 use Rattle.tpm_journal_text.specs.Entry.{IsEntry, PlainEntry, entry_size, entry_text, mark_line}
 use Rattle.tpm_journal_text.specs.declared.reading.Next.{Next}
-use Rattle.tpm_journal_text.specs.declared.reading.Next.TheVariants.{Whole, CutOff, Damaged}
+use Rattle.tpm_journal_text.specs.declared.reading.Next.TheVariants.{Whole, Torn, Damaged}
 use Rattle.tpm_journal_text.specs.Entry.{plain_entry, mark_line_size, mark_size, sum_after}
 
 -- the text of entries, where `sum` is the sum of the marks before the first
@@ -29,17 +29,32 @@ IsCutOff sum text =
     (length text < mark_line_size)
     ⊎ ((mark : List ℕ) × BeginsWithMark sum mark text × (length text < entry_size mark))
 
--- A text is neither cut off nor begins with an entry.
+-- A text is torn: it is less than an entry, and zeros after that, or nothing. A process that is
+-- killed leaves less than an entry, and a crash of the host may leave zeros in place of the rest.
+pub record IsTorn (sum : ℕ) (text : List ℕ) : Type 0 where
+  pub front : List ℕ
+  pub zeros : ℕ
+  pub is : text ≡ front ++ replicate zeros 0
+  pub cut_off : IsCutOff sum front
+
+-- A text has fewer bytes than `size`, if zeros at its end do not count.
+pub record HasFewer (size : ℕ) (text : List ℕ) : Type 0 where
+  pub front : List ℕ
+  pub zeros : ℕ
+  pub is : text ≡ front ++ replicate zeros 0
+  pub fewer : length front < size
+
+-- A text is not torn, and does not begin with an entry.
 pub record IsDamaged (sum : ℕ) (text : List ℕ) : Type 0 where
-  pub not_cut_off : IsCutOff sum text → ⊥
+  pub not_torn : IsTorn sum text → ⊥
   pub no_entry : (e : PlainEntry) (rest : List ℕ) → IsEntry e → text ≡ entry_text sum e ++ rest → ⊥
 
--- What was found at the front of a text: an entry, its size and the sum after it; or less than an
--- entry; or damage.
+-- What was found at the front of a text: an entry, its size and the sum after it; or the text is
+-- torn; or it is damaged.
 abbrev pub Finds : (sum : ℕ) → List ℕ → Next → Type 0
 Finds sum text (Whole entry size after) =
     IsEntry (plain_entry entry) × (size ≤ length text)
     × (take size text ≡ entry_text sum (plain_entry entry))
     × (after ≡ sum_after sum (plain_entry entry))
-Finds sum text CutOff = IsCutOff sum text
+Finds sum text Torn = IsTorn sum text
 Finds sum text Damaged = IsDamaged sum text

@@ -10,6 +10,7 @@ ghost use Rattle.tpm_journal_text.specs.Journal.{Finds};
 
 use crate::entry::{ENTRY_LIMIT, ENTRY_ROOM, ENTRY_WORD, Entry};
 use crate::marked::read_marked_line;
+use crate::torn::has_fewer;
 use tpm_bytes::is_equal;
 use tpm_hex::decode;
 
@@ -32,9 +33,9 @@ pub enum Next<'a> {
         size: usize,
         sum: u64,
     },
-    /// Less than an entry.
-    CutOff,
-    /// The text has as many bytes as its first line says, but is no entry.
+    /// Less than an entry, and after that zeros up to the end, if anything.
+    Torn,
+    /// Neither an entry nor what a crash leaves of one.
     Damaged,
 }
 
@@ -139,15 +140,15 @@ pub fn read_entry<'a>(
 ) -> Next<'a>
     ensures { Finds sum text.now result }
 {
-    if text.len() < MARK_LINE_SIZE {
-        return Next::CutOff;
+    if has_fewer(text, MARK_LINE_SIZE) {
+        return Next::Torn;
     }
     let mut mark = [0; MARK_SIZE];
     let Some(_) = read_marked_line(text, ENTRY_WORD, sum, &mut mark) else {
         return Next::Damaged;
     };
-    if text.len() < size_told(&mark) {
-        return Next::CutOff;
+    if has_fewer(text, size_told(&mark)) {
+        return Next::Torn;
     }
     let Some(entry) = entry_behind(&mark, text, bytes) else {
         return Next::Damaged;

@@ -7,7 +7,7 @@ use Rattle.std.proofs.lemmas.List.{length-take-le}
 use Rattle.std.proofs.lemmas.Grind.{flat_map-append}
 use Rattle.tpm_record.specs.Record.{Record}
 use Rattle.tpm_journal_text.specs.Entry.{PlainEntry, entry_text, executing_lines, mark_line, mark_of, setting_lines}
-use Rattle.tpm_journal_text.specs.Journal.{IsCutOff, IsDamaged}
+use Rattle.tpm_journal_text.specs.Journal.{IsTorn, IsDamaged}
 use Rattle.tpm_journal_text.proofs.Standing.{mark_line_many, mark_many}
 use Rattle.tpm_journal.specs.Replay.{Performance, Performs}
 use Rattle.tpm_journal.specs.Retelling.{Retells, RetellsEntries, comment_of, retold}
@@ -107,16 +107,16 @@ told_otherwise can before old text left taken mid here size one after held at ho
 
 told_cut_here : (can : Bool) (before : Journal) (old : Record) (text : List ℕ) (taken : ℕ) (mid : Journal) (here : Record)
     (after : Journal) (new : Record) (held holds : Option (List ℕ)) → Retells can before old text held holds taken None mid here
-    → IsCutOff mid.sum (drop taken text) × (after ≡ mid) × (new ≡ here)
+    → IsTorn mid.sum (drop taken text) × (after ≡ mid) × (new ≡ here)
     → RetellsEntries can before old text held holds (record { taken = taken; fault = None }) after new
 told_cut_here can before old text taken mid here after new held holds r end =
     rw (end.1, end.2) (record { replays = record { repeats = r.repeats; ends = end.0 }; told = r.told })
 
-pub told_cut : (can : Bool) (before : Journal) (old : Record) (text left : List ℕ) (taken : ℕ) (mid : Journal) (here : Record)
+pub told_torn : (can : Bool) (before : Journal) (old : Record) (text left : List ℕ) (taken : ℕ) (mid : Journal) (here : Record)
     (after : Journal) (new : Record) (held holds : Option (List ℕ)) (followed : Followed) → left ≡ drop taken text
     → followed ≡ record { taken = taken; fault = None } → Retells can before old text held holds taken None mid here
-    → IsCutOff mid.sum left × (after ≡ mid) × (new ≡ here) → RetellsEntries can before old text held holds followed after new
-told_cut can before old text left taken mid here after new held holds followed is ends r =
+    → IsTorn mid.sum left × (after ≡ mid) × (new ≡ here) → RetellsEntries can before old text held holds followed after new
+told_torn can before old text left taken mid here after new held holds followed is ends r =
     rw (is, ends) (told_cut_here can before old text taken mid here after new held holds r)
 
 damaged : (can : Bool) (before : Journal) (old : Record) (text : List ℕ) (taken : ℕ) (mid : Journal) (here : Record)

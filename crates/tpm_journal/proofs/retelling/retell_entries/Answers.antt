@@ -1,5 +1,5 @@
 use Rattle.std.proofs.Common.{rules, arith}
-use Rattle.tpm_journal.proofs.retelling.Telling.{long_enough, told_cut, told_damaged, told_more, told_none, told_otherwise}
+use Rattle.tpm_journal.proofs.retelling.Telling.{long_enough, told_torn, told_damaged, told_more, told_none, told_otherwise}
 use Rattle.tpm_journal.proofs.retelling.Words.{can_be_told}
 use Rattle.tpm_journal.proofs.retelling.retell_entries.Goals as goal
 
@@ -38,9 +38,9 @@ pub returns-in-Otherwise-clause-told : goal.returns-in-Otherwise-clause-told
 returns-in-Otherwise-clause-told g c =
     told_otherwise _ _ _ _ _ _ _ _ _ _ _ _ _ _ _ c.split_at.ensures.back c.ended.ensures c.loop-entry.invariant c.in-Otherwise.ensures (search rules)
 
-pub returns-in-CutOff-clause-told : goal.returns-in-CutOff-clause-told
-returns-in-CutOff-clause-told g c =
-    told_cut _ _ _ _ _ _ _ _ _ _ _ _ _ c.split_at.ensures.back c.ended-in-CutOff.ensures c.loop-entry.invariant c.in-CutOff.ensures
+pub returns-in-Torn-clause-told : goal.returns-in-Torn-clause-told
+returns-in-Torn-clause-told g c =
+    told_torn _ _ _ _ _ _ _ _ _ _ _ _ _ c.split_at.ensures.back c.ended-in-Torn.ensures c.loop-entry.invariant c.in-Torn.ensures
 
 pub returns-in-Damaged-clause-told : goal.returns-in-Damaged-clause-told
 returns-in-Damaged-clause-told g c =
