@@ -1,4 +1,4 @@
-"""Compares the public calls that were asked for with the crates, and with docs/CALLS.md:
+"""Compares the public calls that were asked for with the crates, and with docs/DECISIONS.md:
 
     python3 tests/common/public_calls.py ASKED PAGE FOLDER
 

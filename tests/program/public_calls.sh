@@ -1,5 +1,5 @@
 # The crates, calls and types that were asked for (public_calls.txt) are there under their names, or
-# docs/CALLS.md says what stands for them, and says no more than that. Then each kind of difference is
+# docs/DECISIONS.md says what stands for them, and says no more than that. Then each kind of difference is
 # made in two small crates, and reported.
 # shellcheck disable=SC2016 # the backquotes are those of a page
 tests=$(cd "$(dirname "$0")/.." && pwd -P)
@@ -13,8 +13,8 @@ compare() {
     echo "status $?"
 }
 
-echo '== docs/CALLS.md'
-compare "$tests/program/public_calls.txt" "$top/docs/CALLS.md" "$top"
+echo '== docs/DECISIONS.md'
+compare "$tests/program/public_calls.txt" "$top/docs/DECISIONS.md" "$top"
 
 mkdir -p right/crates/one/src right/crates/two/src
 cd right || exit 1
