@@ -4,19 +4,15 @@
 use crate::fault::DeviceFault;
 use crate::folder::folder_of;
 use crate::image_lock::ImageLock;
-use std::fs::{File, OpenOptions};
+use crate::owner_file::create_for_owner;
+use std::fs::File;
 use std::io::ErrorKind;
-use std::os::unix::fs::OpenOptionsExt;
 use std::{fs, io};
 use tpm_bytes::Tap;
 use tpm_image::{open, save};
 use tpm_machine::Machine;
 use tpm_record::Keep;
 use tpm_slots::SlotKeep;
-
-/// The permissions of an image: its owner alone reads and writes it, since it has the device's
-/// seeds and every authorization value.
-const OWNER_ALONE: u32 = 0o600;
 
 /// The file of an image, which no other run has while this value is there. It has the paths that a
 /// save needs, so that a save takes no memory: once a device is served, it is not lost for want of
@@ -100,11 +96,7 @@ fn create_anew(rt: &HostRuntime, path: &str) -> io::Result<File> {
         Err(error) if error.kind() != ErrorKind::NotFound => return Err(error),
         _ => {}
     }
-    OpenOptions::new()
-        .write(true)
-        .create_new(true)
-        .mode(OWNER_ALONE)
-        .open(rt, path)
+    create_for_owner(rt, path)
 }
 
 /// Renames a file to another path of its folder, and forces the folder to the disk. The folder is

@@ -1,13 +1,9 @@
 //! The lock of an image: only one run on an image goes on at a time.
 
+use crate::owner_file::create_for_owner;
 use std::fs::{File, OpenOptions};
 use std::io;
 use std::io::ErrorKind;
-use std::os::unix::fs::OpenOptionsExt;
-
-/// The permissions of the file: whoever may open the file may lock it, and so keep the image from
-/// its owner.
-const OWNER_ALONE: u32 = 0o600;
 
 /// A lock that nobody else holds while this value is there. It is a lock on an open file, so that
 /// the system takes it back when the process ends, however that comes.
@@ -27,16 +23,11 @@ impl ImageLock {
     }
 }
 
-/// The file at a path, which is made where it is missing, but not through a link. The file is
+/// The file at a path, which is made where it is missing, but not through a link. Its owner alone
+/// may open it, since whoever opens it may lock it, and so keep the image from its owner. It is
 /// opened to be read and written, so that a pipe there does not wait for its other end.
 fn open_or_create(rt: &HostRuntime, path: &str) -> io::Result<File> {
-    let made = OpenOptions::new()
-        .read(true)
-        .write(true)
-        .create_new(true)
-        .mode(OWNER_ALONE)
-        .open(rt, path);
-    match made {
+    match create_for_owner(rt, path) {
         Err(error) if error.kind() == ErrorKind::AlreadyExists => {
             OpenOptions::new().read(true).write(true).open(rt, path)
         }

@@ -3,7 +3,7 @@
 //! A device that is kept in an image: the image's file and its lock ([`image_file`],
 //! [`image_lock`]), its savers ([`image_saver`], [`command_saver`]), and the serving of it on a
 //! socket ([`serving`]), with a log where one is asked for ([`log`]), in a file of its own
-//! ([`log_file`]).
+//! ([`log_file`]). All of these files are their owner's alone ([`owner_file`]).
 //!
 //! What the device is given comes from the host: random bytes from a file ([`entropy`]), the time
 //! that has passed ([`stopwatch`]), and both together for each command ([`source`]). The socket
@@ -22,6 +22,7 @@ mod image_lock;
 pub mod image_saver;
 pub mod log;
 mod log_file;
+mod owner_file;
 pub mod serving;
 pub mod socket;
 pub mod source;

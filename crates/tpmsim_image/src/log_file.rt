@@ -2,16 +2,12 @@
 
 use crate::fault::DeviceFault;
 use crate::log::Log;
-use std::fs::{File, OpenOptions};
+use crate::owner_file::create_for_owner;
+use std::fs::File;
 use std::io;
-use std::os::unix::fs::OpenOptionsExt;
 use std::time::{SystemTime, UNIX_EPOCH};
 use tpm_machine::Machine;
 use tpm_record::Keep;
-
-/// The permissions of a log: its owner alone reads and writes it, since its head has the device's
-/// seeds and every authorization value, as an image does.
-const OWNER_ALONE: u32 = 0o600;
 
 /// Makes the file of a log at this path, where nothing may be yet, not even a link, and begins the
 /// log of a device as power came on.
@@ -21,16 +17,8 @@ pub fn begin_log<K: Keep>(
     machine: &Machine<K>,
 ) -> Result<Log<File>, DeviceFault> {
     let now_ms = DeviceFault::File.unless(clock_ms(rt))?;
-    let file = DeviceFault::File.unless(create(rt, path))?;
+    let file = DeviceFault::File.unless(create_for_owner(rt, path))?;
     Log::begin(file, machine, now_ms).map_err(|_| DeviceFault::File)
-}
-
-fn create(rt: &HostRuntime, path: &str) -> io::Result<File> {
-    OpenOptions::new()
-        .write(true)
-        .create_new(true)
-        .mode(OWNER_ALONE)
-        .open(rt, path)
 }
 
 /// The host's clock in milliseconds since 1970, or 0 where it is set to an earlier time.

@@ -62,7 +62,7 @@ fn bind_aside(rt: &HostRuntime, path: &str) -> io::Result<Socket> {
     let front = folder_of(path);
     let folder = format!(in rt.alloc(); "{front}.")?;
     let aside = Aside::make(rt, front)?;
-    let bound = bind_in_folder(rt, aside.socket.as_str(), path, folder.as_str());
+    let bound = bind_in_folder(rt, &aside, path, folder.as_str());
     let _ = fs::remove_file(rt, aside.socket.as_str());
     let _ = fs::remove_dir(rt, aside.folder.as_str());
     bound
@@ -75,6 +75,9 @@ struct Aside {
     socket: String,
 }
 
+/// The permissions of the folder, which its owner alone may enter.
+const FOLDER_MODE: u32 = 0o700;
+
 /// How many names are tried for a folder beside the socket.
 const FOLDERS: u8 = 100;
 
@@ -86,7 +89,10 @@ impl Aside {
         for number in 0..FOLDERS {
             let folder = format!(in rt.alloc(); "{front}.{number}")?;
             let socket = format!(in rt.alloc(); "{folder}/s")?;
-            match DirBuilder::new().mode(0o700).create(rt, folder.as_str()) {
+            match DirBuilder::new()
+                .mode(FOLDER_MODE)
+                .create(rt, folder.as_str())
+            {
                 Ok(()) => return Ok(Aside { folder, socket }),
                 Err(error) if error.kind() == ErrorKind::AlreadyExists => {}
                 Err(error) => return Err(error),
@@ -96,8 +102,15 @@ impl Aside {
     }
 }
 
-/// Binds a socket to the path aside, and gives it the other path too, which is in this folder.
-fn bind_in_folder(rt: &HostRuntime, aside: &str, path: &str, folder: &str) -> io::Result<Socket> {
+/// Binds a socket in the folder aside, whatever the umask is, and gives it the other path too, which
+/// is in this folder.
+fn bind_in_folder(rt: &HostRuntime, aside: &Aside, path: &str, folder: &str) -> io::Result<Socket> {
+    fs::set_permissions(
+        rt,
+        aside.folder.as_str(),
+        Permissions::from_mode(FOLDER_MODE),
+    )?;
+    let aside = aside.socket.as_str();
     let listener = UnixListener::bind(rt, aside)?;
     fs::set_permissions(rt, aside, Permissions::from_mode(0o600))?;
     let identity = identity_at(rt, aside)?;

@@ -40,6 +40,8 @@ class ImageFile:
         flags = os.O_RDWR | os.O_CREAT | os.O_CLOEXEC | os.O_NOFOLLOW
         self.lock = opened(f"{self.path}.lock", flags)
         HELD.add(self)
+        if os.fstat(self.lock.fileno()).st_uid == os.geteuid():
+            os.fchmod(self.lock.fileno(), OWNER_ALONE)
         try:
             fcntl.flock(self.lock, fcntl.LOCK_EX | fcntl.LOCK_NB)
         except BlockingIOError:
@@ -68,6 +70,7 @@ class ImageFile:
         beside.unlink(missing_ok=True)
         flags = os.O_WRONLY | os.O_CREAT | os.O_EXCL | os.O_CLOEXEC
         with open(os.open(beside, flags, OWNER_ALONE), "wb") as file:
+            os.fchmod(file.fileno(), OWNER_ALONE)  # the umask may have taken what its owner needs
             file.write(image)
             file.flush()
             os.fsync(file.fileno())

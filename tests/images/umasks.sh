@@ -1,0 +1,29 @@
+# What the program makes is its owner's to read and write, and nobody else's, whatever the umask is: an
+# image with its lock, a log, the socket, and the state of a kept device. Without that the next run of
+# a user who is not root has no device.
+tests=$(cd "$(dirname "$0")/.." && pwd -P)
+. "$tests/common/cases.sh"
+needs python3
+
+echo 'do Startup 0' >script
+head -c 4096 /dev/zero >entropy
+: >"$room/output"
+for mask in 000 022 077 277 777; do
+    mkdir "$mask" && cd "$mask" || exit 1
+    (
+        umask "$mask"
+        "$program" run --image image ../script >"$room/output"
+        "$program" run --state state ../script >"$room/output"
+        "$program" serve --socket socket --image served --log log --entropy ../entropy --locality 0 \
+            --connections 1 &
+        tries=0
+        until [ -S socket ] || [ $((tries += 1)) -gt 1000 ]; do sleep 0.01; done
+        stat -c '%n %a' socket
+        python3 "$tests/common/client.py" socket 4096 80010000000c000001440000 >"$room/output"
+        wait
+    ) >modes 2>"$room/error"
+    cat "$room/error"
+    stat -c '%n %a' image image.lock served served.lock log state state/journal state/lock >>modes
+    echo "umask $mask: $(paste -s -d, modes)"
+    cd .. || exit 1
+done

@@ -1,0 +1,25 @@
+# What a device in Python makes is its user's to read and write, and nobody else's, whatever the umask
+# is: an image with its lock, and a kept device. Without that the next process of a user who is not root
+# has no device.
+tests=$(cd "$(dirname "$0")/.." && pwd -P)
+. "$tests/common/cases.sh"
+. "$tests/common/library.sh"
+needs python3
+
+for mask in 000 022 277 777; do
+    mkdir "$mask" && cd "$mask" || exit 1
+    (
+        umask "$mask"
+        TPMSIM_LIBRARY=$shared python3 -c '
+from tpmsim.device.kept import KeptDevice
+from tpmsim.device.library import LibraryDevice
+
+with LibraryDevice("image") as device:
+    device.execute(b"")
+with KeptDevice("state") as device:
+    device.execute(b"")
+'
+    )
+    echo "umask $mask: $(stat -c '%n %a' image image.lock state state/journal state/lock | paste -s -d,)"
+    cd .. || exit 1
+done
