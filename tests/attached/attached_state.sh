@@ -56,5 +56,5 @@ echo 'a last entry that is not whole'
 truncate -s -20 another/journal
 "$room/ask" state=another "$read" | cut -c 1-20
 truncate -s -20 another/journal
-"$shipped" run --state another script | cut -c 1-20
+"$shipped" run --state another script 2>&1 | sed "s/^\(80[0-9a-f]\{18\}\).*/\1/"
 grep -c '^cmd' another/journal

@@ -70,13 +70,13 @@ damage 'no journal' 'text = b"something else\n"'
 damage 'an empty file' 'text = b""'
 damage 'a random byte turned' 'text = text.replace(b"entropy 00000000\n", b"entropy 00000001\n")'
 
-# The last entry is not whole: it was not answered, and is cut away before the next one is written.
+# The last entry is not whole: it was not answered, and is cut off before the next one is written.
 for count in 1 40 100 180; do
     rm -rf state && cp -R kept state
     truncate -s "-$count" state/journal
     "$program" script state >told || echo 'there is no script'
     echo "$count bytes cut: $(grep -c '^cmd' told) told"
-    "$program" run --state state one >"$room/output"
-    grep -c '^cmd' state/journal
+    "$program" run --state state one >"$room/output" 2>"$room/error"
+    echo "the next run: $(told "$room/error"), $(grep -c '^cmd' state/journal) in the journal"
     "$program" script state | tail -n 1
 done

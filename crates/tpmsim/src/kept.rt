@@ -18,6 +18,7 @@ mod playing;
 mod said;
 mod serving;
 mod stop;
+mod tail;
 
 pub use folder::Kept;
 pub use playing::play;

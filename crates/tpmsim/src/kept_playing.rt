@@ -13,10 +13,10 @@ use tpmsim_folder::{Force, Place, Said};
 use tpmsim_image::Entropy;
 use tpmsim_script::first_bytes;
 
-/// Takes power away from the device in a folder, and gives it back.
-pub fn cycle_power(rt: &HostRuntime, folder: &str) -> Result<(), Fault> {
+/// Cycles the power of the device in a folder; with `cuts` also if its journal is damaged.
+pub fn cycle_power(rt: &HostRuntime, folder: &str, cuts: bool) -> Result<(), Fault> {
     let mut kept = open_there(rt, folder)?;
-    Ok(kept.cycle_power()?)
+    Ok(kept.cycle_power(cuts)?)
 }
 
 /// Prints what happened to the device in a folder since its power came on, as a script.

@@ -72,7 +72,7 @@ fn perform(rt: &HostRuntime, arguments: &Arguments<'_>) -> Result<(), Fault> {
         Arguments::Forms { name } => print_forms(rt, *name),
         Arguments::Code { digits } => print_code(rt, digits),
         Arguments::Serve(service) => serve_in_place(rt, service),
-        Arguments::Power { state } => cycle_power(rt, state),
+        Arguments::Power { state, cuts } => cycle_power(rt, state, *cuts),
         Arguments::Retell { state } => print_script(rt, state),
         Arguments::Tell(text) => Fault::File.unless(print!(rt; "{text}")),
     }

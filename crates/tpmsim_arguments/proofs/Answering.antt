@@ -68,9 +68,9 @@ no_service : (kind : ErrorKind) (service : Option Served) → option_map serve s
 no_service kind None e = cc
 no_service kind (Some s) e = cc
 
-no_power : (kind : ErrorKind) (state : Option Text) → option_map cycle_power state ≡ Some (tell kind) → ⊥
-no_power kind None e = cc
-no_power kind (Some text) e = cc
+no_power : (kind : ErrorKind) (cuts : Bool) (state : Option Text) → option_map (λ text. cycle_power text cuts) state ≡ Some (tell kind) → ⊥
+no_power kind cuts None e = cc
+no_power kind cuts (Some text) e = cc
 
 no_script : (kind : ErrorKind) (state : Option Text) → option_map retell state ≡ Some (tell kind) → ⊥
 no_script kind None e = cc
@@ -90,7 +90,7 @@ none_tells kind (Some command) e =
     (otherwise (tell kind) (bytes_eq command.0 (codes "lines")) _ _ (no_forms kind (first_of (codes "name") rows))
     (otherwise (tell kind) (bytes_eq command.0 (codes "code")) _ _ (no_code kind (first_of (codes "number") rows))
     (otherwise (tell kind) (bytes_eq command.0 (codes "serve")) _ _ (no_service kind (service_in rows))
-    (otherwise (tell kind) (bytes_eq command.0 (codes "power")) _ _ (no_power kind (first_of (codes "state") rows))
+    (otherwise (tell kind) (bytes_eq command.0 (codes "power")) _ _ (no_power kind (is_set (codes "cut") rows) (first_of (codes "state") rows))
     (otherwise (tell kind) (bytes_eq command.0 (codes "script")) _ _ (no_script kind (first_of (codes "state") rows)) (unknown kind))))))))) e
 
 -- the answer where clap takes the words, and its matches are read
@@ -103,7 +103,7 @@ taken words (Ok (arguments.Spell digits)) right e = (right, found_is _ _ e)
 taken words (Ok (arguments.Forms name)) right e = (right, found_is _ _ e)
 taken words (Ok (arguments.Code digits)) right e = (right, found_is _ _ e)
 taken words (Ok (arguments.Serve service)) right e = (right, found_is _ _ e)
-taken words (Ok (arguments.Power state)) right e = (right, found_is _ _ e)
+taken words (Ok (arguments.Power state cuts)) right e = (right, found_is _ _ e)
 taken words (Ok (arguments.Retell state)) right e = (right, found_is _ _ e)
 taken words (Ok (arguments.Tell error)) right e = absurd (none_tells _ (subcommand_of program words) (found_is _ _ e))
 taken words (Err Usage) right e = inr (right, not_found _ e)

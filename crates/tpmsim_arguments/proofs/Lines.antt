@@ -8,7 +8,7 @@ use Rattle.clap.proofs.OnLiterals.{clap_on_literals}
 use Rattle.tpm_number.specs.Number.{decimal_of, locality_of}
 use Rattle.tpmsim_arguments.specs.Answers.{AreTaken}
 use Rattle.tpmsim_arguments.specs.Invocation.{Invocation, Kept, asked_by, assemble, check, cycle_power, forms, in_image, in_state, name_code, retell, run, serve, spell}
-use Rattle.tpmsim_arguments.specs.Lines.{AskFor, AskForDevice, AskForSavedDevice, AskForService, IsScript, asm_line, begins_with_hyphen, check_line, code_line, form_line, forms_line, line_line, logging_line, played_line, power_line, joined_line, saving_line, script_line, state_line}
+use Rattle.tpmsim_arguments.specs.Lines.{AskFor, AskForDevice, AskForSavedDevice, AskForService, IsScript, asm_line, begins_with_hyphen, check_line, code_line, cut_line, form_line, forms_line, line_line, logging_line, played_line, power_line, joined_line, saving_line, script_line, state_line}
 
 -- a word that begins with no hyphen is not the name of an argument
 no_hyphen : (word : Text) → begins_with_hyphen word ≡ false → strip_byte 45 word ≡ None
@@ -50,9 +50,13 @@ unfolding clap_on_literals
 script_is_checked name script (inl e) = rw (no_end script e, no_long script e, no_short script e) (refl, refl)
 script_is_checked name script (inr e) = rw e (refl, refl)
 
-pub power_is_cycled : (name state : Text) → begins_with_hyphen state ≡ false → AskFor (power_line name state) (cycle_power state)
+pub power_is_cycled : (name state : Text) → begins_with_hyphen state ≡ false → AskFor (power_line name state) (cycle_power state false)
 unfolding clap_on_literals
 power_is_cycled name state e = rw (no_end state e, no_long state e, no_short state e) (refl, refl)
+
+pub damage_is_cut : (name state : Text) → begins_with_hyphen state ≡ false → AskFor (cut_line name state) (cycle_power state true)
+unfolding clap_on_literals
+damage_is_cut name state e = rw (no_end state e, no_long state e, no_short state e) (refl, refl)
 
 pub script_is_retold : (name state : Text) → begins_with_hyphen state ≡ false → AskFor (script_line name state) (retell state)
 unfolding clap_on_literals

@@ -65,9 +65,9 @@ serve_command = with_arguments (codes "serve") (setting (codes "socket")
     ∷ setting (codes "entropy") ∷ setting (codes "locality") ∷ setting (codes "connections")
     ∷ flag (codes "save-each") ∷ [])
 
--- the command power DIR
+-- the command power [--cut] DIR
 abbrev pub power_command : Shape
-power_command = with_arguments (codes "power") (operand (codes "state") ∷ [])
+power_command = with_arguments (codes "power") (flag (codes "cut") ∷ operand (codes "state") ∷ [])
 
 -- the command script DIR
 abbrev pub script_command : Shape

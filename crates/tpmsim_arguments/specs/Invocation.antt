@@ -40,8 +40,8 @@ pub record Stored : Type 0 where
 -- kept or on one that is not; to check the lines of a script; to print the buffer of a line; to
 -- print the line of a buffer; to print how the command of a name is said in words, or how each
 -- command is; to print what a response code says; to serve a device; to cycle the power of the
--- device in a folder; to print what happened to it as a script; to tell a text of clap's, its help
--- or the version
+-- device in a folder, with what follows damage dropped or not; to print what happened to it as a
+-- script; to tell a text of clap's, its help or the version
 pub data Invocation : Type 0 where
   run : Text → Bool → Option Stored → Invocation
   check : Text → Invocation
@@ -50,7 +50,7 @@ pub data Invocation : Type 0 where
   forms : Option Text → Invocation
   name_code : Text → Invocation
   serve : Served → Invocation
-  cycle_power : Text → Invocation
+  cycle_power : Text → (cuts : Bool) → Invocation
   retell : Text → Invocation
   tell : ErrorKind → Invocation
 
@@ -129,6 +129,10 @@ run_in rows = do
   storage ← storage_in rows
   Some (run script (is_set (codes "trace") rows) storage)
 
+abbrev pub power_in : List Row → Option Invocation
+power_in rows =
+    option_map (λ state. cycle_power state (is_set (codes "cut") rows)) (first_of (codes "state") rows)
+
 -- what a command of this name asks for, with these matches of clap's
 abbrev pub asked_of : Text → List Row → Option Invocation
 asked_of name rows = if bytes_eq name (codes "run") then run_in rows
@@ -138,8 +142,7 @@ asked_of name rows = if bytes_eq name (codes "run") then run_in rows
     else (if bytes_eq name (codes "lines") then Some (forms (first_of (codes "name") rows))
     else (if bytes_eq name (codes "code") then option_map name_code (first_of (codes "number") rows)
     else (if bytes_eq name (codes "serve") then option_map serve (service_in rows)
-    else (if bytes_eq name (codes "power")
-    then option_map cycle_power (first_of (codes "state") rows)
+    else (if bytes_eq name (codes "power") then power_in rows
     else (if bytes_eq name (codes "script")
     then option_map retell (first_of (codes "state") rows) else None))))))))
 
@@ -181,6 +184,6 @@ asked (arguments.Spell digits) = spell digits.now
 asked (arguments.Forms name) = forms (option_map (λ name. name.now) name)
 asked (arguments.Code digits) = name_code digits.now
 asked (arguments.Serve service) = serve (served service)
-asked (arguments.Power state) = cycle_power state.now
+asked (arguments.Power state cuts) = cycle_power state.now cuts
 asked (arguments.Retell state) = retell state.now
 asked (arguments.Tell error) = tell (kind_of error)

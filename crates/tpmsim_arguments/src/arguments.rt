@@ -52,9 +52,11 @@ pub enum Arguments<'a> {
     },
     /// To serve a device on a socket, with these settings.
     Serve(Service<'a>),
-    /// To cycle the power of the device whose state is in this folder.
+    /// To cycle the power of the device whose state is in this folder; with `cuts`, also if its
+    /// journal is damaged, from the last whole record before the damage.
     Power {
         state: &'a str,
+        cuts: bool,
     },
     /// To print what happened to the device whose state is in this folder, as a script.
     Retell {
@@ -110,6 +112,7 @@ impl<'a> Arguments<'a> {
             "serve" => Some(Arguments::Serve(service_of(options)?)),
             "power" => Some(Arguments::Power {
                 state: value(options, "state")?,
+                cuts: is_set(options, "cut"),
             }),
             "script" => Some(Arguments::Retell {
                 state: value(options, "state")?,

@@ -302,14 +302,15 @@ fn setting<'a>(alloc: Global, name: &'a str, value: &'a str, help: &'a str) -> A
 fn power_command<'a>(alloc: Global) -> Result<Command<'a>, AllocError>
     ensures { IfOk result (λ command. shape_of command ≡ power_command) }
 {
-    let argument = operand(alloc, "state", "DIR", "The folder of the device's state");
-    one_argument_command(
-        alloc,
-        "power",
-        "Cycles the power of a device whose state is in a folder",
-        "Example: tpmsim power tpm",
-        argument,
-    )
+    Command::new(alloc, "power")
+        .about("Cycles the power of a device whose state is in a folder")
+        .after_help("Example: tpmsim power tpm")
+        .arg(flag(
+            alloc,
+            "cut",
+            "Drops what follows the last whole record before damage, and says how much that is",
+        ))?
+        .arg(operand(alloc, "state", "DIR", "The folder of the device's state"))
 }
 
 fn script_command<'a>(alloc: Global) -> Result<Command<'a>, AllocError>

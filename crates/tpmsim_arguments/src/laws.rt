@@ -6,7 +6,7 @@ ghost use Rattle.tpmsim_arguments.specs.Invocation.{in_state, name_code, retell,
 ghost use Rattle.tpmsim_arguments.specs.Lines.{AskFor, AskForDevice, AskForSavedDevice};
 ghost use Rattle.tpmsim_arguments.specs.Lines.{AskForService, IsScript, NoneBeginsWithHyphen};
 ghost use Rattle.tpmsim_arguments.specs.Lines.{asm_line, begins_with_hyphen, check_line, code_line};
-ghost use Rattle.tpmsim_arguments.specs.Lines.{form_line, forms_line, joined_line, kept_line};
+ghost use Rattle.tpmsim_arguments.specs.Lines.{cut_line, form_line, forms_line, joined_line, kept_line};
 ghost use Rattle.tpmsim_arguments.specs.Lines.{line_line, logging_line, played_line, power_line};
 ghost use Rattle.tpmsim_arguments.specs.Lines.{run_line, saving_line, script_line, serve_line};
 ghost use Rattle.tpmsim_arguments.specs.Lines.{state_line, trace_line};
@@ -31,7 +31,9 @@ pub fn usual_line_laws()
     ensures check { (name script : List ℕ) → IsScript script
         → AskFor (check_line name script) (check script) }
     ensures power { (name state : List ℕ) → begins_with_hyphen state ≡ false
-        → AskFor (power_line name state) (cycle_power state) }
+        → AskFor (power_line name state) (cycle_power state false) }
+    ensures cut { (name state : List ℕ) → begins_with_hyphen state ≡ false
+        → AskFor (cut_line name state) (cycle_power state true) }
     ensures script { (name state : List ℕ) → begins_with_hyphen state ≡ false
         → AskFor (script_line name state) (retell state) }
     ensures kept { (name image entropy script : List ℕ) → IsScript script

@@ -45,7 +45,10 @@ pub struct Folder {
     lock: String,
     /// The user who runs the process.
     user: u32,
-    pub was_made: bool,
+    /// Whether this process made the folder.
+    was_made: bool,
+    /// Whether this process has forced the folder's own name to the disk.
+    is_named: bool,
 }
 
 impl Folder {
@@ -131,15 +134,22 @@ impl Folder {
         }
     }
 
-    /// Forces the folder's contents to the disk, and where the folder was made here, its own name
-    /// too.
+    /// Forces the names of the folder's files to the disk, and at first the folder's own name too.
+    /// Whoever made the folder or its files may have been killed before that.
     pub fn force(&mut self, rt: &HostRuntime) -> Result<(), KeptFault> {
-        let forced = force_folders(rt, self.path.as_str(), self.was_made);
-        self.was_made = self.was_made && forced.is_err();
-        match forced {
+        match self.force_names(rt) {
             Ok(()) => Ok(()),
             Err(error) => Err(fault_of(&error, Place::Folder, Said::CannotBeForced)),
         }
+    }
+
+    fn force_names(&mut self, rt: &HostRuntime) -> io::Result<()> {
+        fs::open(rt, self.path.as_str())?.sync_all()?;
+        if !self.is_named {
+            force_above(rt, self.path.as_str(), self.was_made)?;
+            self.is_named = true;
+        }
+        Ok(())
     }
 }
 
@@ -187,6 +197,7 @@ fn paths_of(rt: &HostRuntime, path: &str, user: u32, was_made: bool) -> io::Resu
         lock: format!(in rt.alloc(); "{path}/lock")?,
         user,
         was_made,
+        is_named: false,
     })
 }
 
@@ -203,12 +214,13 @@ fn create(rt: &HostRuntime, path: &str) -> io::Result<File> {
         .open(rt, path)
 }
 
-/// Forces a folder to the disk, and the folder above it where that is asked for.
-fn force_folders(rt: &HostRuntime, path: &str, above: bool) -> io::Result<()> {
-    fs::open(rt, path)?.sync_all()?;
-    if above {
-        let above = format!(in rt.alloc(); "{path}/..")?;
-        fs::open(rt, above.as_str())?.sync_all()?;
+/// Forces the folder above this one to the disk. One that the user may not read is left alone, unless
+/// this process made the folder.
+fn force_above(rt: &HostRuntime, path: &str, was_made: bool) -> io::Result<()> {
+    let above = format!(in rt.alloc(); "{path}/..")?;
+    match fs::open(rt, above.as_str()) {
+        Ok(above) => above.sync_all(),
+        Err(error) if !was_made && error.kind() == ErrorKind::PermissionDenied => Ok(()),
+        Err(error) => Err(error),
     }
-    Ok(())
 }

@@ -1,5 +1,5 @@
 -- What a device in memory does with its journal.
-use Rattle.std.specs.Prelude.{◌≡◌, ℕ, ◌≤◌, false, ◌⊎◌, length, List, Some, None, Result, Ok, Err}
+use Rattle.std.specs.Prelude.{◌≡◌, ℕ, ◌≤◌, false, ◌⊎◌, length, List, Err}
 use Rattle.tpm_journal.specs.Execution.{Seen}
 use Rattle.tpm_machine.specs.Follows.{After, Follows}
 use Rattle.tpm_image_text.specs.Image.{image_text}
@@ -7,9 +7,7 @@ use Rattle.tpm_image_text.specs.NonVolatile.{kept_of}
 use Rattle.tpm_image_text.specs.declared.version.Version.TheVariants.{Two}
 use Rattle.tpm_journal.specs.Command.{Command, Executed, command_at, elapsed_of, entry_of}
 use Rattle.tpm_journal.specs.Opening.{IsJournal, OpensJournal}
-use Rattle.tpm_journal.specs.Replay.{Replays}
 use Rattle.tpm_journal.specs.State.{journal_after, journal_begun}
-use Rattle.tpm_journal.specs.declared.following.FollowFault.{FollowFault}
 use Rattle.tpm_journal.specs.declared.opening.OpenFault.{OpenFault}
 use Rattle.tpm_journal_text.specs.Entry.{entry_text}
 use Rattle.tpm_record.specs.Cycle.{cycled}
@@ -20,7 +18,7 @@ use Rattle.tpm_step.specs.Execution.{Executes}
 use Rattle.tpm_step.specs.Step.{outcome_step}
 use Rattle.tpm_step.specs.declared.event.Outcome.{Outcome}
 use Rattle.tpm_text.specs.Trace.{IsRow}
-use Rattle.tpmsim.specs.kept.Fault.{said_of_following, said_of_opening}
+use Rattle.tpmsim.specs.kept.Fault.{said_of_opening}
 use Rattle.tpmsim.specs.declared.kept.device.Device.{Device}
 use Rattle.tpmsim_folder.specs.declared.fault.Said.{Said}
 use Rattle.tpmsim_folder.specs.declared.fault.Said.TheVariants.{WantsMemory}
@@ -64,16 +62,6 @@ HasFault text fault = (new : Record) × OpensJournal text (Err fault) new
 abbrev pub IsSaidOf : List ℕ → Said → Type 0
 IsSaidOf text said =
     ((fault : OpenFault) × (said ≡ said_of_opening fault) × HasFault text fault) ⊎ (said ≡ WantsMemory)
-
--- A device executed the entries of a text, which have `taken` bytes; or it did so up to this fault.
-abbrev pub FollowsText : (before : Device) → List ℕ → Result ℕ Said → (after : Device) → Type 0
-FollowsText before text (Ok taken) after =
-    Replays false before.journal (record_of before) text (record { taken = taken; fault = None })
-    after.journal (record_of after)
-FollowsText before text (Err said) after =
-    (fault : FollowFault) × (said ≡ said_of_following fault) × (taken : ℕ)
-    × Replays false before.journal (record_of before) text
-    (record { taken = taken; fault = Some fault }) after.journal (record_of after)
 
 -- the command of a buffer that a device is given at this clock, without the completing layer
 abbrev pub command_by : Device → (buffer : List ℕ) → (locality now : ℕ) → (random : List ℕ) → Command

@@ -1,18 +1,19 @@
 //! A device in memory of its own, with its journal.
 
-ghost use Rattle.std.specs.Prelude.{◌≡◌, ◌≤◌, ◌<◌, IfErr, IfOk, OnErr, OnOk, length, replicate, take};
+ghost use Rattle.std.specs.Prelude.{◌≡◌, ◌≤◌, ◌<◌, IfErr, IfOk, OnErr, OnOk, false, length, replicate, take};
 ghost use Rattle.tpm_image_text.specs.Saving.{PutsFront};
 ghost use Rattle.tpm_journal_text.specs.Head.{head_text};
 ghost use Rattle.tpm_record.specs.Record.{manufactured};
 ghost use Rattle.tpm_types.specs.Locality.{locality_number};
-ghost use Rattle.tpmsim.specs.kept.Device.{BeginsJournal, FollowsText, HasFault, IsOfJournal, IsSaidOf, Records};
+ghost use Rattle.tpm_journal.specs.Replay.{Replays};
+ghost use Rattle.tpmsim.specs.kept.Device.{BeginsJournal, HasFault, IsOfJournal, IsSaidOf, Records};
 ghost use Rattle.tpmsim.specs.kept.Device.{command_by, image_at_power, record_of};
 
-use crate::kept::said::{said_of_following, said_of_opening};
+use crate::kept::said::said_of_opening;
 use std::alloc::Global;
 use tpm_bytes::NoMemory;
 use tpm_journal::opening::open;
-use tpm_journal::{Journal, OpenFault};
+use tpm_journal::{Followed, Journal, OpenFault};
 use tpm_journal_text::ENTRY_ROOM;
 use tpm_machine::Machine;
 use tpm_slots::SlotKeep;
@@ -74,15 +75,12 @@ impl Device {
         Ok(opened.taken)
     }
 
-    /// Executes the entries of a text that follows the journal. Gives how many bytes they have.
-    pub fn follow(&mut self, text: &[u8], outcome: &mut Outcome) -> Result<usize, Said>
-        ensures { FollowsText self.old text.now result self.new }
+    /// Executes the entries of a text that follows the journal, and says how far.
+    pub fn follow(&mut self, text: &[u8], outcome: &mut Outcome) -> Followed
+        ensures { Replays false self.old.journal (record_of self.old) text.now result
+            self.new.journal (record_of self.new) }
     {
-        let followed = self.journal.follow(&mut self.machine, text, outcome);
-        match followed.fault {
-            None => Ok(followed.taken),
-            Some(fault) => Err(said_of_following(fault)),
-        }
+        self.journal.follow(&mut self.machine, text, outcome)
     }
 
     /// Cycles the power, and gives the head of the new journal. Where memory is refused nothing is

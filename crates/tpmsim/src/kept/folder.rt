@@ -73,7 +73,7 @@ impl<'a> Kept<'a> {
     /// Opens the device that is in the folder.
     pub fn open(&mut self) -> Result<(), KeptFault> {
         self.lock.take(self.rt, &self.folder)?;
-        let opened = self.caught_up(&mut Outcome::empty());
+        let opened = self.caught_up(false, &mut Outcome::empty());
         self.lock.give();
         self.journal = Some(opened?);
         Ok(())
@@ -106,24 +106,30 @@ impl<'a> Kept<'a> {
     ) -> Result<(), KeptFault>
         ensures { OnOk result (IsAnswer outcome.new) }
     {
-        let mut journal = self.caught_up(outcome)?;
+        let mut journal = self.caught_up(false, outcome)?;
         let now_ms = moment.clock_ms(self.rt, journal.time())?;
-        journal.execute(buffer, locality, now_ms, random, self.force, outcome)?;
+        journal.execute(
+            self.rt, buffer, locality, now_ms, random, self.force, outcome,
+        )?;
         self.journal = Some(journal);
         Ok(())
     }
 
-    /// Takes power away from the device and gives it back, for all processes that use it.
-    pub fn cycle_power(&mut self) -> Result<(), KeptFault> {
+    /// Cycles the power of the device, for all processes that use it. With `cuts` a damaged journal
+    /// is executed up to the damage; otherwise it is refused.
+    pub fn cycle_power(&mut self, cuts: bool) -> Result<(), KeptFault> {
         self.lock.take(self.rt, &self.folder)?;
-        let done = self.cycle_power_locked();
+        let done = self.cycle_power_locked(cuts);
         self.lock.give();
         done
     }
 
-    fn cycle_power_locked(&mut self) -> Result<(), KeptFault> {
-        let journal = self.caught_up(&mut Outcome::empty())?;
-        self.begin(journal.into_device())
+    fn cycle_power_locked(&mut self, cuts: bool) -> Result<(), KeptFault> {
+        let journal = self.caught_up(cuts, &mut Outcome::empty())?;
+        let tail = journal.tail();
+        self.begin(journal.into_device())?;
+        tail.tell(self.rt);
+        Ok(())
     }
 
     /// The text of the journal.
@@ -142,9 +148,9 @@ impl<'a> Kept<'a> {
         Ok(())
     }
 
-    /// The journal in the folder, and its device, which has executed all of it. Both are taken out,
-    /// so that they are opened anew where the caller fails.
-    fn caught_up(&mut self, outcome: &mut Outcome) -> Result<JournalFile, KeptFault> {
+    /// The journal in the folder, and its device, which has executed all of it; with `cuts` up to
+    /// damage. Both are taken out, so that they are opened again if the caller fails.
+    fn caught_up(&mut self, cuts: bool, outcome: &mut Outcome) -> Result<JournalFile, KeptFault> {
         let held = self.journal.take();
         let Some(metadata) = self.folder.look(self.rt, Place::Journal)? else {
             return Err(Place::Journal.that(Said::IsGone));
@@ -154,7 +160,20 @@ impl<'a> Kept<'a> {
                 journal.catch_up(self.rt, outcome)?;
                 Ok(journal)
             }
-            _ => JournalFile::open(self.rt, &self.folder, outcome),
+            _ => {
+                let journal = JournalFile::open(self.rt, &self.folder, cuts, outcome)?;
+                self.force_names()?;
+                Ok(journal)
+            }
+        }
+    }
+
+    /// Forces the name of a journal that was opened, before anything is answered from it: whoever
+    /// put it in its place may have been killed before that.
+    fn force_names(&mut self) -> Result<(), KeptFault> {
+        match self.force {
+            Force::Never => Ok(()),
+            Force::Power | Force::Always => self.folder.force(self.rt),
         }
     }
 }

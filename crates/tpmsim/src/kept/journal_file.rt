@@ -3,9 +3,12 @@
 ghost use Rattle.tpmsim.specs.kept.Device.{IsAnswer};
 
 use crate::kept::device::Device;
+use crate::kept::said::said_of_following;
+use crate::kept::tail::Tail;
 use std::fs::File;
 use std::os::unix::fs::FileExt;
-use tpm_journal_text::ENTRY_ROOM;
+use tpm_journal::Followed;
+use tpm_journal_text::{ENTRY_ROOM, IMAGE_ROOM, read_head};
 use tpm_step::Outcome;
 use tpm_types::Locality;
 use tpmsim_folder::folder::{Folder, Identity, OpenedFile, fault_of};
@@ -15,8 +18,8 @@ use tpmsim_folder::{Force, KeptFault, Place, Said};
 /// How many bytes of a journal are read at once. A head fits, and so does each entry.
 const PART: u64 = 262_144;
 
-/// A journal's file, and the device that executed it up to a place. What follows is the rest of an
-/// entry whose writer ended before it answered.
+/// A journal's file, and the device that executed it up to a place. What follows is what a crash
+/// left of an entry that was not answered, or damage that is to be dropped.
 #[derive(Drop)]
 pub struct JournalFile {
     device: Box<Device>,
@@ -26,6 +29,8 @@ pub struct JournalFile {
     size: u64,
     /// How many of the file's bytes the device has executed.
     executed: u64,
+    /// Whether damage follows.
+    is_damaged: bool,
 }
 
 impl JournalFile {
@@ -37,19 +42,22 @@ impl JournalFile {
             identity: opened.identity,
             size,
             executed: size,
+            is_damaged: false,
         }
     }
 
-    /// Opens the journal in the folder, and executes it.
+    /// Opens the journal in the folder, and executes it; with `cuts` up to damage, if there is any.
     pub fn open(
         rt: &HostRuntime,
         folder: &Folder,
+        cuts: bool,
         outcome: &mut Outcome,
     ) -> Result<JournalFile, KeptFault> {
         let OpenedFile { file, identity } = folder.open_file(rt, Place::Journal)?;
         let size = size_of(&file)?;
         let part = read_part(rt, &file, 0, size.min(PART))?;
-        let (device, taken) = match Device::open(rt.alloc(), part.as_slice(), outcome) {
+        let head = head_of(part.as_slice());
+        let (device, taken) = match Device::open(rt.alloc(), head, outcome) {
             Ok(opened) => opened,
             Err(said) => return Err(Place::Journal.that(said)),
         };
@@ -62,9 +70,35 @@ impl JournalFile {
             identity,
             size,
             executed: taken as u64,
+            is_damaged: false,
         };
-        journal.follow(rt, outcome)?;
+        journal.execute_entries(rt, cuts, outcome)?;
         Ok(journal)
+    }
+
+    /// Executes the entries after the head; with `cuts` up to damage, if there is any.
+    fn execute_entries(
+        &mut self,
+        rt: &HostRuntime,
+        cuts: bool,
+        outcome: &mut Outcome,
+    ) -> Result<(), KeptFault> {
+        match self.follow(rt, outcome) {
+            Err(fault) if cuts && fault.said == Said::IsDamaged => {
+                self.is_damaged = true;
+                Ok(())
+            }
+            followed => followed,
+        }
+    }
+
+    /// What follows the entries that were executed.
+    pub fn tail(&self) -> Tail {
+        Tail {
+            place: self.executed,
+            size: self.size.saturating_sub(self.executed),
+            is_damaged: self.is_damaged,
+        }
     }
 
     /// Gives the device alone, and closes the file.
@@ -85,41 +119,54 @@ impl JournalFile {
     fn follow(&mut self, rt: &HostRuntime, outcome: &mut Outcome) -> Result<(), KeptFault> {
         for _ in 0..u64::MAX {
             let left = self.size.saturating_sub(self.executed);
-            if left == 0 {
-                return Ok(());
+            let followed = self.follow_part(rt, left.min(PART), outcome)?;
+            if let Some(fault) = followed.fault {
+                return Err(Place::Journal.that(said_of_following(fault)));
             }
-            let taken = self.follow_part(rt, left.min(PART), outcome)?;
             if left <= PART {
                 return Ok(());
             }
-            if taken == 0 {
-                return Err(Place::Journal.that(Said::IsDamaged));
+            if followed.taken == 0 {
+                return self.check_zeros(rt);
             }
         }
         Err(Place::Journal.that(Said::CannotBeRead))
     }
 
-    /// Executes the whole entries among the next bytes of the file, and says how many bytes they
-    /// are.
+    /// Executes the whole entries among the next bytes of the file.
     fn follow_part(
         &mut self,
         rt: &HostRuntime,
         count: u64,
         outcome: &mut Outcome,
-    ) -> Result<usize, KeptFault> {
+    ) -> Result<Followed, KeptFault> {
         let part = read_part(rt, &self.file, self.executed, count)?;
-        match self.device.follow(part.as_slice(), outcome) {
-            Ok(taken) => {
-                self.executed = self.executed.saturating_add(taken as u64);
-                Ok(taken)
+        let followed = self.device.follow(part.as_slice(), outcome);
+        self.executed = self.executed.saturating_add(followed.taken as u64);
+        Ok(followed)
+    }
+
+    /// Checks that only zeros follow the next part, which holds what a crash left of an entry.
+    fn check_zeros(&self, rt: &HostRuntime) -> Result<(), KeptFault> {
+        let mut place = self.executed.saturating_add(PART);
+        for _ in 0..u64::MAX {
+            let left = self.size.saturating_sub(place);
+            if left == 0 {
+                return Ok(());
             }
-            Err(said) => Err(Place::Journal.that(said)),
+            let part = read_part(rt, &self.file, place, left.min(PART))?;
+            if part.iter().any(|byte| *byte != 0) {
+                return Err(Place::Journal.that(Said::IsDamaged));
+            }
+            place = place.saturating_add(PART);
         }
+        Err(Place::Journal.that(Said::CannotBeRead))
     }
 
     /// Executes a command at this moment, and adds its entry to the file.
     pub fn execute(
         &mut self,
+        rt: &HostRuntime,
         buffer: &[u8],
         locality: Locality,
         now_ms: u64,
@@ -133,7 +180,7 @@ impl JournalFile {
         let device = &mut self.device;
         let size = device.execute(buffer, locality, now_ms, random, outcome, &mut entry);
         let (entry, _) = entry.split_at(size);
-        self.add(entry, force)
+        self.add(rt, entry, force)
     }
 
     /// The time of the journal in milliseconds: its head's clock, and the elapsed times of its
@@ -142,10 +189,13 @@ impl JournalFile {
         self.device.time()
     }
 
-    /// Adds an entry after what was executed. Where that fails, the file is cut to what it was.
-    fn add(&mut self, entry: &[u8], force: Force) -> Result<(), KeptFault> {
-        if self.size > self.executed {
+    /// Adds an entry after what was executed, in place of a tail. Where that fails, the file is cut
+    /// to what was executed.
+    fn add(&mut self, rt: &HostRuntime, entry: &[u8], force: Force) -> Result<(), KeptFault> {
+        let tail = self.tail();
+        if tail.size > 0 {
             self.cut()?;
+            tail.tell(rt);
         }
         if let Err(fault) = self.write(entry, force) {
             let _ = self.cut();
@@ -178,5 +228,17 @@ impl JournalFile {
             }
             Err(error) => Err(fault_of(&error, Place::Journal, Said::CannotBeCut)),
         }
+    }
+}
+
+/// The head at the front of a text; all of the text if it begins with none.
+fn head_of(text: &[u8]) -> &[u8] {
+    let mut image = [0; IMAGE_ROOM];
+    match read_head(text, &mut image) {
+        Some(head) => {
+            let (front, _) = text.split_at(head.size);
+            front
+        }
+        None => text,
     }
 }

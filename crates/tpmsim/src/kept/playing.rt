@@ -165,7 +165,7 @@ impl Player {
         kept: &mut Kept<'_>,
         writer: &mut Tap<W>,
     ) -> Result<(), Stop> {
-        kept.cycle_power()?;
+        kept.cycle_power(false)?;
         if self.traced {
             self.put_text(writer, b"power")?;
         }

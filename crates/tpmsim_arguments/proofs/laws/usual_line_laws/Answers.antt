@@ -1,4 +1,4 @@
-use Rattle.tpmsim_arguments.proofs.Lines.{code_is_named, digits_are_spelled, form_is_told, forms_are_told, joined_is_served, line_is_assembled, logging_is_served, power_is_cycled, saving_is_served, script_is_checked, script_is_retold, state_is_played, state_is_served}
+use Rattle.tpmsim_arguments.proofs.Lines.{code_is_named, damage_is_cut, digits_are_spelled, form_is_told, forms_are_told, joined_is_served, line_is_assembled, logging_is_served, power_is_cycled, saving_is_served, script_is_checked, script_is_retold, state_is_played, state_is_served}
 use Rattle.tpmsim_arguments.proofs.Running.{device_is_kept, script_is_run, script_is_traced}
 use Rattle.tpmsim_arguments.proofs.Settings.{device_is_served}
 use Rattle.tpmsim_arguments.proofs.laws.usual_line_laws.Goals as goal
@@ -14,6 +14,7 @@ returns c = record {
   trace = script_is_traced;
   check = script_is_checked;
   power = power_is_cycled;
+  cut = damage_is_cut;
   script = script_is_retold;
   kept = device_is_kept;
   played = state_is_played;

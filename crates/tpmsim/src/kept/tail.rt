@@ -1,0 +1,35 @@
+//! What follows the last whole entry of a journal.
+
+/// The end of a journal's file that the device did not execute: what a crash left of an entry, or
+/// damage.
+#[derive(Clone, Copy, PartialEq, Eq)]
+pub struct Tail {
+    /// How many bytes come before it.
+    pub place: u64,
+    /// How many bytes it has.
+    pub size: u64,
+    pub is_damaged: bool,
+}
+
+impl Tail {
+    /// Says on standard error that the tail was dropped, if it has any bytes.
+    pub fn tell(self, rt: &HostRuntime) {
+        let Tail {
+            place,
+            size,
+            is_damaged,
+        } = self;
+        if size == 0 {
+            return;
+        }
+        let _ = if is_damaged {
+            eprintln!(rt;
+                "tpmsim: state/journal: {size} bytes after the first {place} were dropped"
+            )
+        } else {
+            eprintln!(rt;
+                "tpmsim: state/journal: {size} bytes after the last whole record were cut off"
+            )
+        };
+    }
+}

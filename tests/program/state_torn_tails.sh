@@ -1,0 +1,78 @@
+# What a crash of the host can leave at the end of a kept device's journal: the front of an entry, zeros
+# after that, and zeros alone. It is cut off by the next command or power cycle, and standard error says
+# how much that was. Anything else is damage: the journal is refused and stays as it is, until
+# `power --cut` drops what follows the last whole entry before the damage, and says how much that is.
+tests=$(cd "$(dirname "$0")/.." && pwd -P)
+. "$tests/common/cases.sh"
+
+echo 'do Startup 0
+do GetRandom 4
+do GetRandom 8' >script
+echo 'do GetRandom 2' >one
+echo 'do Startup 0' >start
+run 'a device' run --state state script
+cp -R state kept
+
+zeros() {
+    head -c "$1" /dev/zero
+}
+
+# ending WHAT BYTES COMMAND..: a journal without so many bytes of its last entry, and with what the
+# command prints after that.
+ending() {
+    what=$1
+    bytes=$2
+    shift 2
+    rm -rf state && cp -R kept state
+    truncate -s "-$bytes" state/journal
+    "$@" >>state/journal
+    cp state/journal before
+}
+
+# entries: how many entries the journal has that are told as a script.
+entries() {
+    "$program" script state >told 2>"$room/error" || echo "script: status $?, $(told "$room/error")"
+    echo "    entries: $(grep -c '^cmd' told)"
+}
+
+# cut WHAT BYTES COMMAND..: what a power cycle and the next command do about such an end.
+cut() {
+    ending "$@"
+    run "$what, power" power state
+    cp before state/journal
+    entries
+    cmp before state/journal
+    run "$what, run" run --state state one
+    run 'the next run' run --state state one
+    entries
+}
+
+# refused WHAT BYTES COMMAND..: the same for an end that is damage.
+refused() {
+    ending "$@"
+    run "$what, run" run --state state one
+    run "$what, power" power state
+    cmp before state/journal
+    run "$what, power --cut" power --cut state
+    run 'the next run' run --state state start
+    entries
+}
+
+cut 'the front of an entry' 1 true
+cut 'one zero' 0 zeros 1
+cut 'as many zeros as a mark has bytes' 0 zeros 72
+cut 'a page of zeros' 0 zeros 4096
+cut 'more zeros than are read at once' 0 zeros 600000
+cut 'a zero in the place of the last byte' 1 zeros 1
+cut 'the front of a mark, and zeros' 150 zeros 3000
+cut 'a mark, the front of its lines, and zeros' 20 zeros 100
+cut 'the front of an entry, and more zeros than are read at once' 20 zeros 600000
+cut 'fewer bytes than a mark has, whatever they are' 0 printf x
+cut 'fewer bytes than a mark says, whatever they are' 20 echo
+refused 'as many bytes as a mark has, and no zeros' 0 printf '%072d' 1
+refused 'as many bytes as a mark says, and no entry' 20 printf '%020d' 1
+refused 'zeros, and a byte that is none' 0 sh -c 'head -c 4096 /dev/zero; printf x'
+refused 'more zeros than are read at once, and a byte that is none' 0 \
+    sh -c 'head -c 600000 /dev/zero; printf x'
+refused 'zeros, and an entry' 0 sh -c 'head -c 72 /dev/zero; tail -n 5 kept/journal'
+refused 'an entry twice' 0 tail -n 5 kept/journal
