@@ -96,6 +96,21 @@ static void cut(const struct text *whole, size_t head, size_t before_last,
     puts("cut at each byte of its last record: the state before that record");
 }
 
+/* Puts zeros in place of the end of the last record, from each of its bytes on, and of more than
+ * that. */
+static void clear(const struct text *whole, size_t before_last, const struct values *values) {
+    struct text cleared = {malloc(2 * whole->size), 0};
+    must(cleared.bytes != NULL, "there is no memory");
+    for (size_t size = before_last; size < whole->size; size++) {
+        cleared.size = size % 2 ? whole->size : 2 * whole->size;
+        memset(cleared.bytes, 0, cleared.size);
+        memcpy(cleared.bytes, whole->bytes, size);
+        open_cut(&cleared, values);
+    }
+    free(cleared.bytes);
+    puts("zeros from each byte of its last record on: the state before that record");
+}
+
 /* Takes a record away that others follow, doubles it, and swaps two. */
 static void rearrange(const struct text *whole, size_t first, size_t second, size_t third) {
     size_t counts[4] = {0};
@@ -195,6 +210,7 @@ int main(int count, char **words) {
     struct text whole = text_of();
     turn(&whole);
     cut(&whole, head, sizes[EXTENDS], &values);
+    clear(&whole, sizes[EXTENDS], &values);
     rearrange(&whole, sizes[0], sizes[1], sizes[2]);
     turn_while_open(&whole, sizes[EXTENDS], &values);
     shorten_while_open(&whole, sizes[EXTENDS], &values);

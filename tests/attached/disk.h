@@ -76,8 +76,15 @@ static void put_on_disk(int file) {
     fault = before;
 }
 
-/* Adds bytes that the file has beyond those on the disk, as many as chance says: they may have come
- * there without being forced. */
+/* Adds zeros that the disk has in place of bytes that did not come there. */
+static inline void add_zeros_by_chance(struct disk_file *there) {
+    size_t more = rand() % 2 ? (size_t)rand() % (FILE_MOST - there->size) : 0;
+    memset(there->bytes + there->size, 0, more);
+    there->size += more;
+}
+
+/* Adds bytes that the file has beyond those on the disk, as many as chance says, and perhaps zeros:
+ * they may have come there without being forced. */
 static inline void add_by_chance(struct disk_file *there) {
     size_t size;
     struct stat status;
@@ -87,6 +94,7 @@ static inline void add_by_chance(struct disk_file *there) {
         size_t more = (size_t)rand() % (size - there->size + 1);
         memcpy(there->bytes + there->size, bytes + there->size, more);
         there->size += more;
+        add_zeros_by_chance(there);
     }
     free(bytes);
 }

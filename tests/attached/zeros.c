@@ -3,7 +3,6 @@
  * tells it. With another byte among them they are damage. The argument is the file of the values
  * of the PCR. */
 #include "common.h"
-#include "trims.h"
 
 enum { EXTENDS = 2, PART = 256 * 1024 };
 
