@@ -38,8 +38,8 @@ LAUNCH_LOCALITY, LAUNCH_PCRS, LAUNCH_PCR = 4, range(17, 23), 17
 
 MOST_MILLISECONDS, TRIES_FOR_TWO_PORTS = 2**32 - 1, 100
 
-# Clients that wait to be accepted; descriptors that are left to the device; and how long nobody is
-# accepted where the system refuses.
+# Clients that wait to be accepted; descriptors that are left to the device; and how long no client is
+# accepted after the system refuses one.
 MOST_WAITING, FILES_LEFT, SECONDS_TO_NEXT_TRY = 100, 8, 1
 
 # What a request answers in front of its ending, or None where it ends the connection.
@@ -132,7 +132,7 @@ class Server:
             self.over.set_result(words)
 
     async def accept(self, listener: socket.socket, acts: dict[int, Act]) -> None:
-        """Serves each client that comes; one too many is refused, and the others are served on."""
+        """Serves each client that comes, and refuses one too many."""
         loop = asyncio.get_running_loop()
 
         def made() -> Acknowledging:
@@ -150,7 +150,7 @@ class Server:
                 await loop.connect_accepted_socket(made, client)
 
     def ends(self, accepting: asyncio.Task[None]) -> None:
-        """What nobody foresaw ends the server too: it would accept nobody."""
+        """A fault that ends the accepting ends the server, which would accept nobody."""
         if not accepting.cancelled():
             self.stop(f"no client is accepted: {accepting.exception()}")
 
@@ -232,8 +232,8 @@ async def number_from(reader: asyncio.StreamReader, size: int = 4) -> int:
 
 
 def is_one_too_many(client: socket.socket) -> bool:
-    """A descriptor has the lowest number that is free. So this tells how many are, of which the device
-    needs some for its image.
+    """A new descriptor has the lowest free number, so this one tells how few are left. The device needs
+    some for its image.
     """
     most = resource.getrlimit(resource.RLIMIT_NOFILE)[0]
     return most != resource.RLIM_INFINITY and client.fileno() >= most - FILES_LEFT

@@ -73,7 +73,9 @@ class Lines:
         self.folder, self.faults = folder, []
         self.device, self.other = started(folder), KeptDevice(folder)
         self.snapshot = self.device.snapshot()
+        self.begun = 0
         self.acts = {
+            "begin": self.begin,
             "open": lambda: KeptDevice(folder).close(),
             "execute": lambda: extend(self.device),
             "catch up and execute": lambda: (extend(self.other), extend(self.device)),
@@ -83,11 +85,22 @@ class Lines:
             "restore": lambda: self.device.restore(self.snapshot),
         }
 
+    def begin(self):
+        """A new device, in a folder that is not there."""
+        self.begun += 1
+        KeptDevice(self.new).close()
+
+    @property
+    def new(self):
+        return f"{self.folder}/{self.begun}"
+
     def then(self):
         """The other holder is first, as it would wait for a lock that was left."""
         with contextlib.suppress(Exception):
             Caller(self.other).start_up()
         before = value_of(self.other)
+        if self.begun:
+            started(self.new).close()
         extend(self.other)
         extend(self.device)
         assert value_of(self.device) == value_of(self.other) == extended(extended(before))
@@ -108,7 +121,16 @@ class Lines:
         return "whole, wherever it is interrupted"
 
 
-for name in "open", "execute", "catch up and execute", "power_cycle", "save", "snapshot", "restore":
+for name in (
+    "begin",
+    "open",
+    "execute",
+    "catch up and execute",
+    "power_cycle",
+    "save",
+    "snapshot",
+    "restore",
+):
     with tempfile.TemporaryDirectory() as folder:
         lines = Lines(folder)
         print(f"{name}: {lines.play(name)}", flush=True)

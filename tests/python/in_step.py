@@ -21,7 +21,10 @@ from tpmsim.standard import number
 
 PACKAGE = str(pathlib.Path(tpmsim.device.__file__).parent)
 FIRST, SECOND, LATE = 8, 16, 24
-SECONDS_LATE, SECONDS, LEAST_LINES = 0.3, 0.15, 10
+SECONDS, MOST_SECONDS, LEAST_LINES = 0.1, 60, 10
+
+# What LATE does to its client as it comes; and that it may be answered.
+coming, is_over = [lambda: None], threading.Event()
 
 # How many bytes come after the number of a request on swtpm's control channel; elsewhere there are none.
 ARGUMENTS = {2: 4, 5: 1}
@@ -34,10 +37,11 @@ def asking(count):
 
 
 def answer_to(command):
-    """Random bytes, as many as are asked for; they come late where LATE are."""
+    """Random bytes, as many as are asked for; LATE of them come when they may."""
     count = int.from_bytes(command[10:12], "big")
     if count == LATE:
-        time.sleep(SECONDS_LATE)
+        coming[0]()
+        is_over.wait(MOST_SECONDS)
     return (
         bytes.fromhex("8001") + number(12 + count, 4) + bytes(4) + number(count, 2) + bytes(count)
     )
@@ -167,13 +171,15 @@ def at_each_line(made, act):
 
 def late(made):
     """What is told where the answer comes too late; and then, where it has come."""
+    is_over.clear()
     with made() as device:
         device.data.socket.settimeout(SECONDS)
         try:
             device.execute(asking(LATE))
         except TimeoutError as fault:
             said = f"{fault}"
-        time.sleep(SECONDS_LATE)
+        is_over.set()
+        time.sleep(SECONDS)
         return f"{said}, {told(device, SECOND)}, {told(device, FIRST)}"
 
 
@@ -184,12 +190,15 @@ def alarmed(made):
         raise LookupError("a test's time")
 
     signal.signal(signal.SIGALRM, raise_fault)
+    is_over.clear()
+    coming[0] = lambda: os.kill(os.getpid(), signal.SIGALRM)
     with made() as device:
-        signal.setitimer(signal.ITIMER_REAL, SECONDS)
         try:
             device.execute(asking(LATE))
         except LookupError as fault:
             said = f"{fault}"
+        is_over.set()
+        coming[0] = lambda: None
         return f"{said}, {told(device, SECOND)}"
 
 

@@ -1,7 +1,7 @@
 """The folder of a kept device: the files that may be used in it, and its lock (docs/ATTACHED.md).
 
-Files are open as objects, and not by their numbers: what an interrupt leaves open is closed with its
-object. A folder cannot be, and there is nothing that it would lock.
+Files are held as objects, not as descriptors: if an interrupt leaves one open, it is closed with its
+object. io.FileIO does not take a folder, which has no lock.
 """
 
 import contextlib
@@ -26,8 +26,8 @@ Done = TypeVar("Done")
 
 @contextlib.contextmanager
 def telling(path: str, sentence: str) -> Iterator[None]:
-    """A system call that fails is told in a sentence. What has no number of an error is not one: a
-    handler of a signal may raise TimeoutError, which is an OSError.
+    """Says in a sentence that a system call failed. An OSError without a number is no system call's: a
+    signal handler may raise TimeoutError.
     """
     try:
         yield
@@ -49,8 +49,8 @@ def check(status: os.stat_result, path: str, is_folder: bool = False) -> None:
 
 
 def opened(name: str, flags: int, folder: int | None = None) -> io.FileIO:
-    """Both calls are made by `map`, in C. There no handler of a signal runs between them, so there is
-    no descriptor without an object that closes it.
+    """`map` makes both calls, in C. No signal handler runs between them, so no descriptor is left
+    without an object that closes it.
     """
     call = functools.partial(os.open, mode=OWNER_ALONE, dir_fd=folder)
     return next(map(io.FileIO, map(call, [name], [flags]), ["r+"]))
@@ -66,7 +66,7 @@ def write(file: io.FileIO, text: bytes, at: int) -> None:
 
 
 def unlocked_after(work: Callable[[], Done], lock: io.FileIO) -> Done:
-    """Lets a lock go, also where another thread forked a child meanwhile, which has the file too."""
+    """Releases a lock. Closing does not, if another thread forked a child, which has the file too."""
     try:
         return work()
     finally:
@@ -74,8 +74,8 @@ def unlocked_after(work: Callable[[], Done], lock: io.FileIO) -> Done:
 
 
 class Folder:
-    """A folder of the user's, which is made where it is not there. Only regular files of the user's
-    are opened in it, and no link is followed. DeviceEnded says in a sentence why one is not.
+    """A folder of the user's, which is made if it is not there. Only regular files of the user's are
+    opened in it, and no link is followed. DeviceEnded says in a sentence why one is refused.
     """
 
     descriptor, is_made, is_forced = -1, False, False
@@ -105,7 +105,7 @@ class Folder:
         return f"{self.path}/{name}"
 
     def look(self, name: str) -> os.stat_result | None:
-        """What stands at a name, or None where nothing does."""
+        """What is at a name; None if nothing is."""
         if self.descriptor < 0:
             raise ValueError("the device is closed")
         with telling(self.path_of(name), "cannot be looked at"):
@@ -117,7 +117,7 @@ class Folder:
         return status
 
     def has(self, name: str, file: io.FileIO) -> bool:
-        """Whether it is the open file that stands at a name."""
+        """Whether the open file is the one at a name."""
         status = self.look(name)
         return status is not None and os.path.samestat(status, os.fstat(file.fileno()))
 
@@ -130,7 +130,7 @@ class Folder:
         return file
 
     def make_file(self, name: str) -> io.FileIO:
-        """A file that is not there; FileExistsError where it is."""
+        """A new file."""
         with telling(self.path_of(name), "cannot be made"):
             file = opened(name, MAKES, self.descriptor)
         with telling(self.path_of(name), "cannot be given its mode"):
@@ -138,6 +138,7 @@ class Folder:
         return file
 
     def open_lock(self) -> io.FileIO:
+        """Another process may make the file after the first look."""
         if self.look(LOCK) is None:
             try:
                 self.make_file(LOCK).close()
@@ -147,9 +148,9 @@ class Folder:
         return self.open(LOCK)
 
     def locked(self, work: Callable[[], Done]) -> Done:
-        """Does the work with the lock, whichever file has its name by then. The lock is a file that is
-        open for this call alone: a forked child has none. `with` ends by a call in C, before which no
-        handler of a signal runs; the outer `finally` is for what a tracer raises.
+        """Does the work with the lock. The file is opened for this call alone, so a forked child does
+        not share it. `with` ends with a call in C, before which no signal handler runs; the outer
+        `finally` is for what a tracer raises.
         """
         for _ in range(TRIES_FOR_LOCK):
             lock = None
@@ -168,8 +169,8 @@ class Folder:
         return self.has(LOCK, lock)
 
     def replace(self, name: str, new: str, text: bytes, forces: bool) -> io.FileIO:
-        """Puts a text into a file of its own, which then takes a name. What a killed process left at
-        its first name is removed.
+        """Writes a text to a new file, and renames that. It removes a new file that a killed process
+        left.
         """
         path = self.path_of(new)
         if self.look(new):
@@ -190,8 +191,8 @@ class Folder:
         return file
 
     def force(self) -> None:
-        """Forces what stands in the folder to the disk, and once its own name: who made either may
-        have been killed before that.
+        """Forces the folder's names to the disk, and once its own name: the process that made them may
+        have been killed before it did.
         """
         with telling(self.path, "cannot be forced to the disk"):
             os.fsync(self.descriptor)
@@ -201,7 +202,7 @@ class Folder:
         self.is_forced = True
 
     def force_name(self) -> None:
-        """A user who may not read the folder above cannot, and has to only where they made this one."""
+        """Without permission to read the folder above, it is a fault only if this one was made here."""
         try:
             above = os.open("..", FOLDER, dir_fd=self.descriptor)
         except PermissionError:

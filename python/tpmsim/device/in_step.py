@@ -11,16 +11,16 @@ Done = TypeVar("Done")
 
 
 class InStep(Transport):
-    """One on which half an exchange would stay, and its answer be that of the next command: where an
-    exchange does not end, whatever the reason, the way is closed. DeviceEnded says so then.
+    """If an exchange does not end, for whatever reason, its answer would be taken for that of the next
+    command. So the way is closed then, and each later call raises DeviceEnded, which says why.
     """
 
-    # Why nothing is exchanged, where that is so; during an exchange, that it did not end.
+    # Why the way is closed; empty while it is open. An exchange sets it first, and clears it last.
     why_closed = ""
 
     def whole(self, exchange: Callable[[], Done]) -> Done:
         if self.why_closed:
-            self.hang_up()  # an interrupt may have come before it did
+            self.hang_up()  # again, as an interrupt may have come before
             raise DeviceEnded(self.why_closed)
         self.why_closed = NOT_ENDED
         try:
@@ -32,7 +32,7 @@ class InStep(Transport):
                 self.hang_up()
 
     def hang_up(self) -> None:
-        """Closes the way, which may be closed, without a word on it."""
+        """Closes the way, if it is open, and sends nothing on it."""
         raise NotImplementedError
 
     def close(self) -> None:

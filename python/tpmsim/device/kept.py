@@ -42,7 +42,7 @@ class KeptDevice(LocatedDevice):
     the disk, and so is the name of one that is opened. With `completes` the completing layer of the
     library stands above the device, where it has one. DeviceEnded says in a sentence of
     docs/ATTACHED.md why a file cannot be used, or is no journal, and BadImage why its image is none.
-    What a killed process left of a record is cut off, and a RuntimeWarning says so.
+    A record that a killed process did not write whole is cut off, and a RuntimeWarning says so.
 
     >>> import tempfile
     >>> with tempfile.TemporaryDirectory() as folder:
@@ -71,14 +71,14 @@ class KeptDevice(LocatedDevice):
                 self.close()
 
     def held(self, work: Callable[[], Done]) -> Done:
-        """Does the work with the lock of the folder. Where it does not end, whatever the reason, the
-        device may be ahead of its journal: it is dropped, and the next work opens it from there.
+        """Does the work with the lock of the folder. If it does not end, for whatever reason, the device
+        may be ahead of its journal. So the device is dropped, and the next work opens the journal.
         """
         return self.folder.locked(lambda: self.whole(work))
 
     def whole(self, work: Callable[[], Done]) -> Done:
         if not self.is_whole:
-            self.drop()  # where an interrupt came before it was dropped
+            self.drop()  # again, as an interrupt may have come before
         self.is_whole = False
         try:
             done = work()
@@ -139,9 +139,7 @@ class KeptDevice(LocatedDevice):
         self.executed += taken.value
 
     def cut(self, file: io.FileIO) -> None:
-        """Cuts the journal to its whole records. The host may have crashed within another one, or
-        its process been killed.
-        """
+        """Cuts the journal to its whole records: a process or the host may have ended within one."""
         torn = self.size - self.executed
         if torn:
             with telling(self.path, "cannot be cut to whole records"):
@@ -191,7 +189,7 @@ class KeptDevice(LocatedDevice):
         return room.raw[: self.answered.size]
 
     def add(self, file: io.FileIO, record: bytes) -> None:
-        """Adds a record; where it cannot be written, the journal is cut to what it was."""
+        """Adds a record. If it cannot be written, the journal is cut to what it was."""
         with telling(self.path, "cannot be written"):
             try:
                 write(file, record, self.executed)

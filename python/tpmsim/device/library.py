@@ -91,7 +91,7 @@ class ImageFile:
             self.leave()
 
     def leave(self) -> None:
-        """Gives the lock back, which a child may have a part in, and leaves the file as it is."""
+        """Releases the lock, which a child may share, and leaves the file as it is."""
         is_here, self.is_left = self.is_here, True
         if is_here:
             fcntl.flock(self.lock, fcntl.LOCK_UN)
@@ -107,9 +107,9 @@ HELD: weakref.WeakSet[ImageFile] = weakref.WeakSet()
 
 
 def give_up_all() -> None:
-    """A forked child has a part in each lock, which it would hold after its parent, and may have the
-    number of its parent, in a namespace of its own. So it gives them up. Python calls this where it
-    forks itself; of a fork by a library in C only the other number of the process tells.
+    """A forked child shares the locks, and would hold them after its parent. In another namespace it may
+    also have the process number of its parent. Python calls this when it forks itself. After a fork by
+    a library in C, only another process number tells.
     """
     for file in list(HELD):
         file.give_up()
@@ -281,6 +281,8 @@ class LibraryDevice(Device):
             try:
                 self.file.keep(self.save())
             except OSError as fault:
+                if fault.errno is None:
+                    raise  # by a signal handler, as a test's TimeoutError, and no system call
                 raise DeviceEnded(f"the image is not written: {fault}") from None
 
     def cycle(self) -> None:

@@ -6,9 +6,10 @@ import hashlib
 import os
 import pathlib
 from dataclasses import dataclass
-from typing import cast, ClassVar, Self
+from typing import Callable, cast, ClassVar, Self, TypeVar
 
-from tpmsim.device.base import Answered, BadImage, checked_locality, Executed, Transport
+from tpmsim.device.base import Answered, BadImage, checked_locality, DeviceEnded, Executed
+from tpmsim.device.base import Transport
 from tpmsim.model import image as images
 from tpmsim.model.machine import MANUFACTURED, Model
 from tpmsim.standard.aes_tables import encrypt_block
@@ -17,6 +18,7 @@ RANDOM_BYTES = 256
 MOST_MILLISECONDS = 2**32 - 1
 
 Path = str | os.PathLike[str]
+Done = TypeVar("Done")
 
 
 @dataclass(frozen=True)
@@ -49,6 +51,9 @@ class Device(Transport):
     # An image of the device as its power came on last, and where that stands among the events.
     base, since = b"", 0
 
+    # False while a call has changed a part of the device, and after it if it did not end.
+    is_whole = True
+
     def __new__(cls, *given: object, **named: object) -> Self:
         return cast(Self, super().__new__(Device.preferred if cls is Device else cls))
 
@@ -72,6 +77,17 @@ class Device(Transport):
             device.close()
             raise
         return device
+
+    def look_whole(self) -> None:
+        if not self.is_whole:
+            raise DeviceEnded("a call did not end, and left the device halfway; `restore` mends it")
+
+    def to_its_end(self, act: Callable[[], Done]) -> Done:
+        """Does what leaves the device halfway if it does not end."""
+        was_whole, self.is_whole = self.is_whole, False
+        done = act()
+        self.is_whole = was_whole
+        return done
 
     def begin(self, base: bytes) -> None:
         """Puts the device of an image in place of this one, or of no bytes a new one."""
@@ -127,6 +143,7 @@ class Device(Transport):
         ...     device.execute(bytes.fromhex("80010000000c000001440000"))
         Answered(response=b'\\x80\\x01\\x00\\x00\\x00\\n\\x00\\x00\\x00\\x00', check='ok')
         """
+        self.look_whole()
         event = self.answer(buffer, self.at, self.elapsed, self.drawn())
         self.elapsed = 0
         self.events.append(event)
@@ -143,6 +160,7 @@ class Device(Transport):
         ...     tpm.call("ReadClock")["currentTime"].resets
         2
         """
+        self.look_whole()
         self.cycle()
         self.events.append("power")
 
@@ -159,6 +177,7 @@ class Device(Transport):
         ...     tpm.session().handle == session.handle
         True
         """
+        self.look_whole()
         return Snapshot(self.base, self.since, tuple(self.events), self.at, self.elapsed)
 
     def restore(self, snapshot: object) -> None:
@@ -172,6 +191,7 @@ class Device(Transport):
         """
         if not isinstance(snapshot, Snapshot):
             raise TypeError("a snapshot is what `snapshot` answered")
+        self.is_whole = False
         self.begin(snapshot.base)
         for event in snapshot.events[snapshot.since :]:
             if isinstance(event, Executed):
@@ -181,6 +201,7 @@ class Device(Transport):
                 self.cycle()
         self.base, self.since, self.events = snapshot.base, snapshot.since, list(snapshot.events)
         self.at, self.elapsed = snapshot.locality, snapshot.elapsed
+        self.is_whole = True
 
     def write(self, path: Path) -> None:
         """Writes the trace as a script; OSError where it cannot be written.
@@ -218,12 +239,12 @@ class ModelDevice(Device):
         self.base, self.since = base, len(self.events)
 
     def answer(self, buffer: bytes, locality: int, elapsed: int, random: bytes) -> Executed:
-        outcome = self.model.execute(buffer, locality, random, elapsed)
+        outcome = self.to_its_end(lambda: self.model.execute(buffer, locality, random, elapsed))
         row = outcome.row
         return Executed(buffer, outcome.response, locality, elapsed, random, row.check, row.code)
 
     def cycle(self) -> None:
-        self.model.power_cycle()
+        self.to_its_end(self.model.power_cycle)
         self.base, self.since = self.save(), len(self.events) + 1
 
     def save(self) -> bytes:

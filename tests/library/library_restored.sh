@@ -1,0 +1,7 @@
+# Devices of which everything is told, whose calls are interrupted: library/restored.py.
+tests=$(cd "$(dirname "$0")/.." && pwd -P)
+. "$tests/common/cases.sh"
+. "$tests/common/library.sh"
+needs python3
+
+python3 "$sources/restored.py" "$shared"

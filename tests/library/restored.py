@@ -1,0 +1,129 @@
+"""Devices of which everything is told, whose calls are interrupted at their lines:
+
+    tools/python.sh restored.py LIBRARY
+
+LIBRARY is the shared object. A device that a call left halfway says so, until `restore` mends it.
+"""
+
+import os
+import pathlib
+import sys
+from unittest import mock
+
+os.environ["TPMSIM_LIBRARY"] = sys.argv[1]
+
+import tpmsim
+from tpmsim.caller import area, Caller, Refused
+from tpmsim.device import ChildDevice, DeviceEnded, LibraryDevice, ModelDevice
+from tpmsim.standard import CC, frames, SHA1, SHA256
+
+PACKAGE, PCR, LEAST_LINES = str(pathlib.Path(tpmsim.__file__).parent), 16, 20
+EXTEND = frames.on_handle(
+    CC.PCR_Extend, PCR, frames.digests((SHA1, bytes(20)), (SHA256, bytes(32)))
+)
+
+
+def interrupted(act, left):
+    """Whether an act comes to so many lines of the package, where it is interrupted."""
+
+    def trace(frame, event, _):
+        nonlocal left
+        if not frame.f_code.co_filename.startswith(PACKAGE):
+            return None
+        if event == "line":
+            left -= 1
+            if not left:
+                raise KeyboardInterrupt
+        return trace
+
+    try:
+        sys.settrace(trace)
+        act()
+    except KeyboardInterrupt:
+        return True
+    finally:
+        sys.settrace(None)
+    return False
+
+
+def values(device):
+    """Those of both banks, and what is told that led to them."""
+    read = Caller(device).send(Caller(device).read_pcr(PCR))["pcrValues"]
+    return tuple(read)
+
+
+def extend(device):
+    device.execute(EXTEND)
+
+
+class Played:
+    """A device with a snapshot; what each bank has there, further on, and one command later."""
+
+    def __init__(self, made):
+        self.device = made()
+        Caller(self.device).start_up()
+        for _ in range(3):
+            extend(self.device)
+        self.snapshot, self.known = self.device.snapshot(), [values(self.device)]
+        for _ in range(3):
+            extend(self.device)
+            self.known.append(values(self.device))
+
+    def further(self):
+        self.device.restore(self.snapshot)
+        extend(self.device)
+        extend(self.device)
+
+    def told(self, allowed):
+        """What the device says for itself after an interrupt, and after it is restored."""
+        try:
+            said = "known" if values(self.device) in allowed else "unknown values"
+        except Refused:
+            said = "unknown values"
+        except DeviceEnded:
+            said = "halfway"
+        self.device.restore(self.snapshot)
+        return said if values(self.device) == self.known[0] else f"{said}, and never the snapshot"
+
+    def at_lines(self, act, allowed, step):
+        said, count = set(), 1
+        while True:
+            self.further()
+            if not interrupted(lambda: act(self.device), count):
+                break
+            said.add(self.told(allowed))
+            count += step
+        assert count > LEAST_LINES, count
+        return " or ".join(sorted(said))
+
+
+def within_writing():
+    """A handler's fault while an image is written is not one of the image, which is written later."""
+    image = pathlib.Path("image")
+    with LibraryDevice(image) as device:
+        tpm = Caller(device)
+        tpm.start_up()
+        before = image.read_bytes()
+        with mock.patch("os.fsync", side_effect=TimeoutError("a test's own")):
+            try:
+                tpm.define(area())
+            except (DeviceEnded, TimeoutError) as fault:
+                print(f"library, an image: {type(fault).__name__}: {fault}")
+        print("library, the image is as it was:", image.read_bytes() == before)
+        tpm.call("ReadClock")
+        print("library, the next command writes it:", image.read_bytes() != before)
+
+
+for name, made, step in (
+    ("model", ModelDevice, 17),
+    ("child", ChildDevice, 1),
+    ("library", lambda: LibraryDevice(manufactured=bytes(256)), 1),
+):
+    played = Played(made)
+    known = played.known
+    restored = lambda device: device.restore(played.snapshot)
+    print(f"{name}, restore: {played.at_lines(restored, (known[0], known[2]), step)}", flush=True)
+    if name == "model":
+        print(f"{name}, execute: {played.at_lines(extend, known[2:], step)}", flush=True)
+    played.device.close()
+within_writing()
