@@ -209,7 +209,7 @@ class Devices(unittest.TestCase):
         journal = self.folder / "journal"
         whole = journal.read_bytes()
         journal.write_bytes(whole[:-2])
-        with KeptDevice(self.folder) as device, self.assertWarnsRegex(RuntimeWarning, "was cut"):
+        with KeptDevice(self.folder) as device, self.assertWarnsRegex(RuntimeWarning, "cut off"):
             Caller(device).start_up()
         damaged = whole.replace(b"000144", b"000145")
         for text, words in {damaged: "is damaged", b"-": "no journal"}.items():

@@ -209,6 +209,10 @@ def torn_tail():
         except RuntimeWarning as fault:
             print("as an error:", fault)
         print("after it:", value_of(other) == before)
+    JOURNAL.write_bytes(JOURNAL.read_bytes() + whole[size : size + 9])
+    with warnings.catch_warnings(record=True) as caught, KeptDevice(STATE) as other:
+        other.power_cycle()
+    print("a power cycle:", *(it.message for it in caught))
     device.close()
 
 

@@ -144,8 +144,8 @@ class KeptDevice(LocatedDevice):
         if torn:
             with telling(self.path, "cannot be cut to whole records"):
                 os.ftruncate(file.fileno(), self.executed)
-            words = f"{self.path} was cut to its whole records, by {torn} bytes"
-            warnings.warn(words, RuntimeWarning)
+            words = f"{torn} bytes after the last whole record were cut off"
+            warnings.warn(f"{self.path}: {words}", RuntimeWarning)
 
     def now(self) -> int:
         clock = time.time_ns() // 1_000_000
@@ -204,7 +204,7 @@ class KeptDevice(LocatedDevice):
         self.events.append("power")
 
     def cycle(self) -> None:
-        self.catch_up()
+        self.cut(self.catch_up())
         self.begin()
 
     def save(self) -> bytes:
