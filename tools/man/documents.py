@@ -5,8 +5,9 @@
 
 FOLDER below ROOT has them then, by their paths in the repository. PATH is what else is installed of
 the repository, and PLACE where, below ROOT too. A link of a document leads to what is installed; any
-other link becomes its text. Programs have their installed names, as packaging/pages.toml has
-them. A script does not say which program wrote it, as that is not installed. It needs python3 alone.
+other link becomes its text. Programs have their installed names, as packaging/pages.toml has them,
+but in README.md, which speaks of the sources. Documents for developers are left out. A script does
+not say which program wrote it, as that is not installed. It needs python3 alone.
 """
 
 import functools
@@ -22,8 +23,8 @@ sys.dont_write_bytecode = sys.pycache_prefix is None
 from sources import TOP, installed  # noqa: E402
 
 DOCUMENTS = "*.md", "docs/*.md", "docs/table/*.md", "python/README.md"
-DEVELOPERS = {"CONTRIBUTING.md"}
-COPIED = "docs/*.png", "docs/*.json", "examples/*.out", "examples/*.trace"
+FOR_DEVELOPERS = set("CONTRIBUTING ADDING_A_COMMAND BENCH CALLS DESIGN GATE MAP".split())
+COPIED = "docs/*.png", "examples/*.out", "examples/*.trace"
 SCRIPTS = "examples/*.tpm"
 PIECE = re.compile(
     r"^```.*?^```$|(?P<ticks>`+)(?!`).+?(?<!`)(?P=ticks)(?!`)"
@@ -31,17 +32,21 @@ PIECE = re.compile(
     re.M | re.S,
 )
 SITE = re.compile(r"[a-z]+:")
-WRITTEN_BY = re.compile(r"\s+(# )?Written\s+(# )?by\s+(# )?\w+\.py\s+(# )?beside\s+(# )?it\.$", re.M)
+WRITTEN_BY = re.compile(
+    r"\s+(# )?Written\s+(# )?by\s+(# )?\w+\.py\s+(# )?beside\s+(# )?it\.$", re.M
+)
+README = "README.md"
 NOTE = """
-Folders such as crates/, dist/, tests/ and tools/, which these documents name, are in the sources and
-are not installed.
+This is the README of the sources. Installed, `./tpmsim` is `tpmsim`, and `tools/explain.py` and
+`tools/audit.py` are `tpmsim-explain` and `tpmsim-audit`. Folders such as crates/, dist/, tests/ and
+tools/ are in the sources and are not installed.
 """
 
 
 def paths(*patterns: str) -> list[str]:
     """The files of the repository that are of these patterns."""
     found = sorted(it for pattern in patterns for it in TOP.glob(pattern))
-    return [str(it.relative_to(TOP)) for it in found if it.name not in DEVELOPERS]
+    return [str(it.relative_to(TOP)) for it in found if it.stem not in FOR_DEVELOPERS]
 
 
 class Documents:
@@ -64,12 +69,11 @@ class Documents:
         return f"[{text}]({way}{found['anchor'] or ''})"
 
     def document(self, name: str) -> str:
-        text = (TOP / name).read_text("utf-8")
-        text = installed(PIECE.sub(functools.partial(self.piece, name), text))
-        if name == "README.md":
-            heading, _, rest = text.partition("\n")
-            text = f"{heading}\n{NOTE}{rest}"
-        return text
+        text = PIECE.sub(functools.partial(self.piece, name), (TOP / name).read_text("utf-8"))
+        if name != README:
+            return installed(text)
+        heading, _, rest = text.partition("\n")
+        return f"{heading}\n{NOTE}{rest}"
 
     def install(self, root: str) -> None:
         made = {it: self.document(it) for it in paths(*DOCUMENTS)}
