@@ -2,7 +2,7 @@
 # Plays tools/scripts.sh, as the last commit has it, in empty Debians: with git and python3; with a C
 # compiler too; with python3-minimal; with all that packaging/debian_packages names; and without git and
 # python3. No test may fail there. Then it installs what the line before the last one names, and plays again:
-# nothing is named any more. It is no part of the gate.
+# nothing is named any more. It takes half an hour or more, and is no part of the gate.
 #
 #   tools/soak/fresh_machines.sh           each machine of the list below
 #   tools/soak/fresh_machines.sh NAME..    these
@@ -85,7 +85,7 @@ play_machine() {
     cp -a "$work/base" "$machine" || fail 'the machine is not copied'
     [ "$#" -eq 0 ] || apt install "$@"
     mkdir -p "$machine/home/user" || fail 'the machine has no home'
-    git clone -q "$top" "$machine/home/user/tpmsim" || fail 'the repository is not copied'
+    git -c advice.detachedHead=false clone -q "$top" "$machine/home/user/tpmsim" || fail 'the repository is not copied'
     [ "$user" = root ] || chown -R 1000:1000 "$machine/home/user"
     status=0
     play "$shm" "$user" || status=$?
