@@ -186,6 +186,7 @@ class Folder:
             with telling(path, "cannot take the journal's place"):
                 os.rename(new, name, src_dir_fd=self.descriptor, dst_dir_fd=self.descriptor)
         except DeviceEnded:
+            file.close()
             os.unlink(new, dir_fd=self.descriptor)
             raise
         return file
