@@ -11,7 +11,7 @@ use tpm_record::Keep;
 use tpm_wire::{ConnectionNumber, Full, Mux, NoConnection, ServeFault, Turn, serve};
 
 /// The buffers of TPM2_Startup, and of TPM2_GetRandom of one and of two bytes.
-const FIRST: &[u8] = &[
+pub const FIRST: &[u8] = &[
     0x80, 1, 0, 0, 0, 12, 0, 0, 1, 0x44, 0, 0, 0x80, 1, 0, 0, 0, 12, 0, 0, 1, 0x7b, 0, 1, 0x80, 1,
     0, 0, 0, 12, 0, 0, 1, 0x7b, 0, 2,
 ];
@@ -23,7 +23,7 @@ const SECOND: &[u8] = &[
 ];
 
 /// The responses to the first buffers: a success, one random byte and two random bytes.
-const FIRST_ANSWERS: &[u8] = &[
+pub const FIRST_ANSWERS: &[u8] = &[
     0x80, 1, 0, 0, 0, 10, 0, 0, 0, 0, 0x80, 1, 0, 0, 0, 13, 0, 0, 0, 0, 0, 1, 7, 0x80, 1, 0, 0, 0,
     14, 0, 0, 0, 0, 0, 2, 7, 7,
 ];

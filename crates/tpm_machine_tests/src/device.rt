@@ -16,11 +16,11 @@ pub fn mux<K: Keep>(alloc: Global) -> Result<Mux<K>, Fail> {
     Ok(Mux::new(Machine::manufacture(alloc, &[0; 256])?))
 }
 
-/// The values of the host for a command from locality 0, with no time elapsed.
+/// The values of the host for a command from locality 0, a millisecond after the one before.
 pub fn host() -> Host {
     Host {
         locality: Locality::new(0).unwrap(),
-        elapsed_ms: 0,
+        elapsed_ms: 1,
         random: [7; 256],
     }
 }
