@@ -1,7 +1,10 @@
-//! The examples of FIPS 197 (appendices B and C) and of SP 800-38A (F.3.13 and F.3.14).
+//! The examples of FIPS 197 (5.1.1 and appendices B and C) and of SP 800-38A (F.3.13 and F.3.14).
+
+ghost use Rattle.std.specs.Prelude.{◌≡◌};
+ghost use Rattle.tpm_aes.specs.Field.{sub_byte};
 
 use super::comparison::check;
-use tpm_aes::Aes128;
+use tpm_aes::{Aes128, table_laws};
 
 struct BlockCase {
     key: [u8; 16],
@@ -68,6 +71,41 @@ const CIPHER: [u8; 64] = [
 fn blocks_of_published_keys(rt: HostRuntime) {
     for case in &BLOCKS {
         check(&rt, Aes128::new(&case.key).block(&case.plain), case.cipher);
+    }
+}
+
+/// The S-box gives the bytes that the standard prints for 00 and 53 (figure 7).
+fn printed_bytes()
+    ensures first { sub_byte 0x00 ≡ 0x63 }
+    ensures other { sub_byte 0x53 ≡ 0xed }
+{
+    table_laws();
+}
+
+/// The block of zeros under a key of one byte, by OpenSSL. The first round and the first round key
+/// look only this byte up.
+const ZEROS_BY_ONE_BYTE: [(u8, [u8; 16]); 2] = [
+    (
+        0x00,
+        [
+            0x66, 0xe9, 0x4b, 0xd4, 0xef, 0x8a, 0x2c, 0x3b, 0x88, 0x4c, 0xfa, 0x59, 0xca, 0x34,
+            0x2b, 0x2e,
+        ],
+    ),
+    (
+        0x53,
+        [
+            0x20, 0xf0, 0x4a, 0xad, 0xb1, 0x1d, 0x10, 0xb3, 0xf0, 0x27, 0x40, 0x81, 0x86, 0x67,
+            0x80, 0x16,
+        ],
+    ),
+];
+
+#[test]
+fn bytes_of_the_s_box(rt: HostRuntime) {
+    printed_bytes();
+    for (byte, cipher) in ZEROS_BY_ONE_BYTE {
+        check(&rt, Aes128::new(&[byte; 16]).block(&[0; 16]), cipher);
     }
 }
 
