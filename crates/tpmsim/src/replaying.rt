@@ -1,0 +1,61 @@
+//! How the program executes a journal or a log again, and prints what was answered.
+
+use crate::fault::{Fault, JournalFault};
+use std::fs;
+use tpm_bytes::Tap;
+use tpm_journal::{FollowFault, OpenFault, RetellFault, Telling, retell};
+use tpm_machine::Machine;
+use tpm_slots::SlotKeep;
+use tpm_step::Outcome;
+
+/// How many lines an entry has.
+const ENTRY_LINES: u64 = 5;
+
+/// Prints the trace and the response of each command that a journal recorded, which are those that
+/// were answered then; where they are not, the line of the journal is the fault.
+pub fn replay_journal(rt: &HostRuntime, path: &str) -> Result<(), Fault> {
+    let text = Fault::File.unless(fs::read(rt, path))?;
+    let mut machine: Machine<SlotKeep> = Machine::manufacture(rt.alloc(), &[0; 256])?;
+    let mut outcome = Outcome::empty();
+    let output = &mut Tap::new(rt.stdout());
+    match retell(
+        Telling::Answers,
+        &mut machine,
+        text.as_slice(),
+        &mut outcome,
+        output,
+    ) {
+        Ok(()) => Ok(()),
+        Err(fault) => Err(fault_of(fault, text.as_slice())),
+    }
+}
+
+/// The fault of a journal that was not executed to its end.
+fn fault_of(fault: RetellFault, text: &[u8]) -> Fault {
+    match fault {
+        RetellFault::Open(OpenFault::Image(_)) => Fault::Journal(JournalFault::HoldsNoImage),
+        RetellFault::Open(_) => Fault::Journal(JournalFault::IsNoJournal),
+        RetellFault::Follow { fault, taken } => {
+            let next = line_at(text, taken);
+            match fault {
+                FollowFault::Damaged => Fault::Journal(JournalFault::IsDamaged(next)),
+                FollowFault::Otherwise => {
+                    let line = next.saturating_sub(ENTRY_LINES);
+                    Fault::Journal(JournalFault::WasAnsweredOtherwise(line))
+                }
+            }
+        }
+        RetellFault::Write => Fault::File,
+    }
+}
+
+/// The number, from 1, of the line that begins at a place of a text.
+fn line_at(text: &[u8], place: usize) -> u64 {
+    let mut line: u64 = 1;
+    for byte in text.get(..place).unwrap_or(text) {
+        if *byte == b'\n' {
+            line = line.saturating_add(1);
+        }
+    }
+    line
+}

@@ -1,0 +1,43 @@
+# `replay` executes what a journal or a log recorded again: it prints the traces and the responses that
+# `run --trace` printed then. A last entry that is not whole was not answered, and is left out. Where the
+# text is damaged, or the device answers otherwise, the fault names the line where the entry begins.
+tests=$(cd "$(dirname "$0")/.." && pwd -P)
+. "$tests/common/cases.sh"
+needs python3
+
+cat "$tests/../examples/measured_boot.tpm" >script
+"$program" run --trace --state state script >answers
+"$program" replay state/journal >replayed && cmp answers replayed && echo 'a journal: the same answers'
+
+# The log of a served device, from its image on.
+head -c 4096 /dev/zero >entropy
+"$program" serve --socket socket --image image --log log --entropy entropy --locality 3 \
+    --connections 1 &
+python3 "$tests/common/client.py" socket 4096 80010000000c000001440000 \
+    80010000000c0000017b0004 80010000000a000001 >answers
+wait
+run 'a log' replay log
+cat answers
+
+echo 'do Startup 0
+do GetRandom 4
+do GetRandom 8' >script
+"$program" run --state other script >answers
+
+# changed LABEL LINES: what comes of a copy of the journal whose lines are changed by a line of Python.
+changed() {
+    python3 -c "
+lines = open('other/journal', 'rb').read().splitlines(keepends=True)
+$2
+open('journal', 'wb').write(b''.join(lines))
+"
+    run "$1" replay journal
+}
+changed 'an entry that is cut' 'lines[-1] = lines[-1][:-3]'
+changed 'zeros after the last entry' 'lines.append(bytes(5000))'
+changed 'the second entry with another command' 'lines[11] = lines[11].replace(b"0004", b"0005")'
+changed 'an entry left out' 'del lines[2:7]'
+changed 'no head' 'del lines[:1]'
+changed 'no image' 'lines[1] = b"# 00\n"'
+run 'no file' replay none
+run 'no word' replay
