@@ -1,3 +1,3 @@
 pub mod Words
-pub mod Telling
+pub mod Entries
 pub mod Heads

@@ -1,5 +1,6 @@
--- A journal as a script, which is a map over the entries that are executed again.
-use Rattle.std.specs.Prelude.{◌≡◌, ℕ, false, true, Bool, List, [], ◌∷◌, ◌++◌, codes, flat_map, Option, Some, None, Result, Ok, Err}
+-- What is told of a journal, which is a map over the entries that are executed again.
+use Rattle.std.specs.Prelude.{◌≡◌, ℕ, ◌+◌, false, true, Bool, List, [], ◌∷◌, ◌++◌, codes, drop, flat_map, length}
+use Rattle.std.specs.Prelude.{Option, Some, None, Result, Ok, Err}
 use Rattle.std.specs.Io.KnownBytes.{Appends, Keeps}
 use Rattle.tpm_bytes.specs.Tap.{Marks}
 use Rattle.tpm_image_text.specs.Image.{image_of}
@@ -12,14 +13,17 @@ use Rattle.tpm_journal.specs.declared.following.Followed.{Followed}
 use Rattle.tpm_journal.specs.declared.following.FollowFault.{FollowFault}
 use Rattle.tpm_journal.specs.declared.journal.Journal.{Journal}
 use Rattle.tpm_journal.specs.declared.opening.OpenFault.TheVariants as fault
-use Rattle.tpm_journal_text.specs.Entry.{PlainEntry, executing_lines, setting_lines}
+use Rattle.hex.specs.Hex.{encode_lower}
+use Rattle.tpm_journal_text.specs.Entry.{PlainEntry, executing_lines, mark_line_size, setting_lines}
 use Rattle.tpm_journal_text.specs.Head.{head_text}
 use Rattle.tpm_record.specs.Record.{Record}
 use Rattle.tpm_step.specs.Events.{PlainEvent}
 use Rattle.tpm_step.specs.declared.event.Row.{Row}
 use Rattle.tpm_text.specs.Trace.{IsAnswered, IsRow, trace_text}
 use Rattle.tpm_journal.specs.declared.retelling.RetellFault.{RetellFault}
-use Rattle.tpm_journal.specs.declared.retelling.RetellFault.TheVariants.{Open, Write}
+use Rattle.tpm_journal.specs.declared.retelling.RetellFault.TheVariants.{Open, Follow, Write}
+use Rattle.tpm_journal.specs.declared.retelling.Telling.{Telling}
+use Rattle.tpm_journal.specs.declared.retelling.Telling.TheVariants.{Script, Answers}
 
 -- the words that tell how an event was answered: `completed` where the completing layer was on, or
 -- else the trace
@@ -42,29 +46,44 @@ comment_of one =
 abbrev pub lines_with : (words : List ℕ) → PlainEntry → List ℕ
 lines_with words e = codes "# " ++ words ++ 10 ∷ [] ++ (setting_lines e ++ executing_lines e)
 
--- the lines that tell an entry that was performed
-abbrev pub retold : Performance → List ℕ
-retold one = lines_with (comment_of one) one.entry
+-- the lines that tell an answer: these words, and the response in hex
+abbrev pub answer_lines : (words response : List ℕ) → List ℕ
+answer_lines words response = words ++ 10 ∷ [] ++ encode_lower response ++ 10 ∷ []
+
+-- what is told of an entry that was performed: the script that executes it again, or its answer
+abbrev pub retold : Telling → Performance → List ℕ
+retold Script one = lines_with (comment_of one) one.entry
+retold Answers one = answer_lines (comment_of one) one.seen.step.response
+
+-- what is told of an entry with these words, this response and this text of its own
+abbrev pub retold_by : Telling → (words response own : List ℕ) → List ℕ
+retold_by Script words response own = codes "# " ++ words ++ 10 ∷ [] ++ drop mark_line_size own
+retold_by Answers words response own = answer_lines words response
+
+-- what is told of a head: all of it in a script, and nothing beside answers
+abbrev pub retold_head : Telling → (head : List ℕ) → List ℕ
+retold_head Script head = head
+retold_head Answers head = []
 
 -- Exactly the entries at the front of a text were executed again, one after another, and told.
-pub record Retells (can : Bool) (before : Journal) (old : Record) (text : List ℕ)
+pub record Retells (form : Telling) (can : Bool) (before : Journal) (old : Record) (text : List ℕ)
     (held : Option (List ℕ)) (holds : Option (List ℕ)) (taken : ℕ) (fault : Option FollowFault)
     (after : Journal) (new : Record) : Type 0
   where
     pub repeats : Repeats can before old text taken fault after new
-    pub told : Appends held holds (flat_map retold repeats.performances)
+    pub told : Appends held holds (flat_map (retold form) repeats.performances)
 
 -- The entries of a text were executed and told, with this result.
-pub record RetellsEntries (can : Bool) (before : Journal) (old : Record) (text : List ℕ)
+pub record RetellsEntries (form : Telling) (can : Bool) (before : Journal) (old : Record) (text : List ℕ)
     (held : Option (List ℕ)) (holds : Option (List ℕ)) (followed : Followed) (after : Journal)
     (new : Record) : Type 0
   where
     pub replays : Replays can before old text followed after new
-    pub told : Appends held holds (flat_map retold replays.repeats.performances)
+    pub told : Appends held holds (flat_map (retold form) replays.repeats.performances)
 
 -- A text begins with a head that has the image of a device. The head, and then each entry that was
 -- executed, was told, with this result.
-pub record RetellsText (text : List ℕ) (held : Option (List ℕ)) (holds : Option (List ℕ))
+pub record RetellsText (form : Telling) (text : List ℕ) (held : Option (List ℕ)) (holds : Option (List ℕ))
     (fault : Option FollowFault) : Type 0
   where
     pub clock : ℕ
@@ -79,17 +98,24 @@ pub record RetellsText (text : List ℕ) (held : Option (List ℕ)) (holds : Opt
     pub new : Record
     pub replays : Replays false (journal_begun clock image) (powered_on kept) rest followed after new
     pub told : Appends held holds
-        (head_text clock image ++ flat_map retold replays.repeats.performances)
+        (retold_head form (head_text clock image)
+        ++ flat_map (retold form) replays.repeats.performances)
 
--- A text was told as a script to its end; or up to a fault; or the writer failed.
-abbrev pub RetellsJournal : List ℕ → (held : Option (List ℕ)) → (holds : Option (List ℕ)) → Marks
-    → Result (Unit {0}) RetellFault → Type 0
-RetellsJournal text held holds marks (Ok done) = RetellsText text held holds None
-RetellsJournal text held holds marks (Err (Open fault.NoJournal)) =
+-- how many bytes the head has, and the entries that were executed after it
+abbrev pub retold_size : {form : Telling} {text : List ℕ} {held holds : Option (List ℕ)}
+    {fault : Option FollowFault} → RetellsText form text held holds fault → ℕ
+retold_size told = length (head_text told.clock told.image) + told.followed.taken
+
+-- A text was told to its end; or up to a fault; or the writer failed.
+abbrev pub RetellsJournal : Telling → List ℕ → (held : Option (List ℕ)) → (holds : Option (List ℕ))
+    → Marks → Result (Unit {0}) RetellFault → Type 0
+RetellsJournal form text held holds marks (Ok done) = RetellsText form text held holds None
+RetellsJournal form text held holds marks (Err (Open fault.NoJournal)) =
     ((clock : ℕ) (image rest : List ℕ) → BeginsWith text clock image rest → ⊥) × Keeps held holds
-RetellsJournal text held holds marks (Err (Open (fault.Image why))) =
+RetellsJournal form text held holds marks (Err (Open (fault.Image why))) =
     ((clock : ℕ) × (image : List ℕ) × (rest : List ℕ) × BeginsWith text clock image rest
     × (image_of image ≡ Err why)) × Keeps held holds
-RetellsJournal text held holds marks (Err (Open (fault.Follow why))) =
-    RetellsText text held holds (Some why)
-RetellsJournal text held holds marks (Err Write) = marks.failed ≡ true
+RetellsJournal form text held holds marks (Err (Open (fault.Follow why))) = ⊥
+RetellsJournal form text held holds marks (Err (Follow why taken)) =
+    (told : RetellsText form text held holds (Some why)) × (taken ≡ retold_size told)
+RetellsJournal form text held holds marks (Err Write) = marks.failed ≡ true

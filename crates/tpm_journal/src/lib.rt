@@ -8,7 +8,7 @@
 //! their entries, follows a text, and is opened from a text. An entry says whether the layer was
 //! on, and has the random bytes that its command drew: others have no influence, as [`draw_laws`]
 //! says. The device and the layer that are opened executed exactly the answered commands.
-//! [`retell`] writes what happened to a device as a script to a writer. The crate does no other
+//! [`retell`] writes what happened to a device to a writer, as a script or as its answers. The crate does no other
 //! input or output: texts are read from the caller's memory and written to it.
 
 pub mod draw_laws;
@@ -21,4 +21,4 @@ pub mod retelling;
 pub use following::{FollowFault, Followed, perform};
 pub use journal::Journal;
 pub use opening::{OpenFault, Opened};
-pub use retelling::{RetellFault, retell};
+pub use retelling::{RetellFault, Telling, retell};

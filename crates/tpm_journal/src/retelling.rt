@@ -1,9 +1,10 @@
-//! What happened to a device, told from its journal as a script: the journal's head, and for each
-//! of its entries a comment that traces what was answered, and the lines that execute the command.
+//! What happened to a device, told from its journal: as a script, which has the journal's head, and
+//! for each of its entries a comment that traces what was answered and the lines that execute the
+//! command; or as its answers, which has for each entry that trace and the response.
 //!
-//! [`retell`] executes the entries of a journal again, as opening it does, and writes the script,
-//! which is a map over exactly the entries that were executed. It does no input or output but
-//! through the writer that it is given.
+//! [`retell`] executes the entries of a journal again, as opening it does, and writes a map over
+//! exactly the entries that were executed. It does no input or output but through the writer that
+//! it is passed.
 
 ghost use Rattle.std.specs.Prelude.{◌≡◌, IfOk, OnErr, false, replicate, true};
 ghost use Rattle.tpm_bytes.specs.Tap.{device_of, marks_of};
@@ -17,7 +18,7 @@ mod lines;
 use crate::following::{Deed, FollowFault, Followed};
 use crate::journal::Journal;
 use crate::opening::OpenFault;
-use crate::retelling::lines::put_entry;
+use crate::retelling::lines::{put_entry, put_head};
 use std::io::Write;
 use tpm_bytes::{Failed, Tap};
 use tpm_image::open_into;
@@ -26,19 +27,30 @@ use tpm_machine::Machine;
 use tpm_record::Keep;
 use tpm_step::Outcome;
 
+/// How a journal is told.
+#[derive(Clone, Copy, PartialEq, Eq)]
+pub enum Telling {
+    /// As the script that executes it again.
+    Script,
+    /// By the trace and the response of each entry.
+    Answers,
+}
+
 /// Why a journal was not told to its end.
 #[derive(Clone, Copy, PartialEq, Eq)]
 pub enum RetellFault {
-    /// The journal was not opened. Everything before the fault was told.
+    /// The journal has no head, or no image in it. Nothing was told.
     Open(OpenFault),
-    /// The script could not be written.
+    /// The entries were told up to this fault: their head and they have `taken` bytes.
+    Follow { fault: FollowFault, taken: usize },
+    /// What is told could not be written.
     Write,
 }
 
-/// Tells a journal as a script: opens the device of its head in place of a new machine of zeros,
-/// and executes its entries again. What follows the last whole entry was never answered, and is not
-/// told.
+/// Tells a journal: opens the device of its head in place of a new machine of zeros, and executes
+/// its entries again. What follows the last whole entry was never answered, and is not told.
 pub fn retell<K: Keep, W: Write>(
+    form: Telling,
     machine: &mut Machine<K>,
     text: &[u8],
     outcome: &mut Outcome,
@@ -46,7 +58,7 @@ pub fn retell<K: Keep, W: Write>(
 ) -> Result<(), RetellFault>
     requires new { state_of K.record_of machine.old ≡ manufactured (replicate 256 0) }
     requires never_refused { K.can_refuse ≡ false }
-    ensures { RetellsJournal text.now (W.contents (device_of writer.old))
+    ensures { RetellsJournal form text.now (W.contents (device_of writer.old))
         (W.contents (device_of writer.new)) (marks_of writer.new) result }
 {
     let mut image = [0; IMAGE_ROOM];
@@ -58,27 +70,31 @@ pub fn retell<K: Keep, W: Write>(
     }
     let mut journal = Journal::begun(head.sum, head.clock);
     let (front, rest) = text.split_at(head.size);
-    let Ok(()) = writer.write_all(front) else {
+    let Ok(()) = put_head(writer, form, front) else {
         return Err(RetellFault::Write);
     };
-    let Ok(followed) = retell_entries(&mut journal, machine, rest, outcome, writer) else {
+    let Ok(followed) = retell_entries(form, &mut journal, machine, rest, outcome, writer) else {
         return Err(RetellFault::Write);
     };
     match followed.fault {
         None => Ok(()),
-        Some(fault) => Err(RetellFault::Open(OpenFault::Follow(fault))),
+        Some(fault) => Err(RetellFault::Follow {
+            fault,
+            taken: head.size + followed.taken,
+        }),
     }
 }
 
 /// Executes the entries of a text that follows a journal, and tells each.
 fn retell_entries<K: Keep, W: Write>(
+    form: Telling,
     journal: &mut Journal,
     machine: &mut Machine<K>,
     text: &[u8],
     outcome: &mut Outcome,
     writer: &mut Tap<W>,
 ) -> Result<Followed, Failed>
-    ensures told { IfOk result (λ followed. RetellsEntries K.can_refuse journal.old
+    ensures told { IfOk result (λ followed. RetellsEntries form K.can_refuse journal.old
         (state_of K.record_of machine.old) text.now (W.contents (device_of writer.old))
         (W.contents (device_of writer.new)) followed journal.new
         (state_of K.record_of machine.new)) }
@@ -91,11 +107,11 @@ fn retell_entries<K: Keep, W: Write>(
         let (_, left) = text.split_at(taken);
         match journal.follow_one(machine, left, &mut bytes, &mut room, outcome) {
             Deed::Executed { entry, size } => {
-                put_entry(writer, &entry, outcome, left, size)?;
+                put_entry(writer, form, &entry, outcome, left, size)?;
                 taken += size;
             }
             Deed::Otherwise { entry, size } => {
-                put_entry(writer, &entry, outcome, left, size)?;
+                put_entry(writer, form, &entry, outcome, left, size)?;
                 return Ok(ended(taken + size, Some(FollowFault::Otherwise)));
             }
             Deed::Torn => return Ok(ended(taken, None)),

@@ -6,7 +6,9 @@ use Rattle.std.specs.declared.io.Error.{Error}
 use Rattle.std.specs.declared.io.ErrorKind.{ErrorKind}
 use Rattle.std.specs.declared.io.ErrorKind.TheVariants.{OutOfMemory}
 use Rattle.tpmsim.specs.declared.fault.Fault.{Fault}
-use Rattle.tpmsim.specs.declared.fault.Fault.TheVariants.{Usage, ScriptLine, Asm, NoLine, Image, File, Socket, Entropy, Memory, Kept}
+use Rattle.tpmsim.specs.declared.fault.Fault.TheVariants.{Usage, ScriptLine, Asm, NoLine, Image, File, Socket, Entropy, Memory, Kept, Journal}
+use Rattle.tpmsim.specs.declared.fault.JournalFault.{JournalFault}
+use Rattle.tpmsim.specs.declared.fault.JournalFault.TheVariants as journal
 use Rattle.tpm_image_text.specs.declared.fault.ImageFault.{ImageFault}
 use Rattle.tpm_image_text.specs.declared.fault.ImageFault.TheVariants as image
 use Rattle.tpm_line.specs.declared.fault.SpellFault.{SpellFault}
@@ -82,6 +84,7 @@ status_of Socket = 3
 status_of Entropy = 3
 status_of Memory = 3
 status_of (Kept fault) = if is_of_contents fault.said then 4 else 3
+status_of (Journal fault) = 4
 
 -- the name of a line's fault, with the column of the token at fault
 abbrev pub asm_text : AsmFault → List ℕ
@@ -102,6 +105,14 @@ image_text image.Digest = codes "Digest"
 image_text image.Body = codes "Body"
 image_text image.NoMemory = codes "NoMemory"
 
+-- what the fault of a journal says of it
+abbrev pub journal_fault_text : JournalFault → List ℕ
+journal_fault_text journal.IsNoJournal = codes "journal is no journal of a device"
+journal_fault_text journal.HoldsNoImage = codes "journal holds an image that this program does not open"
+journal_fault_text (journal.IsDamaged line) = codes "journal line " ++ decimal line ++ codes " is damaged"
+journal_fault_text (journal.WasAnsweredOtherwise line) =
+    codes "journal line " ++ decimal line ++ codes " was answered otherwise"
+
 -- what follows the program's name on standard error
 abbrev pub fault_text : Fault → List ℕ
 fault_text Usage = codes "usage"
@@ -114,3 +125,4 @@ fault_text Socket = codes "socket"
 fault_text Entropy = codes "entropy"
 fault_text Memory = codes "memory"
 fault_text (Kept fault) = kept_fault_text fault
+fault_text (Journal fault) = journal_fault_text fault

@@ -38,6 +38,21 @@ pub enum Fault {
     Memory,
     /// The device in a folder did not do what was asked for.
     Kept(KeptFault),
+    /// A journal was not executed again to its end.
+    Journal(JournalFault),
+}
+
+/// Why a journal was not executed again to its end. Its lines have numbers from 1.
+#[derive(Clone, Copy, PartialEq, Eq)]
+pub enum JournalFault {
+    /// It does not begin with a head.
+    IsNoJournal,
+    /// The head's image is not one of this version of the program.
+    HoldsNoImage,
+    /// The entry that begins at this line is damaged.
+    IsDamaged(u64),
+    /// The entry that begins at this line was answered otherwise than it is now.
+    WasAnsweredOtherwise(u64),
 }
 
 impl Fault {
@@ -72,7 +87,7 @@ impl Fault {
         match self {
             Fault::Usage | Fault::ScriptLine(_) | Fault::Asm(_) | Fault::NoLine => 2,
             Fault::File | Fault::Socket | Fault::Entropy | Fault::Memory => 3,
-            Fault::Image(_) => 4,
+            Fault::Image(_) | Fault::Journal(_) => 4,
             Fault::Kept(fault) => kept_status(fault),
         }
     }
@@ -119,6 +134,27 @@ impl fmt::Display for Fault {
             Fault::Entropy => write!(f, "entropy"),
             Fault::Memory => write!(f, "memory"),
             Fault::Kept(fault) => write!(f, "{fault}"),
+            Fault::Journal(fault) => write!(f, "{fault}"),
+        }
+    }
+}
+
+impl fmt::Display for JournalFault {
+    ghost use Rattle.std.specs.Prelude.{Some};
+    ghost use Rattle.tpmsim.specs.Fault.{journal_fault_text};
+
+    ghost output = { λ fault. Some (journal_fault_text fault) };
+
+    fn fmt<W: fmt::Write>(&self, f: &mut fmt::Formatter<W>) -> fmt::Result {
+        match self {
+            JournalFault::IsNoJournal => write!(f, "journal is no journal of a device"),
+            JournalFault::HoldsNoImage => {
+                write!(f, "journal holds an image that this program does not open")
+            }
+            JournalFault::IsDamaged(line) => write!(f, "journal line {line} is damaged"),
+            JournalFault::WasAnsweredOtherwise(line) => {
+                write!(f, "journal line {line} was answered otherwise")
+            }
         }
     }
 }

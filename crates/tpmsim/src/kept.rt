@@ -22,6 +22,6 @@ mod tail;
 
 pub use folder::Kept;
 pub use playing::play;
-pub use said::said_of_opening;
+pub use said::{said_of_following, said_of_opening};
 pub use serving::{RandomBytes, ServeFault, serve};
 pub use stop::PlayFault;

@@ -1,11 +1,11 @@
 //! What the program does with a device that is kept in a folder.
 
 use crate::fault::Fault;
-use crate::kept::{Kept, play, said_of_opening};
+use crate::kept::{Kept, play, said_of_following, said_of_opening};
 use std::fs;
 use std::io::Read;
 use tpm_bytes::Tap;
-use tpm_journal::{RetellFault, retell};
+use tpm_journal::{RetellFault, Telling, retell};
 use tpm_machine::Machine;
 use tpm_slots::SlotKeep;
 use tpm_step::Outcome;
@@ -36,7 +36,7 @@ fn print_journal(rt: &HostRuntime, text: &[u8]) -> Result<(), Fault> {
     let mut machine: Machine<SlotKeep> = Machine::manufacture(rt.alloc(), &[0; 256])?;
     let mut outcome = Outcome::empty();
     let output = &mut Tap::new(rt.stdout());
-    match retell(&mut machine, text, &mut outcome, output) {
+    match retell(Telling::Script, &mut machine, text, &mut outcome, output) {
         Ok(()) => Ok(()),
         Err(fault) => Err(fault_of_retelling(fault)),
     }
@@ -45,6 +45,9 @@ fn print_journal(rt: &HostRuntime, text: &[u8]) -> Result<(), Fault> {
 fn fault_of_retelling(fault: RetellFault) -> Fault {
     match fault {
         RetellFault::Open(fault) => Fault::Kept(Place::Journal.that(said_of_opening(fault))),
+        RetellFault::Follow { fault, .. } => {
+            Fault::Kept(Place::Journal.that(said_of_following(fault)))
+        }
         RetellFault::Write => Fault::File,
     }
 }

@@ -7,7 +7,7 @@ use Rattle.clap.specs.declared.error.kind.ErrorKind.TheVariants.{ArgumentConflic
 use Rattle.clap.proofs.OnLiterals.{clap_on_literals}
 use Rattle.tpm_bytes.specs.Reading.{Gives}
 use Rattle.tpmsim_arguments.specs.Answers.{Answers, AreTaken, IsTold}
-use Rattle.tpmsim_arguments.specs.Invocation.{Invocation, Served, Stored, asked, asked_by, asked_in, is_set, script_in, service_in, storage_in, run, check, assemble, spell, forms, name_code, serve, cycle_power, retell, tell}
+use Rattle.tpmsim_arguments.specs.Invocation.{Invocation, Served, Stored, asked, asked_by, asked_in, is_set, script_in, service_in, storage_in, run, check, assemble, spell, forms, name_code, serve, cycle_power, retell, tell, replay}
 use Rattle.tpmsim_arguments.specs.CommandLine.{program}
 use Rattle.tpmsim_arguments.specs.Fault.{fault_of_words}
 use Rattle.tpmsim_arguments.specs.declared.arguments.Arguments.{Arguments}
@@ -76,6 +76,10 @@ no_script : (kind : ErrorKind) (state : Option Text) → option_map retell state
 no_script kind None e = cc
 no_script kind (Some text) e = cc
 
+no_replay : (kind : ErrorKind) (journal : Option Text) → option_map replay journal ≡ Some (tell kind) → ⊥
+no_replay kind None e = cc
+no_replay kind (Some text) e = cc
+
 unknown : (kind : ErrorKind) → (let none : Option Invocation = None in none ≡ Some (tell kind)) → ⊥
 unknown kind e = cc
 
@@ -91,7 +95,8 @@ none_tells kind (Some command) e =
     (otherwise (tell kind) (bytes_eq command.0 (codes "code")) _ _ (no_code kind (first_of (codes "number") rows))
     (otherwise (tell kind) (bytes_eq command.0 (codes "serve")) _ _ (no_service kind (service_in rows))
     (otherwise (tell kind) (bytes_eq command.0 (codes "power")) _ _ (no_power kind (is_set (codes "cut") rows) (first_of (codes "state") rows))
-    (otherwise (tell kind) (bytes_eq command.0 (codes "script")) _ _ (no_script kind (first_of (codes "state") rows)) (unknown kind))))))))) e
+    (otherwise (tell kind) (bytes_eq command.0 (codes "script")) _ _ (no_script kind (first_of (codes "state") rows))
+    (otherwise (tell kind) (bytes_eq command.0 (codes "replay")) _ _ (no_replay kind (first_of (codes "journal") rows)) (unknown kind)))))))))) e
 
 -- the answer where clap takes the words, and its matches are read
 pub taken : (words : List Text) (r : Result Arguments ArgumentFault) → AreTaken words
@@ -105,6 +110,7 @@ taken words (Ok (arguments.Code digits)) right e = (right, found_is _ _ e)
 taken words (Ok (arguments.Serve service)) right e = (right, found_is _ _ e)
 taken words (Ok (arguments.Power state cuts)) right e = (right, found_is _ _ e)
 taken words (Ok (arguments.Retell state)) right e = (right, found_is _ _ e)
+taken words (Ok (arguments.Replay journal)) right e = (right, found_is _ _ e)
 taken words (Ok (arguments.Tell error)) right e = absurd (none_tells _ (subcommand_of program words) (found_is _ _ e))
 taken words (Err Usage) right e = inr (right, not_found _ e)
 taken words (Err NoMemory) right e = tt

@@ -7,8 +7,8 @@ use Rattle.clap.specs.Words.{Text}
 use Rattle.clap.proofs.OnLiterals.{clap_on_literals}
 use Rattle.tpm_number.specs.Number.{decimal_of, locality_of}
 use Rattle.tpmsim_arguments.specs.Answers.{AreTaken}
-use Rattle.tpmsim_arguments.specs.Invocation.{Invocation, Kept, asked_by, assemble, check, cycle_power, forms, in_image, in_state, name_code, retell, run, serve, spell}
-use Rattle.tpmsim_arguments.specs.Lines.{AskFor, AskForDevice, AskForSavedDevice, AskForService, IsScript, asm_line, begins_with_hyphen, check_line, code_line, cut_line, form_line, forms_line, line_line, logging_line, played_line, power_line, joined_line, saving_line, script_line, state_line}
+use Rattle.tpmsim_arguments.specs.Invocation.{Invocation, Kept, asked_by, assemble, check, cycle_power, forms, in_image, in_state, name_code, replay, retell, run, serve, spell}
+use Rattle.tpmsim_arguments.specs.Lines.{AskFor, AskForDevice, AskForSavedDevice, AskForService, IsScript, asm_line, begins_with_hyphen, check_line, code_line, cut_line, form_line, forms_line, line_line, logging_line, played_line, power_line, replay_line, joined_line, saving_line, script_line, state_line}
 
 -- a word that begins with no hyphen is not the name of an argument
 no_hyphen : (word : Text) → begins_with_hyphen word ≡ false → strip_byte 45 word ≡ None
@@ -61,6 +61,10 @@ damage_is_cut name state e = rw (no_end state e, no_long state e, no_short state
 pub script_is_retold : (name state : Text) → begins_with_hyphen state ≡ false → AskFor (script_line name state) (retell state)
 unfolding clap_on_literals
 script_is_retold name state e = rw (no_end state e, no_long state e, no_short state e) (refl, refl)
+
+pub journal_is_replayed : (name journal : Text) → begins_with_hyphen journal ≡ false → AskFor (replay_line name journal) (replay journal)
+unfolding clap_on_literals
+journal_is_replayed name journal e = rw (no_end journal e, no_long journal e, no_short journal e) (refl, refl)
 
 pub state_is_played : (name state : Text) → AskFor (played_line name state) (run (codes "-") false (Some (record { place = in_state state; entropy = None })))
 unfolding clap_on_literals

@@ -73,6 +73,10 @@ power_command = with_arguments (codes "power") (flag (codes "cut") ∷ operand (
 abbrev pub script_command : Shape
 script_command = with_arguments (codes "script") (operand (codes "state") ∷ [])
 
+-- the command replay FILE
+abbrev pub replay_command : Shape
+replay_command = with_arguments (codes "replay") (operand (codes "journal") ∷ [])
+
 -- the program, which has a version, and wants one of its commands
 abbrev pub bare_program : App
 bare_program = record {
@@ -83,7 +87,7 @@ bare_program = record {
 -- the commands, in the order in which the help lists them
 abbrev pub commands : List Shape
 commands = run_command ∷ check_command ∷ asm_command ∷ line_command ∷ lines_command ∷ code_command
-    ∷ serve_command ∷ power_command ∷ script_command ∷ []
+    ∷ serve_command ∷ power_command ∷ script_command ∷ replay_command ∷ []
 
 abbrev pub program : App
 program = fold with_subcommand bare_program commands

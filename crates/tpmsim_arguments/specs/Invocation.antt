@@ -41,7 +41,7 @@ pub record Stored : Type 0 where
 -- print the line of a buffer; to print how the command of a name is said in words, or how each
 -- command is; to print what a response code says; to serve a device; to cycle the power of the
 -- device in a folder, with what follows damage dropped or not; to print what happened to it as a
--- script; to tell a text of clap's, its help or the version
+-- script; to execute what a journal recorded again; to tell a text of clap's, its help or the version
 pub data Invocation : Type 0 where
   run : Text → Bool → Option Stored → Invocation
   check : Text → Invocation
@@ -52,6 +52,7 @@ pub data Invocation : Type 0 where
   serve : Served → Invocation
   cycle_power : Text → (cuts : Bool) → Invocation
   retell : Text → Invocation
+  replay : Text → Invocation
   tell : ErrorKind → Invocation
 
 -- ---- what words ask for
@@ -143,8 +144,9 @@ asked_of name rows = if bytes_eq name (codes "run") then run_in rows
     else (if bytes_eq name (codes "code") then option_map name_code (first_of (codes "number") rows)
     else (if bytes_eq name (codes "serve") then option_map serve (service_in rows)
     else (if bytes_eq name (codes "power") then power_in rows
-    else (if bytes_eq name (codes "script")
-    then option_map retell (first_of (codes "state") rows) else None))))))))
+    else (if bytes_eq name (codes "script") then option_map retell (first_of (codes "state") rows)
+    else (if bytes_eq name (codes "replay")
+    then option_map replay (first_of (codes "journal") rows) else None)))))))))
 
 abbrev pub asked_in : Option (Text × List Row) → Option Invocation
 asked_in = option_and_then (λ command. asked_of command.0 command.1)
@@ -186,4 +188,5 @@ asked (arguments.Code digits) = name_code digits.now
 asked (arguments.Serve service) = serve (served service)
 asked (arguments.Power state cuts) = cycle_power state.now cuts
 asked (arguments.Retell state) = retell state.now
+asked (arguments.Replay journal) = replay journal.now
 asked (arguments.Tell error) = tell (kind_of error)

@@ -44,6 +44,10 @@ check_line name script = name ∷ codes "check" ∷ script ∷ []
 abbrev pub power_line : (name state : Text) → List Text
 power_line name state = name ∷ codes "power" ∷ state ∷ []
 
+-- the command line NAME replay FILE
+abbrev pub replay_line : (name journal : Text) → List Text
+replay_line name journal = name ∷ codes "replay" ∷ journal ∷ []
+
 -- the command line NAME power --cut DIR
 abbrev pub cut_line : (name state : Text) → List Text
 cut_line name state = name ∷ codes "power" ∷ codes "--cut" ∷ state ∷ []

@@ -62,6 +62,10 @@ pub enum Arguments<'a> {
     Retell {
         state: &'a str,
     },
+    /// To execute what this journal or log recorded again, and to print what was answered.
+    Replay {
+        journal: &'a str,
+    },
     /// To print the program's help or its version, which clap tells in place of matches.
     Tell(clap::Error),
 }
@@ -116,6 +120,9 @@ impl<'a> Arguments<'a> {
             }),
             "script" => Some(Arguments::Retell {
                 state: value(options, "state")?,
+            }),
+            "replay" => Some(Arguments::Replay {
+                journal: value(options, "journal")?,
             }),
             _ => None,
         }

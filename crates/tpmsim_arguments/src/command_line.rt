@@ -5,7 +5,8 @@ ghost use Rattle.clap.specs.Words.{AddsSubcommand, app_of, new_app, rule_of, sha
 ghost use Rattle.tpmsim_arguments.specs.CommandLine.{asm_command, bare_program, check_command};
 ghost use Rattle.tpmsim_arguments.specs.CommandLine.{choice, code_command, flag, line_command};
 ghost use Rattle.tpmsim_arguments.specs.CommandLine.{lines_command, operand, optional_operand};
-ghost use Rattle.tpmsim_arguments.specs.CommandLine.{power_command, program, run_command};
+ghost use Rattle.tpmsim_arguments.specs.CommandLine.{power_command, program, replay_command};
+ghost use Rattle.tpmsim_arguments.specs.CommandLine.{run_command};
 ghost use Rattle.tpmsim_arguments.specs.CommandLine.{script_command, serve_command, setting};
 ghost use Rattle.tpmsim_arguments.specs.CommandLine.{with_arguments};
 
@@ -34,7 +35,8 @@ pub fn command<'a>(alloc: Global) -> Result<Command<'a>, AllocError>
     let program = with_command(program, code_command(alloc));
     let program = with_command(program, serve_command(alloc));
     let program = with_command(program, power_command(alloc));
-    with_command(program, script_command(alloc))
+    let program = with_command(program, script_command(alloc));
+    with_command(program, replay_command(alloc))
 }
 
 /// The program with one command more, where both could be made.
@@ -322,6 +324,24 @@ fn script_command<'a>(alloc: Global) -> Result<Command<'a>, AllocError>
         "script",
         "Prints what happened to a device since its power came on, as a script",
         "Example: tpmsim script tpm",
+        argument,
+    )
+}
+
+fn replay_command<'a>(alloc: Global) -> Result<Command<'a>, AllocError>
+    ensures { IfOk result (λ command. shape_of command ≡ replay_command) }
+{
+    let argument = operand(
+        alloc,
+        "journal",
+        "FILE",
+        "The journal of a device in a folder, or the log of a served one",
+    );
+    one_argument_command(
+        alloc,
+        "replay",
+        "Executes what was recorded again, and prints its traces and its responses",
+        "Example: tpmsim replay tpm/journal",
         argument,
     )
 }

@@ -2,14 +2,14 @@
 
 ghost use Rattle.std.specs.Prelude.{◌≡◌, ◌∷◌, List, [], None, Some, ℕ, codes, false, true};
 ghost use Rattle.tpmsim_arguments.specs.Invocation.{assemble, check, cycle_power, forms, in_image};
-ghost use Rattle.tpmsim_arguments.specs.Invocation.{in_state, name_code, retell, run, spell};
+ghost use Rattle.tpmsim_arguments.specs.Invocation.{in_state, name_code, replay, retell, run, spell};
 ghost use Rattle.tpmsim_arguments.specs.Lines.{AskFor, AskForDevice, AskForSavedDevice};
 ghost use Rattle.tpmsim_arguments.specs.Lines.{AskForService, IsScript, NoneBeginsWithHyphen};
 ghost use Rattle.tpmsim_arguments.specs.Lines.{asm_line, begins_with_hyphen, check_line, code_line};
 ghost use Rattle.tpmsim_arguments.specs.Lines.{cut_line, form_line, forms_line, joined_line, kept_line};
 ghost use Rattle.tpmsim_arguments.specs.Lines.{line_line, logging_line, played_line, power_line};
-ghost use Rattle.tpmsim_arguments.specs.Lines.{run_line, saving_line, script_line, serve_line};
-ghost use Rattle.tpmsim_arguments.specs.Lines.{state_line, trace_line};
+ghost use Rattle.tpmsim_arguments.specs.Lines.{replay_line, run_line, saving_line, script_line};
+ghost use Rattle.tpmsim_arguments.specs.Lines.{serve_line, state_line, trace_line};
 
 /// Usual command lines ask for what they say, where no word but the names of settings begins with a
 /// hyphen; a script may be one hyphen. A value that is joined to its name may be any text.
@@ -36,6 +36,8 @@ pub fn usual_line_laws()
         → AskFor (cut_line name state) (cycle_power state true) }
     ensures script { (name state : List ℕ) → begins_with_hyphen state ≡ false
         → AskFor (script_line name state) (retell state) }
+    ensures replay { (name journal : List ℕ) → begins_with_hyphen journal ≡ false
+        → AskFor (replay_line name journal) (replay journal) }
     ensures kept { (name image entropy script : List ℕ) → IsScript script
         → AskFor (kept_line name image entropy script)
         (run script true (Some (record { place = in_image image; entropy = Some entropy }))) }

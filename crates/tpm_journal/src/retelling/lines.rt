@@ -1,25 +1,43 @@
-//! Writing the lines of a script that tell an entry.
+//! Writing the lines that tell a head or an entry.
 
-ghost use Rattle.std.specs.Prelude.{◌≡◌, ◌≤◌, ◌++◌, ◌∷◌, [], OnErr, OnOk, codes, drop, length, take, true};
+ghost use Rattle.std.specs.Prelude.{◌≡◌, ◌≤◌, ◌*◌, ◌++◌, ◌∷◌, [], OnErr, OnOk, codes, drop, length, take, true};
 ghost use Rattle.std.specs.Io.KnownBytes.{Appends};
 ghost use Rattle.tpm_bytes.specs.Tap.{device_of, marks_of};
 ghost use Rattle.tpm_journal.specs.Command.{event_of};
-ghost use Rattle.tpm_journal.specs.Retelling.{CanBeTold, words_of};
+ghost use Rattle.tpm_journal.specs.Retelling.{CanBeTold, answer_lines, retold_by, retold_head, words_of};
 ghost use Rattle.tpm_journal_text.specs.Entry.{IsEntry, plain_entry};
 
+use crate::retelling::Telling;
 use crate::retelling::comment::{Comment, comment_of};
 use std::io::Write;
 use tpm_bytes::{Failed, Tap};
+use tpm_hex::encode;
 use tpm_journal_text::Entry;
 use tpm_step::Outcome;
 
 /// How many bytes the first line of an entry has, which holds its sums.
 const MARK_LINE_SIZE: usize = 72;
 
+/// The most digits of a response.
+const DIGITS_LIMIT: usize = 8_192;
+
+/// Tells a head, which only a script has.
+pub fn put_head<W: Write>(writer: &mut Tap<W>, form: Telling, head: &[u8]) -> Result<(), Failed>
+    ensures written { OnOk result (Appends (W.contents (device_of writer.old))
+        (W.contents (device_of writer.new)) (retold_head form head.now)) }
+    ensures failed { OnErr result ((marks_of writer.new).failed ≡ true) }
+{
+    match form {
+        Telling::Script => writer.write_all(head),
+        Telling::Answers => Ok(()),
+    }
+}
+
 /// Tells an entry that was answered with this outcome, and whose own text is the first `size` bytes
-/// of a text: a comment, and the lines that execute its command.
+/// of a text.
 pub fn put_entry<W: Write>(
     writer: &mut Tap<W>,
+    form: Telling,
     entry: &Entry,
     outcome: &Outcome,
     text: &[u8],
@@ -32,12 +50,17 @@ pub fn put_entry<W: Write>(
     requires within { size ≤ length text.now }
     ensures written { OnOk result (Appends (W.contents (device_of writer.old))
         (W.contents (device_of writer.new))
-        (codes "# " ++ words_of entry.now.completes (event_of (plain_entry entry.now))
-        outcome.now.row outcome.now.response.items ++ 10 ∷ [] ++ drop 72 (take size text.now))) }
+        (retold_by form (words_of entry.now.completes (event_of (plain_entry entry.now))
+        outcome.now.row outcome.now.response.items) outcome.now.response.items
+        (take size text.now))) }
     ensures failed { OnErr result ((marks_of writer.new).failed ≡ true) }
 {
+    let comment = comment_of(entry, outcome);
     let (own, _) = text.split_at(size);
-    put_lines(writer, &comment_of(entry, outcome), own)
+    match form {
+        Telling::Script => put_lines(writer, &comment, own),
+        Telling::Answers => put_answer(writer, &comment, outcome.response.as_slice()),
+    }
 }
 
 /// Writes a comment, and the lines of an entry's text that execute its command.
@@ -54,4 +77,25 @@ fn put_lines<W: Write>(writer: &mut Tap<W>, comment: &Comment, text: &[u8]) -> R
     writer.write_all(b"\n")?;
     let (_, lines) = text.split_at(MARK_LINE_SIZE);
     writer.write_all(lines)
+}
+
+/// Writes what is told of an answer: the comment's words, and the response in hex.
+#[tactic(auto, using(crate::proofs::retelling::Words::put_together))]
+fn put_answer<W: Write>(
+    writer: &mut Tap<W>,
+    comment: &Comment,
+    response: &[u8],
+) -> Result<(), Failed>
+    requires { 2 * length response.now ≤ DIGITS_LIMIT }
+    ensures written { OnOk result (Appends (W.contents (device_of writer.old))
+        (W.contents (device_of writer.new)) (answer_lines comment.now.bytes response.now)) }
+    ensures failed { OnErr result ((marks_of writer.new).failed ≡ true) }
+{
+    let mut room = [0; DIGITS_LIMIT];
+    let (digits, _) = room.split_at_mut(2 * response.len());
+    encode(response, digits);
+    writer.write_all(comment.as_str().as_bytes())?;
+    writer.write_all(b"\n")?;
+    writer.write_all(digits)?;
+    writer.write_all(b"\n")
 }

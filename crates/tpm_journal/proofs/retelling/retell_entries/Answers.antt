@@ -1,10 +1,10 @@
 use Rattle.std.proofs.Common.{rules, arith}
-use Rattle.tpm_journal.proofs.retelling.Telling.{long_enough, told_torn, told_damaged, told_more, told_none, told_otherwise}
+use Rattle.tpm_journal.proofs.retelling.Entries.{long_enough, told_torn, told_damaged, told_more, told_none, told_otherwise}
 use Rattle.tpm_journal.proofs.retelling.Words.{can_be_told}
 use Rattle.tpm_journal.proofs.retelling.retell_entries.Goals as goal
 
 pub loop-entry-init : goal.loop-entry-init
-loop-entry-init g c = told_none _ _ _ _ _
+loop-entry-init g c = told_none _ _ _ _ _ _
 
 pub split_at-requires : goal.split_at-requires
 split_at-requires g c = c.loop-entry.invariant.repeats.within
@@ -24,7 +24,7 @@ loop-entry-smaller g c =
 
 pub loop-entry-preserved : goal.loop-entry-preserved
 loop-entry-preserved g c =
-    told_more _ _ _ _ _ _ _ _ _ _ _ _ _ _ c.split_at.ensures.back c.loop-entry.invariant c.in-Executed.ensures (search rules)
+    told_more _ _ _ _ _ _ _ _ _ _ _ _ _ _ _ c.split_at.ensures.back c.loop-entry.invariant c.in-Executed.ensures (search rules)
 
 pub put_entry-requires-in-Otherwise-clause-told :
     goal.put_entry-requires-in-Otherwise-clause-told
@@ -36,12 +36,12 @@ put_entry-requires-in-Otherwise-clause-long g c = long_enough _ _ _ _ _ _ _ _ c.
 
 pub returns-in-Otherwise-clause-told : goal.returns-in-Otherwise-clause-told
 returns-in-Otherwise-clause-told g c =
-    told_otherwise _ _ _ _ _ _ _ _ _ _ _ _ _ _ _ c.split_at.ensures.back c.ended.ensures c.loop-entry.invariant c.in-Otherwise.ensures (search rules)
+    told_otherwise _ _ _ _ _ _ _ _ _ _ _ _ _ _ _ _ c.split_at.ensures.back c.ended.ensures c.loop-entry.invariant c.in-Otherwise.ensures (search rules)
 
 pub returns-in-Torn-clause-told : goal.returns-in-Torn-clause-told
 returns-in-Torn-clause-told g c =
-    told_torn _ _ _ _ _ _ _ _ _ _ _ _ _ c.split_at.ensures.back c.ended-in-Torn.ensures c.loop-entry.invariant c.in-Torn.ensures
+    told_torn _ _ _ _ _ _ _ _ _ _ _ _ _ _ c.split_at.ensures.back c.ended-in-Torn.ensures c.loop-entry.invariant c.in-Torn.ensures
 
 pub returns-in-Damaged-clause-told : goal.returns-in-Damaged-clause-told
 returns-in-Damaged-clause-told g c =
-    told_damaged _ _ _ _ _ _ _ _ _ _ _ _ _ c.split_at.ensures.back c.ended-in-Damaged.ensures c.loop-entry.invariant c.in-Damaged.ensures
+    told_damaged _ _ _ _ _ _ _ _ _ _ _ _ _ _ c.split_at.ensures.back c.ended-in-Damaged.ensures c.loop-entry.invariant c.in-Damaged.ensures

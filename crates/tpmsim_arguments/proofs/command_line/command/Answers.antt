@@ -21,5 +21,7 @@ returns c =
     c.with_command-program-7.ensures c.serve_command.ensures refl sixth in
     let eighth = command_added _ _ c.with_command-program-7.result c.power_command.result c.with_command-program-8.result
     c.with_command-program-8.ensures c.power_command.ensures refl seventh in
-    command_added _ _ c.with_command-program-8.result c.script_command.result c.with_command.result c.with_command.ensures
-    c.script_command.ensures refl eighth
+    let ninth = command_added _ _ c.with_command-program-8.result c.script_command.result c.with_command-program-9.result
+    c.with_command-program-9.ensures c.script_command.ensures refl eighth in
+    command_added _ _ c.with_command-program-9.result c.replay_command.result c.with_command.result c.with_command.ensures
+    c.replay_command.ensures refl ninth

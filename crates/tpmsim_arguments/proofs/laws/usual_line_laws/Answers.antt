@@ -1,4 +1,4 @@
-use Rattle.tpmsim_arguments.proofs.Lines.{code_is_named, damage_is_cut, digits_are_spelled, form_is_told, forms_are_told, joined_is_served, line_is_assembled, logging_is_served, power_is_cycled, saving_is_served, script_is_checked, script_is_retold, state_is_played, state_is_served}
+use Rattle.tpmsim_arguments.proofs.Lines.{code_is_named, damage_is_cut, digits_are_spelled, form_is_told, forms_are_told, joined_is_served, journal_is_replayed, line_is_assembled, logging_is_served, power_is_cycled, saving_is_served, script_is_checked, script_is_retold, state_is_played, state_is_served}
 use Rattle.tpmsim_arguments.proofs.Running.{device_is_kept, script_is_run, script_is_traced}
 use Rattle.tpmsim_arguments.proofs.Settings.{device_is_served}
 use Rattle.tpmsim_arguments.proofs.laws.usual_line_laws.Goals as goal
@@ -16,6 +16,7 @@ returns c = record {
   power = power_is_cycled;
   cut = damage_is_cut;
   script = script_is_retold;
+  replay = journal_is_replayed;
   kept = device_is_kept;
   played = state_is_played;
   serve = device_is_served;
