@@ -1,0 +1,126 @@
+-- The body of a state text: the body of the device's image, and then what a power cycle would take
+-- (TPM 2.0 Library, Part 1, section 12.2.2, _TPM_Init, and docs/table/README.md, "Events"); and what
+-- the completing layer remembers, if the device has the layer.
+use Rattle.std.specs.Prelude.{◌==◌, not, ℕ, nat_lt, ◌^◌, Bool, List, ◌++◌, length, IfSome, Option, Result, Ok}
+use Rattle.std.specs.Int.{w64, to_be_bytes}
+use Rattle.tpm_bytes.specs.Reading.{◌>>=◌, refused_if}
+use Rattle.tpm_image_text.specs.Body.{image_body_text, indices_in, limits_in, objects_in, state_in}
+use Rattle.tpm_image_text.specs.Fields.{malformed, number_in, passing, yes_no_in, yes_no_text}
+use Rattle.tpm_image_text.specs.NonVolatile.{NonVolatile, kept_of, nv_of}
+use Rattle.tpm_image_text.specs.declared.fault.Malformed.{Malformed}
+use Rattle.tpm_image_text.specs.declared.version.Version.TheVariants.{Two}
+use Rattle.tpm_lockout.specs.Lockout.{milliseconds}
+use Rattle.tpm_record.specs.IsRecord.{IsRecord}
+use Rattle.tpm_record.specs.Record.{Record}
+use Rattle.tpm_state_text.specs.Banks.{banks_in, banks_text}
+use Rattle.tpm_state_text.specs.Layer.{IsLayer, Layer, layer_in, layer_text}
+use Rattle.tpm_state_text.specs.Objects.{transients_in, transients_text}
+use Rattle.tpm_state_text.specs.Places.{optional_in, optional_text}
+use Rattle.tpm_state_text.specs.Sessions.{sessions_in, sessions_text}
+
+-- the whole state of a device: its record, and what the completing layer remembers, if it has one
+pub record WholeState : Type 0 where
+  pub device : Record
+  pub layer : Option Layer
+
+-- A state is one that a device can have, by the sizes and widths of its parts.
+pub record IsWholeState (state : WholeState) : Type 0 where
+  pub device : IsRecord state.device
+  pub layer : IfSome state.layer IsLayer
+
+-- ---- what a power cycle takes
+
+-- whether a time of lockout, in milliseconds, is one of no more seconds than 32 bits count
+abbrev pub is_lockout_time : ℕ → Bool
+is_lockout_time time = nat_lt time (milliseconds (2 ^ 32))
+
+unfoldable pub lockout_time_in : List ℕ → Result (ℕ × List ℕ) Malformed
+lockout_time_in text = passing is_lockout_time (number_in w64) text
+
+-- the text of what a power cycle takes of a device: whether it is started; the banks; Time; both
+-- times of lockout; the sessions; and the transient objects
+unfoldable pub volatile_text : Record → List ℕ
+volatile_text r =
+    yes_no_text r.fixed.started ++ banks_text r.fixed.banks
+    ++ to_be_bytes w64 r.fixed.time
+    ++ to_be_bytes w64 r.fixed.lockout.forgiving_time
+    ++ to_be_bytes w64 r.fixed.lockout.closed_time
+    ++ sessions_text r.sessions ++ transients_text r.objects
+
+-- the device that keeps this without power, with the rest as it is read
+unfoldable pub resumed_in : NonVolatile → List ℕ → Result (Record × List ℕ) Malformed
+resumed_in kept text = do
+  started ← yes_no_in text
+  banks ← banks_in started.1
+  time ← number_in w64 banks.1
+  forgiving_time ← lockout_time_in time.1
+  closed_time ← lockout_time_in forgiving_time.1
+  sessions ← sessions_in closed_time.1
+  objects ← transients_in sessions.1
+  Ok (
+    record {
+      fixed = record {
+        started = started.0;
+        saved = kept.state.saved;
+        hierarchies = kept.state.hierarchies;
+        disable_clear = kept.state.disable_clear;
+        lockout = record {
+          fields = kept.state.lockout;
+          forgiving_time = forgiving_time.0;
+          closed_time = closed_time.0;
+        };
+        banks = banks.0;
+        time = time.0;
+        clock = kept.state.clock;
+        reset_count = kept.state.reset_count;
+        restart_count = kept.state.restart_count;
+      };
+      sessions = sessions.0;
+      objects = objects.0;
+      persistent = kept.persistent;
+      nv = nv_of kept;
+    },
+    objects.1,
+  )
+
+-- ---- the device
+
+-- what a device keeps without power, as the body of its image says it
+unfoldable pub kept_in : List ℕ → Result (NonVolatile × List ℕ) Malformed
+kept_in text = do
+  limits ← limits_in Two text
+  state ← state_in limits.1
+  persistent ← objects_in state.1
+  indices ← indices_in Two persistent.1
+  Ok (
+    record { state = state.0; persistent = persistent.0; indices = indices.0 },
+    indices.1,
+  )
+
+-- the text of a device: the body of its image, and what a power cycle takes
+unfoldable pub device_text : Record → List ℕ
+device_text r = image_body_text Two (kept_of r) ++ volatile_text r
+
+unfoldable pub device_in : List ℕ → Result (Record × List ℕ) Malformed
+device_in text = do
+  kept ← kept_in text
+  resumed_in kept.0 kept.1
+
+-- ---- the body
+
+-- the text of a body: that of the device, and that of the layer, if there is one
+unfoldable pub body_text : WholeState → List ℕ
+body_text state = device_text state.device ++ optional_text layer_text state.layer
+
+unfoldable pub body_in : List ℕ → Result (WholeState × List ℕ) Malformed
+body_in text = do
+  device ← device_in text
+  layer ← optional_in layer_in device.1
+  Ok (record { device = device.0; layer = layer.0 }, layer.1)
+
+-- the state of a body that has exactly these bytes
+unfoldable pub state_of_body : List ℕ → Result WholeState Malformed
+state_of_body text = do
+  state ← body_in text
+  ended ← refused_if (not (length state.1 == 0)) malformed
+  Ok state.0

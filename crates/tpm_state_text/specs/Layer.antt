@@ -1,0 +1,64 @@
+-- What the completing layer remembers, where a device has one: its contexts. TPM 2.0 Library, Part
+-- 1, section 30 (context management). tpm_completion has this record as its `Completion`.
+use Rattle.std.specs.Prelude.{◌≡◌, ℕ, ◌<◌, ◌^◌, List, ◌++◌, length, Result, Ok}
+use Rattle.std.specs.Int.{w64, to_be_bytes}
+use Rattle.std.specs.List.{All, flat_map}
+use Rattle.tpm_bytes.specs.Many.{many_at}
+use Rattle.tpm_bytes.specs.Reading.{◌>>=◌}
+use Rattle.tpm_image_text.specs.Fields.{number_in}
+use Rattle.tpm_image_text.specs.declared.fault.Malformed.{Malformed}
+use Rattle.tpm_types.specs.Limits.{object_limit, session_limit}
+
+-- what is remembered of a transient object: the number of its context, and that of its flush, each 0
+-- where there was none
+pub record Held : Type 0 where
+  pub context : ℕ
+  pub waits : ℕ
+
+-- what the layer remembers: the number of its start; how many contexts and flushes it counted; each
+-- transient object by its place; and, by the place of each session, the number of the context with
+-- which it was saved, 0 where it is loaded
+pub record Layer : Type 0 where
+  pub start : ℕ
+  pub count : ℕ
+  pub objects : List Held
+  pub sessions : List ℕ
+
+-- All that a layer remembers are numbers of 64 bits, with a place for each object and each session.
+pub record IsHeld (held : Held) : Type 0 where
+  pub context : held.context < 2 ^ 64
+  pub waits : held.waits < 2 ^ 64
+
+pub record IsLayer (layer : Layer) : Type 0 where
+  pub start : layer.start < 2 ^ 64
+  pub count : layer.count < 2 ^ 64
+  pub objects : length layer.objects ≡ object_limit
+  pub each_object : All IsHeld layer.objects
+  pub sessions : length layer.sessions ≡ session_limit
+  pub each_session : All (λ context. context < 2 ^ 64) layer.sessions
+
+unfoldable pub held_text : Held → List ℕ
+held_text held = to_be_bytes w64 held.context ++ to_be_bytes w64 held.waits
+
+unfoldable pub held_in : List ℕ → Result (Held × List ℕ) Malformed
+held_in text = do
+  context ← number_in w64 text
+  waits ← number_in w64 context.1
+  Ok (record { context = context.0; waits = waits.0 }, waits.1)
+
+-- the text of a layer: the start, the count, the objects and the sessions
+unfoldable pub layer_text : Layer → List ℕ
+layer_text layer =
+    to_be_bytes w64 layer.start ++ to_be_bytes w64 layer.count
+    ++ flat_map held_text layer.objects ++ flat_map (to_be_bytes w64) layer.sessions
+
+unfoldable pub layer_in : List ℕ → Result (Layer × List ℕ) Malformed
+layer_in text = do
+  start ← number_in w64 text
+  count ← number_in w64 start.1
+  objects ← many_at held_in object_limit count.1
+  sessions ← many_at (number_in w64) session_limit objects.1
+  Ok (
+    record { start = start.0; count = count.0; objects = objects.0; sessions = sessions.0 },
+    sessions.1,
+  )

@@ -1,0 +1,13 @@
+pub mod Places
+pub mod Policies
+pub mod Sessions
+pub mod Objects
+pub mod Banks
+pub mod Layer
+pub mod Body
+pub mod Frame
+pub mod State
+pub mod Sizes
+pub use Rattle.tpm_record.specs.Record
+pub use Rattle.tpm_record.specs.IsRecord
+pub use Rattle.tpm_image_text.specs.NonVolatile

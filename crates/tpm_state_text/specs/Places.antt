@@ -1,0 +1,53 @@
+-- Fields that an image does not have: a number that names something, a value that may be there, and
+-- places that are free or taken. A field that is cut short, or has a value that it may not have, is
+-- malformed.
+use Rattle.std.specs.Prelude.{ℕ, Bool, true, false, List, ◌++◌, ok_or, Option, Some, None, Result, Ok}
+use Rattle.std.specs.Int.{Width}
+use Rattle.std.specs.List.{flat_map}
+use Rattle.tpm_bytes.specs.Many.{many_at}
+use Rattle.tpm_bytes.specs.Reading.{◌>>=◌}
+use Rattle.tpm_image_text.specs.Fields.{malformed, number_in, yes_no_in, yes_no_text}
+use Rattle.tpm_image_text.specs.declared.fault.Malformed.{Malformed}
+
+-- what a number names, as it is read
+abbrev pub named_in : {X : Type 0}
+    → Width → (named : ℕ → Option X) → List ℕ → Result (X × List ℕ) Malformed
+named_in width named text = do
+  number ← number_in width text
+  one ← ok_or (named number.0) malformed
+  Ok (one, number.1)
+
+-- ---- a value that may be there
+
+-- the text of a value that may be there: a no, or a yes and the value's own text
+abbrev pub optional_text : {X : Type 0} → (X → List ℕ) → Option X → List ℕ
+optional_text text_of None = yes_no_text false
+optional_text text_of (Some x) = yes_no_text true ++ text_of x
+
+-- a value that may be there, as it is read after its yes or no
+abbrev pub optional_after : {X : Type 0}
+    → (List ℕ → Result (X × List ℕ) Malformed)
+    → (is_there : Bool) → List ℕ → Result (Option X × List ℕ) Malformed
+optional_after at false text = Ok (None, text)
+optional_after at true text = do
+  x ← at text
+  Ok (Some x.0, x.1)
+
+abbrev pub optional_in : {X : Type 0}
+    → (List ℕ → Result (X × List ℕ) Malformed)
+    → List ℕ → Result (Option X × List ℕ) Malformed
+optional_in at text = do
+  is_there ← yes_no_in text
+  optional_after at is_there.0 is_there.1
+
+-- ---- places
+
+-- the text of places, from the first to the last: of each, whether it is taken, and then by what
+abbrev pub places_text : {X : Type 0} → (X → List ℕ) → List (Option X) → List ℕ
+places_text text_of places = flat_map (optional_text text_of) places
+
+-- this many places, as they are read
+abbrev pub places_in : {X : Type 0}
+    → ℕ → (List ℕ → Result (X × List ℕ) Malformed)
+    → List ℕ → Result (List (Option X) × List ℕ) Malformed
+places_in count at text = many_at (optional_in at) count text
