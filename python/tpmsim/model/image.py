@@ -6,6 +6,7 @@ limits on NV indices before the body; version 1 is read, too, within limits of i
 """
 
 from dataclasses import dataclass
+from typing import Container
 
 from tpmsim.model import nv_commands, object_rules, persistent, protection, state
 from tpmsim.model.general import Refusal
@@ -53,7 +54,11 @@ BODY_AT = HEAD_BYTES + len(VERSION_2.limits)
 
 
 def image(device: Model, version: Version = VERSION_2) -> bytes:
-    body = b"".join(
+    return framed(body_text(device), version)
+
+
+def body_text(device: Model) -> bytes:
+    return b"".join(
         (
             hierarchies_text(device),
             number(device.disable_clear, 1),
@@ -64,7 +69,6 @@ def image(device: Model, version: Version = VERSION_2) -> bytes:
             indices_text(device),
         )
     )
-    return framed(body, version)
 
 
 def framed(body: bytes, version: Version = VERSION_2) -> bytes:
@@ -72,10 +76,10 @@ def framed(body: bytes, version: Version = VERSION_2) -> bytes:
     return digested(version.number, version.limits + body)
 
 
-def digested(version: int, behind_head: bytes) -> bytes:
+def digested(version: int, behind_head: bytes, magic: bytes = MAGIC) -> bytes:
     """What is behind the head of a version, whatever that is, between the head and the digest."""
     length = HEAD_BYTES + len(behind_head) + DIGEST_AT_END
-    text = MAGIC + number(version, 2) + number(length, 4) + behind_head
+    text = magic + number(version, 2) + number(length, 4) + behind_head
     return text + digest(SHA256, text)
 
 
@@ -110,10 +114,14 @@ def objects_text(device: Model) -> bytes:
     held = sorted(it for it in device.objects if persistent.is_persistent(it))
     text = number(len(held), 2)
     for handle in held:
-        kept = device.objects[handle]
-        text += number(handle, 4) + number(kept.hierarchy, 4) + sized(kept.qualified_name)
-        text += sized(kept.public.text) + sized(kept.sensitive.text)
+        text += number(handle, 4) + object_text(device.objects[handle])
     return text
+
+
+def object_text(kept: object_rules.Object) -> bytes:
+    """An object without its handle."""
+    areas = sized(kept.public.text) + sized(kept.sensitive.text)
+    return number(kept.hierarchy, 4) + sized(kept.qualified_name) + areas
 
 
 def indices_text(device: Model) -> bytes:
@@ -132,23 +140,31 @@ def check(holds: bool) -> None:
         raise Fault("Body")
 
 
-def open_image(text: bytes, block_cipher: aes.BlockCipher = encrypt_block) -> Model:
-    """The device of an image, as it is behind a power cycle."""
+def within_frame(text: bytes, magic: bytes, versions: Container[int]) -> tuple[int, bytes]:
+    """The version of a text in its frame, and what is between the head and the digest."""
     if len(text) < HEAD_BYTES + DIGEST_AT_END:
         raise Fault("Short")
     fields = Fields(text)
-    if fields.take(len(MAGIC)) != MAGIC:
+    if fields.take(len(magic)) != magic:
         raise Fault("Magic")
-    version = VERSIONS.get(fields.number(2))
-    if version is None:
+    version = fields.number(2)
+    if version not in versions:
         raise Fault("Version")
     if fields.number(4) != len(text):
         raise Fault("Length")
     if digest(SHA256, text[:-DIGEST_AT_END]) != text[-DIGEST_AT_END:]:
         raise Fault("Digest")
+    return version, text[HEAD_BYTES:-DIGEST_AT_END]
+
+
+def open_image(text: bytes, block_cipher: aes.BlockCipher = encrypt_block) -> Model:
+    """The device of an image, as it is behind a power cycle."""
+    version, body = within_frame(text, MAGIC, VERSIONS)
     device = Model(block_cipher=block_cipher)
     try:
-        read_body(Parameters(text[HEAD_BYTES:-DIGEST_AT_END]), version, device)
+        fields = Parameters(body)
+        read_kept(fields, VERSIONS[version], device)
+        fields.end()
     except (Refusal, Short):
         raise Fault("Body") from None
     return device
@@ -162,7 +178,8 @@ def fault_of(text: bytes) -> str | None:
     return None
 
 
-def read_body(fields: Parameters, version: Version, device: Model) -> None:
+def read_kept(fields: Parameters, version: Version, device: Model) -> None:
+    """What a device keeps without power, up to its indices."""
     check(fields.take(len(version.limits)) == version.limits)
     read_hierarchies(fields, device)
     device.disable_clear = bool(fields.one_of(1, (0, 1), "VALUE"))
@@ -176,7 +193,6 @@ def read_body(fields: Parameters, version: Version, device: Model) -> None:
     read_saved(fields, device)
     read_objects(fields, device)
     read_indices(fields, device, version)
-    fields.end()
 
 
 def read_auth_value(fields: Parameters) -> bytes:
@@ -207,16 +223,21 @@ def read_objects(fields: Parameters, device: Model) -> None:
     count, last = fields.number(2), -1
     check(count <= persistent.PERSISTENT_OBJECTS)
     for _ in range(count):
-        handle, hierarchy = fields.number(4), fields.number(4)
+        handle = fields.number(4)
         check(persistent.is_persistent(handle) and handle > last)
-        check(hierarchy in WITH_PERSISTENT)
-        qualified_name = fields.sized(object_rules.NAME_BYTES)
-        public = fields.structure(object_rules.read_public)
-        sensitive = fields.structure(object_rules.read_sensitive)
-        check(sensitive.kind == public.kind)
-        check(sensitive.auth_value == trimmed(sensitive.auth_value))
-        device.objects[handle] = object_rules.Object(public, sensitive, hierarchy, qualified_name)
+        device.objects[handle] = read_object(fields, WITH_PERSISTENT)
         last = handle
+
+
+def read_object(fields: Parameters, hierarchies: Container[int]) -> object_rules.Object:
+    hierarchy = fields.number(4)
+    check(hierarchy in hierarchies)
+    qualified_name = fields.sized(object_rules.NAME_BYTES)
+    public = fields.structure(object_rules.read_public)
+    sensitive = fields.structure(object_rules.read_sensitive)
+    check(sensitive.kind == public.kind)
+    check(sensitive.auth_value == trimmed(sensitive.auth_value))
+    return object_rules.Object(public, sensitive, hierarchy, qualified_name)
 
 
 def read_indices(fields: Parameters, device: Model, version: Version) -> None:

@@ -405,7 +405,9 @@ class Model(
         handle = HANDLE_KINDS[kind] << 24 | free[0]
         told = policy_state.starting_state(algorithm)
         bound = self.name(bind), bind_auth, self.protection(bind)
-        self.sessions[handle] = Session(kind, algorithm, cipher, nonce_tpm, key, *bound, told)
+        kept = kind, algorithm, cipher, nonce_tpm, key
+        others = told, mask_algorithm, bind != RH_NULL
+        self.sessions[handle] = Session(*kept, *bound, *others)
         return Answer(sized(nonce_tpm), number(handle, 4), drawn=size)
 
 

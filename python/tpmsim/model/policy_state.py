@@ -29,7 +29,8 @@ def starting_state(algorithm: int) -> State:
 @dataclass
 class Session:
     """A session, with the Name, the authorization value and the protection of its bind entity at
-    the start. `cipher` is AES, XOR or ALG_NULL; the masks of XOR are by its own hash algorithm.
+    the start, which are those of TPM_RH_NULL where it is not bound. `cipher` is AES, XOR or
+    ALG_NULL; the masks of XOR are by the session's own hash algorithm, which `masks` is then too.
     """
 
     kind: int
@@ -41,6 +42,8 @@ class Session:
     bind_auth: bytes
     bind_protection: str | None
     policy: State
+    masks: int | None = None
+    is_bound: bool = False
 
     @property
     def is_trial(self) -> bool:

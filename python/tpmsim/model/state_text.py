@@ -1,0 +1,220 @@
+"""The state text of a device: all that it is, as bytes, so that one that is restored from them goes
+on where it was.
+
+It has the frame of an image with another word. In its body stand, as docs/table/state_text.md has
+them, what the device keeps without power, as in its image; what a power cycle would take; and what
+the completing layer remembers, if there is one.
+"""
+
+from __future__ import annotations
+
+from dataclasses import dataclass, field
+from typing import Callable, TypeVar
+
+from tpmsim.model import image, object_rules, policy_state
+from tpmsim.model.general import Refusal
+from tpmsim.model.image import check
+from tpmsim.model.machine import HANDLE_KINDS, Model, PLACE_BITS, SESSIONS
+from tpmsim.model.object_commands import OBJECTS
+from tpmsim.model.parameters import Parameters
+from tpmsim.model.policy_state import Session, State
+from tpmsim.model.protection import LOCKOUT_AUTH, Lockout, MILLISECONDS, TRIES
+from tpmsim.standard import AES, aes, DIGEST_BYTES, digest_bytes, frames, HASHES, name_of, number
+from tpmsim.standard import PCRS, policy, RH_NULL, Short, sized, TRANSIENT
+from tpmsim.standard.aes_tables import encrypt_block
+
+T = TypeVar("T")
+
+MAGIC, VERSION = b"TPMS", 1
+
+# What a byte says by its number.
+PROTECTIONS = None, TRIES, LOCKOUT_AUTH
+DEMANDS = None, policy.AUTH_VALUE, policy.PASSWORD
+
+KEY_SIZES = 0, *sorted(map(digest_bytes, HASHES))
+LOCALITY_BITS = range(policy.ALL_LOCALITIES + 1)
+LOCKOUT_TIMES = range(MILLISECONDS * 2**32)
+
+
+@dataclass
+class Layer:
+    """What the completing layer remembers: of each object, by its place, the numbers of its context
+    and of its flush, and of each session that of its context; 0 is none.
+    """
+
+    start: int = 0
+    count: int = 0
+    objects: list[tuple[int, int]] = field(default_factory=lambda: [(0, 0)] * OBJECTS)
+    sessions: list[int] = field(default_factory=lambda: [0] * SESSIONS)
+
+
+def state_text(device: Model, layer: Layer | None = None) -> bytes:
+    return framed(device_text(device) + optional_text(layer, layer_text))
+
+
+def framed(body: bytes) -> bytes:
+    return image.digested(VERSION, body, MAGIC)
+
+
+def device_text(device: Model) -> bytes:
+    kept = image.VERSION_2.limits + image.body_text(device)
+    return kept + b"".join(
+        (
+            number(device.started, 1),
+            banks_text(device),
+            number(device.time, 8),
+            number(device.lockout.forgiving_time, 8),
+            number(device.lockout.closed_time, 8),
+            sessions_text(device),
+            objects_text(device),
+        )
+    )
+
+
+def optional_text(value: T | None, text_of: Callable[[T], bytes]) -> bytes:
+    return number(0, 1) if value is None else number(1, 1) + text_of(value)
+
+
+def number_text(size: int) -> Callable[[int], bytes]:
+    return lambda value: number(value, size)
+
+
+def banks_text(device: Model) -> bytes:
+    values = b"".join(value for bank in image.BANKS for value in device.banks[bank])
+    return values + number(device.update_counter, 8)
+
+
+def sessions_text(device: Model) -> bytes:
+    by_place = {handle & PLACE_BITS: it for handle, it in device.sessions.items()}
+    return b"".join(optional_text(by_place.get(at), session_text) for at in range(SESSIONS))
+
+
+def objects_text(device: Model) -> bytes:
+    handles = range(TRANSIENT << 24, (TRANSIENT << 24) + OBJECTS)
+    return b"".join(optional_text(device.objects.get(it), image.object_text) for it in handles)
+
+
+def session_text(session: Session) -> bytes:
+    cipher = frames.symmetric(session.cipher == AES, session.masks)
+    kind = number(session.kind, 1) + number(session.algorithm, 2) + cipher
+    secrets = sized(session.nonce_tpm) + sized(session.key)
+    bound = session if session.is_bound else None
+    return kind + secrets + optional_text(bound, binding_text) + policy_text(session.policy)
+
+
+def binding_text(session: Session) -> bytes:
+    protection = number(PROTECTIONS.index(session.bind_protection), 1)
+    return sized(session.bind) + sized(session.bind_auth) + protection
+
+
+def policy_text(told: State) -> bytes:
+    return b"".join(
+        (
+            sized(told.digest),
+            optional_text(told.update_counter, number_text(8)),
+            optional_text(told.code, number_text(4)),
+            optional_text(told.cp_hash, sized),
+            optional_text(told.nv_written, number_text(1)),
+            number(told.localities, 1),
+            number(DEMANDS.index(told.demand), 1),
+        )
+    )
+
+
+def layer_text(layer: Layer) -> bytes:
+    objects = [it for held in layer.objects for it in held]
+    numbers = layer.start, layer.count, *objects, *layer.sessions
+    return b"".join(number(it, 8) for it in numbers)
+
+
+# Reading. A text that is none has the faults of an image, in the same order.
+
+
+def open_state(
+    text: bytes, block_cipher: aes.BlockCipher = encrypt_block
+) -> tuple[Model, Layer | None]:
+    _, body = image.within_frame(text, MAGIC, (VERSION,))
+    device = Model(block_cipher=block_cipher)
+    try:
+        fields = Parameters(body)
+        read_device(fields, device)
+        layer = optional(fields, read_layer)
+        fields.end()
+    except (Refusal, Short):
+        raise image.Fault("Body") from None
+    return device, layer
+
+
+def fault_of(text: bytes) -> str | None:
+    try:
+        open_state(text)
+    except image.Fault as fault:
+        return str(fault)
+    return None
+
+
+def yes_no(fields: Parameters) -> bool:
+    return bool(fields.one_of(1, (0, 1), "VALUE"))
+
+
+def optional(fields: Parameters, read: Callable[[Parameters], T]) -> T | None:
+    return read(fields) if yes_no(fields) else None
+
+
+def read_device(fields: Parameters, device: Model) -> None:
+    image.read_kept(fields, image.VERSION_2, device)
+    device.started = yes_no(fields)
+    device.banks = {it: [fields.take(digest_bytes(it)) for _ in PCRS] for it in image.BANKS}
+    device.update_counter, device.time = fields.number(8), fields.number(8)
+    read_times(fields, device.lockout)
+    for place in range(SESSIONS):
+        session = optional(fields, read_session)
+        if session is not None:
+            device.sessions[HANDLE_KINDS[session.kind] << 24 | place] = session
+    for place in range(OBJECTS):
+        held = optional(fields, read_object)
+        if held is not None:
+            device.objects[TRANSIENT << 24 | place] = held
+
+
+def read_times(fields: Parameters, lockout: Lockout) -> None:
+    lockout.forgiving_time = fields.one_of(8, LOCKOUT_TIMES, "VALUE")
+    lockout.closed_time = fields.one_of(8, LOCKOUT_TIMES, "VALUE")
+
+
+def read_object(fields: Parameters) -> object_rules.Object:
+    return image.read_object(fields, image.HIERARCHIES)
+
+
+def read_session(fields: Parameters) -> Session:
+    kind, algorithm = fields.one_of(1, HANDLE_KINDS, "VALUE"), fields.hash()
+    cipher, masks = fields.symmetric()
+    nonce_tpm, key = fields.sized(DIGEST_BYTES), fields.sized(DIGEST_BYTES)
+    check(len(key) in KEY_SIZES)
+    bound = optional(fields, read_binding)
+    binding = bound or (name_of(RH_NULL), b"", None)
+    kept = kind, algorithm, cipher, nonce_tpm, key
+    return Session(*kept, *binding, read_policy(fields), masks, bound is not None)
+
+
+def read_binding(fields: Parameters) -> tuple[bytes, bytes, str | None]:
+    name, auth_value = fields.sized(object_rules.NAME_BYTES), image.read_auth_value(fields)
+    return name, auth_value, PROTECTIONS[fields.one_of(1, range(len(PROTECTIONS)), "VALUE")]
+
+
+def read_policy(fields: Parameters) -> State:
+    return policy_state.State(
+        digest=fields.sized(DIGEST_BYTES),
+        update_counter=optional(fields, lambda it: it.number(8)),
+        code=optional(fields, lambda it: it.number(4)),
+        cp_hash=optional(fields, lambda it: it.sized(DIGEST_BYTES)),
+        nv_written=optional(fields, yes_no),
+        localities=fields.one_of(1, LOCALITY_BITS, "VALUE"),
+        demand=DEMANDS[fields.one_of(1, range(len(DEMANDS)), "VALUE")],
+    )
+
+
+def read_layer(fields: Parameters) -> Layer:
+    start, count = fields.number(8), fields.number(8)
+    objects = [(fields.number(8), fields.number(8)) for _ in range(OBJECTS)]
+    return Layer(start, count, objects, [fields.number(8) for _ in range(SESSIONS)])

@@ -1,0 +1,127 @@
+"""Bodies of state texts with one thing wrong, each beside the nearest good one; and the largest."""
+
+from dataclasses import replace
+
+from tpmsim.model import state_text
+from tpmsim.model.image import DIGEST_AT_END, HEAD_BYTES
+from tpmsim.model.machine import SESSIONS
+from tpmsim.model.object_commands import OBJECTS
+from tpmsim.model.policy_state import Session, State
+from tpmsim.model.protection import LOCKOUT_AUTH
+from tpmsim.model.state_text import Layer
+from tpmsim.standard import AES, POLICY_SESSION, RH_LOCKOUT, SE_POLICY, SHA256, number, sized
+from tests.images import image_bodies, worked_state
+
+HMAC, BOUND, OBJECT = 0x0200_0001, 0x0300_0002, 0x8000_0000
+MOST_TIME = 1000 * 2**32
+
+
+def largest():
+    """A device of which each field has as many bytes as it can, and its completing layer."""
+    device = image_bodies.largest()
+    told = State(bytes(32), 1, 1, bytes(32), True)
+    bound = bytes(34), b"v" * 32, LOCKOUT_AUTH
+    session = Session(SE_POLICY, SHA256, AES, bytes(32), bytes(32), *bound, told, is_bound=True)
+    device.sessions = {POLICY_SESSION << 24 | at: session for at in range(SESSIONS)}
+    held = device.objects[image_bodies.FIRST]
+    device.objects |= {OBJECT + at: held for at in range(OBJECTS)}
+    return device, Layer()
+
+
+def body_of(device, layer=None):
+    return state_text.state_text(device, layer)[HEAD_BYTES:-DIGEST_AT_END]
+
+
+def changed(change):
+    """The body of the worked device, with something changed in it."""
+    device = worked_state.device()
+    change(device)
+    return body_of(device)
+
+
+def of_session(handle=BOUND, **fields):
+    def change(device):
+        device.sessions[handle] = replace(device.sessions[handle], **fields)
+
+    return changed(change)
+
+
+def of_policy(**fields):
+    session = worked_state.device().sessions[BOUND]
+    return of_session(policy=replace(session.policy, **fields))
+
+
+def of_lockout(**fields):
+    return changed(lambda device: vars(device.lockout).update(fields))
+
+
+def of_object(kind=None, **fields):
+    def change(device):
+        held = replace(device.objects[OBJECT], **fields)
+        if kind is not None:
+            held = replace(held, sensitive=replace(held.sensitive, kind=kind))
+        device.objects[OBJECT] = held
+
+    return changed(change)
+
+
+def spelled(bad, good):
+    """The body of the worked device, and the same with other bytes in place of those that stand once
+    in it."""
+    body = body_of(worked_state.device())
+    assert body.count(good) == 1
+    return body.replace(good, bad), body
+
+
+def session_pairs():
+    bind = worked_state.device().sessions[BOUND]
+    policy, bound = state_text.policy_text(bind.policy), state_text.binding_text(bind)
+    session = state_text.session_text(bind)
+    yield "a session of type 2", *spelled(b"\2" + session[1:], session)
+    yield "a session of the hash NULL", *spelled(session[:1] + b"\0\x10" + session[3:], session)
+    yield "a nonce of 33 bytes", of_session(nonce_tpm=bytes(33)), of_session(nonce_tpm=bytes(32))
+    for size, near in ((1, 0), (19, 20), (21, 20), (31, 32), (33, 32)):
+        yield f"a key of {size} bytes", of_session(key=bytes(size)), of_session(key=bytes(near))
+    yield "a binding that is there by 2", *spelled(b"\2" + bound, b"\1" + bound)
+    yield "a bound Name of 35 bytes", of_session(bind=bytes(35)), of_session(bind=bytes(34))
+    for value, near in ((b"a\0", b"a"), (b"a" * 33, b"a" * 32)):
+        words = f"a bound authorization value {value[-2:]!r} of {len(value)} bytes"
+        yield words, of_session(bind_auth=value), of_session(bind_auth=near)
+    yield "a protection of 3", *spelled(bound[:-1] + b"\3", bound)
+    yield "a policy digest of 33 bytes", of_policy(digest=bytes(33)), of_policy(digest=bytes(32))
+    yield "a cpHash of 33 bytes", of_policy(cp_hash=bytes(33)), of_policy(cp_hash=bytes(32))
+    yield "localities of 32", of_policy(localities=32), of_policy(localities=31)
+    yield "a demand of 3", *spelled(policy[:-1] + b"\3", policy)
+
+
+def place_pairs():
+    """Places that are too many or too few: those after them are read as what they are not."""
+    body = body_of(worked_state.device())
+    session = state_text.optional_text(
+        worked_state.device().sessions[HMAC], state_text.session_text
+    )
+    yield "two sessions in one place", *spelled(session + session[1:], session)
+    at = body.index(session) - 1
+    yield "17 places of sessions", body[:at] + b"\0" + body[at:], body
+    yield "15 places of sessions", body[:at] + body[at + 1 :], body
+    yield "17 sessions", body[:at] + 17 * session + body[at + 1 + len(session) :], body
+
+
+def pairs():
+    """Of each: what is wrong, the body, and the good one."""
+    yield from session_pairs()
+    yield from place_pairs()
+    for name in ("forgiving_time", "closed_time"):
+        words = f"a {name.replace('_', ' ')} of 2^32 seconds"
+        yield words, of_lockout(**{name: MOST_TIME}), of_lockout(**{name: MOST_TIME - 1})
+    yield "an object of lockout", of_object(hierarchy=RH_LOCKOUT), of_object()
+    yield "a sensitive area of another type", of_object(kind=0x0025), of_object()
+    name = worked_state.device().objects[OBJECT].qualified_name
+    yield "a qualified Name of 35 bytes", *spelled(sized(name + b"\0"), sized(name))
+    device, layer = worked_state.device(), worked_state.layer()
+    good = body_of(device, layer)
+    yield "a layer of 33 numbers", good[:-8], good
+    yield "a layer of 35 numbers", good + number(0, 8), good
+    yield "no byte for the layer", body_of(device)[:-1], body_of(device)
+    yield "a byte behind", body_of(device) + b"\0", body_of(device)
+    yield "no body", b"", body_of(device)

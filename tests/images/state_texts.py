@@ -1,0 +1,137 @@
+"""State texts, as the device in Python writes and reads them:
+
+    state_texts.py TESTS
+
+The scripts in the folders SCRIPTS of TESTS are played over a device that is read again from its text
+after each command: each response has to be the one that stands beside the script. A text with a fault
+has to be refused for it, and what is read has to be written again as it was.
+"""
+
+import collections
+import pathlib
+import sys
+
+from tpmsim.model import image, state_text
+from tpmsim.model.image import DIGEST_AT_END, HEAD_BYTES
+from tpmsim.model.machine import Model
+from tpmsim.model.player import Player
+from tpmsim.standard import frames
+from tests.images import state_bodies, worked_state
+
+SCRIPTS = "objects", "policies", "sessions"
+
+# Of so many scripts one is played, and the last bit is turned of one byte in so many of a body.
+ONE_IN = 3
+
+
+def goes_on(text):
+    """The device of a text, which is the one that it was written of."""
+    device, layer = state_text.open_state(text)
+    assert layer is None and state_text.state_text(device) == text
+    return device
+
+
+def played(script):
+    """How many commands of a script were executed, each on a device that was read from its text, and
+    which responses differ from those that are wanted."""
+    player, responses = Player(), []
+    for line in script.read_bytes().splitlines():
+        responses += player.play(line)[1:]
+        player.device = goes_on(state_text.state_text(player.device))
+    printed = script.with_suffix(".out").read_text("ascii").splitlines()
+    wanted = [it for it in printed if it != "power"]
+    assert len(wanted) == len(responses), script
+    return len(responses), sum(map(str.__ne__, wanted, responses))
+
+
+def play_all(tests):
+    scripts = sorted(it for folder in SCRIPTS for it in tests.joinpath(folder).glob("*.tpm"))
+    counts = [played(it) for it in scripts[::ONE_IN]]
+    commands, differ = map(sum, zip(*counts))
+    print(f"{len(counts)} scripts, {commands:,} commands: {differ} responses differ")
+
+
+def worked():
+    """The text of the device with everything in it, which is the one in the file. By hand, each line
+    of the file was held against docs/table/state_text.md: that its field is the page's next, with as
+    many bytes; that the sizes before sized fields, the numbers of types, algorithms, protection,
+    demand and localities, and the yes or no of each place are right; and that what the script sets
+    (values, nonces, command, times, counts, the layer's numbers) stands where it belongs."""
+    text = worked_state.text()
+    print("the worked text is as it is written:", text == worked_state.written())
+    device, layer = state_text.open_state(text)
+    print("and is read:", state_text.state_text(device, layer) == text)
+
+
+def sizes():
+    """As docs/table/state_text.md says them."""
+    print(f"a new device has {len(state_text.state_text(Model())):,} bytes")
+    most = state_text.state_text(*state_bodies.largest())
+    same = state_text.state_text(*state_text.open_state(most)) == most
+    print(f"the largest has {len(most):,}, and is {'read' if same else 'not read'}")
+
+
+def faults_of(texts):
+    """How many of these texts are refused, by their fault; None is that of those that are read."""
+    return collections.Counter(map(state_text.fault_of, texts))
+
+
+def print_counts(words, counts):
+    told = ", ".join(f"{count:,} {fault or 'read'}" for fault, count in sorted(counts.items()))
+    print(f"{words}: {told}")
+
+
+def turned(text, at):
+    return text[:at] + bytes([text[at] ^ 1]) + text[at + 1 :]
+
+
+def refused(text):
+    print_counts("its prefixes", faults_of(text[:size] for size in range(len(text))))
+    print_counts("with a byte turned", faults_of(turned(text, at) for at in range(len(text))))
+    print_counts("with a byte behind it", faults_of([text + b"\0"]))
+
+
+def corrected(text):
+    """Bodies with a byte turned, in the frame that they have to have."""
+    body, counts = text[HEAD_BYTES:-DIGEST_AT_END], collections.Counter()
+    for at in range(0, len(body), ONE_IN):
+        framed = state_text.framed(turned(body, at))
+        try:
+            device, layer = state_text.open_state(framed)
+        except image.Fault as fault:
+            counts[str(fault)] += 1
+        else:
+            same = state_text.state_text(device, layer) == framed
+            counts["read and written alike" if same else "read and written otherwise"] += 1
+    print_counts("a byte turned, with the right digest", counts)
+
+
+def frames_with_one_thing_wrong(text):
+    for words, bent in (
+        ("another word", b"TPMI" + text[4:]),
+        ("version 2", text[:4] + frames.number(2, 2) + text[6:]),
+        ("a length of one more", text[:6] + frames.number(len(text) + 1, 4) + text[10:]),
+        ("an image", image.image(Model())),
+    ):
+        print(f"{words}: {state_text.fault_of(bent)}")
+
+
+def bodies():
+    for words, bad, good in state_bodies.pairs():
+        told = [state_text.fault_of(state_text.framed(it)) for it in (bad, good)]
+        print(f"{words}: {told[0]}" + ("" if told[1] is None else f", and the good one {told[1]}"))
+
+
+def main(tests):
+    play_all(pathlib.Path(tests))
+    worked()
+    sizes()
+    text = worked_state.text()
+    refused(text)
+    corrected(text)
+    frames_with_one_thing_wrong(text)
+    bodies()
+
+
+if __name__ == "__main__":
+    main(*sys.argv[1:])

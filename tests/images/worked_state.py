@@ -1,0 +1,70 @@
+"""The device of the worked state text, and that text, which stands in worked_state.txt by its fields."""
+
+import copy
+import functools
+import pathlib
+
+from tpmsim.model.player import Player
+from tpmsim.model.state_text import Layer, state_text
+
+# Clock is three milliseconds ahead of Time; a try failed, and lockoutAuth is closed; of three
+# sessions the first is gone, and the last is bound and has a policy.
+LINES = """
+entropy 000102030405060708090a0b0c0d0e0f101112131415161718191a1b1c1d1e1f202122232425262728292a2b2c2d2e2f303132333435363738393a3b3c3d3e3f
+do Startup 0
+wait 3
+do HierarchyChangeAuth OWNER pw:- 6f776e6572
+do DictionaryAttackParameters LOCKOUT pw:- 5 1001 1002
+power
+do Startup 0
+do NV_DefineSpace OWNER pw:6f776e6572 696e646578 01000001000b0004001400000008
+do NV_Increment 01000001 01000001 pw:696e646578
+do PCR_Extend 00000003 pw:- sha256:abababababababababababababababababababababababababababababababab
+do StartAuthSession NULL NULL 000102030405060708090a0b0c0d0e0f - 0 null sha256
+do StartAuthSession NULL NULL 202122232425262728292a2b2c2d2e2f3031 - 0 xor-sha1 sha1
+do StartAuthSession NULL OWNER 404142434445464748494a4b4c4d4e4f - 1 aes sha256
+do FlushContext 0x2000000
+do PolicyPCR 03000002 - sha256:3
+do PCR_Extend 00000004 pw:- sha1:cdcdcdcdcdcdcdcdcdcdcdcdcdcdcdcdcdcdcdcd
+do PolicyCommandCode 03000002 0x14e
+do PolicyLocality 03000002 0x3
+do PolicyNvWritten 03000002 1
+do PolicyAuthValue 03000002
+do CreatePrimary NULL pw:- 000370696e0006736563726574 0008000b00000452000000100000 - -
+wait 1000
+do NV_Read 01000001 01000001 pw:- 8 0
+wait 70000
+do DictionaryAttackLockReset LOCKOUT pw:78
+wait 5
+do GetRandom 1
+"""
+
+FIELDS = pathlib.Path(__file__).parent / "worked_state.txt"
+
+
+@functools.cache
+def played():
+    player = Player()
+    for line in LINES.encode().splitlines():
+        player.play(line)
+    return player.device
+
+
+def device():
+    """Another one each time, which may be changed."""
+    return copy.deepcopy(played())
+
+
+def layer():
+    """One context of an object, which waits, and one of a session."""
+    return Layer(0x1122334455667788, 3, [(1, 3)] + [(0, 0)] * 7, [0, 2] + [0] * 14)
+
+
+def text():
+    return state_text(device(), layer())
+
+
+def written():
+    """The text that stands in the file: what is before the first two blanks of each line."""
+    lines = FIELDS.read_text("ascii").splitlines()
+    return bytes.fromhex("".join(it.partition("  ")[0] for it in lines if it[:1] != "#"))
