@@ -1,16 +1,16 @@
 -- The fields of an image: a field is read only from its text, and from every such text; and so is a
 -- field whose reading is made of others.
-use Rattle.std.proofs.Common.{◌≡◌, ℕ, ◌^◌, ◌<◌, ◌≤◌, Bool, true, false, cond, List, [], ◌++◌, length, Option, Some, Result, Ok, Err, refl, sym, ap, subst, ◌∙◌, append_assoc, append-nil, arith}
-use Rattle.std.specs.Prelude.{nat_lt, not, ok_or}
+use Rattle.std.proofs.Common.{◌≡◌, ℕ, ◌^◌, ◌<◌, ◌≤◌, Bool, true, false, cond, List, [], ◌∷◌, ◌++◌, length, Option, Some, Result, Ok, Err, refl, sym, ap, subst, ◌∙◌, append_assoc, append-nil, arith}
+use Rattle.std.specs.Prelude.{◌==◌, nat_lt, not, ok_or}
 use Rattle.std.specs.Int.{Width, w8, w16, w64, to_be_bytes}
 use Rattle.std.specs.List.{flat_map, AllByRecursion}
-use Rattle.std.proofs.lemmas.Bool.{le-ltb, ltb-false}
+use Rattle.std.proofs.lemmas.Bool.{eqb-true, le-ltb, ltb-false}
 use Rattle.std.proofs.lemmas.Nat.{be_bytes_8, from_be_bytes-to_be_bytes_8}
 use Rattle.std.proofs.lemmas.Slice.Eq.{bytes_eq-Decides}
 use Rattle.tpm_bytes.specs.Many.{many_at}
 use Rattle.tpm_bytes.specs.Reading.{◌>>=◌, bytes_at, number_at, or_fault, refused_if}
 use Rattle.tpm_bytes.specs.Writing.{sized_text}
-use Rattle.tpm_bytes.proofs.Fields.{IsWide, Takes, Takes-then, bind_ok, bytes_again, bytes_take, number_or_again, number_or_takes, ok_is, ok_or_ok, or_fault_ok, passed, wide8, wide16}
+use Rattle.tpm_bytes.proofs.Fields.{AreBytes, IsWide, Takes, Takes-then, bind_ok, bytes_again, bytes_take, number_or_again, number_or_takes, ok_is, ok_or_ok, or_fault_ok, passed, wide8, wide16}
 use Rattle.tpm_bytes.proofs.Spelling.{many_again, many_taken}
 use Rattle.tpm_types.specs.AuthValue.{IsAuthValue}
 use Rattle.tpm_types.specs.Rc.{plain}
@@ -19,7 +19,7 @@ use Rattle.tpm_types.specs.declared.rc.ResponseCode.TheVariants as code
 use Rattle.tpm_types.proofs.FieldLaws.{buffer_spelled}
 use Rattle.tpm_types.proofs.Named.{link, none}
 use Rattle.tpm_types.proofs.Spelled.{Behind, Spelled, first, for_each, respelled}
-use Rattle.tpm_image_text.specs.Fields.{auth_value_in, buffer_in, bytes_in, counted_in, counted_text, in_body, is_trimmed, malformed, number_in, passing, yes_no_in, yes_no_number, yes_no_text}
+use Rattle.tpm_image_text.specs.Fields.{auth_value_in, buffer_in, bytes_in, counted_in, counted_text, filling, in_body, is_trimmed, malformed, number_in, passing, yes_no_in, yes_no_number, yes_no_text}
 use Rattle.tpm_image_text.specs.declared.fault.Malformed.{Malformed}
 
 -- ---- readings made of other readings
@@ -81,6 +81,26 @@ made_of {A} {B} {E} {text} {Is} {at} made given {Are} to from law = record {
       subst (λ (z : B × List ℕ). Takes bytes (text (given z.0)) z.1 × Are z.0) (ok_is done y a.2) (spelled, is.1);
   again = λ y rest are. let f = from y are in rw (law.again (given y) rest f.1, f.0) refl;
 }
+
+-- ---- a reading of a whole text
+
+module _ {A : Type 0} {text : A → List ℕ} {Is : A → Type 0} {at : List ℕ → Result (A × List ℕ) Malformed} (law : Spelled text Is at) where
+  -- where nothing of a text is left, all was taken
+  all_taken : (bytes front left : List ℕ) → bytes ≡ front ++ left → (length left == 0) ≡ true → bytes ≡ front
+  all_taken bytes front [] parts none = parts ∙ append-nil front
+  all_taken bytes front (byte ∷ left) parts none = absurd (omega (arith, eqb-true _ _ none))
+
+  pub filling_taken : (bytes : List ℕ) (x : A) → AreBytes bytes → filling at bytes ≡ Ok x → (bytes ≡ text x) × Is x
+  filling_taken bytes x fits e =
+      let a = bind_ok (at bytes) (λ y. refused_if (not (length y.1 == 0)) malformed >>= λ ended. Ok y.0) x e in
+      let refuses = not (length a.0.1 == 0) in
+      let b = bind_ok (refused_if refuses malformed) (λ ended. Ok a.0.0) x a.2 in
+      let t = law.taken bytes a.0 fits a.1 in
+      let whole = all_taken bytes (text a.0.0) a.0.1 t.0.parts (not_false (length a.0.1 == 0) (passed refuses malformed b.0 b.1)) in
+      subst (λ (y : A). (bytes ≡ text y) × Is y) (ok_is {E = Malformed} a.0.0 x b.2) (whole, t.1)
+
+  pub filling_again : (x : A) → Is x → filling at (text x) ≡ Ok x
+  filling_again x is = ap (filling at) (sym (append-nil (text x))) ∙ rw (law.again x [] is) refl
 
 -- ---- a reading chosen by a test
 

@@ -1,29 +1,26 @@
 -- The persistent objects of an image: a value is read only from its text, and from every such text.
-use Rattle.tpm_image_text.specs.Sizes.{objects_size}
-use Rattle.std.proofs.Common.{◌≡◌, ℕ, ◌*◌, ◌^◌, ◌<◌, ◌≤◌, true, List, [], ◌∷◌, ◌++◌, length, Some, None, Result, Ok, Err, refl, sym, ap, subst, ◌∙◌, append_assoc, arith, length-append}
-use Rattle.std.specs.Prelude.{◌==◌, not, ok_or}
+use Rattle.tpm_image_text.specs.Sizes.{object_fields_size, objects_size}
+use Rattle.std.proofs.Common.{◌≡◌, ℕ, ◌*◌, ◌^◌, ◌<◌, ◌≤◌, true, List, [], ◌∷◌, ◌++◌, length, Some, None, Ok, refl, sym, ap, subst, ◌∙◌, append_assoc, arith, length-append}
+use Rattle.std.specs.Prelude.{◌==◌}
 use Rattle.std.specs.Int.{w16, w32, to_be_bytes}
 use Rattle.std.specs.List.{AllByRecursion, flat_map}
 use Rattle.std.proofs.lemmas.Bool.{eqb-true}
 use Rattle.std.proofs.lemmas.Bool.Decides.{Decides-eqb}
 use Rattle.std.proofs.lemmas.Slice.Eq.{bytes_eq-Decides}
 use Rattle.tpm_containers.specs.SortedMap.{Entries}
-use Rattle.tpm_bytes.specs.Reading.{◌>>=◌, refused_if}
+use Rattle.tpm_bytes.specs.Reading.{◌>>=◌}
 use Rattle.tpm_bytes.specs.Writing.{sized_text}
 use Rattle.tpm_bytes.proofs.Fields.{wide32}
 use Rattle.tpm_object.specs.Object.{IsObject}
 use Rattle.tpm_object.specs.declared.object.Object.{Object}
-use Rattle.tpm_record.specs.Persistent.{ArePersistent, IsPersistent, can_persist}
-use Rattle.tpm_types.specs.Algorithm.{hash_number}
-use Rattle.tpm_types.specs.AuthValue.{IsAuthValue, trimmed}
+use Rattle.tpm_record.specs.Persistent.{ArePersistent, IsPersistent}
 use Rattle.tpm_types.specs.Handle.{hierarchy_handle, hierarchy_of, is_persistent, numbered}
 use Rattle.tpm_types.specs.declared.handle.Handle.{Handle}
 use Rattle.tpm_types.specs.declared.handle.HierarchyHandle.{HierarchyHandle}
 use Rattle.tpm_types.specs.declared.handle.HierarchyHandle.TheVariants as hierarchy
 use Rattle.tpm_types.proofs.Named.{link, none}
-use Rattle.tpm_types.proofs.Spelled.{Spelled, first, for_each, respelled, then}
-use Rattle.tpm_types_object.specs.ObjectAttributes.{attributes_text}
-use Rattle.tpm_types_object.specs.Public.{IsPublic, object_type, object_type_named, object_type_number, object_type_text, parameters_text, public_text}
+use Rattle.tpm_types.proofs.Spelled.{Spelled, all_read, first, for_each, respelled, then, two_texts}
+use Rattle.tpm_types_object.specs.Public.{IsPublic, object_type, object_type_named, object_type_number, public_text}
 use Rattle.tpm_types_object.specs.Sensitive.{IsSensitive, sensitive_text}
 use Rattle.tpm_types_object.specs.declared.public.ObjectType.{ObjectType}
 use Rattle.tpm_types_object.specs.declared.public.Public.{Public}
@@ -31,11 +28,10 @@ use Rattle.tpm_types_object.specs.declared.sensitive.Sensitive.{Sensitive}
 use Rattle.tpm_types_object.proofs.ObjectFields.{object_type_named-again}
 use Rattle.tpm_types_object.proofs.PublicLaws.{parameters_small, sized_public_spelled}
 use Rattle.tpm_types_object.proofs.SensitiveLaws.{sized_sensitive_spelled}
-use Rattle.tpm_image_text.specs.Body.{ascend_from, handle_in, is_sensitive_of, object_in, object_text, objects_in, objects_text, object_hierarchy_in, sensitive_in, sensitive_of}
-use Rattle.tpm_image_text.specs.Fields.{is_trimmed, malformed, number_in}
-use Rattle.tpm_image_text.specs.declared.fault.Malformed.{Malformed}
+use Rattle.tpm_image_text.specs.Body.{ascend_from, handle_in, is_persistable, is_sensitive_of, object_fields_in, object_fields_text, object_in, object_text, objects_in, objects_text, object_hierarchy_in, sensitive_in, sensitive_of}
+use Rattle.tpm_image_text.specs.Fields.{is_trimmed, malformed}
 use Rattle.tpm_image_text.proofs.SortedMapLaws.{are_both, are_each, are_each-again, ascends, ascends-again, both}
-use Rattle.tpm_image_text.proofs.FieldSpelling.{buffer_in_spelled, counted_spelled, in_body_spelled, made_of, names_spelled, number_in_spelled, passing_spelled, same_reading, tested}
+use Rattle.tpm_image_text.proofs.FieldSpelling.{buffer_in_spelled, counted_spelled, in_body_spelled, made_of, names_spelled, number_in_spelled, passing_spelled, tested}
 
 -- ---- the handle and the hierarchy
 
@@ -69,23 +65,9 @@ owner_small hierarchy.Endorsement = omega arith
 owner_small hierarchy.Platform = omega arith
 owner_small hierarchy.Null = omega arith
 
--- a step after two steps is a step after the second of them
-steps : {A B C E : Type 0} (r : Result A E) (f : A → Result B E) (g : B → Result C E) → (r >>= λ x. f x >>= g) ≡ (r >>= f >>= g)
-steps (Ok x) f g = refl
-steps (Err fault) f g = refl
-
-abbrev owned : HierarchyHandle × List ℕ → Result (HierarchyHandle × List ℕ) Malformed
-owned x = refused_if (not (can_persist x.0)) malformed >>= λ passed. Ok x
-
-owner_spelled : Spelled (λ owner. to_be_bytes w32 (owner_number owner)) (λ owner. can_persist owner ≡ true) object_hierarchy_in
+owner_spelled : Spelled (λ owner. to_be_bytes w32 (owner_number owner)) (λ owner. Unit {0}) object_hierarchy_in
 unfolding object_hierarchy_in
-owner_spelled =
-    let named = names_spelled w32 (2 ^ 32) wide32 owner_number (λ n. hierarchy_of (numbered n)) malformed malformed owner_is owner_again owner_small in
-    respelled (same_reading (λ bytes. same (number_in w32 bytes)) (passing_spelled can_persist named)) (λ _. refl) (λ owner is. is.1) (λ owner is. (tt, is))
-  where
-    same : (r : Result (ℕ × List ℕ) Malformed) → (r >>= λ number. ok_or (hierarchy_of (numbered number.0)) malformed >>= λ owner. owned (owner, number.1)) ≡ (r >>= (λ number. ok_or (hierarchy_of (numbered number.0)) malformed >>= λ owner. Ok (owner, number.1)) >>= owned)
-    same (Ok number) = steps (ok_or (hierarchy_of (numbered number.0)) malformed) (λ owner. Ok (owner, number.1)) owned
-    same (Err fault) = refl
+owner_spelled = names_spelled w32 (2 ^ 32) wide32 owner_number (λ n. hierarchy_of (numbered n)) malformed malformed owner_is owner_again owner_small
 
 -- ---- the sensitive area
 
@@ -98,63 +80,81 @@ same_type a b same =
     let some : Some a ≡ Some b = sym (object_type_named-again a) ∙ ap object_type_named same ∙ object_type_named-again b in
     cc
 
--- the fields of a persistent object before its sensitive area
+-- A sensitive area is within its sizes, and one of this public area.
+abbrev IsOf : Public → Sensitive → Type 0
+IsOf p s = IsSensitive s × (is_sensitive_of p s ≡ true)
+
+-- the fields of an object before its sensitive area
 abbrev Fields : Type 0
-Fields = ((Handle × HierarchyHandle) × List ℕ) × Public
+Fields = (HierarchyHandle × List ℕ) × Public
 
-abbrev fields_of : ℕ × Object → Fields
-fields_of e = (((numbered e.0, e.1.hierarchy), e.1.qualified_name), e.1.public)
+abbrev fields_of : Object → Fields
+fields_of o = ((o.hierarchy, o.qualified_name), o.public)
 
-abbrev object_of : Fields → Sensitive → ℕ × Object
-object_of f s = (f.0.0.0.number, record { hierarchy = f.0.0.1; public = f.1; auth_value = s.auth_value; seed_value = s.seed_value; sensitive = s.sensitive; qualified_name = f.0.1 })
+abbrev object_of : Fields → Sensitive → Object
+object_of f s = record { hierarchy = f.0.0; public = f.1; auth_value = s.auth_value; seed_value = s.seed_value; sensitive = s.sensitive; qualified_name = f.0.1 }
 
--- The fields that the sensitive area has of an object have their widths.
-record HasValues (e : ℕ × Object) : Type 0 where
-  auth_value : IsAuthValue e.1.auth_value
-  seed_value : length e.1.seed_value ≤ 32
-  sensitive : length e.1.sensitive ≤ 128
+-- the sensitive area of an object, where it is read as one of the object's public area
+abbrev HasArea : Object → Type 0
+HasArea o = IsOf o.public (sensitive_of o)
 
--- A sensitive area is one of the public area before it.
-abbrev IsOf : Fields → Sensitive → Type 0
-IsOf f s = IsSensitive s × (is_sensitive_of f.1 s ≡ true)
+same_area : (f : Fields) (s : Sensitive) → IsOf f.1 s → sensitive_of (object_of f s) ≡ s
+same_area f s is =
+    let tests = are_both (object_type_number s.object_type == object_type_number (object_type f.1)) (is_trimmed s.auth_value) is.1 in
+    ap (λ (t : ObjectType). record s { object_type = t }) (sym (same_type s.object_type (object_type f.1) (eqb-true _ _ tests.0)))
 
-values_spelled : (f : Fields) → Spelled (λ e. sized_text (sensitive_text (sensitive_of e.1))) (λ e. HasValues e × (fields_of e ≡ f)) (λ bytes. sensitive_in f.1 bytes >>= λ s. Ok (object_of f s.0, s.1))
-values_spelled f = made_of (object_of f) (λ e. sensitive_of e.1) to from (sensitive_spelled f.1)
+area_spelled : (f : Fields) → Spelled (λ o. sized_text (sensitive_text (sensitive_of o))) (λ o. HasArea o × (fields_of o ≡ f)) (λ bytes. sensitive_in f.1 bytes >>= λ s. Ok (object_of f s.0, s.1))
+area_spelled f = made_of (object_of f) sensitive_of to from (sensitive_spelled f.1)
   where
-    to : (s : Sensitive) → IsOf f s → (sensitive_of (object_of f s).1 ≡ s) × (HasValues (object_of f s) × (fields_of (object_of f s) ≡ f))
+    to : (s : Sensitive) → IsOf f.1 s → (sensitive_of (object_of f s) ≡ s) × (HasArea (object_of f s) × (fields_of (object_of f s) ≡ f))
     to s is =
-        let tests = are_both (object_type_number s.object_type == object_type_number (object_type f.1)) (is_trimmed s.auth_value) is.1 in
-        let type = same_type s.object_type (object_type f.1) (eqb-true _ _ tests.0) in
-        let trimmed : trimmed s.auth_value ≡ s.auth_value = (bytes_eq-Decides _ _).0 tests.1 in
-        let values : HasValues (object_of f s) = record { auth_value = (is.0.auth_value, trimmed); seed_value = is.0.seed_value; sensitive = is.0.sensitive } in
-        (ap (λ (t : ObjectType). record s { object_type = t }) (sym type), (values, refl))
+        let same = same_area f s is in
+        (same, (subst (IsOf f.1) (sym same) is, refl))
 
-    from : (e : ℕ × Object) → HasValues e × (fields_of e ≡ f) → (object_of f (sensitive_of e.1) ≡ e) × IsOf f (sensitive_of e.1)
-    from e has =
-        let type = (Decides-eqb (object_type_number (object_type e.1.public)) (object_type_number (object_type e.1.public))).1 refl in
-        let trimmed : is_trimmed e.1.auth_value ≡ true = (bytes_eq-Decides _ _).1 has.0.auth_value.1 in
-        let is : IsSensitive (sensitive_of e.1) = record { auth_value = has.0.auth_value.0; seed_value = has.0.seed_value; sensitive = has.0.sensitive } in
-        subst (λ (g : Fields). (object_of g (sensitive_of e.1) ≡ e) × IsOf g (sensitive_of e.1)) has.1 (refl, (is, both _ _ type trimmed))
+    from : (o : Object) → HasArea o × (fields_of o ≡ f) → (object_of f (sensitive_of o) ≡ o) × IsOf f.1 (sensitive_of o)
+    from o has = subst (λ (g : Fields). (object_of g (sensitive_of o) ≡ o) × IsOf g.1 (sensitive_of o)) has.1 (refl, has.0)
+
+-- ---- one object
+
+has_area : (o : Object) → IsObject o → HasArea o
+has_area o is =
+    let number = object_type_number (object_type o.public) in
+    let sizes : IsSensitive (sensitive_of o) = record { auth_value = is.auth_value.0; seed_value = is.seed_value; sensitive = is.sensitive } in
+    (sizes, both _ _ ((Decides-eqb number number).1 refl) ((bytes_eq-Decides _ _).1 is.auth_value.1))
+
+is_object : (o : Object) → length o.qualified_name ≤ 34 → IsPublic o.public → HasArea o → IsObject o
+is_object o name public area =
+    let number = object_type_number (object_type o.public) in
+    let trimmed = (are_both (number == number) (is_trimmed o.auth_value) area.1).1 in
+    record { public = public; auth_value = (area.0.auth_value, (bytes_eq-Decides _ _).0 trimmed); seed_value = area.0.seed_value; sensitive = area.0.sensitive; qualified_name = name }
+
+pub object_fields_spelled : Spelled object_fields_text IsObject object_fields_in
+unfolding object_fields_in object_fields_text
+object_fields_spelled =
+    let area = for_each fields_of (λ o. sized_text (sensitive_text (sensitive_of o))) HasArea _ area_spelled in
+    respelled (first owner_spelled (then (buffer_in_spelled 34 (omega arith)) (then (in_body_spelled sized_public_spelled) area)))
+    (λ o. parts (to_be_bytes w32 (owner_number o.hierarchy)) (sized_text o.qualified_name) (sized_text (public_text o.public)) (sized_text (sensitive_text (sensitive_of o))))
+    (λ o is. is_object o is.1.0 is.1.1.0 is.1.1.1)
+    (λ o is. (tt, (is.qualified_name, (is.public, has_area o is))))
+  where
+    parts : (a b c d : List ℕ) → a ++ b ++ c ++ d ≡ a ++ (b ++ (c ++ d))
+    parts a b c d = simp append_assoc refl
 
 -- ---- one persistent object
 
-five_texts : (a b c d e : List ℕ) → a ++ b ++ c ++ d ++ e ≡ a ++ (b ++ (c ++ (d ++ e)))
-five_texts a b c d e = simp append_assoc refl
+abbrev entry_fields : ℕ × Object → Handle × Object
+entry_fields e = (numbered e.0, e.1)
+
+abbrev entry_of : Handle × Object → ℕ × Object
+entry_of f = (f.0.number, f.1)
 
 pub object_spelled : Spelled object_text (λ e. IsPersistent e.0 e.1) object_in
 unfolding object_in object_text
 object_spelled =
-    let values = for_each fields_of (λ e. sized_text (sensitive_text (sensitive_of e.1))) HasValues _ values_spelled in
-    let fields = first handle_spelled (then owner_spelled (then (buffer_in_spelled 34 (omega arith)) (then (in_body_spelled sized_public_spelled) values))) in
-    respelled fields
-    (λ e. five_texts (to_be_bytes w32 e.0) (to_be_bytes w32 (owner_number e.1.hierarchy)) (sized_text e.1.qualified_name) (sized_text (public_text e.1.public)) (sized_text (sensitive_text (sensitive_of e.1))))
-    (λ e is.
-    let values = is.1.1.1.1 in
-    let sized : IsObject e.1 = record { public = is.1.1.1.0; auth_value = values.auth_value; seed_value = values.seed_value; sensitive = values.sensitive; qualified_name = is.1.1.0 } in
-    record { named = is.0; owned = is.1.0; sized = sized })
-    (λ e is.
-    let values : HasValues e = record { auth_value = is.sized.auth_value; seed_value = is.sized.seed_value; sensitive = is.sized.sensitive } in
-    (is.named, (is.owned, (is.sized.qualified_name, (is.sized.public, values)))))
+    respelled (first handle_spelled (then (passing_spelled is_persistable object_fields_spelled) (all_read entry_fields entry_of (λ _. refl) (λ _. refl))))
+    (λ e. two_texts (to_be_bytes w32 e.0) (object_fields_text e.1))
+    (λ e is. record { named = is.0; owned = is.1.0.1; sized = is.1.0.0 })
+    (λ e is. (is.named, ((is.sized, is.owned), tt)))
 
 -- ---- all persistent objects
 
@@ -167,36 +167,21 @@ objects_spelled =
 
 -- ---- the length of the objects' text
 
-public_short : (p : Public) → IsPublic p → length (public_text p) ≤ 82
+public_small : (p : Public) → IsPublic p → length (public_text p) ≤ 82
 unfolding public_text
-public_short p is =
-    let front = object_type_text (object_type p) ++ to_be_bytes w16 (hash_number p.name_alg) ++ attributes_text p.attributes in
-    let policy = front ++ sized_text p.auth_policy in
-    let parameters = policy ++ parameters_text p.parameters in
-    omega (arith, is.auth_policy, is.unique, parameters_small p.parameters, length-append front (sized_text p.auth_policy), length-append policy (parameters_text p.parameters), length-append parameters (sized_text p.unique))
+public_small p is = simp length-append (omega (arith, is.auth_policy, is.unique, parameters_small p.parameters))
 
-sensitive_short : (o : Object) (number : ℕ) → IsPersistent number o → length (sensitive_text (sensitive_of o)) ≤ 200
+area_small : (o : Object) → IsObject o → length (sensitive_text (sensitive_of o)) ≤ 200
 unfolding sensitive_text
-sensitive_short o number is =
-    let auth = object_type_text (object_type o.public) ++ sized_text o.auth_value in
-    let seed = auth ++ sized_text o.seed_value in
-    omega (arith, is.sized.auth_value.0, is.sized.seed_value, is.sized.sensitive, length-append (object_type_text (object_type o.public)) (sized_text o.auth_value), length-append auth (sized_text o.seed_value), length-append seed (sized_text o.sensitive))
+area_small o is = simp length-append (omega (arith, is.auth_value.0, is.seed_value, is.sensitive))
+
+pub object_fields_small : (o : Object) → IsObject o → length (object_fields_text o) ≤ object_fields_size
+unfolding object_fields_text
+object_fields_small o is = simp length-append (omega (arith, is.qualified_name, public_small o.public is.public, area_small o is))
 
 pub object_small : (e : ℕ × Object) → IsPersistent e.0 e.1 → length (object_text e) ≤ 330
 unfolding object_text
-object_small e is =
-    let front = to_be_bytes w32 e.0 ++ to_be_bytes w32 (owner_number e.1.hierarchy) in
-    let named = front ++ sized_text e.1.qualified_name in
-    let public = named ++ sized_text (public_text e.1.public) in
-    omega (
-      arith,
-      is.sized.qualified_name,
-      public_short e.1.public is.sized.public,
-      sensitive_short e.1 e.0 is,
-      length-append front (sized_text e.1.qualified_name),
-      length-append named (sized_text (public_text e.1.public)),
-      length-append public (sized_text (sensitive_text (sensitive_of e.1))),
-    )
+object_small e is = omega (arith, object_fields_small e.1 is.sized)
 
 all_small : (es : Entries Object) → AllByRecursion (λ e. IsPersistent e.0 e.1) es → length (flat_map object_text es) ≤ 330 * length es
 all_small [] each = omega arith

@@ -7,7 +7,7 @@ use Rattle.tpm_mac.specs.Digest.{hash_of}
 use Rattle.tpm_mac.specs.declared.algorithm.HashAlg.TheVariants.{Sha256}
 use Rattle.tpm_record.specs.Record.{Record}
 use Rattle.tpm_image_text.specs.Body.{body_of}
-use Rattle.tpm_image_text.specs.Frame.{before_digest, digest_of, framed_body, length_of, magic, number_of}
+use Rattle.tpm_image_text.specs.Frame.{before_digest, within_frame, digest_of, framed_body, length_of, number_of, word_of}
 use Rattle.tpm_image_text.specs.Image.{image_of}
 use Rattle.tpm_image_text.specs.NonVolatile.{NonVolatile}
 use Rattle.tpm_image_text.specs.Opening.{Opens}
@@ -19,9 +19,9 @@ use Rattle.tpm_image_text.specs.declared.version.Version.{Version}
 
 -- no fault of the frame is NoMemory
 frame_fits : (text : List ℕ) → framed_body text ≡ Err fault.NoMemory → ⊥
-unfolding framed_body
+unfolding within_frame
 frame_fits text is =
-    by (nat_lt (length text) 42) (not (bytes_eq (take 4 text) magic)) (version_numbered (number_of text)) (not (length_of text == length text)) (not (bytes_eq (hash_of Sha256 (before_digest text)) (digest_of text))) _ is
+    by (nat_lt (length text) 42) (not (bytes_eq (take 4 text) (word_of 0x49))) (version_numbered (number_of text)) (not (length_of text == length text)) (not (bytes_eq (hash_of Sha256 (before_digest text)) (digest_of text))) _ is
   where
     by : (a b : Bool) (c : Option Version) (d e : Bool) (body : List ℕ) → (refused_if a fault.Short >>= λ long. refused_if b fault.Magic >>= λ word. ok_or c fault.Version >>= λ version. refused_if d fault.Length >>= λ whole. refused_if e fault.Digest >>= λ digest. let said : Version × List ℕ = (version, body) in Ok said) ≡ Err fault.NoMemory → ⊥
     by true b c d e body is = absurd cc

@@ -6,7 +6,7 @@ use Rattle.tpm_nv.specs.Index.{NvContents, NvIndex}
 use Rattle.tpm_object.specs.declared.object.Object.{Object}
 use Rattle.tpm_record.specs.Record.{Record, manufactured}
 use Rattle.tpm_record.specs.declared.fixed.Fixed.{Fixed}
-use Rattle.tpm_image_text.specs.Body.{body_of, indices_in, limits_in, objects_in, state_in}
+use Rattle.tpm_image_text.specs.Body.{body_of, indices_in, kept_in, limits_in, objects_in, state_in}
 use Rattle.tpm_image_text.specs.Filling.{with_state}
 use Rattle.tpm_image_text.specs.NonVolatile.{KeptState, powered_on}
 use Rattle.tpm_image_text.specs.declared.version.Version.{Version}
@@ -16,5 +16,5 @@ powered r old new state persistent nv made is restored count = rw (restored, is,
 
 -- what a whole body keeps
 pub body_read : (version : Version) (body text behind_limits behind_state behind_objects behind_indices : List ℕ) (state : KeptState) (persistent : Entries Object) (indices : Entries NvIndex) → text ≡ body → limits_in version text ≡ Ok (tt, behind_limits) → state_in behind_limits ≡ Ok (state, behind_state) → objects_in behind_state ≡ Ok (persistent, behind_objects) → indices_in version behind_objects ≡ Ok (indices, behind_indices) → (length behind_indices == 0) ≡ true → body_of version body ≡ Ok (record { state = state; persistent = persistent; indices = indices })
-unfolding body_of
+unfolding body_of kept_in
 body_read version body text behind_limits behind_state behind_objects behind_indices state persistent indices same front first second third ended = rw (← same, front, first, second, third, ended) refl

@@ -32,7 +32,7 @@ use Rattle.tpm_types_object.specs.Public.{object_type, object_type_number, publi
 use Rattle.tpm_types_object.specs.Sensitive.{sensitive_at, sensitive_text}
 use Rattle.tpm_types_object.specs.declared.public.Public.{Public}
 use Rattle.tpm_types_object.specs.declared.sensitive.Sensitive.{Sensitive}
-use Rattle.tpm_image_text.specs.Fields.{auth_value_in, buffer_in, bytes_in, counted_in, counted_text, in_body, is_trimmed, malformed, number_in, passing, yes_no_in, yes_no_text}
+use Rattle.tpm_image_text.specs.Fields.{auth_value_in, buffer_in, bytes_in, counted_in, counted_text, filling, in_body, is_trimmed, malformed, number_in, passing, yes_no_in, yes_no_text}
 use Rattle.tpm_image_text.specs.NonVolatile.{KeptState, NonVolatile}
 use Rattle.tpm_image_text.specs.Version.{index_limit, space_limit}
 use Rattle.tpm_image_text.specs.declared.fault.Malformed.{Malformed}
@@ -188,13 +188,17 @@ sensitive_of o = record {
   sensitive = o.sensitive;
 }
 
--- the text of a persistent object: its handle, its hierarchy, its qualified Name, and its public
--- and its sensitive area, each of these three in a sized buffer
+-- the text of an object: its hierarchy, and its qualified Name, its public and its sensitive area,
+-- each of these three in a sized buffer
+unfoldable pub object_fields_text : Object → List ℕ
+object_fields_text o =
+    to_be_bytes w32 (hierarchy_handle o.hierarchy).number
+    ++ sized_text o.qualified_name
+    ++ sized_text (public_text o.public) ++ sized_text (sensitive_text (sensitive_of o))
+
+-- the text of a persistent object: its handle, and then the object
 unfoldable pub object_text : ℕ × Object → List ℕ
-object_text e =
-    to_be_bytes w32 e.0 ++ to_be_bytes w32 (hierarchy_handle e.1.hierarchy).number
-    ++ sized_text e.1.qualified_name
-    ++ sized_text (public_text e.1.public) ++ sized_text (sensitive_text (sensitive_of e.1))
+object_text e = to_be_bytes w32 e.0 ++ object_fields_text e.1
 
 -- the handle of a persistent object
 unfoldable pub handle_in : List ℕ → Result (Handle × List ℕ) Malformed
@@ -203,12 +207,11 @@ handle_in text = do
   named ← refused_if (not (is_persistent (numbered number.0))) malformed
   Ok (numbered number.0, number.1)
 
--- the hierarchy of a persistent object, as it is read
+-- the hierarchy of an object, as it is read
 unfoldable pub object_hierarchy_in : List ℕ → Result (HierarchyHandle × List ℕ) Malformed
 object_hierarchy_in text = do
   number ← number_in w32 text
   hierarchy ← ok_or (hierarchy_of (numbered number.0)) malformed
-  owned ← refused_if (not (can_persist hierarchy)) malformed
   Ok (hierarchy, number.1)
 
 -- whether a sensitive area is of the type of this public area, and its authorization value has no
@@ -221,27 +224,33 @@ is_sensitive_of p s =
 unfoldable pub sensitive_in : Public → List ℕ → Result (Sensitive × List ℕ) Malformed
 sensitive_in p text = passing (is_sensitive_of p) (in_body (filled_by sensitive_at)) text
 
-unfoldable pub object_in : List ℕ → Result ((ℕ × Object) × List ℕ) Malformed
-object_in text = do
-  handle ← handle_in text
-  hierarchy ← object_hierarchy_in handle.1
+unfoldable pub object_fields_in : List ℕ → Result (Object × List ℕ) Malformed
+object_fields_in text = do
+  hierarchy ← object_hierarchy_in text
   qualified_name ← buffer_in 34 hierarchy.1
   public ← in_body (filled_by public_at) qualified_name.1
   sensitive ← sensitive_in public.0 public.1
   Ok (
-    (
-      handle.0.number,
-      record {
-        hierarchy = hierarchy.0;
-        public = public.0;
-        auth_value = sensitive.0.auth_value;
-        seed_value = sensitive.0.seed_value;
-        sensitive = sensitive.0.sensitive;
-        qualified_name = qualified_name.0;
-      },
-    ),
+    record {
+      hierarchy = hierarchy.0;
+      public = public.0;
+      auth_value = sensitive.0.auth_value;
+      seed_value = sensitive.0.seed_value;
+      sensitive = sensitive.0.sensitive;
+      qualified_name = qualified_name.0;
+    },
     sensitive.1,
   )
+
+-- whether an object can be persistent
+abbrev pub is_persistable : Object → Bool
+is_persistable o = can_persist o.hierarchy
+
+unfoldable pub object_in : List ℕ → Result ((ℕ × Object) × List ℕ) Malformed
+object_in text = do
+  handle ← handle_in text
+  object ← passing is_persistable object_fields_in handle.1
+  Ok ((handle.0.number, object.0), object.1)
 
 -- whether keys ascend from this one on, each above the one before it
 abbrev pub ascend_from : {X : Type 0} → ℕ → Entries X → Bool
@@ -349,12 +358,17 @@ image_body_text version kept =
     limits_text version ++ state_text kept.state ++ objects_text kept.persistent
     ++ indices_text kept.indices
 
--- what a body keeps, where it has exactly these bytes
-unfoldable pub body_of : Version → List ℕ → Result NonVolatile Malformed
-body_of version text = do
+unfoldable pub kept_in : Version → List ℕ → Result (NonVolatile × List ℕ) Malformed
+kept_in version text = do
   limits ← limits_in version text
   state ← state_in limits.1
   persistent ← objects_in state.1
   indices ← indices_in version persistent.1
-  ended ← refused_if (not (length indices.1 == 0)) malformed
-  Ok (record { state = state.0; persistent = persistent.0; indices = indices.0 })
+  Ok (
+    record { state = state.0; persistent = persistent.0; indices = indices.0 },
+    indices.1,
+  )
+
+-- what a body keeps, where it has exactly these bytes
+unfoldable pub body_of : Version → List ℕ → Result NonVolatile Malformed
+body_of version text = filling (kept_in version) text

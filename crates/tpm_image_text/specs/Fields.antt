@@ -1,6 +1,6 @@
 -- The fields of an image, each with its text and its reading. A field that is cut short, or has a
 -- value that it may not have, is malformed, whatever other readers call that.
-use Rattle.std.specs.Prelude.{ℕ, nat_lt, not, Bool, true, false, List, ◌++◌, length, Result, Ok}
+use Rattle.std.specs.Prelude.{ℕ, ◌==◌, nat_lt, not, Bool, true, false, List, ◌++◌, length, Result, Ok}
 use Rattle.std.specs.Int.{Width, w8, w16, to_be_bytes}
 use Rattle.std.specs.List.{flat_map}
 use Rattle.std.specs.Str.{bytes_eq}
@@ -29,6 +29,15 @@ passing test at text = do
   x ← at text
   passed ← refused_if (not (test x.0)) malformed
   Ok x
+
+-- what a reading gives of a text that it takes whole
+abbrev pub filling : {X : Type 0}
+    → (List ℕ → Result (X × List ℕ) Malformed)
+    → List ℕ → Result X Malformed
+filling at text = do
+  x ← at text
+  ended ← refused_if (not (length x.1 == 0)) malformed
+  Ok x.0
 
 -- ---- numbers, yes or no, and bytes of a field
 

@@ -1,7 +1,7 @@
--- The frame of an image: a head before its body, and a digest after both. The format is this
--- device's own.
+-- The frame of an image, and of any text that says what a device is: a head before its body, and a
+-- digest after both. The formats are this device's own.
 use Rattle.std.specs.Prelude.{ℕ, ◌+◌, ◌-◌, ◌==◌, nat_lt, not, List, [], ◌∷◌, ◌++◌, length, take, drop}
-use Rattle.std.specs.Prelude.{ok_or, Result, Ok}
+use Rattle.std.specs.Prelude.{ok_or, Option, Result, Ok}
 use Rattle.std.specs.Int.{w16, w32, from_be_bytes, to_be_bytes}
 use Rattle.std.specs.Str.{bytes_eq}
 use Rattle.tpm_bytes.specs.Reading.{◌>>=◌, refused_if}
@@ -12,14 +12,27 @@ use Rattle.tpm_image_text.specs.declared.fault.ImageFault.{ImageFault}
 use Rattle.tpm_image_text.specs.declared.fault.ImageFault.TheVariants as fault
 use Rattle.tpm_image_text.specs.declared.version.Version.{Version}
 
--- the word with which an image begins: TPMI
-abbrev pub magic : List ℕ
-magic = 0x54 ∷ 0x50 ∷ 0x4d ∷ 0x49 ∷ []
+-- a format of such texts: the letter with which its word ends; its versions, each with its number;
+-- and its faults in the order of the checks, of which `whole` is that of the length
+pub record Format (V E : Type 0) : Type 0 where
+  pub letter : ℕ
+  pub number : V → ℕ
+  pub numbered : ℕ → Option V
+  pub short : E
+  pub magic : E
+  pub version : E
+  pub whole : E
+  pub digest : E
 
--- the head of an image: the word TPMI, the number of the version, and the length of the whole image
-abbrev pub head_text : Version → (whole : ℕ) → List ℕ
-head_text version whole =
-    magic ++ to_be_bytes w16 (version_number version) ++ to_be_bytes w32 whole
+-- the word with which a text of a format begins: TPM and the letter
+abbrev pub word_of : ℕ → List ℕ
+word_of letter = 0x54 ∷ 0x50 ∷ 0x4d ∷ letter ∷ []
+
+-- the head of a text: the word, the number of the version, and the length of the whole text
+abbrev pub head_in : {V E : Type 0} → Format V E → V → (whole : ℕ) → List ℕ
+head_in format version whole =
+    word_of format.letter
+    ++ to_be_bytes w16 (format.number version) ++ to_be_bytes w32 whole
 
 abbrev pub head_bytes : ℕ
 head_bytes = 10
@@ -32,9 +45,9 @@ abbrev pub digested_text : List ℕ → List ℕ
 digested_text text = text ++ hash_of Sha256 text
 
 -- a body in its frame: the head before it, and after both their digest
-abbrev pub framed_text : Version → List ℕ → List ℕ
-framed_text version body =
-    digested_text (head_text version (head_bytes + length body + digest_bytes) ++ body)
+abbrev pub framed_in : {V E : Type 0} → Format V E → V → List ℕ → List ℕ
+framed_in format version body =
+    digested_text (head_in format version (head_bytes + length body + digest_bytes) ++ body)
 
 -- ---- the parts of a framed text, by their places
 
@@ -53,12 +66,39 @@ abbrev pub digest_of : List ℕ → List ℕ
 digest_of text = drop (length text - digest_bytes) text
 
 -- the version and the body of a text in its frame, or the first fault of the frame
-unfoldable pub framed_body : List ℕ → Result (Version × List ℕ) ImageFault
-framed_body text = do
-  long ← refused_if (nat_lt (length text) (head_bytes + digest_bytes)) fault.Short
-  word ← refused_if (not (bytes_eq (take 4 text) magic)) fault.Magic
-  version ← ok_or (version_numbered (number_of text)) fault.Version
-  whole ← refused_if (not (length_of text == length text)) fault.Length
+unfoldable pub within_frame : {V E : Type 0} → Format V E → List ℕ → Result (V × List ℕ) E
+within_frame format text = do
+  long ← refused_if (nat_lt (length text) (head_bytes + digest_bytes)) format.short
+  word ← refused_if (not (bytes_eq (take 4 text) (word_of format.letter))) format.magic
+  version ← ok_or (format.numbered (number_of text)) format.version
+  whole ← refused_if (not (length_of text == length text)) format.whole
   digest ← refused_if
-      (not (bytes_eq (hash_of Sha256 (before_digest text)) (digest_of text))) fault.Digest
+      (not (bytes_eq (hash_of Sha256 (before_digest text)) (digest_of text))) format.digest
   Ok (version, drop head_bytes (before_digest text))
+
+-- ---- the frame of an image
+
+-- the format of an image, which begins with TPMI
+abbrev pub image_format : Format Version ImageFault
+image_format = record {
+  letter = 0x49;
+  number = version_number;
+  numbered = version_numbered;
+  short = fault.Short;
+  magic = fault.Magic;
+  version = fault.Version;
+  whole = fault.Length;
+  digest = fault.Digest;
+}
+
+-- the head of an image: the word TPMI, the number of the version, and the length of the whole image
+abbrev pub head_text : Version → (whole : ℕ) → List ℕ
+head_text version whole = head_in image_format version whole
+
+-- a body of an image in its frame
+abbrev pub framed_text : Version → List ℕ → List ℕ
+framed_text version body = framed_in image_format version body
+
+-- the version and the body of an image, or the first fault of the frame
+abbrev pub framed_body : List ℕ → Result (Version × List ℕ) ImageFault
+framed_body text = within_frame image_format text

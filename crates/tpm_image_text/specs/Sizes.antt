@@ -11,9 +11,13 @@ limits_size = 6
 abbrev pub state_size : ℕ
 state_size = 1269
 
--- the most bytes of a persistent object with its handle, and of all of them with their number
+-- the most bytes of an object, of a persistent one with its handle, and of all of these with their
+-- number
+abbrev pub object_fields_size : ℕ
+object_fields_size = 326
+
 abbrev pub object_size : ℕ
-object_size = 330
+object_size = 4 + object_fields_size
 
 abbrev pub objects_size : ℕ
 objects_size = 2 + persistent_limit * object_size

@@ -40,7 +40,7 @@ fn read_state(fixed: &mut Fixed, text: &mut Cursor) -> Result<u64, Malformed>
 }
 
 /// Reads a whole body of a version into a `Keep` that was just made.
-#[tactic(auto, unfolding(crate::specs::Body::body_of))]
+#[tactic(auto, unfolding(crate::specs::Body::body_of, crate::specs::Body::kept_in))]
 pub fn read_body<K: Keep>(version: Version, keep: &mut K, body: &[u8]) -> Result<(), FillFault>
     requires { K.record_of keep.old ≡ manufactured (replicate 256 0) }
     ensures { PowersOn K.can_refuse (body_of version body.now) result (K.record_of keep.new) }

@@ -32,7 +32,7 @@ pub fn head(body_bytes: usize) -> Sink<10>
 }
 
 /// The version and the body of a text in its frame, or the first fault of the frame.
-#[tactic(auto, unfolding(crate::specs::Frame::framed_body))]
+#[tactic(auto, unfolding(crate::specs::Frame::within_frame))]
 pub fn framed_body(text: &[u8]) -> Result<(Version, &[u8]), ImageFault>
     ensures value { Gives (λ framed. (framed.0, framed.1.now)) (framed_body text.now) result }
     ensures bytes { AreBytes text.now }

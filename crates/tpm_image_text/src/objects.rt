@@ -1,11 +1,11 @@
 //! Persistent objects in an image: how they are read, and how they are written.
 
 ghost use Rattle.tpm_types.specs.Limits.{persistent_limit};
-ghost use Rattle.tpm_image_text.specs.Sizes.{object_size, objects_size, text_size};
+ghost use Rattle.tpm_image_text.specs.Sizes.{object_fields_size, object_size, objects_size, text_size};
 ghost use Rattle.std.specs.Prelude.{◌≡◌, ◌≤◌, ◌<◌, ◌+◌, ◌*◌, ◌++◌, IfOk, length, true};
 ghost use Rattle.tpm_types.specs.AuthValue.{trimmed};
 ghost use Rattle.tpm_bytes.specs.Reading.{Reads};
-ghost use Rattle.tpm_image_text.specs.Body.{ascend_from, handle_in, is_sensitive_of, object_in, object_text, objects_in, objects_text, object_hierarchy_in, sensitive_in, sensitive_of};
+ghost use Rattle.tpm_image_text.specs.Body.{ascend_from, handle_in, is_sensitive_of, object_fields_in, object_fields_text, object_in, object_text, objects_in, objects_text, object_hierarchy_in, sensitive_in, sensitive_of};
 ghost use Rattle.std.specs.List.{flat_map};
 ghost use Rattle.tpm_bytes.specs.Many.{many_at};
 ghost use Rattle.tpm_image_text.specs.Fields.{passing};
@@ -36,12 +36,11 @@ fn can_persist(hierarchy: HierarchyHandle) -> bool
     }
 }
 
-/// Reads the handle of a hierarchy that has persistent objects.
+/// Reads the handle of an object's hierarchy.
 #[tactic(auto, unfolding(crate::specs::Body::object_hierarchy_in))]
 fn read_object_hierarchy(text: &mut Cursor) -> Result<HierarchyHandle, Malformed>
-    ensures exact { Reads (λ hierarchy. hierarchy) (object_hierarchy_in text.old)
+    ensures { Reads (λ hierarchy. hierarchy) (object_hierarchy_in text.old)
         text.old result text.new }
-    ensures owned { IfOk result (λ hierarchy. can_persist hierarchy ≡ true) }
 {
     let mut ahead = Cursor::new(text.rest());
     let handle = Handle {
@@ -50,9 +49,6 @@ fn read_object_hierarchy(text: &mut Cursor) -> Result<HierarchyHandle, Malformed
     let Some(hierarchy) = handle.hierarchy() else {
         return Err(Malformed);
     };
-    if !can_persist(hierarchy) {
-        return Err(Malformed);
-    }
     *text = ahead;
     Ok(hierarchy)
 }
@@ -100,7 +96,28 @@ fn read_sensitive(public: &Public, text: &mut Cursor) -> Result<Sensitive, Malfo
     Ok(sensitive)
 }
 
-/// Reads an object and its handle.
+/// Reads an object, which may be of any hierarchy.
+#[tactic(auto, unfolding(crate::specs::Body::object_fields_in))]
+fn read_fields(text: &mut Cursor) -> Result<Object, Malformed>
+    ensures { Reads (λ object. object) (object_fields_in text.old) text.old result text.new }
+{
+    let mut ahead = Cursor::new(text.rest());
+    let hierarchy = read_object_hierarchy(&mut ahead)?;
+    let qualified_name = Name::of(read_sized(&mut ahead, 34)?);
+    let public: Public = read_structure(&mut ahead)?;
+    let sensitive = read_sensitive(&public, &mut ahead)?;
+    *text = ahead;
+    Ok(Object {
+        hierarchy,
+        public,
+        auth_value: AuthValue::of(sensitive.auth_value.as_slice()),
+        seed_value: sensitive.seed_value,
+        sensitive: sensitive.sensitive,
+        qualified_name,
+    })
+}
+
+/// Reads a persistent object and its handle.
 #[tactic(auto, unfolding(crate::specs::Body::object_in))]
 fn read_object(text: &mut Cursor) -> Result<(Handle, Object), Malformed>
     ensures exact { Reads (λ e. (e.0.number, e.1)) (object_in text.old) text.old result text.new }
@@ -109,19 +126,11 @@ fn read_object(text: &mut Cursor) -> Result<(Handle, Object), Malformed>
 {
     let mut ahead = Cursor::new(text.rest());
     let handle = read_handle(&mut ahead)?;
-    let hierarchy = read_object_hierarchy(&mut ahead)?;
-    let qualified_name = Name::of(read_sized(&mut ahead, 34)?);
-    let public: Public = read_structure(&mut ahead)?;
-    let sensitive = read_sensitive(&public, &mut ahead)?;
+    let object = read_fields(&mut ahead)?;
+    if !can_persist(object.hierarchy) {
+        return Err(Malformed);
+    }
     *text = ahead;
-    let object = Object {
-        hierarchy,
-        public,
-        auth_value: AuthValue::of(sensitive.auth_value.as_slice()),
-        seed_value: sensitive.seed_value,
-        sensitive: sensitive.sensitive,
-        qualified_name,
-    };
     Ok((handle, object))
 }
 
@@ -187,7 +196,26 @@ pub fn read_objects<P: PersistentObjects>(
     add_objects(objects, count, text)
 }
 
-/// Writes an object and its handle.
+/// Writes an object.
+#[tactic(auto, unfolding(crate::specs::Body::object_fields_text))]
+fn write_fields(object: &Object, text: &mut Text)
+    requires { length text.old + object_fields_size ≤ text_size }
+    ensures written { text.new ≡ text.old ++ object_fields_text object.now }
+    ensures small { length text.new ≤ length text.old + object_fields_size }
+{
+    let sensitive = Sensitive {
+        object_type: object.public.object_type(),
+        auth_value: Octets::of(object.auth_value.as_slice()),
+        seed_value: object.seed_value.copy(),
+        sensitive: object.sensitive.copy(),
+    };
+    write_u32(object.hierarchy.handle().number, text);
+    write_sized(object.qualified_name.as_slice(), 34, text);
+    write_sized(object.public.text().as_slice(), 82, text);
+    write_sized(sensitive.text().as_slice(), 200, text);
+}
+
+/// Writes a persistent object and its handle.
 #[tactic(auto, unfolding(crate::specs::Body::object_text))]
 fn write_object(entry: &(u32, Object), text: &mut Text)
     requires { length text.old + object_size ≤ text_size }
@@ -195,17 +223,8 @@ fn write_object(entry: &(u32, Object), text: &mut Text)
     ensures small { length text.new ≤ length text.old + object_size }
 {
     let (number, object) = entry;
-    let sensitive = Sensitive {
-        object_type: object.public.object_type(),
-        auth_value: Octets::of(object.auth_value.as_slice()),
-        seed_value: object.seed_value.copy(),
-        sensitive: object.sensitive.copy(),
-    };
     write_u32(*number, text);
-    write_u32(object.hierarchy.handle().number, text);
-    write_sized(object.qualified_name.as_slice(), 34, text);
-    write_sized(object.public.text().as_slice(), 82, text);
-    write_sized(sensitive.text().as_slice(), 200, text);
+    write_fields(object, text);
 }
 
 /// Writes objects and their handles, one after another.

@@ -6,7 +6,6 @@ use Rattle.std.proofs.lemmas.List.Elements.{recursion_from_All}
 use Rattle.tpm_bytes.specs.Writing.{sized_text}
 use Rattle.tpm_containers.specs.Slots.{AreAll}
 use Rattle.tpm_object.specs.Object.{IsObject}
-use Rattle.tpm_object.specs.declared.object.Object.{Object}
 use Rattle.tpm_pcr.specs.Values.{BankValues, IsBank, IsBanks}
 use Rattle.tpm_policy.specs.State.{IsPolicy, Policy}
 use Rattle.tpm_record.specs.IsRecord.{IsRecord}
@@ -17,11 +16,9 @@ use Rattle.tpm_session.specs.declared.session.Session.{Session}
 use Rattle.tpm_types.specs.Symmetric.{symmetric_text}
 use Rattle.tpm_types.specs.declared.symmetric.SymmetricDefinition.{SymmetricDefinition}
 use Rattle.tpm_types.specs.declared.symmetric.SymmetricDefinition.TheVariants.{Null, Aes128Cfb, Xor}
-use Rattle.tpm_types_object.specs.Public.{IsPublic, public_text}
-use Rattle.tpm_types_object.specs.Sensitive.{sensitive_text}
-use Rattle.tpm_types_object.specs.declared.public.Public.{Public}
-use Rattle.tpm_types_object.proofs.PublicLaws.{parameters_small}
-use Rattle.tpm_image_text.specs.Body.{sensitive_of}
+use Rattle.tpm_image_text.specs.Sizes.{object_fields_size}
+use Rattle.tpm_image_text.specs.Body.{object_fields_text}
+use Rattle.tpm_image_text.proofs.ObjectLaws.{object_fields_small}
 use Rattle.tpm_image_text.specs.Fields.{yes_no_text}
 use Rattle.tpm_image_text.specs.NonVolatile.{kept_of}
 use Rattle.tpm_image_text.specs.declared.version.Version.TheVariants.{Two}
@@ -30,11 +27,11 @@ use Rattle.tpm_image_text.proofs.ImageLaws.{kept_is}
 use Rattle.tpm_state_text.specs.Banks.{bank_text, banks_text}
 use Rattle.tpm_state_text.specs.Body.{IsWholeState, WholeState, body_text, device_text, volatile_text}
 use Rattle.tpm_state_text.specs.Layer.{IsHeld, IsLayer, Layer, held_text, layer_text}
-use Rattle.tpm_state_text.specs.Objects.{transient_text, transients_text}
+use Rattle.tpm_state_text.specs.Objects.{transients_text}
 use Rattle.tpm_state_text.specs.Places.{optional_text, places_text}
 use Rattle.tpm_state_text.specs.Policies.{policy_text}
 use Rattle.tpm_state_text.specs.Sessions.{binding_text, session_text, sessions_text}
-use Rattle.tpm_state_text.specs.Sizes.{banks_size, layer_size, policy_size, session_size, sessions_size, state_text_size, transient_size, transients_size, volatile_size}
+use Rattle.tpm_state_text.specs.Sizes.{banks_size, layer_size, policy_size, session_size, sessions_size, state_text_size, transients_size, volatile_size}
 use Rattle.tpm_state_text.proofs.PlaceLaws.{each_of_all}
 use Rattle.tpm_state_text.proofs.SessionLaws.{key_small}
 
@@ -86,20 +83,6 @@ session_small s is =
     let binding = optional_small binding_text IsBinding 71 binding_small s.binding is.binding in
     simp length-append (omega (arith, is.nonce_tpm, key_small (length s.key) is.key, symmetric_small s.symmetric, binding, policy_small s.policy is.policy))
 
--- ---- transient objects
-
-public_small : (p : Public) → IsPublic p → length (public_text p) ≤ 82
-unfolding public_text
-public_small p is = simp length-append (omega (arith, is.auth_policy, is.unique, parameters_small p.parameters))
-
-area_small : (o : Object) → IsObject o → length (sensitive_text (sensitive_of o)) ≤ 200
-unfolding sensitive_text
-area_small o is = simp length-append (omega (arith, is.auth_value.0, is.seed_value, is.sensitive))
-
-transient_small : (o : Object) → IsObject o → length (transient_text o) ≤ transient_size
-unfolding transient_text
-transient_small o is = simp length-append (omega (arith, is.qualified_name, public_small o.public is.public, area_small o is))
-
 -- ---- banks
 
 bank_small : (size : ℕ) (values : List (List ℕ)) → IsBank size values → length (bank_text values) ≤ size * length values
@@ -127,7 +110,7 @@ sessions_small r is = omega (arith, is.sessions, places_small session_text IsSes
 
 transients_small : (r : Record) → IsRecord r → length (transients_text r.objects) ≤ transients_size
 unfolding transients_text
-transients_small r is = omega (arith, is.objects, places_small transient_text IsObject transient_size transient_small r.objects is.each_object)
+transients_small r is = omega (arith, is.objects, places_small object_fields_text IsObject object_fields_size object_fields_small r.objects is.each_object)
 
 volatile_small : (r : Record) → IsRecord r → length (volatile_text r) ≤ volatile_size
 unfolding volatile_text

@@ -1,11 +1,11 @@
 -- The body of a state text: the body of the device's image, and then what a power cycle would take
 -- (TPM 2.0 Library, Part 1, section 12.2.2, _TPM_Init, and docs/table/README.md, "Events"); and what
 -- the completing layer remembers, if the device has the layer.
-use Rattle.std.specs.Prelude.{◌==◌, not, ℕ, nat_lt, ◌^◌, Bool, List, ◌++◌, length, IfSome, Option, Result, Ok}
+use Rattle.std.specs.Prelude.{ℕ, nat_lt, ◌^◌, Bool, List, ◌++◌, IfSome, Option, Result, Ok}
 use Rattle.std.specs.Int.{w64, to_be_bytes}
-use Rattle.tpm_bytes.specs.Reading.{◌>>=◌, refused_if}
-use Rattle.tpm_image_text.specs.Body.{image_body_text, indices_in, limits_in, objects_in, state_in}
-use Rattle.tpm_image_text.specs.Fields.{malformed, number_in, passing, yes_no_in, yes_no_text}
+use Rattle.tpm_bytes.specs.Reading.{◌>>=◌}
+use Rattle.tpm_image_text.specs.Body.{image_body_text, kept_in}
+use Rattle.tpm_image_text.specs.Fields.{filling, number_in, passing, yes_no_in, yes_no_text}
 use Rattle.tpm_image_text.specs.NonVolatile.{NonVolatile, kept_of, nv_of}
 use Rattle.tpm_image_text.specs.declared.fault.Malformed.{Malformed}
 use Rattle.tpm_image_text.specs.declared.version.Version.TheVariants.{Two}
@@ -85,25 +85,13 @@ resumed_in kept text = do
 
 -- ---- the device
 
--- what a device keeps without power, as the body of its image says it
-unfoldable pub kept_in : List ℕ → Result (NonVolatile × List ℕ) Malformed
-kept_in text = do
-  limits ← limits_in Two text
-  state ← state_in limits.1
-  persistent ← objects_in state.1
-  indices ← indices_in Two persistent.1
-  Ok (
-    record { state = state.0; persistent = persistent.0; indices = indices.0 },
-    indices.1,
-  )
-
 -- the text of a device: the body of its image, and what a power cycle takes
 unfoldable pub device_text : Record → List ℕ
 device_text r = image_body_text Two (kept_of r) ++ volatile_text r
 
 unfoldable pub device_in : List ℕ → Result (Record × List ℕ) Malformed
 device_in text = do
-  kept ← kept_in text
+  kept ← kept_in Two text
   resumed_in kept.0 kept.1
 
 -- ---- the body
@@ -120,7 +108,4 @@ body_in text = do
 
 -- the state of a body that has exactly these bytes
 unfoldable pub state_of_body : List ℕ → Result WholeState Malformed
-state_of_body text = do
-  state ← body_in text
-  ended ← refused_if (not (length state.1 == 0)) malformed
-  Ok state.0
+state_of_body text = filling body_in text

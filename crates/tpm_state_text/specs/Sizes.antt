@@ -1,6 +1,6 @@
 -- How many bytes the parts of a state text have at most, by the limits of the device.
 use Rattle.std.specs.Prelude.{ℕ, ◌+◌, ◌*◌}
-use Rattle.tpm_image_text.specs.Sizes.{body_size}
+use Rattle.tpm_image_text.specs.Sizes.{body_size, object_fields_size}
 use Rattle.tpm_types.specs.Limits.{object_limit, session_limit}
 
 -- the most bytes of a policy, of a session with one, and of all sessions, each after its yes or no
@@ -13,12 +13,9 @@ session_size = 149 + policy_size
 abbrev pub sessions_size : ℕ
 sessions_size = (1 + session_size) * session_limit
 
--- the most bytes of a transient object, and of all of them, each after its yes or no
-abbrev pub transient_size : ℕ
-transient_size = 326
-
+-- the most bytes of all transient objects, each after its yes or no
 abbrev pub transients_size : ℕ
-transients_size = (1 + transient_size) * object_limit
+transients_size = (1 + object_fields_size) * object_limit
 
 -- the bytes of the banks with the update counter
 abbrev pub banks_size : ℕ

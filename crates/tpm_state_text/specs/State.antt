@@ -3,9 +3,9 @@
 -- how it is written down is this device's own (docs/table/state_text.md).
 use Rattle.std.specs.Prelude.{◌≡◌, ℕ, List, length, take, drop, Result}
 use Rattle.tpm_bytes.specs.Reading.{◌>>=◌, or_fault}
-use Rattle.tpm_image_text.specs.Frame.{head_bytes}
+use Rattle.tpm_image_text.specs.Frame.{head_bytes, within_frame}
 use Rattle.tpm_state_text.specs.Body.{WholeState, body_text, state_of_body}
-use Rattle.tpm_state_text.specs.Frame.{framed_body, framed_state}
+use Rattle.tpm_state_text.specs.Frame.{framed_state, state_format}
 use Rattle.tpm_state_text.specs.declared.fault.StateFault.{StateFault}
 use Rattle.tpm_state_text.specs.declared.fault.StateFault.TheVariants as fault
 
@@ -17,8 +17,8 @@ state_text state = framed_state (body_text state)
 -- Body
 abbrev pub state_of_text : List ℕ → Result WholeState StateFault
 state_of_text text = do
-  body ← framed_body text
-  or_fault (state_of_body body) fault.Body
+  framed ← within_frame state_format text
+  or_fault (state_of_body framed.1) fault.Body
 
 -- These bytes stand right after the head of a text.
 abbrev pub HasBehindHead : (text part : List ℕ) → Type 0

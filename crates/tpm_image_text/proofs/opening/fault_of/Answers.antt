@@ -1,4 +1,4 @@
-use Rattle.std.proofs.Common.{rules, refl, ◌∙◌, sym, true}
+use Rattle.std.proofs.Common.{refl, ◌∙◌, sym, true}
 use Rattle.tpm_record.specs.Record.{Record}
 use Rattle.tpm_image_text.proofs.OpeningLaws.{is_image, unframed}
 use Rattle.tpm_image_text.proofs.opening.fault_of.Goals as goal
