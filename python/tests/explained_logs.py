@@ -27,9 +27,10 @@ def last(*lines):
     return events_of("do Startup 0", *lines)[-1].reason
 
 
-def explained(device):
-    """The last event of a device's trace, as it is explained."""
+def explained(device, tried=()):
+    """The last event of a device's trace, as it is explained, with values that are tried."""
     play = Play()
+    play.tried = tried
     events = list(play.events("\n".join(device.trace).encode()))
     assert play.bad_line is None
     assert not any(it.differences for it in events)

@@ -3,9 +3,11 @@
 from typing import Iterator
 
 from tpmsim.explain import ingredients, policies, slips
+from tpmsim.explain.forms import forms_of
 from tpmsim.explain.ingredients import Use
 from tpmsim.explain.policies import unavailable
 from tpmsim.explain.reason import HAD, Reason, Scene, WANTED
+from tpmsim.explain.slip_table import Told
 from tpmsim.explain.words import bytes_words, handle_words, seconds_words
 from tpmsim.model.protection import LOCKOUT_AUTH, MILLISECONDS, TRIES
 from tpmsim.standard import Entry, is_policy, policy, trimmed
@@ -73,6 +75,7 @@ def wrong(scene: Scene, place: int, entry: Entry, handle: int | None) -> Reason:
         wrong_password(scene, found, entry, handle)
         if use is not None:
             as_hmac(use, found)
+        name_password(scene, found, entry, handle)
     else:
         wrong_hmac(use, found)
     found.words += " " + counted_words(scene, entry, handle)
@@ -85,11 +88,11 @@ def wrong_hmac(use: Use, found: Reason) -> None:
     found.facts += ingredients.facts(use)
     found.add("HMAC wanted", use.right().hmac.hex(), WANTED)
     found.add("HMAC given", use.entry.hmac.hex() or "empty", HAD)
-    for it in slips.found(use):
-        found.slip(it.name, it.words)
-    if not found.slips:
-        none = "none that is known makes this HMAC: another value or another key went into it"
-        found.add("slip", none)
+    explained = slips.found(use)
+    for name, words in explained.told:
+        found.slip(name, words)
+    if not explained.told:
+        found.add("slip", explained.none_words())
 
 
 def wrong_password(scene: Scene, found: Reason, entry: Entry, handle: int) -> None:
@@ -99,30 +102,52 @@ def wrong_password(scene: Scene, found: Reason, entry: Entry, handle: int) -> No
     line = f" (since line {since[-1].line})" if since and since[-1].line else ""
     found.add("authValue wanted", bytes_words(value) + line, WANTED)
     found.add("password given", bytes_words(entry.hmac), HAD)
-    for name, words, password in passwords(scene, handle):
+
+
+def name_password(scene: Scene, found: Reason, entry: Entry, handle: int) -> None:
+    """The slip that makes the given password, or how many were tried, if none is named yet."""
+    tried = 0
+    for told, password in passwords(scene, handle) if not found.slips else ():
+        tried += 1
         if trimmed(password) == trimmed(entry.hmac):
-            found.slip(name, words)
-            break
+            for name, words in told:
+                found.slip(name, words)
+            return
+    if tried:
+        words = "other forms of the value, past values and those of others"
+        found.add("slip", f"none of {tried} that were tried: {words}; --try VALUE tries yours")
 
 
-def passwords(scene: Scene, handle: int) -> Iterator[tuple[str, str, bytes]]:
+def passwords(scene: Scene, handle: int) -> Iterator[tuple[tuple[Told, ...], bytes]]:
+    """What may have been given instead of a password, and the slips that it would be."""
     value, said = scene.model.auth_value(handle), handle_words(handle)
     if value:
-        yield "password left out", f"the password is empty, and {said} has a value", b""
-        yield "password with a line break", "a line break stands behind the password", value + b"\n"
-        yield "password as hex", "the password is the text of its hex", value.hex().encode()
-        wide = b"".join(bytes([it, 0]) for it in value)
-        yield "password in UTF-16", "the password is in UTF-16", wide
+        left_out = "password left out", f"the password is empty, and {said} has a value"
+        yield (left_out,), b""
+        yield from formed(value, "the password is the value")
         for size in range(len(value) + 1, 33):
             front = f"the password has zeros in front, to {size} bytes"
-            yield "zeros", f"{front}; those at its end alone do not count", value.rjust(size, b"\0")
+            zeros = "zeros", f"{front}; those at its end alone do not count"
+            yield (zeros,), value.rjust(size, b"\0")
     for past in scene.past.values.get(handle, [])[:-1]:
         words = f"that is the value that {said} had since line {past.line}, which is past"
-        yield "old password", words, past.value
+        yield (("old password", words),), past.value
     for other in scene.past.values:
         its = scene.model.auth_value(other)
         if other != handle and its:
-            yield "another's password", f"that is the authValue of {handle_words(other)}", its
+            words = f"that is the authValue of {handle_words(other)}"
+            yield (("another's password", words),), its
+    for its in scene.tried:
+        tried = "tried value", f"that is the tried value, {bytes_words(its)}"
+        yield (tried,), its
+        for told, formed_value in formed(its, "it is there"):
+            yield (tried, *told), formed_value
+
+
+def formed(value: bytes, begin: str) -> Iterator[tuple[tuple[Told, ...], bytes]]:
+    for it in forms_of(value):
+        told = tuple((f"password {form.name}", f"{begin} {form.words}") for form in it.forms)
+        yield told, it.value
 
 
 def as_hmac(use: Use, found: Reason) -> None:

@@ -1,8 +1,7 @@
 """What goes into the HMAC of an entry, and into the encryption of a first parameter."""
 
-import hmac
 from dataclasses import dataclass
-from typing import Iterable, Iterator, NamedTuple
+from typing import Callable, Iterator, NamedTuple
 
 from tpmsim.explain.past import Begun, Since
 from tpmsim.explain.reason import Fact, Scene
@@ -13,8 +12,15 @@ from tpmsim.standard import CC, DECRYPT, digest, Entry, Fields, frames, handle_k
 from tpmsim.standard import number, policy, sessions, Short
 
 
+def joined(*parts: bytes) -> bytes:
+    return b"".join(parts)
+
+
 class Ingredients(NamedTuple):
-    """`code` stands before the Names in cpHash; `auth_value` is empty if not in the key."""
+    """`code` stands before the Names in cpHash; `auth_value` is empty if not in the key. The last
+    ones are how the parts are put together: the key, the text of cpHash, cpHash, the HMAC's text and
+    the HMAC.
+    """
 
     algorithm: int
     session_key: bytes
@@ -26,25 +32,26 @@ class Ingredients(NamedTuple):
     newer: bytes
     older: bytes
     others: tuple[bytes, ...]
-    attributes: int
+    attributes: bytes
+    key_of: Callable[[bytes, bytes], bytes] = joined
+    text_of: Callable[[bytes, bytes, bytes], bytes] = joined
+    cp_hash_of: Callable[[int, bytes], bytes] = digest
+    message_of: Callable[[bytes, bytes, bytes, bytes, bytes], bytes] = joined
+    mac_of: Callable[[int, bytes, bytes], bytes] = sessions.mac
 
     @property
     def key(self) -> bytes:
-        return self.session_key + self.auth_value
+        return self.key_of(self.session_key, self.auth_value)
 
     @property
     def cp_hash(self) -> bytes:
-        return digest(self.hash_algorithm, self.code + b"".join(self.names) + self.parameters)
+        text = self.text_of(self.code, b"".join(self.names), self.parameters)
+        return self.cp_hash_of(self.hash_algorithm, text)
 
     @property
     def hmac(self) -> bytes:
-        return self.hmacs_by([self.attributes])[0]
-
-    def hmacs_by(self, attributes: Iterable[int]) -> list[bytes]:
-        """The HMACs with each of these attributes."""
-        before = self.cp_hash + self.newer + self.older + b"".join(self.others)
-        key, name = self.key, HASH_WORDS[self.algorithm]
-        return [hmac.digest(key, before + number(it, 1), name) for it in attributes]
+        parts = self.cp_hash, self.newer, self.older, b"".join(self.others), self.attributes
+        return self.mac_of(self.algorithm, self.key, self.message_of(*parts))
 
 
 @dataclass
@@ -104,7 +111,7 @@ class Use:
         nonces = self.entry.nonce, self.session.nonce_tpm, others
         return Ingredients(
             *(algorithm, self.session.key, value, algorithm, number(command.code, 4), names),
-            *(command.parameters, *nonces, self.entry.attributes),
+            *(command.parameters, *nonces, number(self.entry.attributes, 1)),
         )
 
     def value_words(self) -> str:
@@ -156,7 +163,7 @@ def facts(use: Use) -> list[Fact]:
         Fact("nonceCaller", right.newer.hex() or "empty"),
         Fact("nonceTPM", right.older.hex() + (f" (line {since})" if since else "")),
         *(Fact("nonceTPM of another session", other.hex()) for other in right.others),
-        Fact("attributes", attribute_words(right.attributes)),
+        Fact("attributes", attribute_words(use.entry.attributes)),
     ]
 
 

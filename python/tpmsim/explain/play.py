@@ -136,6 +136,8 @@ class Watched:
     ) -> None:
         self.model, self.explains, self.past = model, explains, Past(model)
         self.line, self.at, self.is_whole = 0, -1, False
+        # Values that the user wants tried in an HMAC, a password or a policy that is refused.
+        self.tried: tuple[bytes, ...] = ()
         self.event: Event | None = None
         for it in (self.authorize, self.answered_parameters, self.plain_parameters):
             setattr(model, it.__name__, it)
@@ -153,6 +155,7 @@ class Watched:
 
     def command(self, buffer: bytes, locality: int, random: bytes, elapsed: int) -> Event:
         scene = Scene(self.model, self.past, self.line, buffer, locality, random, elapsed)
+        scene.tried = self.tried
         event = self.event = Event(self.line, scene)
         outcome = event.outcome = Model.execute(self.model, buffer, locality, random, elapsed)
         scene.check, scene.refused = outcome.row.check, outcome.refused or ""

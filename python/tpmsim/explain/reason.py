@@ -70,7 +70,7 @@ class Reason:
 class Scene:
     """A command with the model before it; `refused` is as VALUE/p1, and `elapsed` in milliseconds.
     `known` is the command where the general checks passed, and `plain` its parameters where the
-    entries did.
+    entries did. `tried` has the values that the user wants tried in each place.
     """
 
     model: Model
@@ -84,6 +84,7 @@ class Scene:
     check: str = "ok"
     known: Command | None = None
     plain: bytes | None = None
+    tried: tuple[bytes, ...] = ()
 
     @property
     def command(self) -> Command:

@@ -1,0 +1,113 @@
+"""The forms in which a caller has a value instead of the value itself: a table, each form with its
+name, its words, and how a value is turned into it. An empty value is no form.
+"""
+
+import base64
+import binascii
+import hashlib
+from dataclasses import dataclass
+from typing import Callable, Iterator
+
+from tpmsim.standard import sized
+
+
+@dataclass(frozen=True)
+class Form:
+    """`is_usual` of those that are tried together with another slip."""
+
+    name: str
+    words: str
+    turn: Callable[[bytes], bytes]
+    is_usual: bool = False
+
+
+def wide(value: bytes) -> bytes:
+    return b"".join(bytes([it, 0]) for it in value)
+
+
+def of_wide(value: bytes) -> bytes:
+    return value[::2] if value == wide(value[::2]) else b""
+
+
+def of_hex(value: bytes) -> bytes:
+    try:
+        return binascii.unhexlify(value)
+    except binascii.Error:
+        return b""
+
+
+def of_sized(value: bytes) -> bytes:
+    return value[2:] if value == sized(value[2:]) else b""
+
+
+# Forms that another one may be made of.
+INNER = (
+    Form("with a line break", "with a line break after it", lambda it: it + b"\n", True),
+    Form("as SHA-256", "as its SHA-256 digest", lambda it: hashlib.sha256(it).digest(), True),
+    Form("as SHA-1", "as its SHA-1 digest", lambda it: hashlib.sha1(it).digest(), True),
+    Form("in UTF-16", "in UTF-16", wide, True),
+    Form("as hex", "as the text of its hex", lambda it: it.hex().encode(), True),
+    Form("with its size", "with its size in front", sized, True),
+    Form("with a zero", "with a zero after it", lambda it: it + b"\0"),
+    Form("with CR LF", "with CR LF after it", lambda it: it + b"\r\n"),
+    Form("with a space", "with a space after it", lambda it: it + b" "),
+    Form("in UTF-16 BE", "in big-endian UTF-16", lambda it: wide(b"\0" + it)[1:-1]),
+    Form("as HEX", "as the text of its hex in capitals", lambda it: it.hex().upper().encode()),
+    Form("as base64", "in base64", base64.b64encode),
+    Form("with str:", 'with "str:" in front', lambda it: b"str:" + it),
+    Form("with hex:", 'with "hex:" in front', lambda it: b"hex:" + it),
+    Form("in quotes", "in quotes", lambda it: b'"' + it + b'"'),
+    Form("in capitals", "in capitals", bytes.upper),
+    Form("in small letters", "in small letters", bytes.lower),
+)
+
+# Those of them that are made of another one.
+OUTER = tuple(
+    it
+    for it in INNER
+    if it.name.startswith("as ") or it.name in ("with a line break", "with its size")
+)
+
+CUTS = (
+    Form("cut to 16 bytes", "cut to 16 bytes", lambda it: it[:16]),
+    Form("cut to 20 bytes", "cut to 20 bytes", lambda it: it[:20]),
+)
+
+# The others, which are alone.
+ALONE = (
+    Form("in the other order", "with its bytes in the other order", lambda it: it[::-1]),
+    Form("without its last byte", "without its last byte", lambda it: it[:-1]),
+    Form("without its hex", "as the bytes that it is the hex of", of_hex),
+    Form("out of UTF-16", "out of its UTF-16", of_wide),
+    Form("without its size", "without the size in front", of_sized),
+)
+
+
+@dataclass(frozen=True)
+class Formed:
+    """A value in one form, or in one that is made of another one."""
+
+    forms: tuple[Form, ...]
+    value: bytes
+
+    @property
+    def is_usual(self) -> bool:
+        return len(self.forms) == 1 and self.forms[0].is_usual
+
+
+def forms_of(value: bytes) -> Iterator[Formed]:
+    """Each other value that a form makes, and then those that two make, the inner one first."""
+    seen = {value, b""}
+
+    def fresh(before: tuple[Form, ...], form: Form, turned: bytes) -> Iterator[Formed]:
+        if turned not in seen:
+            seen.add(turned)
+            yield Formed((*before, form), turned)
+
+    inner = [it for form in INNER for it in fresh((), form, form.turn(value))]
+    yield from inner
+    for form in (*CUTS, *ALONE):
+        yield from fresh((), form, form.turn(value))
+    for it in inner:
+        for form in (*OUTER, *CUTS):
+            yield from fresh(it.forms, form, form.turn(it.value))

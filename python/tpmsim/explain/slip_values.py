@@ -1,0 +1,232 @@
+"""Slips in the key of an HMAC: another authorization value, another form of it, another session key.
+"""
+
+from typing import Any, Iterator
+
+from tpmsim.explain import ingredients, slip_table
+from tpmsim.explain.forms import forms_of
+from tpmsim.explain.ingredients import Use
+from tpmsim.explain.slip_table import Kdf, right_kdf, Slip, Told
+from tpmsim.explain.words import bytes_words, handle_words
+from tpmsim.standard import RH_NULL, trimmed
+
+
+def value_slip(name: str, words: str, value: bytes, is_paired: bool = True) -> Slip:
+    return Slip.of(name, words, is_paired, auth_value=value)
+
+
+def auth_values(use: Use) -> Iterator[Slip]:
+    if use.handle is None:
+        yield from values_put_in(use)
+        return
+    value, said = use.auth_value, handle_words(use.handle)
+    if use.takes_value and value:
+        yield left_out(use)
+    if not use.takes_value and value:
+        words = f"the authValue of {said} was put into the key: {use.value_words()}"
+        yield value_slip("authValue put in", words, value)
+    for past in use.past_values:
+        if past.value:
+            since = f"{said} had since line {past.line}, which is past"
+            yield value_slip("old authValue", f"the key has the authValue that {since}", past.value)
+    new = new_value(use)
+    if new:
+        words = "the key has the new authValue; a command has the old one, its response the new one"
+        yield value_slip("new authValue", words, new)
+    if use.takes_value:
+        yield from formed(use)
+        yield from of_others(use)
+
+
+def left_out(use: Use) -> Slip:
+    said = handle_words(use.authorized)
+    if use.was_bound:
+        lapsed = f"the binding to {said} has lapsed, {use.lapse_words()}"
+        return value_slip("binding lapsed", f"the authValue was left out; {lapsed}", b"")
+    words = (
+        f"the authValue of {said} was left out of the key, where it belongs: {use.value_words()}"
+    )
+    return value_slip("authValue left out", words, b"")
+
+
+def new_value(use: Use) -> bytes:
+    is_change = use.code.name in ("HierarchyChangeAuth", "NV_ChangeAuth")
+    if not is_change or ingredients.decrypting_use(use.scene) is not None:
+        return b""
+    size = int.from_bytes(use.command.parameters[:2], "big")
+    return trimmed(use.command.parameters[2 : 2 + size])
+
+
+def values_put_in(use: Use) -> Iterator[Slip]:
+    """Of an entry that authorizes nothing: the value of a handle of the command, or of its bind."""
+    bind = [] if use.begun is None else [use.begun.bind]
+    for handle in dict.fromkeys([*use.scene.handles, *bind]):
+        value = use.scene.model.auth_value(handle)
+        if value:
+            put_in = f"the authValue of {handle_words(handle)} was put into the key"
+            words = f"{put_in}, and the entry authorizes nothing"
+            yield value_slip("authValue put in", words, value)
+
+
+def told_forms(value: bytes) -> Iterator[tuple[tuple[Told, ...], bytes, bool]]:
+    """A value in each form, and whether it is a usual one."""
+    for it in forms_of(value):
+        told = tuple((f"authValue {form.name}", form.words) for form in it.forms)
+        yield told, it.value, it.is_usual
+
+
+def worded(told: tuple[Told, ...], begin: str) -> tuple[Told, ...]:
+    """The words of each form, after what is in that form."""
+    return tuple((name, f"{begin} {words}") for name, words in told)
+
+
+def formed(use: Use) -> Iterator[Slip]:
+    """The value in another form in the key, and in the session key where that is of the same value."""
+    value, kdf = use.auth_value, kdf_of(use)
+    for told, other, is_usual in told_forms(value):
+        told = worded(told, "the authValue is in the key")
+        yield Slip(told, {"auth_value": other}, is_usual)
+        if kdf is not None and kdf.value == value:
+            key = kdf._replace(value=other).key
+            yield Slip(told, {"auth_value": other, "session_key": key}, is_usual)
+
+
+def of_others(use: Use) -> Iterator[Slip]:
+    model, own = use.scene.model, use.auth_value
+    for handle in use.scene.past.values:
+        value = model.auth_value(handle)
+        if handle != use.handle and value not in (b"", own):
+            words = f"the key has the authValue of {handle_words(handle)}"
+            yield value_slip("another's authValue", words, value, False)
+
+
+# The bytes of a block of both hashes: an HMAC's key is padded with zeros to it.
+BLOCK, MOST_PADDED = 64, 128
+
+
+def zeros(use: Use) -> Iterator[Slip]:
+    """Zeros at the end of a key count where it is longer than a block; in front they always do."""
+    value = use.auth_value if use.takes_value else b""
+    if not value:
+        return
+    for size in range(BLOCK - len(use.session.key) + 1, MOST_PADDED + 1):
+        words = (
+            f"the authValue was padded with zeros to {size} bytes: within the hash's block of {BLOCK} "
+            "they do no harm, and with the session key they are longer"
+        )
+        yield value_slip("zeros", words, value.ljust(size, b"\0"), False)
+    for size in range(len(value) + 1, BLOCK + 1):
+        words = f"the authValue has zeros in front, to {size} bytes"
+        yield value_slip("zeros", words, value.rjust(size, b"\0"), False)
+
+
+# The session key.
+
+
+def kdf_of(use: Use) -> Kdf | None:
+    """What the session key is made of, if there is one and its start is known."""
+    begun, session = use.begun, use.session
+    if begun is None or not session.key:
+        return None
+    first = begun.nonces[0].value
+    return right_kdf(session.algorithm, session.bind_auth, first, begun.nonce_caller)
+
+
+def session_keys(use: Use) -> Iterator[Slip]:
+    kdf = kdf_of(use)
+    if kdf is None:
+        yield from keys_made(use)
+        return
+    for told, key in slip_table.of_kdf(kdf):
+        yield Slip((told,), {"session_key": key})
+    latest = use.session.nonce_tpm
+    if latest != kdf.newer:
+        words = "the session key was made of the latest nonceTPM; it is of that of the start"
+        key = kdf._replace(newer=latest).key
+        yield Slip.of("session key, latest nonceTPM", words, session_key=key)
+    words = "the session key is the authValue itself; KDFa makes it of that"
+    yield Slip.of("session key without KDFa", words, session_key=kdf.value)
+    for value, said in bind_values(use):
+        key = kdf._replace(value=value).key
+        words = f"the session key was made of {said}"
+        yield Slip.of("session key, other authValue", words, session_key=key)
+    for forms, value, is_usual in told_forms(kdf.value):
+        assert use.begun is not None
+        of_bind = worded(
+            forms, f"the authValue of {handle_words(use.begun.bind)} is in the session key"
+        )
+        yield Slip(of_bind, {"session_key": kdf._replace(value=value).key}, is_usual)
+
+
+def keys_made(use: Use) -> Iterator[Slip]:
+    """Of a session that is bound to nothing, and so has an empty key."""
+    begun = use.begun
+    if begun is None or begun.bind != RH_NULL:
+        return
+    for value in dict.fromkeys((b"", use.auth_value)):
+        key = right_kdf(use.session.algorithm, value, begun.nonces[0].value, begun.nonce_caller).key
+        of = "the authValue" if value else "an empty authValue"
+        words = (
+            f"a session key was made of {of}; the session is bound to nothing, and its key is empty"
+        )
+        yield Slip.of("session key put in", words, session_key=key)
+        if value and use.takes_value:
+            yield Slip.of("session key put in", words, session_key=key, auth_value=b"")
+
+
+def bind_values(use: Use) -> Iterator[tuple[bytes, str]]:
+    begun = use.begun
+    assert begun is not None
+    own, past = use.session.bind_auth, use.scene.past.values
+    said = handle_words(begun.bind)
+    if own:
+        yield b"", f"the empty authValue, and {said} had another one at line {begun.line}"
+    for it in past.get(begun.bind, []):
+        if it.value not in (b"", own):
+            yield it.value, f"the authValue that {said} has since line {it.line}"
+    for handle in past:
+        value = use.scene.model.auth_value(handle)
+        if handle != begun.bind and value not in (b"", own):
+            yield value, f"the authValue of {handle_words(handle)}, and it is bound to {said}"
+
+
+# Values that the user wants tried.
+
+
+def tried(use: Use) -> Iterator[Slip]:
+    """Each in every place, and as an authorization value in each form."""
+    names, kdf = use.right().names, kdf_of(use)
+    for value in use.scene.tried:
+        said = f"the tried value, {bytes_words(value)},"
+
+        def slip(what: str, **changes: Any) -> Slip:
+            return Slip.of("tried value", f"{said} is {what}", **changes)
+
+        yield slip("the authValue in the key", auth_value=value)
+        yield slip("the whole key", session_key=value, auth_value=b"")
+        yield slip("the session key", session_key=value)
+        yield slip("nonceCaller", newer=value)
+        yield slip("nonceTPM", older=value)
+        yield slip("the parameters in cpHash", parameters=value)
+        yield slip("cpHash", cp_hash_of=lambda algorithm, text, value=value: value)
+        for at, name in enumerate(names):
+            others = (*names[:at], value, *names[at + 1 :])
+            yield slip(f"the Name of handle {at + 1}", names=others)
+            everywhere = tuple(value if it == name else it for it in names)
+            yield slip("a Name, wherever it comes", names=everywhere)
+        if kdf is not None:
+            key = kdf._replace(value=value).key
+            yield slip("the authValue of the session key", session_key=key)
+            yield slip("the authValue in both keys", session_key=key, auth_value=value)
+        yield from tried_forms(value, said, kdf)
+
+
+def tried_forms(value: bytes, said: str, kdf: Kdf | None) -> Iterator[Slip]:
+    for forms, other, _ in told_forms(value):
+        told = worded(forms, "it is there")
+        in_key = "tried value", f"{said} is in the key"
+        yield Slip((in_key, *told), {"auth_value": other}, False)
+        if kdf is not None:
+            in_session_key = "tried value", f"{said} is in the session key"
+            key = kdf._replace(value=other).key
+            yield Slip((in_session_key, *told), {"session_key": key}, False)
