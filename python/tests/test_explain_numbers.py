@@ -201,7 +201,7 @@ class Policies(unittest.TestCase):
         handle = self.sealed(digest_of(first + second), user_auth=b"pin")
         for words, slip in (
             (first, "assertion missing"),
-            (second + first, "assertions swapped"),
+            (second + first, "order of assertions"),
             (first + second + second, "assertion too many"),
         ):
             found = self.reason(8, self.tpm.unsealing(handle, self.tpm.policy(words)))

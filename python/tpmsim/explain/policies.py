@@ -1,15 +1,15 @@
 """Which condition of a policy session does not hold, and what makes its digest another one."""
 
-from typing import Iterator, Sequence
+from typing import Sequence
 
+from tpmsim.explain import policy_slips
 from tpmsim.explain.ingredients import Use
-from tpmsim.explain.past import Banks, Made, Moved, Step, values_digest
+from tpmsim.explain.past import Banks, Made, Moved, Step
 from tpmsim.explain.reason import HAD, Reason, Scene, WANTED
 from tpmsim.explain.words import algorithm_words, command_words, handle_words, listed
 from tpmsim.explain.words import localities_words
 from tpmsim.model import nv_commands
-from tpmsim.policies.written import Said
-from tpmsim.standard import CC, command_hash, digest_bytes, Fact, policy
+from tpmsim.standard import CC, command_hash, digest_bytes, Fact
 
 
 def unavailable(scene: Scene, handle: int) -> Reason:
@@ -51,14 +51,7 @@ def difference(use: Use, wanted: bytes, found: Reason) -> str:
     earlier = use.scene.past.made.get(wanted)
     if earlier is not None:
         return from_earlier(use, steps, earlier, found)
-    return next(by_trying(use, steps, wanted, found), "")
-
-
-def digest_of(steps: Sequence[Step], algorithm: int) -> bytes:
-    made = bytes(digest_bytes(algorithm))
-    for it in steps:
-        made = it.after(algorithm, made)
-    return made
+    return from_outside(use, steps, wanted, found)
 
 
 # The wanted digest was made before, in this log.
@@ -67,6 +60,10 @@ def digest_of(steps: Sequence[Step], algorithm: int) -> bytes:
 def from_earlier(use: Use, steps: Sequence[Step], earlier: Made, found: Reason) -> str:
     found.add("wanted digest", f"that of a session after line {earlier.line}")
     algorithm = use.session.algorithm
+    if is_reordered(steps, earlier.steps, algorithm):
+        those = listed(f"{it.code.name} (line {it.line})" for it in earlier.steps)
+        found.slips.append("order of assertions")
+        return f"The order is another one; the wanted one is {those}."
     for own, its in zip(steps, earlier.steps):
         if not is_like(own, its, algorithm):
             return step_words(use, own, its, earlier, found)
@@ -81,13 +78,30 @@ def from_earlier(use: Use, steps: Sequence[Step], earlier: Made, found: Reason) 
     return f"It was told more: {listed(f'{it.code.name} in line {it.line}' for it in more)}."
 
 
+def alone(step: Step, algorithm: int) -> bytes:
+    return step.after(algorithm, bytes(digest_bytes(algorithm)))
+
+
 def is_like(own: Step, its: Step, algorithm: int) -> bool:
-    return digest_of([own], algorithm) == digest_of([its], algorithm)
+    return alone(own, algorithm) == alone(its, algorithm)
+
+
+def is_reordered(steps: Sequence[Step], its: Sequence[Step], algorithm: int) -> bool:
+    return sorted(alone(it, algorithm) for it in steps) == sorted(
+        alone(it, algorithm) for it in its
+    )
 
 
 def step_words(use: Use, own: Step, its: Step, earlier: Made, found: Reason) -> str:
     if own.selected is not None and own.selected == its.selected:
-        return "The PCRs differ: " + moved(use, own, earlier.banks, found)
+        found.slips.append("PCRs moved")
+        words = f"The PCRs differ: {moved(use, own, earlier.banks, found)}"
+        return words + when_words(use, own, its)
+    if own.selected is not None and its.selected is not None:
+        if [set(it.pcrs) for it in own.selected] == [set(it.pcrs) for it in its.selected]:
+            banks = listed(algorithm_words(it.algorithm) for it in its.selected)
+            found.slips.append("other bank")
+            return f"The bank is another one; the wanted one is {banks}."
     if own.handle is not None and is_like(own.but(its.given), its, use.session.algorithm):
         found.compare(its.given.hex(), own.given.hex(), "Name")
         found.slips.append("old Name in a policy")
@@ -97,6 +111,16 @@ def step_words(use: Use, own: Step, its: Step, earlier: Made, found: Reason) -> 
     found.add(f"told in line {its.line}", its.words, WANTED)
     found.add(f"told in line {own.line}", own.words, HAD)
     return "Which assertion differs stands below."
+
+
+def when_words(use: Use, own: Step, its: Step) -> str:
+    """Of when the PCRs were that the wanted digest has."""
+    between = sorted((own.line, its.line))
+    lines = [it.line for it in use.scene.past.moves if between[0] < it.line < between[1]]
+    if not lines:
+        return ""
+    when = f"before line {lines[0]}" if its.line < own.line else f"after line {lines[-1]}"
+    return f" The wanted digest has them as they were {when}."
 
 
 def moved(use: Use, step: Step, then: Banks, found: Reason) -> str:
@@ -117,51 +141,21 @@ def moved(use: Use, step: Step, then: Banks, found: Reason) -> str:
 # The wanted digest comes from outside.
 
 
-def by_trying(use: Use, steps: Sequence[Step], wanted: bytes, found: Reason) -> Iterator[str]:
-    """The digest with one thing of the policy otherwise, where that makes the wanted one."""
-    algorithm = use.session.algorithm
-    for other, words, slip in variants(use, steps):
-        if digest_of(other, algorithm) == wanted:
-            found.slips.append(slip)
-            yield f"{words} it would be."
-    for at, own in enumerate(steps):
-        if own.selected is None:
-            continue
-        # Those that the PCRs had before, the latest first.
-        for line, banks in reversed(use.scene.past.pcr_states):
-            its = own.but(values_digest(algorithm, own.selected, banks))
-            if digest_of([*steps[:at], its, *steps[at + 1 :]], algorithm) == wanted:
-                found.slips.append("PCRs moved")
-                words = f"With the PCRs as they were after line {line} it would be: "
-                yield words + moved(use, own, banks, found)
-
-
-def variants(use: Use, steps: Sequence[Step]) -> Iterator[tuple[list[Step], str, str]]:
-    for at, it in enumerate(steps):
-        words = f"Without {it.code.name} of line {it.line}"
-        yield [*steps[:at], *steps[at + 1 :]], words, "assertion too many"
-    for at, (first, second) in enumerate(zip(steps, steps[1:])):
-        words = f"With {second.code.name} of line {second.line} before {first.code.name}"
-        yield [*steps[:at], second, first, *steps[at + 2 :]], words, "assertions swapped"
-    for it in further(use):
-        yield [*steps, it], f"With {it.words} behind these", "assertion missing"
-    for at, it in enumerate(steps):
-        names = use.scene.past.names.get(it.handle, []) if it.handle is not None else []
-        for since in names:
-            name = f"the Name that {handle_words(it.handle or 0)} had since line {since.line}"
-            other = [*steps[:at], it.but(since.value), *steps[at + 1 :]]
-            yield other, f"With {name} in {it.code.name}", "old Name in a policy"
-
-
-def further(use: Use) -> Iterator[Step]:
-    """Assertions that may be missing at the end."""
-    yield Step(0, Said(CC.PolicyAuthValue), "PolicyAuthValue or PolicyPassword")
-    named = Said(CC.PolicyCommandCode, (use.code,))
-    yield Step(0, named, f"PolicyCommandCode {use.code.name}")
-    for it in (0, 1):
-        yield Step(0, Said(CC.PolicyNvWritten, (it,)), f"PolicyNvWritten {it}")
-    for bits in range(1, policy.ALL_LOCALITIES + 1):
-        yield Step(0, Said(CC.PolicyLocality, (bits,)), f"PolicyLocality {bits:#x}")
+def from_outside(use: Use, steps: Sequence[Step], wanted: bytes, found: Reason) -> str:
+    """What makes the wanted digest, in words, or how much was tried."""
+    search = policy_slips.Search(use, steps, wanted)
+    told = search.told()
+    if not told:
+        tried = (
+            f"{search.tried:,} digests, of other assertions, orders, values and PCRs, were tried"
+        )
+        return f"No slip that is known makes it: {tried}."
+    found.slips += [name for name, _ in told]
+    words = " ".join(it for _, it in told)
+    turned = search.turned
+    if turned is None or turned.banks is None:
+        return words
+    return f"{words}: {moved(use, steps[turned.place], turned.banks, found)}"
 
 
 # How many commands that wrote PCRs are named.
