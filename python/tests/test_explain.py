@@ -153,6 +153,7 @@ class CommandLine(unittest.TestCase):
             f"{bad} --at x",
             f"{bad} --what",
             f"{bad} --json --html",
+            f"{bad} --try",
         ):
             self.assertEqual(
                 told(*words.split())[1:], (f"tpmsim-explain: {command_line.USAGE}\n", 2)
@@ -162,6 +163,21 @@ class CommandLine(unittest.TestCase):
         self.assertEqual(told(bad, "--image", image_file)[1:], ("tpmsim-explain: image Short\n", 2))
         output, _, status = told("--help")
         self.assertTrue(output.startswith("Why was this refused?") and status == 0)
+
+    def test_try(self):
+        """A text, and bytes in hex; several, of which one is right."""
+        line = "do NV_Read 01000001 01000001 pw:6d696e65 8 0"
+        public = "010000010004000600060000" "0008"
+        script = self.file(
+            "try.tpm", f"do Startup 0\ndo NV_DefineSpace OWNER pw:- 70696e {public}\n{line}\n"
+        )
+        self.assertIn("slip              none of", told(script)[0])
+        for words in ("--try", "mine"), ("--try", "hex:6d696e65"), ("--try", "x", "--try", "mine"):
+            output, error, status = told(script, *words)
+            self.assertEqual((error, status), ("", 0))
+            self.assertIn('that is the tried value, 6d696e65 "mine"', output)
+        wrong = "tpmsim-explain: hex:6 has no bytes in hex\n"
+        self.assertEqual(told(script, "--try", "hex:6")[1:], (wrong, 2))
 
     def test_image(self):
         device = ModelDevice(seed=b"image")

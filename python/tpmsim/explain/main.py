@@ -1,6 +1,6 @@
 """Why was this refused?
 
-    tpmsim-explain LOG [ANSWERS] [--image START] [--at LINE] [--json | --html]
+    tpmsim-explain LOG [ANSWERS] [--image START] [--at LINE] [--try VALUE].. [--json | --html]
 
 LOG is a script, as docs/SCRIPTS.md has it: of `cmd`, `do`, `wait`, `loc`, `entropy` and `power`
 lines. It may have its answers in comments, as a trace, a response code or a response; ANSWERS may be
@@ -11,9 +11,11 @@ It plays the log on the device in Python, and tells of each refusal which check 
 and numbers; of a wrong HMAC what goes into it, and which usual slip makes the one that was given; of
 what was accepted what is worth a look; and where the log's answers are not the model's.
 
-    --at LINE   tells all of the command in one line of the log, accepted or refused
-    --json      the same as JSON
-    --html      one page to look at, with nothing fetched from elsewhere
+    --at LINE    tells all of the command in one line of the log, accepted or refused
+    --try VALUE  tries a text, or bytes as hex:00ff, in each place of a wrong HMAC or password, or of a
+                 policy digest; it may be given several times
+    --json       the same as JSON
+    --html       one page to look at, with nothing fetched from elsewhere
 
 The status is 0; it is 1 where an answer of the log is not the model's, and 2 where these words, a
 file or the image is not what it should be, or a line is none of a script's: what came before it is
@@ -37,7 +39,7 @@ def called(installed: str, here: str) -> str:
 
 
 NAME = called("tpmsim-explain", "tools/explain.py")
-USAGE = f"usage: {NAME} LOG [ANSWERS] [--image START] [--at LINE] [--json | --html]"
+USAGE = f"usage: {NAME} LOG [ANSWERS] [--image START] [--at LINE] [--try VALUE].. [--json | --html]"
 HELP = (__doc__ or "").strip().replace("tpmsim-explain", NAME)
 
 
@@ -52,16 +54,29 @@ class Asked:
     image: str | None = None
     at: int | None = None
     form: str = "text"
+    tried: tuple[bytes, ...] = ()
+
+
+def tried_of(word: str) -> bytes:
+    """A value that is to be tried: a text, or bytes in hex."""
+    if not word.startswith("hex:"):
+        return word.encode()
+    try:
+        return bytes.fromhex(word.removeprefix("hex:"))
+    except ValueError:
+        raise Usage(f"{word} has no bytes in hex") from None
 
 
 def asked_of(words: list[str]) -> Asked:
     names, given, left = list[str](), dict[str, str](), iter(words)
-    form = "text"
+    form, tried = "text", list[bytes]()
     for word in left:
         if word in ("--image", "--at"):
             if word in given:
                 raise Usage(USAGE)
             given[word] = next(left, "")
+        elif word == "--try":
+            tried.append(tried_of(next(left, "")))
         elif word in ("--json", "--html") and form == "text":
             form = word[2:]
         elif word.startswith("--"):
@@ -70,10 +85,11 @@ def asked_of(words: list[str]) -> Asked:
             names.append(word)
     at = given.get("--at")
     is_number = at is None or at.isascii() and at.isdigit()
-    if not 1 <= len(names) <= 2 or "" in given.values() or not is_number or names.count("-") > 1:
+    is_empty = "" in given.values() or b"" in tried
+    if not 1 <= len(names) <= 2 or is_empty or not is_number or names.count("-") > 1:
         raise Usage(USAGE)
-    answers = names[1] if len(names) == 2 else None
-    return Asked(names[0], answers, given.get("--image"), int(at) if at else None, form)
+    answers, image = names[1] if len(names) == 2 else None, given.get("--image")
+    return Asked(names[0], answers, image, int(at) if at else None, form, tuple(tried))
 
 
 def read(name: str) -> bytes:
@@ -90,6 +106,7 @@ def explain(asked: Asked, counts: text.Counts) -> tuple[str, Play]:
         play = Play(image, answers, asked.at, asked.form == "html")
     except Fault as fault:
         raise Usage(f"image {fault}") from None
+    play.tried = asked.tried
     if asked.form == "html":
         return page.of_log(asked.log, play, log, counts), play
     told = list[Event]()
