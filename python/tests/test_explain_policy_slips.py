@@ -4,11 +4,13 @@ two are named as two, and nothing is named where no slip explains.
 
 import hashlib
 import random
+import re
 import unittest
 
 from explained_logs import explained
 from tpmsim.caller import area, BY_OWNER, Caller, HERE, Refused, sealed
 from tpmsim.device import ModelDevice
+from tpmsim.explain import policy_slips
 from tpmsim.standard import CC, number, RH_ENDORSEMENT, SE_POLICY, selection, SHA1, SHA256
 from tpmsim.standard.objects import Attribute
 
@@ -258,6 +260,20 @@ class PolicySlips(unittest.TestCase):
             self.assertRegex(
                 found.words, r"No slip that is known makes it: [\d,]+ digests, of other"
             )
+
+    def test_so_much_is_tried(self):
+        """Few links of a policy that was told much."""
+        tpm = Caller(ModelDevice(seed=b"much"))
+        tpm.start_up()
+        session = tpm.session(kind=SE_POLICY)
+        for _ in range(300):
+            tpm.send(tpm.pcrs(session, [(SHA256, [16, 17])]))
+        template = sealed(attributes=HERE | Attribute.NO_DA, auth_policy=b"\7" * 32)
+        handle = tpm.create_primary(template, data=b"x")
+        self.assertRaises(Refused, tpm.send, tpm.unsealing(handle, session))
+        words = explained(tpm.device).reason.words
+        tried = int(re.search(r"([\d,]+) digests", words)[1].replace(",", ""))
+        self.assertTrue(300 < tried <= 4 * policy_slips.MOST_LINKS // 300)
 
     def test_words(self):
         case = Case("words")

@@ -13,12 +13,9 @@ from tpmsim.standard import sized
 
 @dataclass(frozen=True)
 class Form:
-    """`is_usual` of those that are tried together with another slip."""
-
     name: str
     words: str
     turn: Callable[[bytes], bytes]
-    is_usual: bool = False
 
 
 def wide(value: bytes) -> bytes:
@@ -42,12 +39,12 @@ def of_sized(value: bytes) -> bytes:
 
 # Forms that another one may be made of.
 INNER = (
-    Form("with a line break", "with a line break after it", lambda it: it + b"\n", True),
-    Form("as SHA-256", "as its SHA-256 digest", lambda it: hashlib.sha256(it).digest(), True),
-    Form("as SHA-1", "as its SHA-1 digest", lambda it: hashlib.sha1(it).digest(), True),
-    Form("in UTF-16", "in UTF-16", wide, True),
-    Form("as hex", "as the text of its hex", lambda it: it.hex().encode(), True),
-    Form("with its size", "with its size in front", sized, True),
+    Form("with a line break", "with a line break after it", lambda it: it + b"\n"),
+    Form("as SHA-256", "as its SHA-256 digest", lambda it: hashlib.sha256(it).digest()),
+    Form("as SHA-1", "as its SHA-1 digest", lambda it: hashlib.sha1(it).digest()),
+    Form("in UTF-16", "in UTF-16", wide),
+    Form("as hex", "as the text of its hex", lambda it: it.hex().encode()),
+    Form("with its size", "with its size in front", sized),
     Form("with a zero", "with a zero after it", lambda it: it + b"\0"),
     Form("with CR LF", "with CR LF after it", lambda it: it + b"\r\n"),
     Form("with a space", "with a space after it", lambda it: it + b" "),
@@ -91,8 +88,8 @@ class Formed:
     value: bytes
 
     @property
-    def is_usual(self) -> bool:
-        return len(self.forms) == 1 and self.forms[0].is_usual
+    def is_single(self) -> bool:
+        return len(self.forms) == 1
 
 
 def forms_of(value: bytes) -> Iterator[Formed]:

@@ -49,9 +49,13 @@ class Ingredients(NamedTuple):
         return self.cp_hash_of(self.hash_algorithm, text)
 
     @property
+    def message(self) -> bytes:
+        others = b"".join(self.others)
+        return self.message_of(self.cp_hash, self.newer, self.older, others, self.attributes)
+
+    @property
     def hmac(self) -> bytes:
-        parts = self.cp_hash, self.newer, self.older, b"".join(self.others), self.attributes
-        return self.mac_of(self.algorithm, self.key, self.message_of(*parts))
+        return self.mac_of(self.algorithm, self.key, self.message)
 
 
 @dataclass

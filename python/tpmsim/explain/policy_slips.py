@@ -19,8 +19,8 @@ from tpmsim.explain.words import localities_words
 from tpmsim.policies.written import Said, Update
 from tpmsim.standard import CC, digest, digest_bytes, frames, number, NUMBERED, policy, sized
 
-# How many digests are made at most of one slip, and how many of two.
-MOST_ALONE, MOST_PAIRS = 10_000, 10_000
+# How many links are computed at most, for the digests of each of the four ways to search.
+MOST_LINKS = 50_000
 
 # Of more assertions than these one is moved, and no two.
 MOST_ORDERED = 5
@@ -59,7 +59,7 @@ class Search:
     def __init__(self, use: Use, steps: Sequence[Step], wanted: bytes) -> None:
         self.use, self.steps, self.wanted = use, list(steps), wanted
         self.algorithm = use.session.algorithm
-        self.tried = 0
+        self.tried, self.most = 0, MOST_LINKS // (len(self.steps) + 1)
         self.turned: Turned | None = None
 
     def is_made(self, links: Sequence[Link]) -> bool:
@@ -70,12 +70,12 @@ class Search:
         return made == self.wanted
 
     def told(self) -> list[Told]:
-        those = list(islice(alternatives(self.use, self.steps), MOST_ALONE))
+        those = list(islice(alternatives(self.use, self.steps), self.most))
         return self.one(those) or self.two(those)
 
     def one(self, those: list[Turned]) -> list[Told]:
         links = links_of(self.use, self.steps)
-        for others, told in chains(self.use, self.steps):
+        for others, told in islice(chains(self.use, self.steps), self.most):
             if self.is_made(others):
                 return [told]
         for it in those:
@@ -87,14 +87,14 @@ class Search:
     def two(self, those: list[Turned]) -> list[Told]:
         """Two assertions in another way, or one of them in another order."""
         links = links_of(self.use, self.steps)
-        for first, second in islice(combinations(those, 2), MOST_PAIRS):
+        for first, second in islice(combinations(those, 2), self.most):
             if first.place != second.place:
                 both = list(links)
                 both[first.place], both[second.place] = first.link, second.link
                 if self.is_made(both):
                     return [first.told, second.told]
         pairs = ((it, order) for it in those for order in moves(self.steps))
-        for it, (order, told) in islice(pairs, MOST_PAIRS):
+        for it, (order, told) in islice(pairs, self.most):
             both = [it.link if at == it.place else links[at] for at in order]
             if self.is_made(both):
                 return [it.told, told]

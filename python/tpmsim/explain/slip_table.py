@@ -22,7 +22,7 @@ class Slip:
     mistakes are in one ingredient. One that is not paired comes alone.
     """
 
-    told: tuple[Told, ...]
+    told: tuple[Told, ...] = ()
     changes: Changes = field(default_factory=dict)
     is_paired: bool = True
 
@@ -241,7 +241,7 @@ ROWS = (
     ),
     Row(
         "cpHash not hashed",
-        "the HMAC has what cpHash is the hash of instead of cpHash",
+        "the HMAC has the text of cpHash, which was not hashed",
         lambda it: {"cp_hash_of": lambda algorithm, text: text},
     ),
     Row(

@@ -11,6 +11,10 @@ from tpmsim.explain.words import bytes_words, handle_words
 from tpmsim.standard import RH_NULL, trimmed
 
 
+# Of how many other entities the values are tried together with another slip.
+PAIRED_OTHERS = 4
+
+
 def value_slip(name: str, words: str, value: bytes, is_paired: bool = True) -> Slip:
     return Slip.of(name, words, is_paired, auth_value=value)
 
@@ -69,10 +73,10 @@ def values_put_in(use: Use) -> Iterator[Slip]:
 
 
 def told_forms(value: bytes) -> Iterator[tuple[tuple[Told, ...], bytes, bool]]:
-    """A value in each form, and whether it is a usual one."""
+    """A value in each form, and whether it is of one form."""
     for it in forms_of(value):
         told = tuple((f"authValue {form.name}", form.words) for form in it.forms)
-        yield told, it.value, it.is_usual
+        yield told, it.value, it.is_single
 
 
 def worded(told: tuple[Told, ...], begin: str) -> tuple[Told, ...]:
@@ -83,21 +87,21 @@ def worded(told: tuple[Told, ...], begin: str) -> tuple[Told, ...]:
 def formed(use: Use) -> Iterator[Slip]:
     """The value in another form in the key, and in the session key where that is of the same value."""
     value, kdf = use.auth_value, kdf_of(use)
-    for told, other, is_usual in told_forms(value):
+    for told, other, is_single in told_forms(value):
         told = worded(told, "the authValue is in the key")
-        yield Slip(told, {"auth_value": other}, is_usual)
+        yield Slip(told, {"auth_value": other}, is_single)
         if kdf is not None and kdf.value == value:
             key = kdf._replace(value=other).key
-            yield Slip(told, {"auth_value": other, "session_key": key}, is_usual)
+            yield Slip(told, {"auth_value": other, "session_key": key}, is_single)
 
 
 def of_others(use: Use) -> Iterator[Slip]:
     model, own = use.scene.model, use.auth_value
-    for handle in use.scene.past.values:
-        value = model.auth_value(handle)
-        if handle != use.handle and value not in (b"", own):
-            words = f"the key has the authValue of {handle_words(handle)}"
-            yield value_slip("another's authValue", words, value, False)
+    those = [(it, model.auth_value(it)) for it in use.scene.past.values if it != use.handle]
+    those = [(it, value) for it, value in those if value not in (b"", own)]
+    for at, (handle, value) in enumerate(those):
+        words = f"the key has the authValue of {handle_words(handle)}"
+        yield value_slip("another's authValue", words, value, at < PAIRED_OTHERS)
 
 
 # The bytes of a block of both hashes: an HMAC's key is padded with zeros to it.
@@ -150,12 +154,15 @@ def session_keys(use: Use) -> Iterator[Slip]:
         key = kdf._replace(value=value).key
         words = f"the session key was made of {said}"
         yield Slip.of("session key, other authValue", words, session_key=key)
-    for forms, value, is_usual in told_forms(kdf.value):
+    for forms, value, is_single in told_forms(kdf.value):
         assert use.begun is not None
         of_bind = worded(
             forms, f"the authValue of {handle_words(use.begun.bind)} is in the session key"
         )
-        yield Slip(of_bind, {"session_key": kdf._replace(value=value).key}, is_usual)
+        formed_kdf = kdf._replace(value=value)
+        yield Slip(of_bind, {"session_key": formed_kdf.key}, is_single)
+        for told, key in slip_table.of_kdf(formed_kdf) if is_single else ():
+            yield Slip((*of_bind, told), {"session_key": key}, False)
 
 
 def keys_made(use: Use) -> Iterator[Slip]:

@@ -4,15 +4,18 @@ A slip is told only where its HMAC is the one that was given. Two are tried toge
 other ingredients. The tables of slips are in slip_table.py and forms.py.
 """
 
+from __future__ import annotations
+
 from dataclasses import dataclass, field
-from itertools import combinations, islice
-from typing import Callable, Iterable, Iterator
+from itertools import chain, combinations, islice
+from typing import Iterable, Iterator
 
 from tpmsim.explain import ingredients, slip_hashes, slip_table, slip_values
 from tpmsim.explain.ingredients import Ingredients, Use
 from tpmsim.explain.slip_table import Slip, Told
 from tpmsim.explain.words import attribute_words, plural, size_words
-from tpmsim.standard import DECRYPT, digest_bytes, ENCRYPT, HASH_WORDS, number, trimmed
+from tpmsim.standard import CONTINUE_SESSION, DECRYPT, digest_bytes, ENCRYPT, HASH_WORDS, number
+from tpmsim.standard import trimmed
 
 # How many slips are tried alone, and how many pairs of them, at most: so many HMACs are computed.
 MOST_ALONE, MOST_PAIRS = 10_000, 10_000
@@ -55,9 +58,6 @@ def found(use: Use) -> Found:
     return explained
 
 
-Match = Callable[[bytes], bool]
-
-
 class Search:
     """It counts what it tries."""
 
@@ -71,41 +71,57 @@ class Search:
         return explained or plain_value(use) or another_size(use)
 
     def one(self, right: Ingredients, those: Iterable[Slip]) -> list[Told]:
-        """The right HMAC in part, or the first slip that makes this one, or the one in part."""
-        parts = self.parts()
-        for words, is_part in parts:
-            if is_part(right.hmac):
-                return [("HMAC cut", words)]
-        for slip in islice(those, MOST_ALONE - self.found.alone):
-            self.found.alone += 1
+        """The first slip that makes this HMAC, or a longer or a shorter one that it is a part of."""
+        for slip in chain([Slip()], islice(those, MOST_ALONE)):
+            self.found.alone += bool(slip.told)
             made = slip.change(right).hmac
             if made == self.given:
                 return list(slip.told)
-            for words, is_part in parts:
-                if is_part(made):
-                    return [*slip.told, ("HMAC cut", words)]
+            words = "" if len(made) == len(self.given) else self.part_words(made)
+            if words:
+                return [*slip.told, ("HMAC cut", words)]
         return []
 
-    def parts(self) -> list[tuple[str, Match]]:
-        """How the given bytes may be of an HMAC that is longer or shorter."""
-        given, wanted = self.given, digest_bytes(self.use.session.algorithm)
-        size = f"{size_words(len(given))}, and one by {HASH_WORDS[self.use.session.algorithm]} has {wanted}"
-        found = list[tuple[str, Match]]()
-        if len(given) >= LEAST_CUT:
-            words = f"the HMAC is cut, to its first {size}"
-            found.append((words, lambda made: len(made) > len(given) and made.startswith(given)))
-            words = f"the HMAC is cut, to its last {size}"
-            found.append((words, lambda made: len(made) > len(given) and made.endswith(given)))
-            words = f"there are bytes after the HMAC: it has {size}"
-            found.append((words, lambda made: len(made) < len(given) and given.startswith(made)))
-        return found
+    def part_words(self, made: bytes) -> str:
+        """How the given HMAC is a part of this one, or the other way round."""
+        given, algorithm = self.given, self.use.session.algorithm
+        has = f"{size_words(len(given))}, and one by {HASH_WORDS[algorithm]} has "
+        has += str(digest_bytes(algorithm))
+        if len(given) < LEAST_CUT:
+            return ""
+        if made.startswith(given):
+            return f"the HMAC is cut, to its first {has}"
+        if made.endswith(given):
+            return f"the HMAC is cut, to its last {has}"
+        return f"there are bytes after the HMAC: it has {has}" if given.startswith(made) else ""
 
     def pair(self, right: Ingredients, those: list[Slip]) -> list[Told]:
-        for first, second in islice(pairs_of(those), MOST_PAIRS):
+        turned = [Turned(it, it.change(right)) for it in those]
+        for first, second in islice(pairs_of(turned), MOST_PAIRS):
             self.found.pairs += 1
-            if right._replace(**first.changes, **second.changes).hmac == self.given:
-                return [*first.told, *second.told]
+            if first.hmac_with(second, right) == self.given:
+                return [*first.slip.told, *second.slip.told]
         return []
+
+
+OF_KEY = {"session_key", "auth_value", "key_of"}
+
+
+class Turned:
+    """A slip that is tried with others: its key, and the text of its HMAC, are made once."""
+
+    def __init__(self, slip: Slip, made: Ingredients) -> None:
+        self.slip, self.made = slip, made
+        self.names = set(slip.changes)
+        self.is_of_key, self.has_key = self.names <= OF_KEY, bool(self.names & OF_KEY)
+        self.key, self.message = made.key, made.message
+
+    def hmac_with(self, other: Turned, right: Ingredients) -> bytes:
+        if self.is_of_key and not other.has_key:
+            return other.made.mac_of(other.made.algorithm, self.key, other.message)
+        if other.is_of_key and not self.has_key:
+            return self.made.mac_of(self.made.algorithm, other.key, self.message)
+        return right._replace(**self.slip.changes, **other.slip.changes).hmac
 
 
 def kept(those: Iterator[Slip], tried: list[Slip]) -> Iterator[Slip]:
@@ -116,10 +132,10 @@ def kept(those: Iterator[Slip], tried: list[Slip]) -> Iterator[Slip]:
         yield it
 
 
-def pairs_of(those: list[Slip]) -> Iterator[tuple[Slip, Slip]]:
+def pairs_of(those: list[Turned]) -> Iterator[tuple[Turned, Turned]]:
     """Each two that turn other ingredients."""
     for first, second in combinations(those, 2):
-        if first.changes.keys().isdisjoint(second.changes):
+        if first.names.isdisjoint(second.names):
             yield first, second
 
 
@@ -178,7 +194,8 @@ def other_attributes(use: Use) -> Iterator[Slip]:
         if value != use.entry.attributes:
             of_before = ", which are those of the entry before" if value == last else ""
             words = f"the attributes were {attribute_words(value)}{of_before}; {sent}"
-            yield Slip.of("other attributes", words, False, attributes=number(value, 1))
+            is_paired = value in (0, CONTINUE_SESSION, last)
+            yield Slip.of("other attributes", words, is_paired, attributes=number(value, 1))
 
 
 def others(use: Use) -> Iterator[Slip]:
