@@ -76,6 +76,37 @@ impl Lockout {
         }
     }
 
+    /// Lockout as it ran, with both times where they were.
+    pub fn resume(fields: LockoutFields, forgiving_time: u64, closed_time: u64) -> Lockout
+        requires forgiving { forgiving_time < milliseconds (2 ^ 32) }
+        requires closed { closed_time < milliseconds (2 ^ 32) }
+        ensures { result ≡ record {
+          fields = fields;
+          forgiving_time = forgiving_time;
+          closed_time = closed_time;
+        } }
+    {
+        Lockout {
+            fields,
+            forgiving_time,
+            closed_time,
+        }
+    }
+
+    /// Milliseconds since the latest try was counted or forgiven.
+    pub fn forgiving_time(&self) -> u64
+        ensures { result ≡ self.now.forgiving_time }
+    {
+        self.forgiving_time
+    }
+
+    /// Milliseconds since lockoutAuth was closed.
+    pub fn closed_time(&self) -> u64
+        ensures { result ≡ self.now.closed_time }
+    {
+        self.closed_time
+    }
+
     /// The part that outlasts a power cycle.
     pub fn fields(&self) -> LockoutFields
         ensures value { result ≡ self.now.fields }
