@@ -2,7 +2,7 @@
 //! values are read, hashed, saved and restored.
 
 ghost use Rattle.std.specs.Prelude.{◌≡◌, ◌+◌, ◌-◌, [], ◌∷◌, ◌++◌, ◌&&◌, nat_lt, if◌then◌else◌};
-ghost use Rattle.std.specs.Prelude.{◌<◌, ◌^◌, length, take, replicate};
+ghost use Rattle.std.specs.Prelude.{◌<◌, ◌^◌, length, take, replicate, slice_set};
 ghost use Rattle.std.specs.List.{concat, flat_map};
 ghost use Rattle.tpm_types.specs.Pcr.{is_selected, with_pcr};
 ghost use Rattle.tpm_types.specs.DigestList.{digests_of};
@@ -73,6 +73,43 @@ impl Banks {
         ensures is_banks { IsBanks self.now }
     {
         self.update_count
+    }
+
+    /// The values of all PCRs in the SHA-1 bank.
+    pub fn sha1(&self) -> &[[u8; 20]; 24]
+        ensures { result.now ≡ self.now.sha1 }
+    {
+        &self.sha1
+    }
+
+    /// The values of all PCRs in the SHA-256 bank.
+    pub fn sha256(&self) -> &[[u8; 32]; 24]
+        ensures { result.now ≡ self.now.sha256 }
+    {
+        &self.sha256
+    }
+
+    /// Puts a PCR's value into the SHA-1 bank. The update counter stays.
+    pub fn put_sha1(&mut self, place: usize, value: [u8; 20])
+        requires { place < 24 }
+        ensures { self.new ≡ record self.old { sha1 = slice_set self.old.sha1 place value } }
+    {
+        self.sha1[place] = value;
+    }
+
+    /// Puts a PCR's value into the SHA-256 bank. The update counter stays.
+    pub fn put_sha256(&mut self, place: usize, value: [u8; 32])
+        requires { place < 24 }
+        ensures { self.new ≡ record self.old { sha256 = slice_set self.old.sha256 place value } }
+    {
+        self.sha256[place] = value;
+    }
+
+    /// Sets the update counter. The values stay.
+    pub fn set_update_count(&mut self, update_count: u64)
+        ensures { self.new ≡ record self.old { update_count = update_count } }
+    {
+        self.update_count = update_count;
     }
 
     /// Writes a PCR's value in the SHA-1 bank.
