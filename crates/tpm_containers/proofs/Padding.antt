@@ -118,6 +118,10 @@ padded-push most cells cell few =
     ∙ sym (set_first_free cells (most - suc (length cells)) cell)
     ∙ ap (λ (n : ℕ). slice_set (cells ++ free n) (length cells) cell) (sym before)
 
+-- a free cell more is no other place
+pub padded-grown : {X : Type 0} (most : ℕ) (cells : Cells X) → length cells < most → padded_to most (cells ++ None ∷ []) ≡ padded_to most cells
+padded-grown most cells few = padded-push most cells None few ∙ padded-clear most cells (length cells) (omega arith)
+
 -- ---- cells that are read, and written back
 
 -- a cell that is read is what is in the place

@@ -31,6 +31,13 @@ Inserts most can old x (Err Full) new = (lowest_free old ≡ None) × (new ≡ o
 Inserts most can old x (Err NoMemory) new =
     (place : ℕ) × (lowest_free old ≡ Some place) × (can ≡ true) × (new ≡ old)
 
+-- A value was put into a place, unless memory was refused.
+abbrev pub Puts : {X : Type 0} → Bool → List (Option X) → (place : ℕ) → X
+    → Result (Unit {0}) SlotFault → List (Option X) → Type 0
+Puts can old place x (Ok done) new = new ≡ slice_set old place (Some x)
+Puts can old place x (Err Full) new = ⊥
+Puts can old place x (Err NoMemory) new = (can ≡ true) × (new ≡ old)
+
 -- the places of a list that grows to this many: those after its end are free
 abbrev pub padded_to : {X : Type 0} → ℕ → List (Option X) → List (Option X)
 padded_to most cells = cells ++ free (most - length cells)

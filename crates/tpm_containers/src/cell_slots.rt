@@ -2,7 +2,7 @@
 //! taken, and so may be refused memory, or in one area of fixed size, which never takes memory.
 
 use crate::Items;
-use crate::cells::free_place;
+use crate::cells::{free_place, reach};
 use crate::slots::{SlotFault, Slots};
 use arrayvec::ArrayVec;
 use std::alloc::Global;
@@ -76,6 +76,17 @@ impl<T: Drop, C: Items<N, Item = Option<T>>, const N: usize> Slots<T, N> for Cel
             Ok(()) => Ok(place),
             Err(_) => Err(SlotFault::NoMemory),
         }
+    }
+
+    fn put(&mut self, place: usize, value: T) -> Result<(), SlotFault> {
+        let Ok(()) = reach(&mut self.cells, place) else {
+            return Err(SlotFault::NoMemory);
+        };
+        let Some(cell) = self.cells.item_mut(place) else {
+            return Err(SlotFault::NoMemory);
+        };
+        *cell = Some(value);
+        Ok(())
     }
 
     fn remove(&mut self, place: usize) {

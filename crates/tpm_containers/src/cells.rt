@@ -1,8 +1,11 @@
-//! Which place is free among cells that each are free or hold a value: the search that both kinds
-//! of slots share.
+//! Cells that each are free or hold a value: which place is free among them, and how they come to
+//! reach a place. Both kinds of slots share this.
 
-ghost use Rattle.std.specs.Prelude.{◌≡◌, ◌<◌, ◌≤◌, IfSome, is_none, length, position};
+ghost use Rattle.std.specs.Prelude.{◌≡◌, ◌<◌, ◌≤◌, IfSome, OnErr, OnOk, is_none, length, position, true};
 ghost use Rattle.tpm_containers.specs.Slots.{lowest_free, padded_to};
+
+use crate::Items;
+use std::alloc::AllocError;
 
 /// The first cell without a value.
 fn free_cell<T>(cells: &[Option<T>]) -> Option<usize>
@@ -24,4 +27,22 @@ pub(crate) fn free_place<T>(cells: &[Option<T>], most: usize) -> Option<usize>
     }
     let place = cells.len();
     if place == most { None } else { Some(place) }
+}
+
+/// Appends free cells until one of them is that of a place. The places stay as they are.
+pub(crate) fn reach<T: Drop, C: Items<N, Item = Option<T>>, const N: usize>(
+    cells: &mut C,
+    place: usize,
+) -> Result<(), AllocError>
+    requires below { place < N }
+    requires few { length (C.items cells.old) ≤ N }
+    ensures same { padded_to N (C.items cells.new) ≡ padded_to N (C.items cells.old) }
+    ensures within { length (C.items cells.new) ≤ N }
+    ensures reached { OnOk result (place < length (C.items cells.new)) }
+    ensures refused { OnErr result (C.can_refuse ≡ true) }
+{
+    for count in cells.as_slice().len()..place + 1 {
+        cells.insert(count, None)?;
+    }
+    Ok(())
 }

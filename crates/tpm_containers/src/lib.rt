@@ -5,8 +5,8 @@
 //!
 //! - **Items** stand in order, at most a fixed count of them: the trait [`items::Items`].
 //! - **Slots** are a fixed count of places, each free or with a value: the trait [`slots::Slots`],
-//!   kept in cells ([`cell_slots`]). A value takes the lowest free place, or nothing changes.
-//!   [`numbered`] finds values by numbers that name a place and a kind, and says the laws of that
+//!   kept in cells ([`cell_slots`]). A value takes the lowest free place, or is put into a place by
+//!   its number; or nothing changes. [`numbered`] finds values by numbers that name a place and a kind, and says the laws of that
 //!   map once.
 //! - **Sorted maps** have values under keys that ascend, at most a fixed count of them, and tell
 //!   the lowest key from any number on: the trait [`sorted_map::SortedMap`], kept in entries
@@ -14,7 +14,8 @@
 //!   which values stay. [`laws::sorted_map_laws`] says once that this is a map.
 //!
 //! Contracts see all places of slots, and the keys in ascending order with their values, whatever
-//! keeps them. The crate uses `arrayvec` alone. Only an insertion into a list may take memory.
+//! keeps them. The crate uses `arrayvec` alone. Only a value that comes into a list may take
+//! memory.
 
 pub mod cell_slots;
 mod cells;

@@ -1,10 +1,10 @@
 //! The trait of slots: a fixed count of places, each free or with a value, where a new value takes
-//! the lowest free place.
+//! the lowest free place, or is put into a place by its number.
 
 ghost use Rattle.std.specs.Prelude.{◌≡◌, ◌<◌, ℕ, Bool, IfSome, List, None, Option, Some, length, option_copied, slice_set};
 ghost use Rattle.std.specs.Borrow.{LendsIf, sem};
 ghost use Rattle.std.specs.Option.{option_copied_mut};
-ghost use Rattle.tpm_containers.specs.Slots.{Inserts, at_place, free, lowest_free};
+ghost use Rattle.tpm_containers.specs.Slots.{Inserts, Puts, at_place, free, lowest_free};
 
 use std::alloc::Global;
 
@@ -53,6 +53,11 @@ pub trait Slots<T: Drop, const N: usize>: Drop + Sized {
     /// Puts a value into the lowest free place.
     fn insert(&mut self, value: T) -> Result<usize, SlotFault>
         ensures { Inserts N can_refuse (places self.old) value result (places self.new) };
+
+    /// Puts a value into a place, over one that is there.
+    fn put(&mut self, place: usize, value: T) -> Result<(), SlotFault>
+        requires { place < N }
+        ensures { Puts can_refuse (places self.old) place value result (places self.new) };
 
     /// Frees a place.
     fn remove(&mut self, place: usize)
