@@ -1,7 +1,7 @@
 //! The state of a policy session: its digest, and what its assertions have recorded (TPM 2.0
 //! Library, Part 1, section 19.7).
 
-ghost use Rattle.std.specs.Prelude.{◌≡◌, ◌<◌, ◌≤◌, ◌^◌, IfSome, length, replicate};
+ghost use Rattle.std.specs.Prelude.{◌≡◌, ◌<◌, ◌≤◌, ◌^◌, IfSome, length, option_map, replicate};
 ghost use Rattle.tpm_mac.specs.Digest.{digest_size};
 
 use arrayvec::ArrayVec;
@@ -85,6 +85,73 @@ impl PolicyState {
             localities: ALL_LOCALITIES,
             demand: Demand::None,
         }
+    }
+
+    /// The state of these parts.
+    pub fn of(
+        digest: Digest,
+        update_count: Option<u64>,
+        command: Option<u32>,
+        cp_hash: Option<Digest>,
+        nv_written: Option<bool>,
+        localities: u8,
+        demand: Demand,
+    ) -> PolicyState
+        requires { localities ≤ 31 }
+        ensures { result ≡ record {
+          digest = digest.items;
+          update_count = update_count;
+          command = command;
+          cp_hash = option_map (λ hash. hash.items) cp_hash;
+          nv_written = nv_written;
+          localities = localities;
+          demand = demand;
+        } }
+    {
+        PolicyState {
+            digest,
+            update_count,
+            command,
+            cp_hash,
+            nv_written,
+            localities,
+            demand,
+        }
+    }
+
+    /// The update counter of PCRs at the last TPM2_PolicyPCR.
+    pub fn recorded_update_count(&self) -> Option<u64>
+        ensures { result ≡ self.now.update_count }
+    {
+        self.update_count
+    }
+
+    /// The number of the one command that is allowed.
+    pub fn recorded_command(&self) -> Option<u32>
+        ensures { result ≡ self.now.command }
+    {
+        self.command
+    }
+
+    /// The cpHash of the one command that is allowed.
+    pub fn recorded_cp_hash(&self) -> Option<&Digest>
+        ensures { option_map (λ hash. hash.now.items) result ≡ self.now.cp_hash }
+    {
+        self.cp_hash.as_ref()
+    }
+
+    /// Whether the NV index has to be written already.
+    pub fn recorded_nv_written(&self) -> Option<bool>
+        ensures { result ≡ self.now.nv_written }
+    {
+        self.nv_written
+    }
+
+    /// The localities that are allowed, bit n for locality n.
+    pub fn localities(&self) -> u8
+        ensures { result ≡ self.now.localities }
+    {
+        self.localities
     }
 
     /// Makes this the state in which a session starts.
