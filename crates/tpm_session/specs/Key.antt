@@ -16,6 +16,12 @@ is_nonce_size hash size = nat_le 16 size && nat_le size (digest_size hash)
 abbrev pub is_key_size : ℕ → Bool
 is_key_size size = size == 0 || size == digest_size Sha1 || size == digest_size Sha256
 
+-- how many bytes the key of a session has: those of a digest where it is bound, and none without a
+-- binding
+abbrev pub key_size : HashAlg → Option Binding → ℕ
+key_size hash None = 0
+key_size hash (Some binding) = digest_size hash
+
 -- the label of KDFa for session keys: "ATH"
 abbrev pub key_label : List ℕ
 key_label = 0x41 ∷ 0x54 ∷ 0x48 ∷ []

@@ -4,7 +4,7 @@
 ghost use Rattle.std.specs.Prelude.{◌≡◌, ◌≤◌, ◌++◌, [], length, true};
 ghost use Rattle.tpm_mac.specs.Digest.{digest_size};
 ghost use Rattle.tpm_mac.specs.Kdf.{kdfa_of};
-ghost use Rattle.tpm_session.specs.Key.{is_key_size, is_nonce_size, key_label, session_key};
+ghost use Rattle.tpm_session.specs.Key.{is_key_size, is_nonce_size, key_label, key_size, session_key};
 
 use crate::session::Binding;
 use arrayvec::ArrayVec;
@@ -40,6 +40,17 @@ pub fn is_nonce_size(hash: HashAlg, size: usize) -> bool
     16 <= size && size <= hash.size()
 }
 
+/// How many bytes the key of a session has: those of a digest where it is bound, and none without a
+/// binding.
+pub(crate) fn key_size(hash: HashAlg, binding: &Option<Binding>) -> usize
+    ensures { result ≡ key_size hash binding.now }
+{
+    match binding {
+        None => 0,
+        Some(_) => hash.size(),
+    }
+}
+
 impl SessionKey {
     /// The empty key.
     pub fn empty() -> SessionKey
@@ -71,7 +82,7 @@ impl SessionKey {
     }
 
     /// The key of these bytes, which are as many as a key has.
-    fn of(bytes: &[u8]) -> SessionKey
+    pub fn of(bytes: &[u8]) -> SessionKey
         requires size { is_key_size (length bytes.now) ≡ true }
         requires fits { length bytes.now ≤ 32 }
         ensures { result ≡ bytes.now }

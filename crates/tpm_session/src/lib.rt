@@ -7,8 +7,8 @@
 //! HMACs, keys and encryption, `tpm_types_name` for the Names in a command's hash, `tpm_containers`
 //! for the places of sessions, and `tpm_types`. Contracts see the sessions of
 //! [`sessions::Sessions`] as places, each free or with a session, whatever keeps them
-//! (`tpm_containers::slots::Slots`). A refused start changes nothing. Only the start of a session
-//! may take memory, and none does where the places are fixed.
+//! (`tpm_containers::slots::Slots`). A refused start changes nothing. Only a session that starts or
+//! is put into a place may take memory, and none does where the places are fixed.
 
 pub mod encryption;
 pub mod entry;

@@ -3,7 +3,7 @@
 
 ghost use Rattle.tpm_types.specs.Limits.{session_limit};
 ghost use Rattle.std.specs.Prelude.{◌≡◌, ◌<◌, is_some, length, option_copied};
-ghost use Rattle.tpm_containers.specs.Slots.{AreAll, at_place, free};
+ghost use Rattle.tpm_containers.specs.Slots.{AreAll, Puts, at_place, free};
 ghost use Rattle.tpm_session.specs.Session.{IsSession};
 ghost use Rattle.tpm_session.specs.Sessions.{Starts, flushed, handle_of, places_of, rolled, session_at, started_session, with_session_policy};
 
@@ -116,6 +116,15 @@ impl<S: Slots<Session, SESSION_LIMIT>> Sessions<S> {
         ensures { option_copied result ≡ at_place (places_of S.places self.now) place }
     {
         self.slots.get(place)
+    }
+
+    /// Puts a session into a place, over one that is there.
+    pub fn put(&mut self, place: usize, session: Session) -> Result<(), SlotFault>
+        requires { place < session_limit }
+        ensures { Puts S.can_refuse (places_of S.places self.old) place session result
+            (places_of S.places self.new) }
+    {
+        self.slots.put(place, session)
     }
 
     /// Ends the session of a handle, and tells whether there was one.
