@@ -5,7 +5,7 @@ ghost use Rattle.tpm_types.specs.Limits.{object_limit};
 ghost use Rattle.std.specs.Prelude.{◌≡◌, ◌<◌, is_some, length, option_copied};
 ghost use Rattle.tpm_object.specs.Object.{IsObject, transient_byte};
 ghost use Rattle.tpm_containers.specs.Numbered.{MapLaws};
-ghost use Rattle.tpm_containers.specs.Slots.{AreAll};
+ghost use Rattle.tpm_containers.specs.Slots.{AreAll, Puts, at_place};
 ghost use Rattle.tpm_record.specs.Clear.{ClearingLaws, cleared_objects};
 ghost use Rattle.tpm_record.specs.Objects.{Adds, next_handle, object_at, object_handle, objects_of, without_object};
 ghost use Rattle.tpm_record.specs.Record.{no_objects};
@@ -77,6 +77,22 @@ impl<O: Slots<Object, OBJECT_LIMIT>> Objects<O> {
             (objects_of O.places self.new) }
     {
         Ok(handle_of(self.places.insert(object)?))
+    }
+
+    /// The object in a place.
+    pub fn in_place(&self, place: usize) -> Option<&Object>
+        ensures { option_copied result ≡ at_place (objects_of O.places self.now) place }
+    {
+        self.places.get(place)
+    }
+
+    /// Puts an object into a place, over one that is there.
+    pub fn put(&mut self, place: usize, object: Object) -> Result<(), SlotFault>
+        requires { place < object_limit }
+        ensures { Puts O.can_refuse (objects_of O.places self.old) place object result
+            (objects_of O.places self.new) }
+    {
+        self.places.put(place, object)
     }
 
     /// Removes the object of a handle, and tells whether there was one.
