@@ -44,6 +44,10 @@ impl Slots<Object, OBJECT_LIMIT> for ObjectPlaces {
         self.slots.insert(value)
     }
 
+    fn put(&mut self, place: usize, value: Object) -> Result<(), SlotFault> {
+        self.slots.put(place, value)
+    }
+
     fn remove(&mut self, place: usize) {
         self.slots.remove(place);
     }

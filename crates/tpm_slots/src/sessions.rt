@@ -44,6 +44,10 @@ impl Slots<Session, SESSION_LIMIT> for SessionPlaces {
         self.slots.insert(value)
     }
 
+    fn put(&mut self, place: usize, value: Session) -> Result<(), SlotFault> {
+        self.slots.put(place, value)
+    }
+
     fn remove(&mut self, place: usize) {
         self.slots.remove(place);
     }
