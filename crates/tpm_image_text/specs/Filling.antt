@@ -66,6 +66,15 @@ PowersOn can read (Ok done) new = (kept : NonVolatile) × (read ≡ Ok kept) × 
 PowersOn can read (Err unfilled.Malformed) new = read ≡ Err malformed
 PowersOn can read (Err unfilled.NoMemory) new = can ≡ true
 
+-- A record became that of the device that kept what the front of a text spells, and the rest of the
+-- text was left; or the text is malformed; or memory was refused, and then nothing is said of it.
+abbrev pub PowersOnFrom : Bool → Result (NonVolatile × List ℕ) Malformed
+    → Result (Unit {0}) FillFault → Record → (rest : List ℕ) → Type 0
+PowersOnFrom can read (Ok done) new rest =
+    (kept : NonVolatile) × (read ≡ Ok (kept, rest)) × (new ≡ powered_on kept)
+PowersOnFrom can read (Err unfilled.Malformed) new rest = read ≡ Err malformed
+PowersOnFrom can read (Err unfilled.NoMemory) new rest = can ≡ true
+
 -- A new state stands for the record of the device that kept what the text spells; or the text is
 -- malformed; or memory was refused.
 abbrev pub Filled : {K : Type 0} → (K → Record) → Bool → Result NonVolatile Malformed

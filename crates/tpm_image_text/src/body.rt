@@ -2,8 +2,8 @@
 
 ghost use Rattle.tpm_image_text.specs.Sizes.{body_size, state_size, text_size};
 ghost use Rattle.std.specs.Prelude.{◌≡◌, ◌≤◌, ◌+◌, ◌++◌, [], length, replicate};
-ghost use Rattle.tpm_image_text.specs.Body.{body_of, image_body_text, state_in, state_text};
-ghost use Rattle.tpm_image_text.specs.Filling.{PowersOn, Restores};
+ghost use Rattle.tpm_image_text.specs.Body.{body_of, image_body_text, kept_in, state_in, state_text};
+ghost use Rattle.tpm_image_text.specs.Filling.{PowersOn, PowersOnFrom, Restores};
 ghost use Rattle.tpm_image_text.specs.KeptText.{with_clock};
 ghost use Rattle.tpm_image_text.specs.NonVolatile.{kept_of};
 ghost use Rattle.tpm_image_text.specs.declared.version.Version.TheVariants.{Two};
@@ -39,22 +39,37 @@ fn read_state(fixed: &mut Fixed, text: &mut Cursor) -> Result<u64, Malformed>
     Ok(max_count)
 }
 
+/// Reads what is kept, of a version, at the front of a text into a `Keep` that was just made.
+#[tactic(auto, unfolding(crate::specs::Body::kept_in))]
+pub fn read_kept<K: Keep>(
+    version: Version,
+    keep: &mut K,
+    text: &mut Cursor,
+) -> Result<(), FillFault>
+    requires { K.record_of keep.old ≡ manufactured (replicate 256 0) }
+    ensures { PowersOnFrom K.can_refuse (kept_in version text.old) result (K.record_of keep.new)
+        text.new }
+{
+    let Ok(()) = read_limits(version, text) else {
+        return Err(FillFault::Malformed);
+    };
+    let Ok(max_count) = read_state(keep.fixed_mut(), text) else {
+        return Err(FillFault::Malformed);
+    };
+    keep.nv_mut().set_max_count(max_count);
+    read_objects(keep.persistent_mut(), text)?;
+    read_indices(version, keep.nv_mut(), text)?;
+    Ok(())
+}
+
 /// Reads a whole body of a version into a `Keep` that was just made.
-#[tactic(auto, unfolding(crate::specs::Body::body_of, crate::specs::Body::kept_in))]
+#[tactic(auto, unfolding(crate::specs::Body::body_of))]
 pub fn read_body<K: Keep>(version: Version, keep: &mut K, body: &[u8]) -> Result<(), FillFault>
     requires { K.record_of keep.old ≡ manufactured (replicate 256 0) }
     ensures { PowersOn K.can_refuse (body_of version body.now) result (K.record_of keep.new) }
 {
     let mut text = Cursor::new(body);
-    let Ok(()) = read_limits(version, &mut text) else {
-        return Err(FillFault::Malformed);
-    };
-    let Ok(max_count) = read_state(keep.fixed_mut(), &mut text) else {
-        return Err(FillFault::Malformed);
-    };
-    keep.nv_mut().set_max_count(max_count);
-    read_objects(keep.persistent_mut(), &mut text)?;
-    read_indices(version, keep.nv_mut(), &mut text)?;
+    read_kept(version, keep, &mut text)?;
     if !text.is_empty() {
         return Err(FillFault::Malformed);
     }

@@ -26,7 +26,7 @@ mod saved;
 pub mod saving;
 pub mod version;
 
-pub use body::{read_body, write_body_at};
+pub use body::{read_body, read_kept, write_body_at};
 pub use fault::{FillFault, ImageFault, SaveFault};
 pub use fields::Text;
 pub use frame::framed_body;
