@@ -27,9 +27,13 @@ pub mod saving;
 pub mod version;
 
 pub use body::{read_body, read_kept, write_body_at};
-pub use fault::{FillFault, ImageFault, SaveFault};
-pub use fields::Text;
+pub use fault::{FillFault, ImageFault, Malformed, SaveFault};
+pub use fields::{
+    Text, read_array, read_auth_value, read_bool, read_sized, read_u8, read_u32, read_u64,
+    write_array, write_bool, write_sized, write_u16, write_u32, write_u64,
+};
 pub use frame::framed_body;
+pub use objects::{read_object_fields, write_object_fields};
 pub use opening::{fault_of, fill, is_body};
 pub use saving::{put_front, send, write_image};
 pub use version::Version;

@@ -98,7 +98,7 @@ fn read_sensitive(public: &Public, text: &mut Cursor) -> Result<Sensitive, Malfo
 
 /// Reads an object, which may be of any hierarchy.
 #[tactic(auto, unfolding(crate::specs::Body::object_fields_in))]
-fn read_fields(text: &mut Cursor) -> Result<Object, Malformed>
+pub fn read_object_fields(text: &mut Cursor) -> Result<Object, Malformed>
     ensures { Reads (λ object. object) (object_fields_in text.old) text.old result text.new }
 {
     let mut ahead = Cursor::new(text.rest());
@@ -126,7 +126,7 @@ fn read_object(text: &mut Cursor) -> Result<(Handle, Object), Malformed>
 {
     let mut ahead = Cursor::new(text.rest());
     let handle = read_handle(&mut ahead)?;
-    let object = read_fields(&mut ahead)?;
+    let object = read_object_fields(&mut ahead)?;
     if !can_persist(object.hierarchy) {
         return Err(Malformed);
     }
@@ -198,7 +198,7 @@ pub fn read_objects<P: PersistentObjects>(
 
 /// Writes an object.
 #[tactic(auto, unfolding(crate::specs::Body::object_fields_text))]
-fn write_fields(object: &Object, text: &mut Text)
+pub fn write_object_fields(object: &Object, text: &mut Text)
     requires { length text.old + object_fields_size ≤ text_size }
     ensures written { text.new ≡ text.old ++ object_fields_text object.now }
     ensures small { length text.new ≤ length text.old + object_fields_size }
@@ -224,7 +224,7 @@ fn write_object(entry: &(u32, Object), text: &mut Text)
 {
     let (number, object) = entry;
     write_u32(*number, text);
-    write_fields(object, text);
+    write_object_fields(object, text);
 }
 
 /// Writes objects and their handles, one after another.
