@@ -23,7 +23,8 @@ use Rattle.tpm_image_text.proofs.ImageLaws.{kept_is}
 use Rattle.tpm_image_text.proofs.ObjectLaws.{object_fields_spelled}
 use Rattle.tpm_state_text.specs.Banks.{bank_in, bank_text, banks_in, banks_text}
 use Rattle.tpm_state_text.specs.Body.{IsWholeState, WholeState, body_in, body_text, device_in, device_text, is_lockout_time, lockout_time_in, resumed_in, state_of_body, volatile_text}
-use Rattle.tpm_state_text.specs.Layer.{Layer, layer_text}
+use Rattle.tpm_state_text.specs.Layer.{layer_text}
+use Rattle.tpm_state_text.specs.declared.layer.Layer.{Layer}
 use Rattle.tpm_state_text.specs.Objects.{transients_in, transients_text}
 use Rattle.tpm_state_text.specs.Places.{optional_text}
 use Rattle.tpm_state_text.specs.Sessions.{sessions_text}

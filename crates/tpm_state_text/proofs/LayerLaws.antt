@@ -9,7 +9,9 @@ use Rattle.tpm_types.specs.Limits.{object_limit, session_limit}
 use Rattle.tpm_image_text.specs.declared.fault.Malformed.{Malformed}
 use Rattle.tpm_image_text.specs.Fields.{number_in}
 use Rattle.tpm_image_text.proofs.FieldSpelling.{many_spelled, number_in_spelled, wide64}
-use Rattle.tpm_state_text.specs.Layer.{Held, IsHeld, IsLayer, Layer, held_in, held_text, layer_in, layer_text}
+use Rattle.tpm_state_text.specs.Layer.{IsHeld, IsLayer, held_in, held_text, layer_in, layer_text}
+use Rattle.tpm_state_text.specs.declared.layer.Held.{Held}
+use Rattle.tpm_state_text.specs.declared.layer.Layer.{Layer}
 
 -- a number of things one after another
 pub all_spelled : {A : Type 0} {text : A → List ℕ} {Is : A → Type 0} {at : List ℕ → Result (A × List ℕ) Malformed} (count : ℕ) → Spelled text Is at → Spelled (flat_map text) (λ xs. (length xs ≡ count) × All Is xs) (many_at at count)

@@ -4,3 +4,6 @@ pub mod LayerLaws
 pub mod BodyLaws
 pub mod SizeLaws
 pub mod StateLaws
+pub mod Loops
+pub mod Resuming
+pub mod RestoringLaws

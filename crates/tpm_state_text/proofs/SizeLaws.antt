@@ -26,7 +26,8 @@ use Rattle.tpm_image_text.proofs.BodyLaws.{body_small}
 use Rattle.tpm_image_text.proofs.ImageLaws.{kept_is}
 use Rattle.tpm_state_text.specs.Banks.{bank_text, banks_text}
 use Rattle.tpm_state_text.specs.Body.{IsWholeState, WholeState, body_text, device_text, volatile_text}
-use Rattle.tpm_state_text.specs.Layer.{IsHeld, IsLayer, Layer, held_text, layer_text}
+use Rattle.tpm_state_text.specs.Layer.{IsHeld, IsLayer, held_text, layer_text}
+use Rattle.tpm_state_text.specs.declared.layer.Layer.{Layer}
 use Rattle.tpm_state_text.specs.Objects.{transients_text}
 use Rattle.tpm_state_text.specs.Places.{optional_text, places_text}
 use Rattle.tpm_state_text.specs.Policies.{policy_text}

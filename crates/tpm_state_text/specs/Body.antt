@@ -13,7 +13,8 @@ use Rattle.tpm_lockout.specs.Lockout.{milliseconds}
 use Rattle.tpm_record.specs.IsRecord.{IsRecord}
 use Rattle.tpm_record.specs.Record.{Record}
 use Rattle.tpm_state_text.specs.Banks.{banks_in, banks_text}
-use Rattle.tpm_state_text.specs.Layer.{IsLayer, Layer, layer_in, layer_text}
+use Rattle.tpm_state_text.specs.Layer.{IsLayer, layer_in, layer_text}
+use Rattle.tpm_state_text.specs.declared.layer.Layer.{Layer}
 use Rattle.tpm_state_text.specs.Objects.{transients_in, transients_text}
 use Rattle.tpm_state_text.specs.Places.{optional_in, optional_text}
 use Rattle.tpm_state_text.specs.Sessions.{sessions_in, sessions_text}

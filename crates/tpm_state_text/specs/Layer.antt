@@ -8,21 +8,8 @@ use Rattle.tpm_bytes.specs.Reading.{◌>>=◌}
 use Rattle.tpm_image_text.specs.Fields.{number_in}
 use Rattle.tpm_image_text.specs.declared.fault.Malformed.{Malformed}
 use Rattle.tpm_types.specs.Limits.{object_limit, session_limit}
-
--- what is remembered of a transient object: the number of its context, and that of its flush, each 0
--- where there was none
-pub record Held : Type 0 where
-  pub context : ℕ
-  pub waits : ℕ
-
--- what the layer remembers: the number of its start; how many contexts and flushes it counted; each
--- transient object by its place; and, by the place of each session, the number of the context with
--- which it was saved, 0 where it is loaded
-pub record Layer : Type 0 where
-  pub start : ℕ
-  pub count : ℕ
-  pub objects : List Held
-  pub sessions : List ℕ
+use Rattle.tpm_state_text.specs.declared.layer.Held.{Held}
+use Rattle.tpm_state_text.specs.declared.layer.Layer.{Layer}
 
 -- All that a layer remembers are numbers of 64 bits, with a place for each object and each session.
 pub record IsHeld (held : Held) : Type 0 where

@@ -7,6 +7,7 @@ pub mod Layer
 pub mod Body
 pub mod Frame
 pub mod State
+pub mod Filling
 pub mod Sizes
 pub use Rattle.tpm_record.specs.Record
 pub use Rattle.tpm_record.specs.IsRecord

@@ -16,3 +16,12 @@ pub enum StateFault {
     /// The bytes between head and digest spell no state.
     Body,
 }
+
+/// Why a device was not restored from a state text.
+#[derive(Clone, Copy, PartialEq, Eq)]
+pub enum RestoreFault {
+    /// The bytes are not a state text, for this first reason.
+    Text(StateFault),
+    /// Memory was refused.
+    NoMemory,
+}

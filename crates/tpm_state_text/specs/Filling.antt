@@ -1,0 +1,70 @@
+-- What filling a device with what a state text spells answers and leaves.
+use Rattle.std.specs.Prelude.{◌≡◌, ℕ, Bool, true, List, Option, Some, None, Result, Ok, Err, slice_set}
+use Rattle.tpm_image_text.specs.Fields.{malformed}
+use Rattle.tpm_image_text.specs.declared.fault.FillFault.{FillFault}
+use Rattle.tpm_image_text.specs.declared.fault.FillFault.TheVariants as unfilled
+use Rattle.tpm_image_text.specs.declared.fault.Malformed.{Malformed}
+use Rattle.tpm_record.specs.Record.{Record}
+use Rattle.tpm_state_text.specs.Body.{WholeState}
+use Rattle.tpm_state_text.specs.State.{state_of_text}
+use Rattle.tpm_state_text.specs.declared.fault.RestoreFault.{RestoreFault}
+use Rattle.tpm_state_text.specs.declared.fault.RestoreFault.TheVariants as unrestored
+use Rattle.tpm_state_text.specs.declared.layer.Layer.{Layer}
+
+-- the state of this device, with this layer
+abbrev pub state_of : Record → Option Layer → WholeState
+state_of device layer = record { device = device; layer = layer }
+
+-- places with a value in one of them, or as they are where there is no value
+abbrev pub with_value : {X : Type 0} → List (Option X) → ℕ → Option X → List (Option X)
+with_value places place None = places
+with_value places place (Some x) = slice_set places place (Some x)
+
+-- One place got what a text spells, which may be nothing; or the text is malformed; or memory was
+-- refused, and then nothing is said of the text.
+abbrev pub FillsPlace : {X : Type 0}
+    → Bool → Result (Option X × List ℕ) Malformed → (old : List (Option X)) → (place : ℕ)
+    → Result (Unit {0}) FillFault → (new : List (Option X)) → List ℕ → Type 0
+FillsPlace {X} can read old place (Ok done) new rest =
+    (value : Option X) × (read ≡ Ok (value, rest)) × (new ≡ with_value old place value)
+FillsPlace can read old place (Err unfilled.Malformed) new rest = read ≡ Err malformed
+FillsPlace can read old place (Err unfilled.NoMemory) new rest = can ≡ true
+
+-- A device was filled with what a body spells, and its layer was answered; or the body is malformed;
+-- or memory was refused, and then nothing is said of the body.
+abbrev pub FillsState : Bool → Result WholeState Malformed → Record
+    → Result (Option Layer) FillFault → Type 0
+FillsState can read device (Ok layer) = read ≡ Ok (state_of device layer)
+FillsState can read device (Err unfilled.Malformed) = read ≡ Err malformed
+FillsState can read device (Err unfilled.NoMemory) = can ≡ true
+
+-- A new device got the state of a text, and its layer was answered; or the fault is the first one of
+-- the text; or memory was refused, and then nothing is said of the text.
+abbrev pub RestoresNew : Bool → List ℕ → Record → Result (Option Layer) RestoreFault → Type 0
+RestoresNew can text device (Ok layer) = state_of_text text ≡ Ok (state_of device layer)
+RestoresNew can text device (Err (unrestored.Text fault)) = state_of_text text ≡ Err fault
+RestoresNew can text device (Err unrestored.NoMemory) = can ≡ true
+
+-- A device was made that has the state of a text, and its layer was answered; or the fault is the
+-- first one of the text; or memory was refused, and then nothing is said of the text.
+abbrev pub Restores : {K : Type 0} → (K → Record) → Bool → List ℕ
+    → Result (K × Option Layer) RestoreFault → Type 0
+Restores record_of can text (Ok made) = state_of_text text ≡ Ok (state_of (record_of made.0) made.1)
+Restores record_of can text (Err (unrestored.Text fault)) = state_of_text text ≡ Err fault
+Restores record_of can text (Err unrestored.NoMemory) = can ≡ true
+
+-- The text of a state was restored, and gave just that state, unless memory was refused.
+abbrev pub RestoresAgain : {K : Type 0} → (K → Record) → Bool → WholeState
+    → Result (K × Option Layer) RestoreFault → Type 0
+RestoresAgain record_of can state (Ok made) = state_of (record_of made.0) made.1 ≡ state
+RestoresAgain record_of can state (Err (unrestored.Text fault)) = ⊥
+RestoresAgain record_of can state (Err unrestored.NoMemory) = can ≡ true
+
+-- A device got the state of a text, and its layer was answered; or the device is as it was, and the
+-- fault is the first one of the text, or memory was refused.
+abbrev pub RestoresInto : Bool → List ℕ → (old : Record) → Result (Option Layer) RestoreFault
+    → (new : Record) → Type 0
+RestoresInto can text old (Ok layer) new = state_of_text text ≡ Ok (state_of new layer)
+RestoresInto can text old (Err (unrestored.Text fault)) new =
+    (state_of_text text ≡ Err fault) × (new ≡ old)
+RestoresInto can text old (Err unrestored.NoMemory) new = (can ≡ true) × (new ≡ old)

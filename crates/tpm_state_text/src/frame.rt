@@ -1,0 +1,59 @@
+//! The frame of a state text: the head before its body, and the digest after it.
+
+ghost use Rattle.std.specs.Prelude.{◌≡◌, ◌≤◌, ◌+◌};
+ghost use Rattle.tpm_bytes.specs.Reading.{AreBytes, Gives};
+ghost use Rattle.tpm_image_text.specs.Frame.{head_in, within_frame};
+ghost use Rattle.tpm_image_text.specs.Sizes.{body_size, more_size};
+ghost use Rattle.tpm_state_text.specs.Frame.{state_format};
+
+use crate::fault::StateFault;
+use tpm_bytes::Sink;
+use tpm_mac::{HashAlg, digest_parts};
+
+/// The word with which a state text begins: TPMS.
+const MAGIC: [u8; 4] = [0x54, 0x50, 0x4d, 0x53];
+
+/// The number of the version.
+const VERSION: u16 = 1;
+
+/// How many bytes the head has, and the digest.
+const HEAD_BYTES: usize = 10;
+
+const DIGEST_BYTES: usize = 32;
+
+/// The head of a state text with a body of this many bytes.
+pub fn head(body_bytes: usize) -> Sink<10>
+    requires { body_bytes ≤ body_size + more_size }
+    ensures { result ≡ head_in state_format tt (10 + body_bytes + 32) }
+{
+    let mut head = Sink::new();
+    head.append(&MAGIC);
+    head.append_u16(VERSION);
+    head.append_u32((HEAD_BYTES + body_bytes + DIGEST_BYTES) as u32);
+    head
+}
+
+/// The body of a text in its frame, or the first fault of the frame.
+#[tactic(auto, unfolding(tpm_image_text::specs::Frame::within_frame))]
+pub fn framed_body(text: &[u8]) -> Result<&[u8], StateFault>
+    ensures value { Gives (λ body. (tt, body.now)) (within_frame state_format text.now) result }
+    ensures bytes { AreBytes text.now }
+{
+    if text.len() < HEAD_BYTES + DIGEST_BYTES {
+        return Err(StateFault::Short);
+    }
+    if !text.starts_with(&MAGIC) {
+        return Err(StateFault::Magic);
+    }
+    if u16::from_be_bytes([text[4], text[5]]) != VERSION {
+        return Err(StateFault::Version);
+    }
+    if u32::from_be_bytes([text[6], text[7], text[8], text[9]]) as usize != text.len() {
+        return Err(StateFault::Length);
+    }
+    let (before, digest) = text.split_at(text.len() - DIGEST_BYTES);
+    if digest_parts(HashAlg::Sha256, &[before]).as_slice() != digest {
+        return Err(StateFault::Digest);
+    }
+    Ok(&before[HEAD_BYTES..])
+}

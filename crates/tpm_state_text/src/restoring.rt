@@ -1,0 +1,71 @@
+//! How a device is made, or replaced, by what a state text says.
+
+ghost use Rattle.std.specs.Prelude.{◌≡◌, ◌||◌, replicate};
+ghost use Rattle.tpm_record.specs.Record.{manufactured};
+ghost use Rattle.tpm_state_text.specs.Body.{IsWholeState, WholeState};
+ghost use Rattle.tpm_state_text.specs.Filling.{Restores, RestoresAgain, RestoresInto, RestoresNew};
+ghost use Rattle.tpm_state_text.specs.State.{state_text};
+
+use crate::body::read_body;
+use crate::fault::{RestoreFault, StateFault};
+use crate::frame::framed_body;
+use crate::layer::Layer;
+use std::alloc::Global;
+use tpm_image_text::FillFault;
+use tpm_record::Keep;
+
+/// Makes a new device of zeros the one of a state text, without moving it, and returns its
+/// completing layer; or returns the first fault of the text. After a fault nothing is said of the
+/// device.
+pub fn restore_new<K: Keep>(keep: &mut K, text: &[u8]) -> Result<Option<Layer>, RestoreFault>
+    requires { K.record_of keep.old ≡ manufactured (replicate 256 0) }
+    ensures { RestoresNew K.can_refuse text.now (K.record_of keep.new) result }
+{
+    let body = match framed_body(text) {
+        Ok(body) => body,
+        Err(fault) => return Err(RestoreFault::Text(fault)),
+    };
+    match read_body(keep, body) {
+        Ok(layer) => Ok(layer),
+        Err(FillFault::Malformed) => Err(RestoreFault::Text(StateFault::Body)),
+        Err(FillFault::NoMemory) => Err(RestoreFault::NoMemory),
+    }
+}
+
+/// Makes the device of a state text; the contract says nothing of the device that wrote the text.
+fn made<K: Keep>(alloc: Global, text: &[u8]) -> Result<(K, Option<Layer>), RestoreFault>
+    ensures { Restores K.record_of (K.empty_can_refuse || K.can_refuse) text.now result }
+{
+    let Ok(mut keep) = K::empty(alloc) else {
+        return Err(RestoreFault::NoMemory);
+    };
+    let layer = restore_new(&mut keep, text)?;
+    Ok((keep, layer))
+}
+
+/// The device of a state text, in a new `Keep`, and its completing layer; or the first fault of the
+/// text.
+#[tactic(auto, using(crate::proofs::RestoringLaws::restored_again))]
+pub fn restored<K: Keep>(alloc: Global, text: &[u8]) -> Result<(K, Option<Layer>), RestoreFault>
+    ensures exact { Restores K.record_of (K.empty_can_refuse || K.can_refuse) text.now result }
+    // The text of a device makes just that device, unless memory was refused.
+    ensures again { (state : WholeState) → IsWholeState state → text.now ≡ state_text state
+        → RestoresAgain K.record_of (K.empty_can_refuse || K.can_refuse) state result }
+{
+    made(alloc, text)
+}
+
+/// Makes a device the one of a state text, and returns its completing layer. A text that is refused
+/// leaves the device as it was. The new device is made beside it, and moved.
+pub fn restore_into<K: Keep>(
+    keep: &mut K,
+    alloc: Global,
+    text: &[u8],
+) -> Result<Option<Layer>, RestoreFault>
+    ensures { RestoresInto (K.empty_can_refuse || K.can_refuse) text.now (K.record_of keep.old)
+        result (K.record_of keep.new) }
+{
+    let (restored, layer) = made(alloc, text)?;
+    *keep = restored;
+    Ok(layer)
+}
