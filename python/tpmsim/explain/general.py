@@ -7,6 +7,7 @@ from tpmsim.explain.words import attribute_words, command_words, handle_words, k
 from tpmsim.model.general import LEAST_AREA, MOST_NONCE_OR_HMAC
 from tpmsim.standard import CC, COMMAND_BYTES, DECRYPT, ENCRYPT, Entry, Fields, frames, HEADER_BYTES
 from tpmsim.standard import is_session, MOST_ENTRIES, RS_PW, Short
+from tpmsim.standard.command_names import command_name
 from tpmsim.standard.handle_kinds import HANDLES
 
 PLACE_BITS = 0xFF_FFFF
@@ -35,7 +36,11 @@ def command_size(scene: Scene) -> Reason:
 
 
 def command(scene: Scene) -> Reason:
-    return Reason("G4", f"No command {scene.number:08x} is served.", at=6)
+    name, number = command_name(scene.number), f"{scene.number:08x}"
+    words = (
+        f"TPM2_{name} ({number}) is not served." if name else f"No command has the number {number}."
+    )
+    return Reason("G4", words, at=6)
 
 
 def startup(scene: Scene) -> Reason:

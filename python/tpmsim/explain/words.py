@@ -3,8 +3,9 @@
 import enum
 from typing import Iterable
 
-from tpmsim.standard import CC, frames, handle_kinds, HMAC_SESSION, lines, NUMBERED, NV, PERSISTENT
+from tpmsim.standard import frames, handle_kinds, HMAC_SESSION, lines, NV, PERSISTENT
 from tpmsim.standard import POLICY_SESSION, TRANSIENT
+from tpmsim.standard.command_names import command_name
 
 ALGORITHMS = {
     frames.SHA1: "SHA-1",
@@ -69,7 +70,7 @@ def kind_words(handle: int) -> str:
 
 
 def command_words(code: int) -> str:
-    return CC(code).name if code in NUMBERED else f"{code:08x}"
+    return command_name(code) or f"{code:08x}"
 
 
 def printable(data: bytes) -> bool:
