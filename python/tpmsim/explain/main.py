@@ -118,11 +118,14 @@ def explain(asked: Asked, counts: text.Counts) -> tuple[str, Play]:
     if asked.at is not None and not told:
         raise Usage(f"line {asked.at} of {asked.log} executes nothing")
     if asked.form == "json":
-        value = text.value_of_log(told, counts, play.bad_line, asked.at is not None)
+        value = text.value_of_log(told, counts, play, asked.at is not None)
         return json.dumps(value, indent=1), play
-    lines = [] if asked.at is None else [it for event in told for it in text.whole(event)]
-    lines += [it for event in told for it in text.told(event)]
-    return "\n".join([*lines, counts.words()] if asked.at is None else lines), play
+    if asked.at is not None:
+        return (
+            "\n".join(it for event in told for it in (*text.whole(event), *text.told(event))),
+            play,
+        )
+    return "\n".join([*text.of_log(told, play), counts.words()]), play
 
 
 def tell(words: str) -> None:
@@ -145,10 +148,10 @@ def main(*words: str) -> int:
         print(f"tpmsim-explain: {wrong}", file=sys.stderr)
         return 2
     tell(said)
-    if play.bad_line is not None:
-        print(f"tpmsim-explain: script line {play.bad_line}", file=sys.stderr)
+    if play.fault:
+        print(f"tpmsim-explain: {play.fault}", file=sys.stderr)
         return 2
-    return 1 if counts.differing else 0
+    return 1 if counts.differing or play.damages else 0
 
 
 def run() -> None:

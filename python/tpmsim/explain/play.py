@@ -5,21 +5,19 @@ from collections import deque
 from dataclasses import dataclass, field
 from typing import Callable, Iterator
 
+from tpmsim import records
 from tpmsim.explain import accepted, dissection, entries, general, ingredients, own, parameters
 from tpmsim.explain.dissection import Field
 from tpmsim.explain.past import Past
-from tpmsim.explain.reason import Fact, Reason, Scene, WANTED
+from tpmsim.explain.reason import Fact, OfLayer, Reason, Scene, WANTED
+from tpmsim.model import image as images
+from tpmsim.model.completion import Completed, Completion
 from tpmsim.model.general import Command
-from tpmsim.model.image import open_image
 from tpmsim.model.machine import Model, Outcome
-from tpmsim.model.player import BadLine, LINES, Player
+from tpmsim.records import TRACE
+from tpmsim.records.marks import sum_of
 from tpmsim.standard import lines, policy
 
-# An answer in a comment: a trace, which may have the time of day before it, a code or a response.
-TRACE = r"\S+ L\d \+\d+ \S+ [0-9a-f]{8}"
-GIVEN = re.compile(
-    r"# (\d\d:\d\d:\d\d\.\d{3} )?" rf"({TRACE}|[0-9a-f]{{8}}|(?:8001|8002|00c4)[0-9a-f]{{16,}})"
-)
 CODE_DIGITS = 8
 OF_ENTRIES = "G9", "G10"
 
@@ -36,7 +34,8 @@ class Event:
     """An event of a log, whose scene has no buffer at a power cycle: why it was refused, what else
     is told of it, and where the log's answers differ, of which there are so many. If it is looked
     at as a whole, `entries` has what the HMACs are of, by their places, and `answered` the answered
-    parameters in plain. `comments` has the paragraphs of comments before it.
+    parameters in plain. `comments` has the paragraphs of comments before it. `layer` has what the
+    completing layer did, if anything, and `own` what the device itself came to.
     """
 
     line: int
@@ -51,6 +50,8 @@ class Event:
     answers: int = 0
     text: str = ""
     comments: list[str] = field(default_factory=list)
+    layer: str = ""
+    own: Outcome | None = None
 
     @property
     def is_power(self) -> bool:
@@ -84,6 +85,15 @@ class Event:
         if text != wanted:
             self.differences.append(Difference(words, text, wanted))
 
+    def compare_sum(self, answered: int) -> None:
+        """Holds the sum of the response that was recorded against the model's response."""
+        self.answers += 1
+        own = sum_of(self.response)
+        if own != answered:
+            words = "the response is another one than was recorded, by its sum"
+            told = f"{own:016x}, of {self.response.hex()}"
+            self.differences.append(Difference(words, f"{answered:016x}", told))
+
     def where(self, text: str, wanted: str) -> str:
         digits = enumerate(zip(text, wanted))
         at = next((at for at, (a, b) in digits if a != b), min(len(text), len(wanted))) // 2
@@ -93,12 +103,11 @@ class Event:
 
 
 class Answers:
-    """The lines of an output of `tpmsim run`, if any, and what the log says before a command."""
+    """The lines of an output of `tpmsim run`, if any."""
 
     def __init__(self, text: bytes | None) -> None:
         self.is_given = text is not None
         self.left = deque((text or b"").decode("latin-1").splitlines())
-        self.expected: str | None = None
 
     def power(self) -> None:
         """A trace says `power`; without one nothing is printed."""
@@ -107,8 +116,7 @@ class Answers:
 
     def compare(self, event: Event) -> None:
         """Compares what is said of a command beside it."""
-        said = [] if self.expected is None else [self.expected]
-        self.expected = None
+        said = list[str]()
         if self.left and re.fullmatch(TRACE, self.left[0]):
             said.append(self.left.popleft())
         if self.left:
@@ -134,11 +142,17 @@ class Watched:
     def __init__(
         self, model: Model, explains: Callable[[Scene], bool] = lambda scene: True
     ) -> None:
-        self.model, self.explains, self.past = model, explains, Past(model)
+        self.explains = explains
         self.line, self.at, self.is_whole = 0, -1, False
         # Values that the user wants tried in an HMAC, a password or a policy that is refused.
         self.tried: tuple[bytes, ...] = ()
         self.event: Event | None = None
+        self.layer = Completion()
+        self.put(model)
+
+    def put(self, model: Model) -> None:
+        """This device is looked at, of which nothing is known from before."""
+        self.model, self.past = model, Past(model)
         for it in (self.authorize, self.answered_parameters, self.plain_parameters):
             setattr(model, it.__name__, it)
 
@@ -149,18 +163,35 @@ class Watched:
 
     def power(self) -> Event:
         self.model.power_cycle()
+        self.layer.forget(self.model)
         self.past.power(self.line)
         self.event = Event(self.line, Scene(self.model, self.past, self.line, b"", 0, b"", 0))
         return self.event
 
-    def command(self, buffer: bytes, locality: int, random: bytes, elapsed: int) -> Event:
+    def command(
+        self, buffer: bytes, locality: int, random: bytes, elapsed: int, completes: bool = False
+    ) -> Event:
+        if completes:
+            return self.completed(buffer, locality, random, elapsed)
+        self.execute(buffer, locality, random, elapsed)
+        self.layer.forget(self.model)
+        return self.judged()
+
+    def execute(self, buffer: bytes, locality: int, random: bytes, elapsed: int) -> Outcome:
+        """The device executes a command, which is not judged yet."""
         scene = Scene(self.model, self.past, self.line, buffer, locality, random, elapsed)
         scene.tried = self.tried
         event = self.event = Event(self.line, scene)
         outcome = event.outcome = Model.execute(self.model, buffer, locality, random, elapsed)
         scene.check, scene.refused = outcome.row.check, outcome.refused or ""
-        if not outcome.refused:
-            self.follow(event, outcome)
+        return outcome
+
+    def judged(self) -> Event:
+        """The event, with why the device refused it, or what it did."""
+        event, scene = self.now, self.now.scene
+        assert event.outcome is not None
+        if not event.refused:
+            self.follow(event, event.outcome)
             return event
         if entries.is_try(scene):
             self.past.tries.append(self.line)
@@ -168,6 +199,31 @@ class Watched:
             event.reason = reason_of(scene)
         event.notes = accepted.of_refusal(scene)
         return event
+
+    def completed(self, buffer: bytes, locality: int, random: bytes, elapsed: int) -> Event:
+        """A command with the completing layer, which may answer it, or execute another one first."""
+        told = buffer, locality, random, elapsed
+        done = self.layer.execute(self.model, told, self.execute, self.give_up)
+        if self.event is None or self.event.scene.buffer != buffer:
+            scene = Scene(self.model, self.past, self.line, *told)
+            scene.check, self.event = done.own.row.check, Event(self.line, scene, done.own)
+        event = self.event
+        if not done.did:
+            return self.judged()
+        event.layer, event.own = done.did, done.own
+        if done.outcome is event.outcome or not done.own.refused:
+            self.judged()  # the device did it
+        event.outcome, event.scene.refused = done.outcome, done.outcome.refused or ""
+        if done.outcome is not done.own and event.refused and not event.reason:
+            event.reason = of_layer(done)
+        return event
+
+    def give_up(self, buffer: bytes, locality: int, random: bytes, elapsed: int) -> Outcome:
+        """A command that the layer has the device execute, and which is no event of the log."""
+        outcome = self.execute(buffer, locality, random, elapsed)
+        self.event = None
+        self.past.follow(self.line, "given up by the completing layer")
+        return outcome
 
     def follow(self, event: Event, outcome: Outcome) -> None:
         scene, answered = event.scene, None
@@ -199,20 +255,14 @@ class Watched:
         return Model.answered_parameters(self.model, command, parameters)
 
 
-class Stage(Player):
-    def __init__(self, model: Model, told: Callable[[bytes, int, bytes, int], None]) -> None:
-        super().__init__(model)
-        self.hand_on = told
-
-    def executed(self, buffer: bytes) -> list[str]:
-        elapsed, self.elapsed = self.elapsed, 0
-        self.hand_on(buffer, self.locality, self.random, elapsed)
-        return []
+def of_layer(done: Completed) -> Reason:
+    return OfLayer("", f"The completing layer answers it: {done.did}.")
 
 
 class Play(Watched):
-    """A device that plays the lines of a log. `bad_line` is the number of the line that is none.
-    `watch` is called with each event at once, while the device is as it left it.
+    """A device that plays the lines of a log. `bad_line` is the number of the line that is none, and
+    `fault` says why nothing more is played. `damages` has what is wrong with heads, and `cuts` what a
+    crash left of records. `watch` is called with each event at once, while the device is as it left it.
     """
 
     def __init__(
@@ -223,37 +273,73 @@ class Play(Watched):
         is_whole: bool = False,
     ) -> None:
         """image.Fault of no image. The line `at`, or each with `is_whole`, is looked at whole."""
-        super().__init__(Model() if image is None else open_image(image))
+        super().__init__(Model() if image is None else images.open_image(image))
         self.at, self.is_whole = -1 if at is None else at, is_whole
-        self.answers, self.stage = Answers(answers), Stage(self.model, self.executed)
+        self.answers, self.given = Answers(answers), image
         self.bad_line: int | None = None
+        self.fault = ""
+        self.cuts, self.damages = list[records.Cut](), list[str]()
         self.comments = list[str]()
         self.watch: Callable[[Event], None] = lambda event: None
 
     def events(self, log: bytes) -> Iterator[Event]:
         """Each event, once all that the log says of its answer was read."""
-        lines = log.removesuffix(b"\n").split(b"\n") if log else []
-        for self.line, line in enumerate(lines[:LINES], 1):
-            text = line.decode("latin-1")
-            given = GIVEN.fullmatch(text)
-            if given:
-                self.given(given[2], is_before=given[1] is not None)
-                continue
-            if text.startswith("#") or not text:
-                self.comment(text[1:].strip())
-                continue
-            before, self.event = self.event, None
-            self.stage_line(line)
-            if self.event is None:
-                self.event = before
-            elif before is not None:
-                yield before
-            if self.bad_line is not None:
+        waiting: Event | None = None
+        for step in records.steps_of(log):
+            try:
+                event = self.step(step)
+            except images.Fault as fault:
+                self.fault = f"line {step.line} begins with what is no image: {fault}"
                 break
-        if self.event is not None:
-            yield self.event
-        if len(lines) > LINES:
-            self.bad_line = LINES + 1
+            if isinstance(step, records.Answer) and waiting is not None and not waiting.is_power:
+                waiting.compare(step.text)
+            if event is not None:
+                if waiting is not None:
+                    yield waiting
+                waiting = event
+        if waiting is not None:
+            yield waiting
+
+    def step(self, step: records.Step) -> Event | None:
+        """What becomes of a step, if that is an event."""
+        self.line = step.line
+        if isinstance(step, records.Command):
+            return self.shown(self.told(step), step.text)
+        if isinstance(step, records.Power):
+            self.answers.power()
+            return self.shown(self.power(), b"power")
+        if isinstance(step, records.Begin):
+            return self.begin(step)
+        if isinstance(step, records.Comment):
+            self.comment(step.words)
+        elif isinstance(step, records.Cut):
+            self.cuts.append(step)
+        elif isinstance(step, records.Bad):
+            self.bad_line, self.fault = step.line, f"script line {step.line}"
+            if isinstance(step, records.BadHead):
+                self.fault = f"line {step.line}: the head is cut"
+        return None
+
+    def told(self, step: records.Command) -> Event:
+        """A command of the log, and what is said of its answer."""
+        told = step.buffer, step.locality, step.random, step.elapsed
+        event = self.command(*told, step.completes)
+        if step.damage:
+            event.differences.append(Difference(step.damage, "", ""))
+        for it in step.said:
+            event.compare(it)
+        if step.mark is not None:
+            event.compare_sum(step.mark.answered)
+        self.answers.compare(event)
+        return event
+
+    def shown(self, event: Event, text: bytes) -> Event:
+        """With its line, and the comments before it."""
+        event.text = text.decode("latin-1")
+        event.comments = [it for it in self.comments if it]
+        self.comments = []
+        self.watch(event)
+        return event
 
     def comment(self, words: str) -> None:
         """A line of a comment, or an empty line, which ends a paragraph."""
@@ -264,31 +350,21 @@ class Play(Watched):
         elif self.comments and self.comments[-1]:
             self.comments.append("")
 
-    def stage_line(self, text: bytes) -> None:
-        """An event has its line, and the comments before it."""
-        try:
-            if text == b"power":
-                self.power()
-                self.answers.power()
-            else:
-                self.stage.play(text)
-        except BadLine:
-            self.bad_line = self.line
-        if self.event is not None:
-            self.event.text = text.decode("latin-1")
-            self.event.comments = [it for it in self.comments if it]
-            self.comments = []
-            self.watch(self.event)
-
-    def executed(self, buffer: bytes, locality: int, random: bytes, elapsed: int) -> None:
-        self.answers.compare(self.command(buffer, locality, random, elapsed))
-
-    def given(self, text: str, is_before: bool) -> None:
-        """An answer in a comment, behind its command, or with the time of day before it."""
-        if is_before:
-            self.answers.expected = text
-        elif self.event is not None and not self.event.is_power:
-            self.event.compare(text)
+    def begin(self, step: records.Begin) -> Event | None:
+        """The device of a head, with its power just on. Where it is that of the log before, it goes on,
+        behind a power cycle.
+        """
+        is_first = self.event is None
+        if step.damage:
+            self.damages.append(f"line {step.line}: {step.damage}")
+        goes_on = images.goes_on(self.model, step.image)
+        if is_first and self.given is not None and not goes_on:
+            words = "the image in the log is another one than that of --image"
+            self.damages.append(f"line {step.line}: {words}")
+        if is_first or not goes_on:
+            self.put(images.open_image(step.image))
+        self.layer = Completion(step.start)
+        return None if is_first else self.shown(self.power(), b"power")
 
 
 def entry_facts(scene: Scene) -> Iterator[tuple[int, list[Fact]]]:

@@ -45,6 +45,8 @@ class Reason:
     slips: list[str] = field(default_factory=list)
     at: int | None = None
 
+    by = "By the table"
+
     @property
     def sentence(self) -> str:
         return RULES[self.rule][0]
@@ -137,6 +139,21 @@ class Scene:
             at += 2 + int.from_bytes(self.buffer[at : at + 2], "big") + 1
             at += 2 + int.from_bytes(self.buffer[at : at + 2], "big")
         return at
+
+
+@dataclass
+class OfLayer(Reason):
+    """Why the completing layer refuses a command."""
+
+    by = "By the document"
+
+    @property
+    def sentence(self) -> str:
+        return "The completing layer answers what some clients need and the device by design lacks."
+
+    @property
+    def link(self) -> str:
+        return "docs/USING.md#what-the-completing-layer-answers"
 
 
 class Look:

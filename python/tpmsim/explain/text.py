@@ -5,12 +5,12 @@ from dataclasses import dataclass, field
 from typing import Any, Iterable, Iterator
 
 from tpmsim.explain.dissection import Field
-from tpmsim.explain.play import Event
+from tpmsim.explain.play import Event, Play
 from tpmsim.explain.reason import Fact, Reason
-from tpmsim.explain.words import command_words, plural, size_words
-from tpmsim.standard import NUMBERED
+from tpmsim.explain.words import plural, size_words
+from tpmsim.standard.command_names import command_name
 
-WIDTH = 100
+WIDTH, MOST_DIFFERING = 100, 8
 INDENT = "    "
 WRAPPER = textwrap.TextWrapper(
     WIDTH, initial_indent=INDENT, subsequent_indent=INDENT, break_on_hyphens=False
@@ -25,6 +25,7 @@ class Counts:
     power_cycles: int = 0
     refused: int = 0
     notes: int = 0
+    layer: int = 0
     answers: int = 0
     differing: list[int] = field(default_factory=list)
 
@@ -35,6 +36,7 @@ class Counts:
         self.commands += 1
         self.refused += bool(event.refused)
         self.notes += len(event.notes)
+        self.layer += bool(event.layer)
         self.answers += event.answers
         if event.differences:
             self.differing.append(event.line)
@@ -42,7 +44,8 @@ class Counts:
     def words(self) -> str:
         commands = f"{plural(self.commands, 'command')}, {self.refused:,} of them refused"
         cycles = plural(self.power_cycles, "power cycle")
-        return f"{commands}, and {cycles}. {self.answer_words()}"
+        layer = f" The completing layer answered {self.layer:,} of them." if self.layer else ""
+        return f"{commands}, and {cycles}.{layer} {self.answer_words()}"
 
     def answer_words(self) -> str:
         if self.differing:
@@ -55,26 +58,79 @@ class Counts:
 
 
 def name_of(event: Event) -> str:
-    number = event.scene.number
-    return command_words(number) if number in NUMBERED else "A command"
+    """The command's name, whether it is served or not."""
+    return command_name(event.scene.number) or "A command"
+
+
+def of_log(events: list[Event], play: Play) -> Iterator[str]:
+    """What a log does not have in common with the model comes first, since it spoils what follows."""
+    for words in play.damages:
+        yield f"{words}"
+        yield ""
+    differing = [it for it in events if it.differences]
+    for event in differing[:MOST_DIFFERING]:
+        yield from differences(event)
+        yield ""
+    if len(differing) > MOST_DIFFERING:
+        yield f"{plural(len(differing) - MOST_DIFFERING, 'more command')} differ."
+        yield ""
+    for event in events:
+        yield from reasons(event)
+    for cut in play.cuts:
+        yield f"line {cut.line}: {plural(cut.size, 'byte')} of a record that is not whole are left out"
+        yield ""
 
 
 def told(event: Event) -> Iterator[str]:
+    yield from differences(event)
+    yield from reasons(event)
+
+
+def differences(event: Event) -> Iterator[str]:
+    for it in event.differences:
+        yield f"line {event.line}: {name_of(event)}: {it.words}"
+        if it.log or it.model:
+            yield from facts_words([Fact("the log says", it.log), Fact("the model says", it.model)])
+
+
+def reasons(event: Event) -> Iterator[str]:
     if event.reason is not None:
         yield f"line {event.line}: {title(event)}"
+        yield from layer_words(event)
         yield from of_reason(event.reason)
     for note in event.notes:
         yield f"line {event.line}: {name_of(event)}, worth a look"
         yield from of_reason(note)
-    for it in event.differences:
-        yield f"line {event.line}: {name_of(event)}: {it.words}"
-        yield from facts_words([Fact("the log says", it.log), Fact("the model says", it.model)])
 
 
 def title(event: Event) -> str:
-    name, code = name_of(event), int.from_bytes(event.response[6:10], "big")
-    refused = f"is refused: {event.refused} ({code:03x}), by check {event.scene.check}"
-    return f"{name} {refused if event.refused else 'is accepted'}"
+    name, by = name_of(event), f"by check {event.scene.check}"
+    if event.layer and event.outcome is not event.own:
+        by = "by the completing layer"
+    if not event.refused:
+        return f"{name} is accepted{f', {by}' if event.layer else ''}"
+    return f"{name} is refused: {code_words(event.refused, event.response)}, {by}"
+
+
+def code_words(refused: str, response: bytes) -> str:
+    return f"{refused} ({int.from_bytes(response[6:10], 'big'):03x})"
+
+
+def layer_words(event: Event) -> list[str]:
+    """What the completing layer did, and what the device itself answered."""
+    if not event.layer:
+        return []
+    return wrapped(f"The completing layer: {event.layer}. {own_words(event)}")
+
+
+def own_words(event: Event) -> str:
+    own = event.own
+    if own is None or own.row.code != event.scene.number and own.row.check == "G1":
+        return ""
+    if not own.refused:
+        return "The device itself accepts it."
+    code = code_words(own.refused, own.response)
+    return f"The device itself refuses it: {code}, by check {own.row.check}."
 
 
 def told_words(reason: Reason) -> Iterator[str]:
@@ -84,7 +140,7 @@ def told_words(reason: Reason) -> Iterator[str]:
 
 def of_reason(reason: Reason) -> Iterator[str]:
     yield from told_words(reason)
-    yield from wrapped(f"By the table: {reason.sentence}")
+    yield from wrapped(f"{reason.by}: {reason.sentence}")
     yield f"{INDENT}{reason.link}"
     yield ""
 
@@ -106,6 +162,7 @@ def whole(event: Event) -> Iterator[str]:
         return
     scene, response, (asked, answered) = event.scene, event.response, event.fields()
     yield f"line {event.line}: {title(event)}"
+    yield from layer_words(event)
     yield f"{INDENT}locality {scene.locality}, {scene.elapsed:,} ms after the command before"
     yield f"{INDENT}the command, {size_words(len(scene.buffer))}"
     yield from fields_words(asked, scene.buffer)
@@ -129,13 +186,12 @@ VERSION = 1
 Value = dict[str, Any]
 
 
-def value_of_log(
-    events: list[Event], counts: Counts, bad_line: int | None, is_whole: bool
-) -> Value:
-    names = "commands", "refused", "power_cycles", "answers", "differing"
+def value_of_log(events: list[Event], counts: Counts, play: Play, is_whole: bool) -> Value:
+    names = "commands", "refused", "power_cycles", "answers", "differing", "layer"
     told = {it: getattr(counts, it) for it in names}
     values = [value_of_event(it, is_whole) for it in events]
-    return {"version": VERSION, **told, "bad_line": bad_line, "events": values}
+    ends = {"damages": play.damages, "cuts": [vars(it) for it in play.cuts]}
+    return {"version": VERSION, **told, **ends, "bad_line": play.bad_line, "events": values}
 
 
 def value_of_event(event: Event, is_whole: bool) -> Value:
@@ -144,10 +200,11 @@ def value_of_event(event: Event, is_whole: bool) -> Value:
         return {"line": event.line, "power": True}
     told: Value = {
         "line": event.line,
-        "command": name_of(event) if scene.number in NUMBERED else None,
+        "command": command_name(scene.number) or None,
         "code": event.response[6:10].hex(),
         "refused": event.refused or None,
         "check": scene.check,
+        "layer": value_of_layer(event),
         "locality": scene.locality,
         "elapsed": scene.elapsed,
         "reason": value_of_reason(event.reason) if event.reason else None,
@@ -165,6 +222,15 @@ def value_of_event(event: Event, is_whole: bool) -> Value:
             "entries": {str(at): [vars(it) for it in facts] for at, facts in event.entries},
         }
     return told
+
+
+def value_of_layer(event: Event) -> Value | None:
+    """What the completing layer did, and how the device itself answered."""
+    if not event.layer or event.own is None:
+        return None
+    own = event.own
+    device = {"code": own.response[6:10].hex(), "refused": own.refused, "check": own.row.check}
+    return {"words": event.layer, "device": device}
 
 
 def value_of_reason(reason: Reason) -> Value:

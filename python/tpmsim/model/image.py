@@ -170,6 +170,16 @@ def open_image(text: bytes, block_cipher: aes.BlockCipher = encrypt_block) -> Mo
     return device
 
 
+def goes_on(device: Model, text: bytes) -> bool:
+    """Whether an image is that of this device; its clock, which becomes the device's, may be later."""
+    found, clock = open_image(text), device.clock
+    device.clock = found.clock
+    if image(device) == image(found):
+        return True
+    device.clock = clock
+    return False
+
+
 def fault_of(text: bytes) -> str | None:
     try:
         open_image(text)

@@ -35,32 +35,31 @@ def hex_bytes(text: bytes) -> bytes:
     return bytes.fromhex(found(HEX, text)[0].decode("ascii"))
 
 
-class Player:
-    """A device that plays lines; `starved` has the numbers of the commands without memory."""
+class Words:
+    """What the lines of a script say of the next command: its locality, its random bytes, and how many
+    milliseconds come before it.
+    """
 
-    def __init__(self, device: Model | None = None, starved: Iterable[int] = ()) -> None:
-        self.device, self.locality = device or Model(), 0
-        self.random, self.elapsed = bytes(RANDOM_BYTES), 0
-        self.starved, self.commands = starved, 0
+    def __init__(self) -> None:
+        self.locality, self.random, self.elapsed = 0, bytes(RANDOM_BYTES), 0
 
-    def play(self, line: bytes) -> list[str]:
+    def take(self, line: bytes) -> bytes | None:
+        """The buffer of a line that is a command's; other words are kept. `power` is no such line."""
         word, space, argument = line.partition(b" ")
         if len(line) > LINE_BYTES:
             raise BadLine
         if not line or line.startswith(b"#"):
-            return []
+            return None
         if word == b"cmd":
-            return self.executed(hex_bytes(argument))
-        if line == b"power":
-            self.device.power_cycle()
-            return ["power"]
+            return hex_bytes(argument)
         if not space:
             raise BadLine
         if word == b"do":
-            return self.executed(self.assembled(argument))
-        return self.told(word, argument)
+            return self.assembled(argument)
+        self.told(word, argument)
+        return None
 
-    def told(self, word: bytes, argument: bytes) -> list[str]:
+    def told(self, word: bytes, argument: bytes) -> None:
         if word == b"loc":
             self.locality = decimal(argument, LAST_LOCALITY)
         elif word == b"wait":
@@ -69,7 +68,6 @@ class Player:
             self.random = (hex_bytes(argument) * RANDOM_BYTES)[:RANDOM_BYTES]
         else:
             raise BadLine
-        return []
 
     @staticmethod
     def assembled(argument: bytes) -> bytes:
@@ -77,6 +75,22 @@ class Player:
             return lines.assemble(argument)
         except lines.Fault:
             raise BadLine from None
+
+
+class Player(Words):
+    """A device that plays lines; `starved` has the numbers of the commands without memory."""
+
+    def __init__(self, device: Model | None = None, starved: Iterable[int] = ()) -> None:
+        super().__init__()
+        self.device = device or Model()
+        self.starved, self.commands = starved, 0
+
+    def play(self, line: bytes) -> list[str]:
+        if line == b"power":
+            self.device.power_cycle()
+            return ["power"]
+        buffer = self.take(line)
+        return [] if buffer is None else self.executed(buffer)
 
     def executed(self, buffer: bytes) -> list[str]:
         self.commands += 1

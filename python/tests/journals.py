@@ -1,0 +1,51 @@
+"""Journals as docs/ATTACHED.md has them, written of the device in Python, so that tests need no library."""
+
+from tpmsim.model.image import image
+from tpmsim.model.machine import Model
+from tpmsim.model.player import RANDOM_BYTES, Words
+from tpmsim.records.marks import OFFSET_BASIS, sum_from, sum_of
+from tpmsim.standard import number
+
+
+class Journal:
+    """The text of a device that plays lines; a power cycle begins it anew. All random bytes that a command
+    is given are told as drawn.
+    """
+
+    def __init__(self, model=None):
+        self.model, self.words = model or Model(), Words()
+        self.begin()
+
+    def begin(self):
+        self.model.power_cycle()
+        text = image(self.model)
+        mark = number(0, 8) + number(len(text), 4) + number(sum_of(text), 8)
+        self.sum = sum_from(OFFSET_BASIS, mark)
+        self.text = f"# tpmsim journal 1 {mark.hex()} {self.sum:016x}\n# {text.hex()}\n".encode()
+        self.head_bytes, self.ends = len(self.text), [len(self.text)]
+
+    def play(self, *lines):
+        for line in lines:
+            buffer = self.words.take(line.encode())
+            if buffer is not None:
+                self.execute(buffer)
+        return self
+
+    def execute(self, buffer):
+        words = self.words
+        elapsed, words.elapsed = words.elapsed, 0
+        drawn = words.random[:64]
+        random = drawn.ljust(RANDOM_BYTES, b"\0")
+        response = self.model.execute(buffer, words.locality, random, elapsed).response
+        sizes = number(len(drawn), 2) + number(len(buffer), 2)
+        sums = number(sum_of(drawn + buffer), 8) + number(sum_of(response), 8)
+        mark = number(elapsed, 4) + number(words.locality, 1) + b"\0" + sizes + sums
+        self.sum = sum_from(self.sum, mark)
+        lines = (
+            f"# {mark.hex()} {self.sum:016x}",
+            *(f"wait {elapsed:010}", f"loc {words.locality}"),
+            *(f"entropy {drawn.hex()}", f"cmd {buffer.hex()}"),
+        )
+        self.text += "".join(f"{it}\n" for it in lines).encode()
+        self.ends.append(len(self.text))
+        return response

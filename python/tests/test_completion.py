@@ -1,0 +1,101 @@
+"""The completing layer in Python beside the library's, and how a completed command is explained."""
+
+import pathlib
+import random
+import re
+import tempfile
+import unittest
+
+import completed_scripts
+from tpmsim.device import KeptDevice, library
+from tpmsim.explain import text
+from tpmsim.explain.play import Play
+
+SEEDS, COMMANDS = 12, 500
+
+# What the layer does, but for numbers.
+DEEDS = {
+    "context N of object N, which stays in its place",
+    "context N of session N, which stays in its place",
+    "object N is not there",
+    "object N waits, as it was flushed",
+    "session N is not there",
+    "session N is saved already",
+    "N is neither a transient object nor a session",
+    "the handle of context N",
+    "what context N names, N, is gone, or is loaded",
+    "the bytes are no context since the power came on",
+    "the device was not told: the object waits in its place for the sake of its context",
+    "the device was not told: the object was flushed already, and waits in its place",
+    "N, which waited longest, was given up, and the command executed again",
+    "the bytes are not used",
+    "the algorithms with the layer",
+    "the commands with the layer",
+    "the handles with the layer",
+    "the properties with the layer",
+    "the tag is TPM N.N's, and the answer says that there is none",
+}
+
+
+def deed(words):
+    return re.sub(r"\b([0-9a-f]{8}|\d+)\b", "N", words)
+
+
+def recorded(seed, count):
+    """The journal of commands at random, and what was answered to those in it."""
+    with tempfile.TemporaryDirectory() as folder:
+        with KeptDevice(folder, forces=False, completes=True) as device:
+            answered = completed_scripts.play(device, random.Random(seed), count)
+        return pathlib.Path(folder, "journal").read_bytes(), answered
+
+
+def wrong(event, response):
+    """Whether an event is explained as something else than what was answered."""
+    is_refused = any(response[6:10])
+    is_said = bool(event.refused), event.reason is not None
+    return event.response != response or event.differences or is_said != (is_refused,) * 2
+
+
+@unittest.skipUnless(library.is_there(), "there is no library")
+class Completed(unittest.TestCase):
+    def test_commands_at_random(self):
+        """Each is answered as by the library, and a refusal where that refuses, and nowhere else."""
+        seen = set()
+        for seed in range(SEEDS):
+            journal, answered = recorded(seed, COMMANDS)
+            play = Play()
+            events = list(play.events(journal))
+            self.assertEqual((len(events), play.fault, play.cuts), (len(answered), "", []))
+            for event, response in zip(events, answered):
+                self.assertFalse(wrong(event, response), f"seed {seed}, line {event.line}")
+                seen.add(deed(event.layer))
+        self.assertEqual(seen - {""}, DEEDS)
+
+    def test_words(self):
+        """What the layer answered is told, and what the device itself said."""
+        save, stir = "8001 0000000e 00000162 80000000", "8001 0000000e 00000146 0002 0102"
+        with tempfile.TemporaryDirectory() as folder:
+            with KeptDevice(folder, forces=False, completes=True) as device:
+                for it in ("8001 0000000c 00000144 0000", stir, save):
+                    device.execute(bytes.fromhex(it))
+            journal = pathlib.Path(folder, "journal").read_bytes()
+        counts, play = text.Counts(), Play()
+        _, stirred, saved = events = list(play.events(journal))
+        for event in events:
+            counts.add(event)
+        said = "3 commands, 1 of them refused, and 0 power cycles. "
+        said += "The completing layer answered 2 of them. 3 answers of the log are the model's."
+        self.assertEqual(counts.words(), said)
+        own = "The device itself refuses it: COMMAND_CODE (143),"
+        told = (
+            "line 12: StirRandom is accepted, by the completing layer",
+            f"    The completing layer: the bytes are not used. {own}",
+            "    by check G4.",
+        )
+        self.assertEqual(tuple(text.whole(stirred))[:3], told)
+        title = "line 17: ContextSave is refused: REFERENCE_H0 (910), by the completing layer"
+        self.assertEqual(next(text.told(saved)), title)
+
+
+if __name__ == "__main__":
+    unittest.main()

@@ -1,0 +1,198 @@
+"""What was recorded is read as it was: heads with images, cut ends, answers before and behind."""
+
+import contextlib
+import io
+import json
+import pathlib
+import tempfile
+import unittest
+
+from explained_logs import events_of
+from journals import Journal
+from tpmsim import records
+from tpmsim.device import library, LibraryDevice
+from tpmsim.explain import main as command_line
+from tpmsim.explain.play import Play
+from tpmsim.model.image import image
+
+START = "do Startup 0"
+DEFINE = "do NV_DefineSpace OWNER pw:- 736563726574 01000001000b0004000400000010"
+WRITE = "do NV_Write 01000001 01000001 pw:736563726574 3136206279746573206f662074657874 0"
+WRONG = "do NV_Read 01000001 01000001 pw:776f726e67 8 0"
+RIGHT = "do NV_Read 01000001 01000001 pw:736563726574 8 0"
+
+
+def journal_with_index():
+    """A journal whose image has an index, and in which a wrong value is given for it."""
+    journal = Journal().play(START, DEFINE, WRITE)
+    journal.begin()
+    return journal.play(START, WRONG, RIGHT)
+
+
+def played(text):
+    play = Play()
+    return play, list(play.events(text))
+
+
+def codes(events):
+    return [it.response[6:10].hex().lstrip("0") for it in events]
+
+
+class Heads(unittest.TestCase):
+    def test_the_image_of_a_journal(self):
+        play, events = played(journal_with_index().text)
+        self.assertEqual(codes(events), ["", "98e", ""])
+        self.assertEqual([(it.answers, it.differences) for it in events], [(1, [])] * 3)
+        self.assertIn("The password of the entry is not the authValue", events[1].reason.words)
+        self.assertEqual((play.fault, play.damages, play.cuts), ("", [], []))
+
+    def test_the_image_of_a_report(self):
+        journal = journal_with_index()
+        lines = f"# image {image(Journal(journal.model).model).hex()}", START, WRONG
+        events = events_of(*lines)
+        self.assertEqual(codes(events), ["", "98e"])
+        self.assertIsNotNone(events[1].reason)
+
+    @unittest.skipUnless(library.is_there(), "there is no library")
+    def test_a_device_in_process(self):
+        with LibraryDevice() as device:
+            for line in (START, DEFINE, WRITE):
+                device.execute(records_of(line))
+            image = device.save()
+        with LibraryDevice.open(image) as device:
+            for line in (START, WRONG):
+                device.execute(records_of(line))
+            events = events_of(*device.trace)
+        self.assertEqual(codes(events), ["", "98e"])
+        self.assertFalse(any(it.differences for it in events))
+
+    def test_one_log_behind_another(self):
+        """One of the same device goes on, and knows what came before; another one is another device."""
+        first = Journal().play(START, DEFINE)
+        before = first.text
+        first.begin()
+        first.play(START, WRONG)
+        _, events = played(before + first.text)
+        self.assertEqual(codes([it for it in events if not it.is_power]), ["", "", "", "98e"])
+        self.assertEqual([it.is_power for it in events], [False, False, True, False, False])
+        self.assertEqual(events[-1].scene.past.begun[0x01000001], 12)
+        other = Journal().play(START, RIGHT)
+        _, events = played(before + other.text)
+        self.assertEqual(codes(events)[-1], "18b")
+        self.assertFalse(any(it.differences for it in events))
+        self.assertIn("no command before has made it", events[-1].reason.words)
+
+    def test_heads_that_are_none(self):
+        text = journal_with_index().text
+        for bent, fault in (
+            (
+                text.replace(b"54504d49", b"54504d48", 1),
+                "line 1 begins with what is no image: Magic",
+            ),
+            (text[:100], "line 2: the head is cut"),
+            (text[:77], "line 2: the head is cut"),
+        ):
+            self.assertEqual(played(bent)[0].fault, fault)
+        bent = text.replace(b"# tpmsim journal 1 00", b"# tpmsim journal 1 01", 1)
+        words = "line 1: the head is damaged: its sums are others"
+        self.assertEqual(played(bent)[0].damages, [words])
+
+
+def records_of(line):
+    (step,) = [it for it in records.steps_of(line.encode()) if isinstance(it, records.Command)]
+    return step.buffer
+
+
+class Ends(unittest.TestCase):
+    def test_a_cut_end(self):
+        """A journal that ends anywhere, with zeros behind it or without, has its whole records."""
+        journal = journal_with_index()
+        for size in range(journal.head_bytes, len(journal.text)):
+            whole = sum(it <= size for it in journal.ends) - 1
+            last = journal.ends[whole]
+            for zeros in (0, 3):
+                play, events = played(journal.text[:size] + bytes(zeros))
+                self.assertEqual((len(events), play.fault), (whole, ""), size)
+                cuts = [it.size for it in play.cuts]
+                self.assertEqual(cuts, [size - last + zeros] if size - last + zeros else [])
+                self.assertFalse(any(it.differences for it in events))
+
+    def test_another_log_behind_a_cut_end(self):
+        journal = journal_with_index()
+        for size in range(journal.ends[1], journal.ends[2]):
+            play, events = played(journal.text[:size] + journal.text)
+            self.assertEqual([it.is_power for it in events], [False, True, False, False, False])
+            self.assertEqual((codes(events)[-2:], play.fault), (["98e", ""], ""))
+
+    def test_lines_behind_a_journal(self):
+        """Whoever goes on with a journal by hand is followed."""
+        journal = journal_with_index()
+        play, events = played(journal.text + f"{WRONG}\n# by hand".encode())
+        self.assertEqual((codes(events), play.cuts), (["", "98e", "", "98e"], []))
+
+
+class Answers(unittest.TestCase):
+    def test_a_trace_before_its_command(self):
+        lines = "# Startup L0 +0 ok 00000000", START, "# NV_Read L0 +0 G6 0000018b", RIGHT
+        events = events_of(*lines)
+        self.assertEqual([(it.answers, it.differences) for it in events], [(1, [])] * 2)
+        bent = events_of(*lines[:2], "# NV_Read L0 +0 ok 00000000", RIGHT)
+        self.assertEqual([len(it.differences) for it in bent], [0, 1])
+
+    def test_the_sum_of_an_answer(self):
+        """Another answer is told first, by its line; so are a mark and lines that were bent."""
+        journal = journal_with_index()
+        at = journal.ends[1] + 2
+        mark = journal.text[at : at + 52]
+        for old, new, wanted in (
+            (HANDLES, OTHER_HANDLES, [OTHER_LINES, OTHER_SUM]),
+            (mark, b"00" + mark[2:-2] + b"00", [DAMAGED, OTHER_SUM]),
+        ):
+            text = journal.text[:at] + journal.text[at:].replace(old, new, 1)
+            _, events = played(text)
+            self.assertEqual([it.words for it in events[1].differences], wanted)
+            self.assertEqual(events[2].differences, [])
+            self.assertEqual(events[0].differences, [])
+            output, _, status = told(text)
+            self.assertEqual(status, 1)
+            self.assertTrue(output.startswith("line 12: NV_Read: the record is damaged"), output)
+
+    def test_another_image(self):
+        """The image of --image is that of the log, or a difference."""
+        journal = journal_with_index()
+        text, own = journal.text, bytes.fromhex(journal.text.split(b"\n")[1][2:].decode())
+        output, error, status = told(text, own)
+        self.assertEqual((error, status), ("", 0))
+        output, _, status = told(text, image(Journal().model))
+        words = "line 1: the image in the log is another one than that of --image\n"
+        self.assertEqual((output[: len(words)], status), (words, 1))
+
+    def test_what_was_cut_is_told(self):
+        text = journal_with_index().text[:-9]
+        output, _, status = told(text)
+        words = "line 13: 309 bytes of a record that is not whole are left out"
+        self.assertIn(words, output)
+        value = json.loads(told(text, form="--json")[0])
+        self.assertEqual((value["cuts"], status), ([{"line": 13, "size": 309}], 0))
+
+
+OTHER_SUM = "the response is another one than was recorded, by its sum"
+OTHER_LINES = "the record is damaged: its lines are not those of its mark"
+DAMAGED = "the record is damaged: the sum of its mark is another one"
+HANDLES, OTHER_HANDLES = b"0100000101000001", b"0100000201000001"
+
+
+def told(text, start=None, form=None):
+    """What the command line prints of a log, what it says on standard error, and its status."""
+    output, error = io.TextIOWrapper(io.BytesIO()), io.StringIO()
+    with tempfile.TemporaryDirectory() as folder:
+        log = pathlib.Path(folder, "log")
+        log.write_bytes(text)
+        words = [str(log), *([form] if form else [])]
+        if start is not None:
+            pathlib.Path(folder, "start").write_bytes(start)
+            words += ["--image", str(pathlib.Path(folder, "start"))]
+        with contextlib.redirect_stdout(output), contextlib.redirect_stderr(error):
+            status = command_line.main(*words)
+    output.seek(0)
+    return output.read(), error.getvalue(), status

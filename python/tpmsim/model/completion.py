@@ -1,0 +1,317 @@
+"""The completing layer above the device: what it answers where the device by design does not
+(docs/USING.md). Its contexts are tokens for objects and sessions that stay in the device.
+"""
+
+from __future__ import annotations
+
+from dataclasses import dataclass, replace
+from typing import Callable
+
+from tpmsim.model import capability, object_commands
+from tpmsim.model.machine import Model, Outcome, PLACE_BITS, SESSIONS
+from tpmsim.standard import CC, command, Fields, frames, is_session, number, RH_NULL
+from tpmsim.standard import Short, sized, TRANSIENT
+from tpmsim.standard.handle_kinds import first_byte
+
+OBJECTS = object_commands.OBJECTS
+
+# The commands that the layer alone has, with what TPM2_GetCapability tells of them.
+STIR_RANDOM, CONTEXT_LOAD, CONTEXT_SAVE = 0x146, 0x161, 0x162
+OWN_COMMANDS = {STIR_RANDOM: 0x146, CONTEXT_LOAD: 0x1000_0161, CONTEXT_SAVE: 0x0200_0162}
+MOST_STIRRED = 128
+
+# A code that the device has no use for.
+OWN_CODES = {"TOO_MANY_CONTEXTS": 0x12E}
+
+# A command of TPM 1.2, and what the device answers it.
+OF_FAMILY_1, BAD_TAG = 0xC1, frames.HEADER.pack(0xC4, 10, 0x1E)
+
+ALGORITHMS = {
+    **{0x04: 0x004, 0x05: 0x104, 0x06: 0x002, 0x08: 0x30C, 0x0A: 0x006, 0x0B: 0x004},
+    **{0x22: 0x404, 0x25: 0x008, 0x43: 0x202},
+}
+OF_ALGORITHMS = 0
+OWN_PROPERTIES = {
+    **{0x105: 0x5453494D, 0x10B: 1, 0x10C: 0, 0x112: 24, 0x11E: 4096, 0x11F: 4096},
+    **{0x120: 32, 0x12C: 1024},
+}
+
+LISTS = {
+    OF_ALGORITHMS: "the algorithms",
+    capability.HANDLES: "the handles",
+    capability.COMMANDS: "the commands",
+    capability.PROPERTIES: "the properties",
+}
+
+TOKEN, LAST_NUMBER = b"tpmsim 1", 2**64 - 1
+BETWEEN = 26  # bytes of a context between its number and its handle
+NOTHING = bytes(256)
+
+Execute = Callable[[bytes, int, bytes, int], Outcome]
+
+
+@dataclass(frozen=True)
+class Held:
+    """An object's context, or 0, and the number of its flush, or 0 where it does not wait."""
+
+    context: int = 0
+    waits: int = 0
+
+
+@dataclass(frozen=True)
+class Completed:
+    """What came of a command, what the device itself came to first, and what the layer did, if anything."""
+
+    outcome: Outcome
+    own: Outcome
+    did: str = ""
+
+
+@dataclass(frozen=True)
+class Asked:
+    """A command without sessions."""
+
+    code: int
+    parameters: bytes
+
+
+def asked_of(buffer: bytes) -> Asked | None:
+    fields = Fields(buffer)
+    try:
+        tag, size, code = fields.number(2), fields.number(4), fields.number(4)
+    except Short:
+        return None
+    is_plain = tag == frames.NO_SESSIONS and size == len(buffer)
+    return Asked(code, fields.data) if is_plain else None
+
+
+def numbers_of(parameters: bytes, count: int) -> list[int] | None:
+    """So many numbers of four bytes, and nothing else."""
+    if len(parameters) != 4 * count:
+        return None
+    fields = Fields(parameters)
+    return [fields.number(4) for _ in range(count)]
+
+
+def refused(outcome: Outcome, name: str) -> Outcome:
+    code = OWN_CODES.get(name) or frames.code_of(name)
+    return Outcome(frames.refusal(code), outcome.row, name)
+
+
+def told(outcome: Outcome, parameters: bytes = b"") -> Outcome:
+    return Outcome(frames.success(parameters), outcome.row)
+
+
+class Completion:
+    """What the layer remembers of a device since a start, by whose number it knows its contexts."""
+
+    def __init__(self, start: int = 0) -> None:
+        self.start, self.count = start, 0
+        self.objects = [Held()] * OBJECTS
+        self.sessions = [0] * SESSIONS
+
+    def execute(
+        self,
+        device: Model,
+        event: tuple[bytes, int, bytes, int],
+        execute: Execute,
+        gives_up: Execute,
+    ) -> Completed:
+        """A command with the layer: its buffer, locality, random bytes and milliseconds. `execute` has the
+        device execute one, and `gives_up` one of the layer's own.
+        """
+        buffer, locality, random, elapsed = event
+        place = self.flush_asked(buffer)
+        if place is not None:
+            own = gives_up(b"", locality, random, elapsed)
+            self.forget(device)
+            return self.note_flush(own, place)
+        own = execute(buffer, locality, random, elapsed)
+        self.forget(device)
+        place = self.given_up(own)
+        if place is None:
+            return self.reply(device, buffer, own)
+        handle = TRANSIENT << 24 | place
+        gives_up(command(CC.FlushContext, number(handle, 4)), locality, NOTHING, 0)
+        self.forget(device)
+        again = execute(buffer, locality, random, 0)
+        self.forget(device)
+        words = f"{handle:08x}, which waited longest, was given up, and the command executed again"
+        return Completed(again, own, words)
+
+    def forget(self, device: Model) -> None:
+        """The contexts of what is gone."""
+        for place in range(OBJECTS):
+            if TRANSIENT << 24 | place not in device.objects:
+                self.objects[place] = Held()
+        taken = {it & PLACE_BITS for it in device.sessions}
+        self.sessions = [it if at in taken else 0 for at, it in enumerate(self.sessions)]
+
+    def held(self, handle: int) -> Held:
+        place = handle & PLACE_BITS
+        return self.objects[place] if place < OBJECTS else Held()
+
+    def saved(self, handle: int) -> int:
+        place = handle & PLACE_BITS
+        return self.sessions[place] if place < SESSIONS else 0
+
+    # Objects that wait for their contexts' sake.
+
+    def flush_asked(self, buffer: bytes) -> int | None:
+        """The place of the object with a context that is flushed."""
+        asked = asked_of(buffer)
+        found = numbers_of(asked.parameters, 1) if asked and asked.code == CC.FlushContext else None
+        if not found or first_byte(found[0]) != TRANSIENT or self.count == LAST_NUMBER:
+            return None
+        return found[0] & PLACE_BITS if self.held(found[0]).context else None
+
+    def note_flush(self, own: Outcome, place: int) -> Completed:
+        held, words = self.objects[place], "the device was not told: the object waits in its place"
+        if held.waits:
+            words = (
+                "the device was not told: the object was flushed already, and waits in its place"
+            )
+            return Completed(refused(own, "HANDLE/p1"), own, words)
+        self.count += 1
+        self.objects[place] = replace(held, waits=self.count)
+        return Completed(told(own), own, f"{words} for the sake of its context")
+
+    def given_up(self, own: Outcome) -> int | None:
+        """The object that waits longest, for another one that found no place."""
+        if own.row.code not in (CC.CreatePrimary, CC.Load) or own.refused != "OBJECT_MEMORY":
+            return None
+        waiting = [(it.waits, at) for at, it in enumerate(self.objects) if it.waits]
+        return min(waiting)[1] if waiting else None
+
+    # Answers behind the device's.
+
+    def reply(self, device: Model, buffer: bytes, own: Outcome) -> Completed:
+        stands, asked = Completed(own, own), asked_of(buffer)
+        if asked is None:
+            is_probe = int.from_bytes(buffer[:2], "big") == OF_FAMILY_1 and len(buffer) > 1
+            if not is_probe or own.response != BAD_TAG:
+                return stands
+            words = "the tag is TPM 1.2's, and the answer says that there is none"
+            return Completed(refused(own, "VALUE"), own, words)
+        if not device.started:
+            return stands
+        if own.refused == "COMMAND_CODE":
+            return self.served(device, asked, stands)
+        if asked.code == CC.GetCapability:
+            return self.capability(device, asked, stands)
+        return stands
+
+    def served(self, device: Model, asked: Asked, stands: Completed) -> Completed:
+        own, numbers = stands.own, numbers_of(asked.parameters, 1)
+        if asked.code == STIR_RANDOM:
+            size = int.from_bytes(asked.parameters[:2], "big")
+            is_whole = len(asked.parameters) == 2 + size and size <= MOST_STIRRED
+            return Completed(told(own), own, "the bytes are not used") if is_whole else stands
+        if asked.code == CONTEXT_LOAD:
+            return self.load(device, asked.parameters, own)
+        if asked.code == CONTEXT_SAVE and numbers is not None:
+            return self.save(device, numbers[0], own)
+        return stands
+
+    def capability(self, device: Model, asked: Asked, stands: Completed) -> Completed:
+        wanted = numbers_of(asked.parameters, 3)
+        found = self.listed(device, wanted, stands.own) if wanted else None
+        if wanted is None or found is None:
+            return stands
+        elements = [text for at, text in found if at >= wanted[1]]
+        given = elements[: min(wanted[2], capability.MOST_ELEMENTS)]
+        more = number(len(given) < len(elements), 1)
+        head = more + number(wanted[0], 4) + number(len(given), 4)
+        words = f"{LISTS[wanted[0]]} with the layer"
+        return Completed(told(stands.own, head + b"".join(given)), stands.own, words)
+
+    def listed(
+        self, device: Model, wanted: list[int], own: Outcome
+    ) -> list[tuple[int, bytes]] | None:
+        """The elements of a list that is the layer's, each with the number by which it is asked for."""
+        if own.refused:
+            is_refused = own.refused == "VALUE/p1" and wanted[0] == OF_ALGORITHMS
+            texts = [(it, number(it, 2) + number(told, 4)) for it, told in ALGORITHMS.items()]
+            return texts if is_refused else None
+        if wanted[0] == capability.COMMANDS:
+            commands = {int(it): capability.command_attributes(it) for it in CC} | OWN_COMMANDS
+            return [(it, number(told, 4)) for it, told in sorted(commands.items())]
+        if wanted[0] == capability.PROPERTIES:
+            properties = device.properties()
+            properties |= {it: number(told, 4) for it, told in OWN_PROPERTIES.items()}
+            properties[capability.TOTAL_COMMANDS] = number(len(CC) + len(OWN_COMMANDS), 4)
+            return [(it, number(it, 4) + told) for it, told in sorted(properties.items())]
+        return self.handles(device, wanted[1] >> 24) if wanted[0] == capability.HANDLES else None
+
+    def handles(self, device: Model, kind: int) -> list[tuple[int, bytes]] | None:
+        """Those of objects that do not wait, and of sessions that are loaded (02) or saved (03)."""
+        if kind == TRANSIENT:
+            objects = sorted(it for it in device.objects if first_byte(it) == TRANSIENT)
+            return [(it, number(it, 4)) for it in objects if not self.held(it).waits]
+        if kind not in (frames.HMAC_SESSION, frames.POLICY_SESSION):
+            return None
+        is_saved = kind == frames.POLICY_SESSION
+        by_place = sorted((it & PLACE_BITS, it) for it in device.sessions)
+        sessions = [it for it in by_place if bool(self.sessions[it[0]]) == is_saved]
+        return [(kind << 24 | at, number(it, 4)) for at, it in sessions]
+
+    # Contexts.
+
+    def context(self, handle: int, count: int) -> bytes:
+        saved = TRANSIENT << 24 if first_byte(handle) == TRANSIENT else handle
+        token = TOKEN + number(self.start, 8) + number(handle, 4)
+        return number(count, 8) + number(saved, 4) + number(RH_NULL, 4) + sized(token)
+
+    def save(self, device: Model, handle: int, own: Outcome) -> Completed:
+        if first_byte(handle) == TRANSIENT:
+            held = self.held(handle)
+            if handle not in device.objects or held.waits:
+                why = "waits, as it was flushed" if held.waits else "is not there"
+                return Completed(refused(own, "REFERENCE_H0"), own, f"object {handle:08x} {why}")
+            return self.saved_object(handle, held, own)
+        if not is_session(handle):
+            words = f"{handle:08x} is neither a transient object nor a session"
+            return Completed(refused(own, "VALUE/h1"), own, words)
+        if handle not in device.sessions or self.saved(handle):
+            why = "is saved already" if handle in device.sessions else "is not there"
+            return Completed(refused(own, "REFERENCE_H0"), own, f"session {handle:08x} {why}")
+        if self.count == LAST_NUMBER:
+            return Completed(refused(own, "TOO_MANY_CONTEXTS"), own, "no number is left")
+        self.count += 1
+        self.sessions[handle & PLACE_BITS] = self.count
+        text, words = self.context(handle, self.count), f"context {self.count} of session"
+        return Completed(told(own, text), own, f"{words} {handle:08x}, which stays in its place")
+
+    def saved_object(self, handle: int, held: Held, own: Outcome) -> Completed:
+        if not held.context and self.count == LAST_NUMBER:
+            return Completed(refused(own, "TOO_MANY_CONTEXTS"), own, "no number is left")
+        if not held.context:
+            self.count += 1
+            held = self.objects[handle & PLACE_BITS] = Held(self.count)
+        text = self.context(handle, held.context)
+        words = f"context {held.context} of object {handle:08x}, which stays in its place"
+        return Completed(told(own, text), own, words)
+
+    def load(self, device: Model, text: bytes, own: Outcome) -> Completed:
+        fields = Fields(text)
+        try:
+            count = fields.number(8)
+            fields.take(BETWEEN)
+            handle = fields.number(4)
+        except Short:
+            handle = count = 0
+        if text != self.context(handle, count):
+            words = "the bytes are no context since the power came on"
+            return Completed(refused(own, "INTEGRITY/p1"), own, words)
+        words, is_object = f"{handle:08x}", first_byte(handle) == TRANSIENT
+        is_there = handle in device.objects if is_object else handle in device.sessions
+        known = self.held(handle).context if is_object else self.saved(handle)
+        is_known = is_object or is_session(handle)
+        if not is_known or not is_there or not count or count != known:
+            words = f"what context {count} names, {handle:08x}, is gone, or is loaded"
+            return Completed(refused(own, "HANDLE/p1"), own, words)
+        if is_object:
+            self.objects[handle & PLACE_BITS] = Held(count)
+        else:
+            self.sessions[handle & PLACE_BITS] = 0
+        return Completed(told(own, number(handle, 4)), own, f"the handle of context {count}")

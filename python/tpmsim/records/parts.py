@@ -1,0 +1,72 @@
+"""A text of one or more logs, divided into those: each begins with a head, but the first need not."""
+
+import re
+from dataclasses import dataclass
+from typing import Iterator
+
+from tpmsim.records.marks import HEAD, Mark, MARK
+
+# A head as a journal has it, and the image of the start as Python's devices and pytest report it.
+# What a crash left of a journal has no newline before the head of the next one.
+HEADS = re.compile(HEAD.pattern + rb"(?=\n)|^# image (?=[0-9a-f]*$)", re.MULTILINE)
+LINES_OF_HEAD, LINES_OF_ENTRY = 2, 5
+BEGUN = re.compile(rb"#( ([0-9a-f]+( [0-9a-f]*)?)?)?")
+LINE_OF_MARK = re.compile(rb"^" + MARK.pattern + rb"\n", re.MULTILINE)
+
+
+@dataclass(frozen=True)
+class Part:
+    """A log: its text, the number of its first line, and the bytes that a crash left behind it."""
+
+    text: bytes
+    line: int
+    torn: bytes = b""
+
+    @property
+    def is_journal(self) -> bool:
+        return HEAD.match(self.text) is not None
+
+    @property
+    def last_line(self) -> int:
+        """The number of the line that what is torn begins in."""
+        return self.line + self.text.count(b"\n")
+
+
+def parts_of(text: bytes) -> Iterator[Part]:
+    starts = [it.start() for it in HEADS.finditer(text)]
+    at, line = 0, 1
+    for end in [*(it for it in starts if it), len(text)]:
+        yield whole_of(Part(text[at:end], line))
+        line += text.count(b"\n", at, end)
+        at = end
+
+
+def whole_of(part: Part) -> Part:
+    """The part without what is no whole record at its end: less than an entry, and zeros."""
+    if not part.is_journal:
+        return part
+    front = part.text.rstrip(b"\0")
+    marks = list(LINE_OF_MARK.finditer(front))
+    end = marks[-1].start() if marks else after_lines(front, LINES_OF_HEAD)
+    if marks and not is_cut(front[end:]):
+        end = after_lines(front, LINES_OF_ENTRY, end)
+    if not is_cut(front[end:]) and not BEGUN.fullmatch(front, end):
+        end = len(front)
+    return Part(part.text[:end], part.line, part.text[end:])
+
+
+def is_cut(entry: bytes) -> bool:
+    """Whether what begins with the line of a mark, if anything, is less than an entry."""
+    mark = Mark.read(entry.partition(b"\n")[0])
+    if mark is None or entry.count(b"\n") >= LINES_OF_ENTRY:
+        return False
+    return len(entry) < mark.entry_bytes
+
+
+def after_lines(text: bytes, count: int, at: int = 0) -> int:
+    """Where so many lines end; the text's end where it has fewer."""
+    for _ in range(count):
+        at = text.find(b"\n", at) + 1
+        if not at:
+            return len(text)
+    return at

@@ -1,0 +1,219 @@
+"""What a log says, step by step: a script, by hand or of a device in Python; a journal, and a log of
+`tpmsim serve`; what `tpmsim script` prints; and several of these one behind another.
+"""
+
+from __future__ import annotations
+
+import re
+from dataclasses import dataclass, field, replace
+from typing import Iterator
+
+from tpmsim.model.player import BadLine, LINE_BYTES, LINES, RANDOM_BYTES, Words
+from tpmsim.records.marks import HeadMark, Mark, OFFSET_BASIS, sum_from
+from tpmsim.records.parts import Part, parts_of
+
+# An answer in a comment: a trace, which may have the time of day before it, a code or a response.
+TRACE = r"\S+ L\d \+\d+ \S+ [0-9a-f]{8}"
+GIVEN = re.compile(
+    r"# (\d\d:\d\d:\d\d\.\d{3} )?" rf"({TRACE}|[0-9a-f]{{8}}|(?:8001|8002|00c4)[0-9a-f]{{16,}})"
+)
+
+# How `tpmsim script` says that the completing layer was there for a command.
+COMPLETED = b"# completed"
+
+# What makes an answer be read behind its command, where it stands first in a log.
+COMMANDS = b"cmd", b"do "
+
+DAMAGED_HEAD = "the head is damaged: its sums are others"
+DAMAGED_MARK = "the record is damaged: the sum of its mark is another one"
+OTHER_LINES = "the record is damaged: its lines are not those of its mark"
+
+
+@dataclass(frozen=True)
+class Begin:
+    """The power comes on of the device of an image. `start` is the number by which the completing layer
+    knows the contexts of this time of power; `damage` says what is wrong with the head.
+    """
+
+    line: int
+    image: bytes
+    start: int = 0
+    damage: str = ""
+
+
+@dataclass(frozen=True)
+class Power:
+    line: int
+
+
+@dataclass(frozen=True)
+class Command:
+    """A command with what was told before it: answers in comments, and the mark of a journal, which has
+    the sum of its response. `damage` says what is wrong with its record.
+    """
+
+    line: int
+    text: bytes
+    buffer: bytes
+    locality: int
+    elapsed: int
+    random: bytes
+    completes: bool = False
+    said: list[str] = field(default_factory=list)
+    mark: Mark | None = None
+    damage: str = ""
+
+
+@dataclass(frozen=True)
+class Answer:
+    """An answer in a comment behind its command."""
+
+    line: int
+    text: str
+
+
+@dataclass(frozen=True)
+class Comment:
+    """The words of a comment; none is an empty line."""
+
+    line: int
+    words: str
+
+
+@dataclass(frozen=True)
+class Cut:
+    """What a crash left of a record: so many bytes, which begin in a line."""
+
+    line: int
+    size: int
+
+
+@dataclass(frozen=True)
+class Bad:
+    """A line that is none of a script's; nothing follows it."""
+
+    line: int
+
+
+@dataclass(frozen=True)
+class BadHead(Bad):
+    """A head that is cut."""
+
+
+Step = Begin | Power | Command | Answer | Comment | Cut | Bad
+
+
+def steps_of(text: bytes) -> Iterator[Step]:
+    for part in parts_of(text):
+        for step in Reading(part).steps():
+            yield step
+            if isinstance(step, Bad):
+                return
+        if part.torn:
+            yield Cut(part.last_line, len(part.torn))
+
+
+class Reading:
+    """The lines of one log."""
+
+    def __init__(self, part: Part) -> None:
+        text = part.text
+        self.line, self.lines = part.line - 1, text.removesuffix(b"\n").split(b"\n") if text else []
+        self.words, self.sum = Words(), OFFSET_BASIS
+        self.said, self.is_completed = list[str](), False
+        self.mark: Mark | None = None
+        self.damage = ""
+        self.is_before = answers_come_first(self.lines)
+
+    def steps(self) -> Iterator[Step]:
+        yield from self.head()
+        for text in self.lines:
+            self.line += 1
+            if self.line > LINES:
+                yield Bad(self.line)
+                return
+            try:
+                yield from self.step(text)
+            except BadLine:
+                yield Bad(self.line)
+                return
+
+    def head(self) -> Iterator[Step]:
+        """That of a journal has two lines, that of a report one."""
+        first = self.lines[0] if self.lines else b""
+        mark, word = HeadMark.read(first), b"# image "
+        if mark is None and not first.startswith(word):
+            return
+        image = hex_of(first.removeprefix(word))
+        if mark is not None:
+            self.sum = mark.said
+            image = hex_of(self.lines[1].removeprefix(b"# ")) if len(self.lines) > 1 else None
+        self.line += 1 if mark is None else 2
+        del self.lines[: 1 if mark is None else 2]
+        if image is None or mark is not None and len(image) < mark.size:
+            yield BadHead(self.line)
+            return
+        if mark is None:
+            yield Begin(self.line, image)
+        else:
+            damage = "" if mark.is_of(image) else DAMAGED_HEAD
+            yield Begin(self.line - 1, image, self.sum, damage)
+
+    def step(self, text: bytes) -> Iterator[Step]:
+        if len(text) > LINE_BYTES:
+            raise BadLine
+        if text == b"power":
+            yield Power(self.line)
+        elif not text or text.startswith(b"#"):
+            yield from self.comment(text)
+        else:
+            buffer = self.words.take(text)
+            if buffer is not None:
+                yield self.command(text, buffer)
+
+    def comment(self, text: bytes) -> Iterator[Step]:
+        mark, given = Mark.read(text), GIVEN.fullmatch(text.decode("latin-1"))
+        if mark is not None:
+            total = sum_from(self.sum, mark.text)
+            self.mark, self.sum = mark, mark.said
+            self.damage = "" if total == mark.said else DAMAGED_MARK
+        elif text == COMPLETED:
+            self.is_completed = True
+        elif given is None:
+            yield Comment(self.line, text[1:].strip().decode("latin-1"))
+        elif self.is_before or given[1] is not None:
+            self.said.append(given[2])
+        else:
+            yield Answer(self.line, given[2])
+
+    def command(self, text: bytes, buffer: bytes) -> Command:
+        words, mark = self.words, self.mark
+        given = buffer, words.locality, words.elapsed
+        found = Command(self.line, text, *given, words.random, self.is_completed, self.said)
+        if mark is not None:
+            drawn = words.random[: mark.drawn]
+            damage = self.damage or ("" if mark.is_of(*given, drawn) else OTHER_LINES)
+            random = drawn.ljust(RANDOM_BYTES, b"\0")
+            told = {"random": random, "completes": mark.completes, "mark": mark, "damage": damage}
+            found = replace(found, **told)
+        words.elapsed, self.said, self.mark, self.is_completed = 0, [], None, False
+        return found
+
+
+def answers_come_first(lines: list[bytes]) -> bool:
+    """Whether answers stand before their commands, as `tpmsim script` prints them: where one stands before
+    any command does.
+    """
+    for line in lines:
+        if line.startswith(COMMANDS):
+            return False
+        if GIVEN.fullmatch(line.decode("latin-1")):
+            return True
+    return False
+
+
+def hex_of(text: bytes) -> bytes | None:
+    try:
+        return bytes.fromhex(text.decode("ascii"))
+    except ValueError:
+        return None
