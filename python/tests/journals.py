@@ -18,7 +18,7 @@ class Journal:
 
     def begin(self):
         self.model.power_cycle()
-        text = image(self.model)
+        text = self.image = image(self.model)
         mark = number(0, 8) + number(len(text), 4) + number(sum_of(text), 8)
         self.sum = sum_from(OFFSET_BASIS, mark)
         self.text = f"# tpmsim journal 1 {mark.hex()} {self.sum:016x}\n# {text.hex()}\n".encode()

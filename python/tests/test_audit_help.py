@@ -19,7 +19,7 @@ class Help(unittest.TestCase):
             status = command_line.main("--help")
         self.assertEqual(status, 0)
         self.assertTrue(output.getvalue().startswith("Judges a script by what was printed of it"))
-        self.assertIn("SCRIPT OUTPUT [--image START] [--policy FILE]..", output.getvalue())
+        self.assertIn("SCRIPT [OUTPUT] [--image START] [--policy FILE]..", output.getvalue())
 
     def test_refusals_that_are_no_entrys(self):
         """The audit says by the words of tpmsim.explain why a PolicyNV is answered 126."""

@@ -7,6 +7,9 @@ import tempfile
 import unittest
 
 import completed_scripts
+from tpmsim.audit import start
+from tpmsim.audit.auditor import Auditor, report
+from tpmsim.audit.log import NoLog
 from tpmsim.device import KeptDevice, library
 from tpmsim.explain import text
 from tpmsim.explain.play import Play
@@ -70,6 +73,18 @@ class Completed(unittest.TestCase):
                 self.assertFalse(wrong(event, response), f"seed {seed}, line {event.line}")
                 seen.add(deed(event.layer))
         self.assertEqual(seen - {""}, DEEDS)
+
+    def test_an_audit(self):
+        """What the layer answers is counted alone, and what it makes of the device is in the history."""
+        for seed in range(2):
+            journal, answered = recorded(seed, COMMANDS)
+            auditor = Auditor(start.of_log(journal, None), NoLog())
+            auditor.read(journal)
+            counts = auditor.counts
+            self.assertEqual(counts.commands, len(answered))
+            self.assertGreater(counts.layer, 0)
+            words = f"{counts.refused} refused and {counts.layer} answered by the completing layer"
+            self.assertIn(words, "\n".join(report(auditor)))
 
     def test_words(self):
         """What the layer answered is told, and what the device itself said."""

@@ -10,10 +10,10 @@ import unittest
 from explained_logs import events_of
 from journals import Journal
 from tpmsim import records
+from tpmsim.audit import main as audit
 from tpmsim.device import library, LibraryDevice
 from tpmsim.explain import main as command_line
 from tpmsim.explain.play import Play
-from tpmsim.model.image import image
 
 START = "do Startup 0"
 DEFINE = "do NV_DefineSpace OWNER pw:- 736563726574 01000001000b0004000400000010"
@@ -48,7 +48,7 @@ class Heads(unittest.TestCase):
 
     def test_the_image_of_a_report(self):
         journal = journal_with_index()
-        lines = f"# image {image(Journal(journal.model).model).hex()}", START, WRONG
+        lines = f"# image {Journal(journal.model).image.hex()}", START, WRONG
         events = events_of(*lines)
         self.assertEqual(codes(events), ["", "98e"])
         self.assertIsNotNone(events[1].reason)
@@ -163,7 +163,7 @@ class Answers(unittest.TestCase):
         text, own = journal.text, bytes.fromhex(journal.text.split(b"\n")[1][2:].decode())
         output, error, status = told(text, own)
         self.assertEqual((error, status), ("", 0))
-        output, _, status = told(text, image(Journal().model))
+        output, _, status = told(text, Journal().image)
         words = "line 1: the image in the log is another one than that of --image\n"
         self.assertEqual((output[: len(words)], status), (words, 1))
 
@@ -174,6 +174,63 @@ class Answers(unittest.TestCase):
         self.assertIn(words, output)
         value = json.loads(told(text, form="--json")[0])
         self.assertEqual((value["cuts"], status), ([{"line": 13, "size": 309}], 0))
+
+
+class Audits(unittest.TestCase):
+    """A journal is judged by its own head and sums, with an output or without one."""
+
+    def test_a_journal(self):
+        journal = journal_with_index()
+        for text, more in (
+            (journal.text, ""),
+            (
+                journal.text[:-9],
+                "Script line 13: 309 bytes of a record that is not whole are left out.",
+            ),
+        ):
+            status, output, error = audited(text)
+            self.assertEqual((status, error), (0, ""))
+            self.assertTrue(output.startswith("Start: the device of an image, whose SHA-256 is "))
+            words = "the password is not the value that the image has"
+            self.assertIn(words, output)
+            self.assertIn(more, output)
+
+    def test_journals_one_behind_another(self):
+        journal = Journal().play(START, DEFINE)
+        before = journal.text
+        journal.begin()
+        journal.play(START, WRITE)
+        status, output, _ = audited(before + journal.text)
+        events = "5 events: 4 commands, 4 of them accepted and 0 refused, and 1 power cycle."
+        self.assertEqual((status, output.splitlines()[1]), (0, events))
+        status, _, error = audited(before + Journal().text)
+        self.assertEqual((status, error), (1, "audit: script line 13 begins with another device\n"))
+
+    def test_what_is_bent(self):
+        journal = journal_with_index()
+        at = journal.ends[1]
+        bent = journal.text[:at] + journal.text[at:].replace(HANDLES, OTHER_HANDLES, 1)
+        self.assertEqual(
+            audited(bent)[::2], (1, f"audit: script line 12, NV_Read: {OTHER_LINES}\n")
+        )
+        image = journal.text.split(b"\n")[1][2:].decode()
+        self.assertEqual(audited(journal.text, bytes.fromhex(image))[0], 0)
+        error = "audit: image of another device than the log begins with\n"
+        self.assertEqual(audited(journal.text, Journal().image)[::2], (2, error))
+        self.assertEqual(audited(f"{START}\n".encode())[0], 2)
+
+
+def audited(text, start=None):
+    """The status of an audit without an output, what it prints, and what it says on standard error."""
+    output, error = io.StringIO(), io.StringIO()
+    with tempfile.TemporaryDirectory() as folder:
+        log, image = pathlib.Path(folder, "log"), pathlib.Path(folder, "start")
+        log.write_bytes(text)
+        image.write_bytes(start or b"")
+        words = [str(log), *(["--image", str(image)] if start else [])]
+        with contextlib.redirect_stdout(output), contextlib.redirect_stderr(error):
+            status = audit.main(*words)
+    return status, output.getvalue(), error.getvalue()
 
 
 OTHER_SUM = "the response is another one than was recorded, by its sum"

@@ -33,6 +33,9 @@ run 'its log on the image of the start' run --image played second
 for reader in audit explain; do
     python3 "$tests/../tools/$reader.py" second trace --image start >"$room/read"
     echo "the log is read by $reader: status $?"
+    python3 "$tests/../tools/$reader.py" second trace >"$room/alone"
+    echo "the same by the image in the log: status $?"
+    cmp "$room/read" "$room/alone"
 done
 
 # What is at the path of a log stays as it was, and no device is served.

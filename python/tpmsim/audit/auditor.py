@@ -3,6 +3,7 @@
 from dataclasses import dataclass
 from typing import Iterator, Sequence
 
+from tpmsim import records
 from tpmsim.audit.ground import Grounds
 from tpmsim.audit.lines import CounterLines, PcrLines, Repeats, ValueLines
 from tpmsim.audit.log import Disagreement, Log
@@ -11,20 +12,28 @@ from tpmsim.audit.session_lines import SessionLines
 from tpmsim.audit.start import Start
 from tpmsim.audit.uses import Guesses, Refusals, Uses
 from tpmsim.audit.watch import Entities, Seen, Watch
-from tpmsim.model.player import BadLine, LINES, Player
+from tpmsim.model import image as images
+from tpmsim.model.completion import Completion
+from tpmsim.model.player import LINES
 from tpmsim.policies.policy_file import PolicyFile
-from tpmsim.standard import NUMBERED
+from tpmsim.standard import lines
+from tpmsim.standard.command_names import command_name
 
 
 @dataclass
 class Counts:
     accepted: int = 0
     refused: int = 0
+    layer: int = 0
     power_cycles: int = 0
 
     @property
+    def commands(self) -> int:
+        return self.accepted + self.refused + self.layer
+
+    @property
     def events(self) -> int:
-        return self.accepted + self.refused + self.power_cycles
+        return self.commands + self.power_cycles
 
 
 class Auditor:
@@ -33,8 +42,9 @@ class Auditor:
     def __init__(self, start: Start, log: Log, policy_files: Sequence[PolicyFile] = ()) -> None:
         device, history = start.device, start.history
         self.start, self.log, self.history = start, log, history
-        self.player, self.watch = Player(device), Watch(device)
+        self.watch = Watch(device)
         self.device, self.counts, self.last = device, Counts(), 0
+        self.cut: records.Cut | None = None
         self.pcrs = PcrLines(history, start.has_image)
         self.values = ValueLines(start.has_image)
         self.sessions = SessionLines(history)
@@ -47,27 +57,59 @@ class Auditor:
 
     def read(self, script: bytes) -> None:
         """Judges all lines of a script; the first Disagreement ends it."""
-        lines = script.removesuffix(b"\n").split(b"\n") if script else []
-        for number, line in enumerate(lines[:LINES], 1):
-            self.watch.seen, self.watch.line = None, number
-            try:
-                printed = self.player.play(line)
-            except BadLine:
+        is_begun = False
+        for step in records.steps_of(script):
+            self.watch.seen, self.watch.line = None, step.line
+            if isinstance(step, records.Bad):
                 self.log.end()
-                words = f"script line {number} is no line of a script; up to it the log agrees"
-                raise Disagreement(words) from None
-            if printed:
-                self.judge(number, printed)
+                raise Disagreement(bad_words(step))
+            if isinstance(step, records.Cut):
+                self.cut = step
+            elif isinstance(step, records.Begin):
+                self.begin(step, is_begun)
+                is_begun = True
+            elif isinstance(step, records.Power):
+                self.power(step.line)
+                is_begun = True
+            elif isinstance(step, records.Command):
+                self.command(step)
+                is_begun = True
         self.log.end()
-        if len(lines) > LINES:
-            words = f"the script has more than {LINES} lines; up to there the log agrees"
-            raise Disagreement(words)
 
-    def judge(self, number: int, printed: list[str]) -> None:
+    def begin(self, step: records.Begin, is_begun: bool) -> None:
+        """A head, which is the start's, or another one of the same device."""
+        if step.damage:
+            raise Disagreement(f"script line {step.line}: {step.damage}")
+        if is_begun:
+            try:
+                goes_on = images.goes_on(self.device, step.image)
+            except images.Fault as fault:
+                raise Disagreement(
+                    f"script line {step.line} begins with no image: {fault}"
+                ) from None
+            if not goes_on:
+                raise Disagreement(f"script line {step.line} begins with another device")
+            self.power(step.line)
+        self.watch.layer = Completion(step.start)
+
+    def power(self, line: int) -> None:
+        self.device.power_cycle()
+        self.watch.layer.forget(self.device)
+        self.judge(line, ["power"])
+
+    def command(self, step: records.Command) -> None:
+        event = step.buffer, step.locality, step.random, step.elapsed
+        outcome = self.watch.executed(*event, step.completes)
+        for it in self.watch.others:
+            self.note(it)
+        trace = lines.traced(outcome, step.locality, step.elapsed)
+        self.judge(step.line, [trace, outcome.response.hex()], step)
+
+    def judge(self, number: int, printed: list[str], step: records.Command | None = None) -> None:
         seen = self.watch.latest
         seen.line = self.last = number
         try:
-            self.compare(seen, printed)
+            self.compare(seen, printed, step)
             if seen.event is None:
                 self.refuse(seen)
             else:
@@ -78,11 +120,21 @@ class Auditor:
             where = ", ".join(filter(None, (f"script line {seen.line}", name)))
             raise Disagreement(f"{where}: {fault}") from None
 
-    def compare(self, seen: Seen, printed: list[str]) -> None:
+    def compare(self, seen: Seen, printed: list[str], step: records.Command | None) -> None:
+        """With the output, and with what the script says of the answer itself."""
         try:
-            self.log.check(printed)
+            has_answer = step is None or step.mark is not None or bool(step.said)
+            self.log.check(printed, has_answer)
         except Disagreement as fault:
             raise Disagreement(f"{fault}{self.uses.reason(seen)}") from None
+        if step is None or seen.explained is None:
+            return
+        seen.explained.compare_all(step)
+        for it in seen.explained.differences:
+            more = (
+                f": the log says {it.log}, and a device of this start {it.model}" if it.log else ""
+            )
+            raise Disagreement(f"{it.words}{more}")
 
     def follow(self) -> None:
         told = ", ".join(self.history.differences(self.device))
@@ -90,18 +142,26 @@ class Auditor:
             raise Disagreement(f"the device is not what its history tells: {told}")
 
     def refuse(self, seen: Seen) -> None:
-        self.counts.refused += 1
         self.guesses.refuse(seen, self.grounds)
-        self.uses.refuse(seen)
+        if seen.explained is not None and seen.explained.layer:
+            self.counts.layer += 1
+        else:
+            self.counts.refused += 1
+            self.uses.refuse(seen)
         self.refusals.note(seen)
 
     def accept(self, seen: Seen) -> None:
-        """First its entries, by the history before it; then what the history tells with it."""
         if seen.is_power_cycle:
             self.counts.power_cycles += 1
-            self.watch.past.power(seen.line)
         else:
             self.counts.accepted += 1
+        self.note(seen)
+
+    def note(self, seen: Seen) -> None:
+        """First its entries, by the history before it; then what the history tells with it."""
+        if seen.is_power_cycle:
+            self.watch.past.power(seen.line)
+        else:
             self.uses.accept(seen)
             self.sessions.assert_on(seen)
         assert seen.event is not None
@@ -114,13 +174,20 @@ class Auditor:
         self.guesses.note(seen)
 
 
-def command_name(code: int) -> str:
-    return NUMBERED[code].name if code in NUMBERED else ""
+def bad_words(step: records.Bad) -> str:
+    if isinstance(step, records.BadHead):
+        return f"script line {step.line}: the head is cut"
+    if step.line > LINES:
+        return f"the script has more than {LINES} lines; up to there the log agrees"
+    return f"script line {step.line} is no line of a script; up to it the log agrees"
 
 
 def report(auditor: Auditor) -> Iterator[str]:
     yield f"Start: {auditor.start.words}."
     yield events_words(auditor.counts)
+    if auditor.cut is not None:
+        words = f"{counted(auditor.cut.size, 'byte')} of a record that is not whole are left out"
+        yield f"Script line {auditor.cut.line}: {words}."
     given = [auditor.policies.report()] if auditor.policies.all else []
     for part in (
         *(auditor.pcrs.report(), auditor.sessions.report(), auditor.uses.report()),
@@ -133,8 +200,11 @@ def report(auditor: Auditor) -> Iterator[str]:
 
 
 def events_words(counts: Counts) -> str:
-    commands = counted(counts.accepted + counts.refused, "command")
+    commands = counted(counts.commands, "command")
     of_these = f"{counts.accepted} of them accepted and {counts.refused} refused"
+    if counts.layer:
+        of_these = f"{counts.accepted} of them accepted, {counts.refused} refused"
+        of_these += f" and {counts.layer} answered by the completing layer"
     cycles = counted(counts.power_cycles, "power cycle")
     return f"{counted(counts.events, 'event')}: {commands}, {of_these}, and {cycles}."
 

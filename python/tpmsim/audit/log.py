@@ -45,7 +45,7 @@ class Log:
     def left(self) -> int:
         return len(self.lines) - self.at
 
-    def check(self, printed: list[str]) -> None:
+    def check(self, printed: list[str], has_answer: bool) -> None:
         """Compares the next lines with those that are due; Disagreement where they differ."""
         for wanted in printed:
             if not self.left:
@@ -62,3 +62,14 @@ class Log:
         if self.left:
             lines = "a line" if self.left == 1 else f"{self.left} lines"
             raise Disagreement(f"the log has {lines} more than is printed of the script")
+
+
+class NoLog(Log):
+    """No output: each command has its answer in the script, as those of a journal."""
+
+    def __init__(self) -> None:
+        super().__init__(b"")
+
+    def check(self, printed: list[str], has_answer: bool) -> None:
+        if not has_answer:
+            raise Disagreement("nothing says what it was answered")

@@ -1,10 +1,10 @@
 """Judges a script by what was printed of it, for who reviews the log of a device:
 
-    tpmsim-audit SCRIPT OUTPUT [--image START] [--policy FILE]..
+    tpmsim-audit SCRIPT [OUTPUT] [--image START] [--policy FILE]..
 
-OUTPUT is what `tpmsim run --trace SCRIPT` printed; `-` is standard input. With --image the device
-was no new one, but the one of an image, as `tpmsim serve --image` leaves it, behind a power cycle.
-Each --policy gives a policy in words, as docs/USING.md has it.
+OUTPUT is what `tpmsim run --trace SCRIPT` printed; `-` is standard input. A journal has its own answers,
+by their sums, and may have no OUTPUT. With --image, or the image that a journal begins with, the
+device was no new one, but the one of that image, behind a power cycle. Each --policy gives a policy in words, as docs/USING.md has it.
 
 It prints what the log tells: the PCRs, the policies, each use of an entity with the ground on which
 it was let in, why commands were refused for none of their entries, the counters, and the failed
@@ -22,13 +22,13 @@ from dataclasses import dataclass, field
 
 from tpmsim.audit import start
 from tpmsim.audit.auditor import Auditor, report
-from tpmsim.audit.log import Disagreement, Log
+from tpmsim.audit.log import Disagreement, Log, NoLog
 from tpmsim.explain.main import called, read, Usage
 from tpmsim.model.image import Fault
 from tpmsim.policies.policy_file import Fault as PolicyFault, PolicyFile
 
 NAME = called("tpmsim-audit", "tools/audit.py")
-USAGE = f"usage: {NAME} SCRIPT OUTPUT [--image START] [--policy FILE].."
+USAGE = f"usage: {NAME} SCRIPT [OUTPUT] [--image START] [--policy FILE].."
 HELP = (__doc__ or "").strip().replace("tpmsim-audit", NAME)
 
 AGREES = (
@@ -39,7 +39,7 @@ AGREES = (
 
 @dataclass
 class Asked:
-    """The names of the script and of its output, of an image and of policies."""
+    """The names of the script and of its output, if it has one, of an image and of policies."""
 
     names: list[str] = field(default_factory=list)
     images: list[str] = field(default_factory=list)
@@ -55,16 +55,16 @@ def asked_of(words: list[str]) -> Asked:
         else:
             asked.names.append(word)
     wrong = [it for it in (*asked.names, *asked.images, *asked.policies) if it.startswith("--")]
-    if len(asked.names) != 2 or len(asked.images) > 1 or wrong:
+    if len(asked.names) not in (1, 2) or len(asked.images) > 1 or wrong:
         raise Usage(USAGE)
     if "-" in (asked.names[0], *asked.policies):
         raise Usage(USAGE)
     return asked
 
 
-def auditor_of(asked: Asked, log: Log) -> Auditor:
+def auditor_of(asked: Asked, script: bytes, log: Log) -> Auditor:
     try:
-        begun = start.of_image(read(asked.images[0])) if asked.images else start.new()
+        begun = start.of_log(script, read(asked.images[0]) if asked.images else None)
     except Fault as fault:
         raise Usage(f"image {fault}") from None
     policies = list[PolicyFile]()
@@ -82,8 +82,10 @@ def main(*words: str) -> int:
         return 0
     try:
         asked = asked_of(list(words))
-        script, log = read(asked.names[0]), Log(read(asked.names[1]))
-        auditor = auditor_of(asked, log)
+        script, outputs = read(asked.names[0]), [Log(read(it)) for it in asked.names[1:]]
+        if not outputs and not start.has_answers(script):
+            raise Usage(USAGE)
+        auditor = auditor_of(asked, script, outputs[0] if outputs else NoLog())
     except Usage as wrong:
         print(f"audit: {wrong}", file=sys.stderr)
         return 2

@@ -115,7 +115,7 @@ class Watch(Watched):
         # A refusal for an entry is judged by the history.
         super().__init__(device, lambda scene: not is_of_entry(scene.check, scene.refused))
         self.seen: Seen | None = None
-        setattr(device, "execute", self.executed)
+        self.others = list[Seen]()
         setattr(device, "tell", self.told)
 
     @property
@@ -124,11 +124,20 @@ class Watch(Watched):
         return self.seen
 
     def executed(
-        self, buffer: bytes, locality: int, random: bytes, elapsed: int, _: bool
+        self, buffer: bytes, locality: int, random: bytes, elapsed: int, completes: bool = False
     ) -> Outcome:
-        self.seen = Seen(buffer, locality, elapsed)
-        self.seen.explained = self.command(buffer, locality, random, elapsed)
+        """An event; `others` has those that the completing layer made of the device for it."""
+        self.seen, self.others = Seen(buffer, locality, elapsed), []
+        self.seen.explained = self.command(buffer, locality, random, elapsed, completes)
         return self.seen.outcome
+
+    def give_up(self, buffer: bytes, locality: int, random: bytes, elapsed: int) -> Outcome:
+        asked, self.seen = self.latest, Seen(buffer, locality, elapsed, line=self.line)
+        outcome = super().give_up(buffer, locality, random, elapsed)
+        if self.seen.event is not None:
+            self.others.append(self.seen)
+        self.seen = asked
+        return outcome
 
     def authorize(self, command: Command, locality: int) -> None:
         self.latest.known = command

@@ -85,6 +85,15 @@ class Event:
         if text != wanted:
             self.differences.append(Difference(words, text, wanted))
 
+    def compare_all(self, step: records.Command) -> None:
+        """With all that the log says of the answer."""
+        if step.damage:
+            self.differences.append(Difference(step.damage, "", ""))
+        for it in step.said:
+            self.compare(it)
+        if step.mark is not None:
+            self.compare_sum(step.mark.answered)
+
     def compare_sum(self, answered: int) -> None:
         """Holds the sum of the response that was recorded against the model's response."""
         self.answers += 1
@@ -283,22 +292,15 @@ class Play(Watched):
         self.watch: Callable[[Event], None] = lambda event: None
 
     def events(self, log: bytes) -> Iterator[Event]:
-        """Each event, once all that the log says of its answer was read."""
-        waiting: Event | None = None
+        """Each event, with all that the log says of its answer."""
         for step in records.steps_of(log):
             try:
                 event = self.step(step)
             except images.Fault as fault:
                 self.fault = f"line {step.line} begins with what is no image: {fault}"
                 break
-            if isinstance(step, records.Answer) and waiting is not None and not waiting.is_power:
-                waiting.compare(step.text)
             if event is not None:
-                if waiting is not None:
-                    yield waiting
-                waiting = event
-        if waiting is not None:
-            yield waiting
+                yield event
 
     def step(self, step: records.Step) -> Event | None:
         """What becomes of a step, if that is an event."""
@@ -324,12 +326,7 @@ class Play(Watched):
         """A command of the log, and what is said of its answer."""
         told = step.buffer, step.locality, step.random, step.elapsed
         event = self.command(*told, step.completes)
-        if step.damage:
-            event.differences.append(Difference(step.damage, "", ""))
-        for it in step.said:
-            event.compare(it)
-        if step.mark is not None:
-            event.compare_sum(step.mark.answered)
+        event.compare_all(step)
         self.answers.compare(event)
         return event
 

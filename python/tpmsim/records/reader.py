@@ -48,8 +48,9 @@ class Power:
 
 @dataclass(frozen=True)
 class Command:
-    """A command with what was told before it: answers in comments, and the mark of a journal, which has
-    the sum of its response. `damage` says what is wrong with its record.
+    """A command with what is said of its answer: traces, codes and responses in comments before or
+    behind it, and the mark of a journal, which has the sum of the response. `damage` says what is wrong
+    with its record.
     """
 
     line: int
@@ -62,14 +63,6 @@ class Command:
     said: list[str] = field(default_factory=list)
     mark: Mark | None = None
     damage: str = ""
-
-
-@dataclass(frozen=True)
-class Answer:
-    """An answer in a comment behind its command."""
-
-    line: int
-    text: str
 
 
 @dataclass(frozen=True)
@@ -100,12 +93,12 @@ class BadHead(Bad):
     """A head that is cut."""
 
 
-Step = Begin | Power | Command | Answer | Comment | Cut | Bad
+Step = Begin | Power | Command | Comment | Cut | Bad
 
 
 def steps_of(text: bytes) -> Iterator[Step]:
     for part in parts_of(text):
-        for step in Reading(part).steps():
+        for step in Reading(part).whole_steps():
             yield step
             if isinstance(step, Bad):
                 return
@@ -121,9 +114,20 @@ class Reading:
         self.line, self.lines = part.line - 1, text.removesuffix(b"\n").split(b"\n") if text else []
         self.words, self.sum = Words(), OFFSET_BASIS
         self.said, self.is_completed = list[str](), False
+        self.behind: list[str] | None = None  # where an answer behind a command goes
         self.mark: Mark | None = None
         self.damage = ""
         self.is_before = answers_come_first(self.lines)
+
+    def whole_steps(self) -> Iterator[Step]:
+        """Each step; a command once the answers behind it were read, and before the comments there."""
+        waiting = list[Step]()
+        for step in self.steps():
+            if not isinstance(step, Comment):
+                yield from waiting
+                waiting.clear()
+            waiting.append(step)
+        yield from waiting
 
     def steps(self) -> Iterator[Step]:
         yield from self.head()
@@ -163,6 +167,7 @@ class Reading:
         if len(text) > LINE_BYTES:
             raise BadLine
         if text == b"power":
+            self.behind = None
             yield Power(self.line)
         elif not text or text.startswith(b"#"):
             yield from self.comment(text)
@@ -183,8 +188,8 @@ class Reading:
             yield Comment(self.line, text[1:].strip().decode("latin-1"))
         elif self.is_before or given[1] is not None:
             self.said.append(given[2])
-        else:
-            yield Answer(self.line, given[2])
+        elif self.behind is not None:
+            self.behind.append(given[2])
 
     def command(self, text: bytes, buffer: bytes) -> Command:
         words, mark = self.words, self.mark
@@ -196,7 +201,8 @@ class Reading:
             random = drawn.ljust(RANDOM_BYTES, b"\0")
             told = {"random": random, "completes": mark.completes, "mark": mark, "damage": damage}
             found = replace(found, **told)
-        words.elapsed, self.said, self.mark, self.is_completed = 0, [], None, False
+        words.elapsed, self.mark, self.is_completed = 0, None, False
+        self.behind, self.said = self.said, []
         return found
 
 
