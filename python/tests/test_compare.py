@@ -8,7 +8,9 @@ from tpmsim.compare.differences import cause_of
 from tpmsim.compare.main import other_tpm, told
 from tpmsim.compare.play import Comparison
 from tpmsim.device import Answered, Device, StartedSwtpm
+from tpmsim.model.machine import Model
 from tpmsim.standard import number
+from journals import Journal
 
 TESTS = pathlib.Path(__file__).resolve().parents[2] / "tests"
 
@@ -18,6 +20,8 @@ SCRIPTS = (
     *("policy_secret", "object_policies", "nv_sessions", "lockout", "lockout_sessions", "waits"),
     *("sealed_to_pcrs", "private_area", "replays", "localities", "saved_state", "clear"),
 )
+
+DEFINE = "do NV_DefineSpace OWNER pw:- - 01000001000b0002000200000008"
 
 
 def script(name):
@@ -58,6 +62,23 @@ do GetRandom 4
             "4 commands, 1 differences, 0 that follow, 1 not comparable",
         )
         self.assertEqual(told(pathlib.Path("script"), report), [f"script: {it}" for it in lines])
+
+    def test_journals(self):
+        """One that begins with a new device is played, whichever its seeds are, and another one refused."""
+        journal = Journal(Model(bytes(256)))
+        journal.play("do Startup 0", DEFINE, "do GetRandom 4")
+        with Device() as other:
+            report = Comparison(other).play(journal.text)
+        self.assertEqual((report.commands, report.differences), (3, []))
+        before = journal.text
+        journal.begin()
+        with Device() as other:
+            report = Comparison(other).play(before + journal.play("do Startup 0").text)
+        self.assertEqual((report.commands, report.differences), (4, []))
+        with Device() as other:
+            words = "line 2 begins with a device that no other TPM can be made"
+            text = b"# a head of its own follows\n" + journal.text
+            self.assertRaisesRegex(ValueError, words, Comparison(other).play, text)
 
 
 class Others(unittest.TestCase):

@@ -1,7 +1,8 @@
 """Plays a script on both TPMs, and tells where they differ."""
 
-from dataclasses import dataclass, field
+from dataclasses import dataclass, field, replace
 
+from tpmsim import records
 from tpmsim.caller.entries import Prepared
 from tpmsim.compare.differences import between, code_word, Difference
 from tpmsim.compare.reference import parsed, Received, Reference
@@ -10,7 +11,7 @@ from tpmsim.device import FileDevice, SimulatorDevice, Transport, Unsupported
 from tpmsim.device.base import Executed
 from tpmsim.device.told import MOST_MILLISECONDS
 from tpmsim.model.general import Command
-from tpmsim.model.player import Player
+from tpmsim.model.player import BadLine
 from tpmsim.standard import CC, COMMAND_BYTES, CONTINUE_SESSION, Entry, frames, HEADER_BYTES
 from tpmsim.standard import is_policy, is_session, NUMBERED, NV, PERSISTENT, POLICY_SESSION, SHA1
 from tpmsim.standard import SHA256, TRANSIENT
@@ -67,26 +68,33 @@ class Comparison:
     def __init__(self, other: Transport) -> None:
         self.other, self.here, self.report = other, Reference(), Report()
         self.translation = Translation(self.here)
-        self.player = Player()
+        self.now = records.Command(0, b"", b"", 0, 0, b"")
         self.causes: dict[object, int] = {}
         self.line, self.locality, self.waited = 0, 0, 0
 
     def play(self, script: bytes) -> Report:
-        """BadLine where a line is none."""
-        for self.line, text in enumerate(script.split(b"\n"), 1):
-            word, _, argument = text.partition(b" ")
-            if word == b"cmd":
-                self.command(bytes.fromhex(argument.decode("ascii")))
-            elif word == b"do":
-                self.command(self.player.assembled(argument))
-            elif word == b"power":
+        """BadLine where a line is none; ValueError of a log that begins with what a new TPM has not."""
+        is_begun = False
+        for step in records.steps_of(script):
+            self.line = step.line
+            if isinstance(step, records.Bad):
+                raise BadLine(f"line {step.line}")
+            if isinstance(step, records.Begin):
+                self.begin(step.image, is_begun)
+            elif isinstance(step, records.Power):
                 self.power()
-            else:
-                self.player.play(text)
-                if word == b"wait":
-                    self.waited += int(argument)
+            elif isinstance(step, records.Command):
+                self.now, self.waited = step, self.waited + step.elapsed
+                self.command(step.buffer)
+            is_begun = is_begun or not isinstance(step, records.Comment)
         self.state()
         return self.report
+
+    def begin(self, image: bytes, is_begun: bool) -> None:
+        if is_begun and self.here.is_device_of(image):
+            self.power()
+        elif is_begun or not self.here.open_empty(image):
+            raise ValueError(f"line {self.line} begins with a device that no other TPM can be made")
 
     def send(self, buffer: bytes) -> bytes:
         """Where the other TPM has the host's time, guesses are forgotten here alone."""
@@ -109,8 +117,8 @@ class Comparison:
         asked = parsed(buffer)
         try:
             prepared = self.translation.command(buffer)
-            if self.player.locality != self.locality:
-                self.other.locality = self.locality = self.player.locality
+            if self.now.locality != self.locality:
+                self.other.locality = self.locality = self.now.locality
             sent = prepared.buffer() if isinstance(prepared, Prepared) else prepared
             if not self.can_be_sent(sent):
                 raise Unsupported("the channel there ends a command by the size that it says")
@@ -143,10 +151,8 @@ class Comparison:
         return HEADER_BYTES <= len(buffer) == int.from_bytes(buffer[2:6], "big") <= COMMAND_BYTES
 
     def execute(self, buffer: bytes) -> Executed:
-        player = self.player
-        event = self.here.execute(buffer, player.locality, player.elapsed, player.random)
-        player.elapsed = 0
-        return event
+        now, self.now = self.now, replace(self.now, elapsed=0)
+        return self.here.execute(buffer, now.locality, now.elapsed, now.random)
 
     def compare(
         self,

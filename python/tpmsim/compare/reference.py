@@ -9,8 +9,10 @@ from tpmsim.device.child import ChildDevice
 from tpmsim.device.library import LibraryDevice
 from tpmsim.device.told import Device
 from tpmsim.model.general import Command
+from tpmsim.model.image import goes_on, open_image
 from tpmsim.model.machine import MANUFACTURED, Model
 from tpmsim.model.policy_state import Session
+from tpmsim.model.protection import Lockout
 from tpmsim.standard import ALG_NULL, DECRYPT, ENCRYPT, Entry, Fields, frames, NUMBERED, SESSIONS
 from tpmsim.standard import sessions, Short
 from tpmsim.standard.frames import NO_SESSIONS
@@ -65,6 +67,19 @@ class Reference:
         if self.model.execute(buffer, locality, random, elapsed).response != event.response:
             raise AssertionError(f"the device in Python answers otherwise: {buffer.hex()}")
         return event
+
+    def is_device_of(self, image: bytes) -> bool:
+        return goes_on(self.model, image)
+
+    def open_empty(self, image: bytes) -> bool:
+        """Becomes the device of an image, if that has nothing that a new one has not."""
+        found = open_image(image)
+        is_used = found.objects or found.indices or found.saved or any(found.auth_values.values())
+        if is_used or found.disable_clear or found.lockout != Lockout():
+            return False
+        self.device.begin(image)
+        self.model = found
+        return True
 
     def power_cycle(self) -> None:
         self.device.cycle()
