@@ -11,7 +11,7 @@ from tpmsim.audit import start
 from tpmsim.audit.auditor import Auditor, report
 from tpmsim.audit.log import NoLog
 from tpmsim.device import KeptDevice, library
-from tpmsim.explain import text
+from tpmsim.explain import page, text
 from tpmsim.explain.play import Play
 
 SEEDS, COMMANDS = 12, 500
@@ -108,6 +108,16 @@ class Completed(unittest.TestCase):
             "    by check G4.",
         )
         self.assertEqual(tuple(text.whole(stirred))[:3], told)
+        shown = page.PageData(play := Play())
+        play.watch = shown.look
+        for event in play.events(journal):
+            shown.add(event)
+        texts = list(shown.texts)
+        found = [texts[it["v"]] if "v" in it else "" for it in shown.events]
+        self.assertEqual(
+            found[1], f"The completing layer: the bytes are not used. {own} by check G4."
+        )
+        self.assertTrue(found[2].startswith("The completing layer: object 80000000 is not there."))
         title = "line 17: ContextSave is refused: REFERENCE_H0 (910), by the completing layer"
         self.assertEqual(next(text.told(saved)), title)
 

@@ -9,8 +9,13 @@ import tempfile
 import unittest
 
 import tpmsim
+from tpmsim.device import library
 
 TESTS = """
+import pytest
+from tpmsim.caller import area, BY_VALUE
+from tpmsim.device import ChildDevice, KeptDevice, library, ModelDevice
+
 def test_fresh(tpm):
     assert tpm.call("GetRandom", bytesRequested=4)["randomBytes"]
 
@@ -21,6 +26,21 @@ def test_saved(tpm_saved):
 
 def test_fails(tpm):
     tpm.call("PCR_Reset", 0)
+
+def guess(tpm):
+    index = tpm.define(area(attributes=BY_VALUE), auth=b"right")
+    tpm.send(tpm.writing(index, b"8 bytes.", tpm.session()))
+    tpm.send(tpm.reading(index, 8, b"wrong"))
+
+def test_in_a_child(tpm_of):
+    guess(tpm_of(ChildDevice()))
+
+@pytest.mark.skipif(not library.is_there(), reason="there is no library")
+def test_in_a_folder(tpm_of, tmp_path):
+    guess(tpm_of(KeptDevice(tmp_path / "tpm")))
+
+def test_in_python(tpm_of):
+    guess(tpm_of(ModelDevice()))
 """
 
 
@@ -29,14 +49,20 @@ class Plugin(unittest.TestCase):
     def test_fixtures(self):
         folder = pathlib.Path(self.enterContext(tempfile.TemporaryDirectory()))
         (folder / "test_it.py").write_text(TESTS)
-        words = "-m pytest -p no:cacheprovider -p tpmsim.pytest_plugin test_it.py".split()
+        words = "-m pytest -p no:cacheprovider -p tpmsim.pytest_plugin test_it.py --tpmsim-html pages".split()
         given = {**os.environ, "PYTHONPATH": str(pathlib.Path(tpmsim.__file__).parents[1])}
         choices = {"cwd": folder, "env": given, "capture_output": True, "text": True}
         done = subprocess.run([sys.executable, *words], **choices)
         self.assertEqual(done.returncode, 1, done.stderr)
         for words in (
-            "1 failed, 2 passed",
+            f"{4 if library.is_there() else 3} failed, 2 passed",
             "what the TPM was told",
             "# PCR_Reset L0 +0 A1 00000907",
+            "why the TPM refused it",
+            "PCR_Reset is refused: LOCALITY (907), by check A1",
+            "NV_Read is refused: AUTH_FAIL/s1 (98e), by check G9",
+            'authValue wanted  7269676874 "right"',
         ):
             self.assertIn(words, done.stdout)
+        page = (folder / "pages" / "test_it.py_test_in_python.html").read_text("utf-8")
+        self.assertIn("The password of the entry is not the authValue of", page)

@@ -1,16 +1,28 @@
-"""Fixtures for pytest: `tpm`, a caller of a fresh device, and `tpm_saved`, one whose device is kept in
-an image. Either is started up. What a failed test told its device is in the report, as a script.
+"""Fixtures for pytest: `tpm`, a caller of a fresh device, `tpm_saved`, one whose device is kept in an
+image, and `tpm_of`, which makes one of any device. Each is started up. What a failed test told its
+device is in the report, as a script, and so is why the last command was refused that was. With
+`--tpmsim-html FOLDER` each failed test leaves the page of its log there.
 """
 
+import re
 from pathlib import Path
-from typing import Any, Generator, Iterator
+from typing import Any, Callable, Generator, Iterator
 
 import pytest
 
 from tpmsim.caller import Caller
 from tpmsim.device import Device, Transport
+from tpmsim.explain import page, text
+from tpmsim.explain.of_device import log_of, why_refused
+from tpmsim.explain.play import Play
 
 DEVICES = pytest.StashKey[list[Transport]]()
+NO_NAME = re.compile(r"[^A-Za-z0-9_.-]+")
+
+
+def pytest_addoption(parser: pytest.Parser) -> None:
+    words = "leaves the page of each failed test's TPM in this folder"
+    parser.getgroup("tpmsim").addoption("--tpmsim-html", metavar="FOLDER", help=words)
 
 
 def caller_of(request: pytest.FixtureRequest, device: Transport) -> Caller:
@@ -34,9 +46,43 @@ def tpm_saved(request: pytest.FixtureRequest, tmp_path: Path) -> Iterator[Caller
         yield caller_of(request, device)
 
 
+@pytest.fixture
+def tpm_of(request: pytest.FixtureRequest) -> Iterator[Callable[[Transport], Caller]]:
+    """Makes a caller of a device of yours, wherever it is, which is closed behind the test."""
+    devices = list[Transport]()
+
+    def made(device: Transport) -> Caller:
+        devices.append(device)
+        return caller_of(request, device)
+
+    yield made
+    for device in devices:
+        device.close()
+
+
+def page_left(folder: str, name: str, log: bytes) -> str:
+    """Writes the page of a test's log, and says where."""
+    path = Path(folder, f"{NO_NAME.sub('_', name)}.html")
+    path.parent.mkdir(parents=True, exist_ok=True)
+    path.write_text(page.of_log(name, Play(is_whole=True), log, text.Counts()), "utf-8")
+    return str(path)
+
+
 @pytest.hookimpl(hookwrapper=True)  # type: ignore[misc]
 def pytest_runtest_makereport(item: pytest.Item) -> Generator[None, Any, None]:
     report = (yield).get_result()
-    if report.failed:
-        for device in item.stash.get(DEVICES, []):
-            report.sections.append(("what the TPM was told", "\n".join(device.trace)))
+    if not report.failed:
+        return
+    folder = item.config.getoption("--tpmsim-html")
+    devices: list[Transport] = item.stash.get(DEVICES, [])
+    for at, device in enumerate(devices, 1):
+        report.sections.append(("what the TPM was told", "\n".join(device.trace)))
+        if report.when == "teardown":
+            continue  # the devices are closed
+        log = log_of(device)
+        why = why_refused(log)
+        if why:
+            report.sections.append(("why the TPM refused it", why))
+        if folder:
+            name = f"{item.nodeid}-{at}" if at > 1 else item.nodeid
+            report.sections.append(("the page of the TPM", page_left(folder, name, log)))

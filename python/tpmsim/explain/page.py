@@ -16,7 +16,7 @@ from tpmsim.explain.dissection import Field
 from tpmsim.explain.past import Past, WRITES_PCR
 from tpmsim.explain.play import Event, Play
 from tpmsim.explain.reason import Reason
-from tpmsim.explain.text import Counts, name_of
+from tpmsim.explain.text import Counts, ends_words, layer_words, name_of
 from tpmsim.explain.words import algorithm_words, bytes_words, command_words, flag_words
 from tpmsim.explain.words import handle_words, kind_words, localities_words, seconds_words, SESSIONS
 from tpmsim.model.machine import Model
@@ -153,7 +153,7 @@ class PageData:
     def value(self, name: str) -> Value:
         return {
             "name": name,
-            "summary": self.counts.words(),
+            "summary": " ".join([self.counts.words(), *ends_words(self.play)]),
             "bad": self.play.bad_line,
             "texts": list(self.texts),
             "shapes": list(self.shapes),
@@ -231,6 +231,8 @@ class PageData:
         if event.refused:
             told["x"] = self.texts.of(event.refused)
             told["c"] = self.texts.of(scene.check)
+        if event.layer:
+            told["v"] = self.texts.of(" ".join(it.strip() for it in layer_words(event)))
         for key, given in (("loc", scene.locality), ("t", scene.elapsed)):
             if given:
                 told[key] = given

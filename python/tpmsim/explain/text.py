@@ -65,8 +65,7 @@ def name_of(event: Event) -> str:
 def of_log(events: list[Event], play: Play) -> Iterator[str]:
     """What a log does not have in common with the model comes first, since it spoils what follows."""
     for words in play.damages:
-        yield f"{words}"
-        yield ""
+        yield from (words, "")
     differing = [it for it in events if it.differences]
     for event in differing[:MOST_DIFFERING]:
         yield from differences(event)
@@ -76,9 +75,18 @@ def of_log(events: list[Event], play: Play) -> Iterator[str]:
         yield ""
     for event in events:
         yield from reasons(event)
-    for cut in play.cuts:
-        yield f"line {cut.line}: {plural(cut.size, 'byte')} of a record that is not whole are left out"
-        yield ""
+    for words in cut_words(play):
+        yield from (words, "")
+
+
+def cut_words(play: Play) -> list[str]:
+    left_out = "of a record that is not whole are left out"
+    return [f"line {it.line}: {plural(it.size, 'byte')} {left_out}" for it in play.cuts]
+
+
+def ends_words(play: Play) -> list[str]:
+    """What is wrong with the log's heads and ends, as sentences."""
+    return [f"{it[0].upper()}{it[1:]}." for it in (*play.damages, *cut_words(play))]
 
 
 def told(event: Event) -> Iterator[str]:

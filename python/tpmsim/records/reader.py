@@ -9,14 +9,14 @@ from dataclasses import dataclass, field, replace
 from typing import Iterator
 
 from tpmsim.model.player import BadLine, LINE_BYTES, LINES, RANDOM_BYTES, Words
+from tpmsim.records.drawn import drawn_of
 from tpmsim.records.marks import HeadMark, Mark, OFFSET_BASIS, sum_from
 from tpmsim.records.parts import Part, parts_of
 
 # An answer in a comment: a trace, which may have the time of day before it, a code or a response.
 TRACE = r"\S+ L\d \+\d+ \S+ [0-9a-f]{8}"
-GIVEN = re.compile(
-    r"# (\d\d:\d\d:\d\d\.\d{3} )?" rf"({TRACE}|[0-9a-f]{{8}}|(?:8001|8002|00c4)[0-9a-f]{{16,}})"
-)
+RESPONSE = re.compile(r"(?:8001|8002|00c4)[0-9a-f]{16,}")
+GIVEN = re.compile(r"# (\d\d:\d\d:\d\d\.\d{3} )?" rf"({TRACE}|[0-9a-f]{{8}}|{RESPONSE.pattern})")
 
 # How `tpmsim script` says that the completing layer was there for a command.
 COMPLETED = b"# completed"
@@ -117,6 +117,7 @@ class Reading:
         self.behind: list[str] | None = None  # where an answer behind a command goes
         self.mark: Mark | None = None
         self.damage = ""
+        self.tells_random = any(it.startswith(b"entropy ") for it in self.lines)
         self.is_before = answers_come_first(self.lines)
 
     def whole_steps(self) -> Iterator[Step]:
@@ -124,10 +125,20 @@ class Reading:
         waiting = list[Step]()
         for step in self.steps():
             if not isinstance(step, Comment):
-                yield from waiting
+                yield from map(self.followed, waiting)
                 waiting.clear()
             waiting.append(step)
-        yield from waiting
+        yield from map(self.followed, waiting)
+
+    def followed(self, step: Step) -> Step:
+        """Where no random bytes are told, those of a command are as its response shows them."""
+        if not isinstance(step, Command) or self.tells_random:
+            return step
+        for it in step.said:
+            if RESPONSE.fullmatch(it):
+                drawn = drawn_of(step.buffer, bytes.fromhex(it), RANDOM_BYTES)
+                return replace(step, random=drawn) if any(drawn) else step
+        return step
 
     def steps(self) -> Iterator[Step]:
         yield from self.head()

@@ -15,6 +15,7 @@ function show(number) {
     const list = [["the log says", log, "had"], ["the model says", model, "wanted"]];
     parts.push(make("div", { class: "why" }, make("p", {}, `The log and the model part: ${words}.`), facts(list)));
   }
+  if (event.v !== undefined) parts.push(make("div", { class: "why look" }, make("p", {}, text(event.v))));
   if (event.y) parts.push(reasonShown(event.y, "why"));
   for (const it of event.k || []) parts.push(reasonShown(it, "why look"));
   parts.push(...changesShown(number));

@@ -1,0 +1,96 @@
+"""Why a device refused a command, wherever it is: of what it was told, and what it answered."""
+
+import os
+import pathlib
+import subprocess
+import tempfile
+import time
+import unittest
+
+from tpmsim.caller import area, BY_VALUE, Caller, Refused
+from tpmsim.device import ChildDevice, KeptDevice, library, LibraryDevice, ModelDevice, ServedDevice
+from tpmsim.device.child import program_found
+from tpmsim.explain.of_device import log_of, why_refused
+from tpmsim.standard import AES
+
+SERVE = "serve --socket socket --image image --entropy /dev/urandom --locality 0 --connections 1"
+
+
+def use(device):
+    """An index whose value a session proves, and then a wrong password is given for it."""
+    tpm = Caller(device)
+    tpm.start_up()
+    index = tpm.define(area(attributes=BY_VALUE), auth=b"right")
+    session = tpm.session(index, cipher=AES)
+    tpm.send(tpm.writing(index, b"8 bytes.", session.decrypting))
+    tpm.call("GetRandom", bytesRequested=8)
+    tpm.send(tpm.writing(index, b"8 bytes.", session))
+    try:
+        tpm.send(tpm.writing(index, b"8 bytes.", b"wrong"))
+    except Refused:
+        return index
+    raise AssertionError("a wrong value is taken")
+
+
+class Reasons(unittest.TestCase):
+    def setUp(self):
+        self.folder = pathlib.Path(self.enterContext(tempfile.TemporaryDirectory()))
+
+    def assert_explained(self, device):
+        with device:
+            index = use(device)
+            why = why_refused(log_of(device))
+        self.assertRegex(why, r"^line \d+: NV_Write is refused: AUTH_FAIL/s1 \(98e\), by check G9")
+        self.assertIn(f"The password of the entry is not the authValue of {index:08x}.", why)
+        self.assertIn('password given    77726f6e67 "wrong"', why)
+
+    @unittest.skipUnless(library.is_there(), "there is no library")
+    def test_in_process(self):
+        self.assert_explained(LibraryDevice())
+        self.assert_explained(LibraryDevice(image=self.folder / "image"))
+
+    @unittest.skipUnless(library.is_there(), "there is no library")
+    def test_kept(self):
+        """Also behind a power cycle, and with the completing layer."""
+        self.assert_explained(KeptDevice(self.folder / "kept"))
+        with KeptDevice(self.folder / "other", completes=True) as device:
+            Caller(device).start_up()
+            device.power_cycle()
+            use(device)
+            self.assertIn("The password of the entry", why_refused(log_of(device)))
+
+    def test_in_a_child(self):
+        self.assert_explained(ChildDevice())
+
+    def test_in_python(self):
+        self.assert_explained(ModelDevice())
+
+    def served(self):
+        """A device on a socket, of which nobody tells the random bytes."""
+        process = subprocess.Popen([program_found(), *SERVE.split()], cwd=self.folder)
+        self.addCleanup(process.wait)
+        self.addCleanup(process.kill)
+        here = os.getcwd()
+        self.addCleanup(os.chdir, here)
+        os.chdir(self.folder)  # a socket's path is short
+        while not os.path.exists("socket"):
+            time.sleep(0.01)
+        return ServedDevice("socket")
+
+    def test_on_a_socket(self):
+        self.assert_explained(self.served())
+
+    def test_what_was_there_before(self):
+        """A device that had something before it was told anything is not explained wrongly."""
+        with ChildDevice(image=self.folder / "image") as device:
+            index = use(device)
+        with self.served() as device:
+            tpm = Caller(device)
+            tpm.start_up()
+            tpm.call("NV_ReadPublic", index)
+            words = "is not answered as by a device that was told this log alone"
+            self.assertIn(words, why_refused(log_of(device)))
+
+
+if __name__ == "__main__":
+    unittest.main()

@@ -1,0 +1,38 @@
+"""Why a device in Python refused a command: what it was told, as a log that has all of its answers."""
+
+from tpmsim.device import KeptDevice, Transport
+from tpmsim.device.base import Executed, line
+from tpmsim.explain import text
+from tpmsim.explain.play import Event, Play
+
+
+def log_of(device: Transport) -> bytes:
+    """That of a kept device is its journal: all since its power came on, by whomever."""
+    if isinstance(device, KeptDevice):
+        return device.held(device.journal)
+    begun = [it for it in device.trace[:1] if it.startswith("# image ")]
+    return "".join(f"{it}\n" for it in [*begun, *lines_of(device)]).encode("ascii")
+
+
+def lines_of(device: Transport) -> list[str]:
+    found = list[str]()
+    for event in device.events:
+        if isinstance(event, Executed):
+            found += [f"entropy {event.random.hex()}"] if event.random else []
+            found += [line(event.buffer).rstrip(), f"# {event.response.hex()}"]
+        else:
+            found.append(event)
+    return found
+
+
+def why_refused(log: bytes) -> str:
+    """Why the last command of a log was refused that was; nothing where none was. Where an answer is not
+    the model's, that is told alone, as nothing is known from there on.
+    """
+    refused: Event | None = None
+    for event in Play().events(log):
+        if event.differences:
+            words = "is not answered as by a device that was told this log alone; no refusal is explained"
+            return f"line {event.line}: {text.name_of(event)} {words}"
+        refused = event if event.refused else refused
+    return "" if refused is None else "\n".join(text.reasons(refused)).rstrip()

@@ -1,0 +1,37 @@
+"""The random bytes of a command that nobody was told, as far as its answer shows them: what it asked for,
+and the nonces of its sessions. So a log of another's device is followed, which says commands and
+responses alone.
+"""
+
+from tpmsim.model.state import SECRET_BYTES
+from tpmsim.standard import CC, Fields, frames, HEADER_BYTES, NUMBERED, Short
+
+# What is drawn before the nonces, and no answer shows.
+HIDDEN = {CC.Clear: 3 * SECRET_BYTES}
+
+
+def drawn_of(buffer: bytes, response: bytes, size: int) -> bytes:
+    """So many random bytes; zeros where nothing shows them."""
+    try:
+        shown = shown_in(NUMBERED.get(int.from_bytes(buffer[6:10], "big")), Fields(response))
+    except Short:
+        shown = b""
+    return shown[:size].ljust(size, b"\0")
+
+
+def shown_in(code: CC | None, fields: Fields) -> bytes:
+    tag = fields.number(2)
+    fields.take(HEADER_BYTES - 2)
+    if code is None or not fields.data:
+        return b""
+    if code.answers_handle:
+        fields.number(4)
+    parameters = Fields(fields.take(fields.number(4)) if tag == frames.SESSIONS else fields.data)
+    drawn = bytes(HIDDEN.get(code, 0))
+    if code in (CC.GetRandom, CC.StartAuthSession):
+        drawn = parameters.sized()
+    while tag == frames.SESSIONS and fields.data:
+        drawn += fields.sized()
+        fields.number(1)
+        fields.sized()
+    return drawn
