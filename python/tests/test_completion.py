@@ -9,10 +9,12 @@ import unittest
 import completed_scripts
 from tpmsim.audit import start
 from tpmsim.audit.auditor import Auditor, report
-from tpmsim.audit.log import NoLog
+from tpmsim.audit.log import Log, NoLog
 from tpmsim.device import KeptDevice, library
 from tpmsim.explain import page, text
 from tpmsim.explain.play import Play
+from tpmsim.records import COMPLETED
+from tpmsim.standard import lines
 
 SEEDS, COMMANDS = 12, 500
 
@@ -59,6 +61,14 @@ def wrong(event, response):
     return event.response != response or event.differences or is_said != (is_refused,) * 2
 
 
+def trace_of(event):
+    """As `tpmsim replay` prints it."""
+    scene = event.scene
+    if event.completes:
+        return COMPLETED
+    return lines.traced(event.outcome, scene.locality, scene.elapsed)
+
+
 @unittest.skipUnless(library.is_there(), "there is no library")
 class Completed(unittest.TestCase):
     def test_commands_at_random(self):
@@ -83,6 +93,11 @@ class Completed(unittest.TestCase):
             counts = auditor.counts
             self.assertEqual(counts.commands, len(answered))
             self.assertGreater(counts.layer, 0)
+            traces = [trace_of(it) for it in Play().events(journal)]
+            output = "".join(f"{it}\n{told.hex()}\n" for it, told in zip(traces, answered))
+            Auditor(start.of_log(journal, None), Log(output.encode())).read(journal)
+            events = Play(answers=output.encode()).events(journal)
+            self.assertFalse(any(it.differences for it in events))
             words = f"{counts.refused} refused and {counts.layer} answered by the completing layer"
             self.assertIn(words, "\n".join(report(auditor)))
 

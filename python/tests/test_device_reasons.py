@@ -65,6 +65,24 @@ class Reasons(unittest.TestCase):
     def test_in_python(self):
         self.assert_explained(ModelDevice())
 
+    def test_of_an_image(self):
+        """What is in the image of the start is known."""
+        with ModelDevice() as device:
+            index, image = use(device), device.save()
+        (self.folder / "image").write_bytes(image)
+        kinds = (
+            ModelDevice.open,
+            ChildDevice.open,
+            *([LibraryDevice.open] if library.is_there() else []),
+        )
+        for begun in (*(kind(image) for kind in kinds), ChildDevice(image=self.folder / "image")):
+            with begun as device:
+                tpm = Caller(device)
+                tpm.start_up()
+                self.assertRaises(Refused, tpm.call, "NV_Read", index, index, size=8, offset=0)
+                why = why_refused(log_of(device))
+            self.assertIn(f"The password of the entry is not the authValue of {index:08x}", why)
+
     def served(self):
         """A device on a socket, of which nobody tells the random bytes."""
         process = subprocess.Popen([program_found(), *SERVE.split()], cwd=self.folder)

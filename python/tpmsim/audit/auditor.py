@@ -102,7 +102,9 @@ class Auditor:
         outcome = self.watch.executed(*event, step.completes)
         for it in self.watch.others:
             self.note(it)
-        trace = lines.traced(outcome, step.locality, step.elapsed)
+        trace = records.COMPLETED
+        if not step.completes:
+            trace = lines.traced(outcome, step.locality, step.elapsed)
         self.judge(step.line, [trace, outcome.response.hex()], step)
 
     def judge(self, number: int, printed: list[str], step: records.Command | None = None) -> None:

@@ -40,6 +40,8 @@ class ChildDevice(InStep, Device):
         super().__init__(image, seed)
         self.program, self.told_locality = program or program_found(), 0
         self.folder: tempfile.TemporaryDirectory[str] | None = None
+        if self.image is not None and self.image.is_file() and os.access(self.image, os.R_OK):
+            self.begun = self.image.read_bytes()
         self.process = self.started(self.image)
 
     def started(self, image: pathlib.Path | None) -> subprocess.Popen[bytes]:

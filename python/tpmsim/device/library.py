@@ -242,11 +242,6 @@ class LibraryDevice(Device):
         self.base = self.save()
         self.keep()
 
-    @property
-    def trace(self) -> list[str]:
-        """As ever, behind a comment with the image of the start, for `tpmsim run --image`."""
-        return [f"# image {self.begun.hex()}", *super().trace]
-
     def look(self) -> None:
         """DeviceEnded where the image is another process's."""
         if self.file and not self.file.is_here:

@@ -51,6 +51,9 @@ class Device(Transport):
     # An image of the device as its power came on last, and where that stands among the events.
     base, since = b"", 0
 
+    # The image that the events begin with, if they do with another device than a script's.
+    begun = b""
+
     # False while a call has changed a part of the device, and after it if it did not end.
     is_whole = True
 
@@ -76,7 +79,14 @@ class Device(Transport):
         except BadImage:
             device.close()
             raise
+        device.begun = image
         return device
+
+    @property
+    def trace(self) -> list[str]:
+        """As ever, and first a comment with the image of the start, if that is no script's device."""
+        begun = [f"# image {self.begun.hex()}"] if self.begun else []
+        return begun + super().trace
 
     def look_whole(self) -> None:
         if not self.is_whole:
@@ -230,6 +240,7 @@ class ModelDevice(Device):
         super().__init__(seed=seed)
         self.model = model or Model(MANUFACTURED, encrypt_block)
         self.base = self.save()
+        self.begun = b"" if model is None else self.base
 
     def begin(self, base: bytes) -> None:
         try:

@@ -34,8 +34,9 @@ class Event:
     """An event of a log, whose scene has no buffer at a power cycle: why it was refused, what else
     is told of it, and where the log's answers differ, of which there are so many. If it is looked
     at as a whole, `entries` has what the HMACs are of, by their places, and `answered` the answered
-    parameters in plain. `comments` has the paragraphs of comments before it. `layer` has what the
-    completing layer did, if anything, and `own` what the device itself came to.
+    parameters in plain. `comments` has the paragraphs of comments before it. With `completes` the
+    completing layer was there: `layer` has what it did, if anything, and `own` what the device itself
+    came to.
     """
 
     line: int
@@ -52,6 +53,7 @@ class Event:
     comments: list[str] = field(default_factory=list)
     layer: str = ""
     own: Outcome | None = None
+    completes: bool = False
 
     @property
     def is_power(self) -> bool:
@@ -126,6 +128,8 @@ class Answers:
     def compare(self, event: Event) -> None:
         """Compares what is said of a command beside it."""
         said = list[str]()
+        if self.left and self.left[0] == records.COMPLETED:
+            self.left.popleft()
         if self.left and re.fullmatch(TRACE, self.left[0]):
             said.append(self.left.popleft())
         if self.left:
@@ -216,7 +220,7 @@ class Watched:
         if self.event is None or self.event.scene.buffer != buffer:
             scene = Scene(self.model, self.past, self.line, *told)
             scene.check, self.event = done.own.row.check, Event(self.line, scene, done.own)
-        event = self.event
+        event, event.completes = self.event, True
         if not done.did:
             return self.judged()
         event.layer, event.own = done.did, done.own

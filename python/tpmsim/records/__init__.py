@@ -1,10 +1,11 @@
 """What was recorded of a device, read alike by whoever explains, judges or compares it."""
 
-from tpmsim.records.reader import Bad, BadHead, Begin, Command, Comment, Cut, Power, Step, steps_of
-from tpmsim.records.reader import TRACE
+from tpmsim.records.reader import Bad, BadHead, Begin, Command, Comment, COMPLETED, Cut, Power
+from tpmsim.records.reader import Step, steps_of, TRACE
 
 # fmt: off
 __all__ = [
-    "Bad", "BadHead", "Begin", "Command", "Comment", "Cut", "Power", "Step", "steps_of", "TRACE"
+    "Bad", "BadHead", "Begin", "Command", "Comment", "COMPLETED", "Cut", "Power", "Step",
+    "steps_of", "TRACE"
 ]
 # fmt: on

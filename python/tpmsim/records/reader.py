@@ -18,8 +18,8 @@ TRACE = r"\S+ L\d \+\d+ \S+ [0-9a-f]{8}"
 RESPONSE = re.compile(r"(?:8001|8002|00c4)[0-9a-f]{16,}")
 GIVEN = re.compile(r"# (\d\d:\d\d:\d\d\.\d{3} )?" rf"({TRACE}|[0-9a-f]{{8}}|{RESPONSE.pattern})")
 
-# How `tpmsim script` says that the completing layer was there for a command.
-COMPLETED = b"# completed"
+# How `tpmsim script` says that the completing layer was there for a command, in place of a trace.
+COMPLETED = "completed"
 
 # What makes an answer be read behind its command, where it stands first in a log.
 COMMANDS = b"cmd", b"do "
@@ -193,7 +193,7 @@ class Reading:
             total = sum_from(self.sum, mark.text)
             self.mark, self.sum = mark, mark.said
             self.damage = "" if total == mark.said else DAMAGED_MARK
-        elif text == COMPLETED:
+        elif text == b"# " + COMPLETED.encode():
             self.is_completed = True
         elif given is None:
             yield Comment(self.line, text[1:].strip().decode("latin-1"))
