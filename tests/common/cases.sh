@@ -20,7 +20,16 @@ python3() {
 
 [ "$#" -eq 1 ] || { echo "usage: sh $0 PROGRAM" >&2; exit 2; }
 room=$(mktemp -d) || exit 1
-trap 'rm -rf "$room"' EXIT
+trap 'keep_journals; rm -rf "$room"' EXIT
+
+# keep_journals: with KEPT_JOURNALS, a folder, copies what a test leaves of journals and logs there.
+keep_journals() {
+    [ -n "${KEPT_JOURNALS:-}" ] || return 0
+    grep -rla '^# tpmsim journal 1 ' "$room" 2>/dev/null | while read -r journal; do
+        cp "$journal" "$(mktemp "$KEPT_JOURNALS/$(basename "$0" .sh).XXXXXX")"
+    done
+}
+
 # A help says by what name the program was called, and that is tpmsim whatever its file is called.
 program=$room/tpmsim
 ln -s "$(cd "$(dirname "$1")" && pwd -P)/$(basename "$1")" "$program" || exit 1

@@ -4,7 +4,7 @@
     python3 logged.py PROGRAM --full FOLDER
 
 What a caller was answered is compared with what `tpmsim run` answers on the image of the start and
-the log: over sessions, indices, a lockout and starts anew, where the log is cut, and behind this
+the log, and with what the log is explained as: over sessions, indices, a lockout and starts anew, where the log is cut, and behind this
 many kills; or where the log is in a folder on a disk that gets full.
 """
 
@@ -17,6 +17,7 @@ import threading
 
 from tpmsim.caller import BY_OWNER, BY_VALUE, Caller, HERE, Refused, area, counter, sealed
 from tpmsim.device import DeviceEnded, ServedDevice
+from tpmsim.explain.play import Play
 from tpmsim.standard import AES, RH_OWNER
 from tpmsim.standard.objects import Attribute
 from client import connected
@@ -50,6 +51,9 @@ class Run:
     def check(self, responses):
         if self.played(self.log) != responses:
             fail(f"{self.log} is played otherwise than it was answered")
+        events = list(Play().events(self.log.read_bytes()))
+        if [it.response for it in events] != responses or any(it.differences for it in events):
+            fail(f"{self.log} is explained otherwise than it was answered")
         if self.log.stat().st_mode & 0o7777 != 0o600:
             fail(f"{self.log} is not its owner's alone")
 

@@ -1,0 +1,72 @@
+"""Explains the journals of devices in folders that played the scripts of tests/ and examples/:
+
+    explained_journals.py PROGRAM
+
+Each by its journal, by what `tpmsim script` prints of it, and by its journal with what `tpmsim run`
+printed beside it. A command that was answered with a success is explained as accepted, each other one
+as refused, with its reason. It counts; the status is 1 where one is explained otherwise.
+"""
+
+import pathlib
+import sys
+import tempfile
+
+from tpmsim.explain.play import Play
+from tests.common.shims import ran
+
+TOP = pathlib.Path(__file__).resolve().parents[2]
+
+# Longer scripts, which are mostly of bent commands, are left to the other tests of explanations.
+MOST_BYTES = 20_000
+SHOWN = 8
+
+
+def answered_since(printed):
+    """The lines that were printed since power came on last."""
+    lines = printed.decode("ascii").splitlines()
+    cycles = [at for at, line in enumerate(lines, 1) if line == "power"]
+    return lines[cycles[-1] if cycles else 0 :]
+
+
+def wrong_lines(log, lines, responses):
+    """The lines of commands that are explained otherwise than they were answered, or not compared."""
+    play = Play(answers="".join(f"{it}\n" for it in lines).encode() if lines else None)
+    events = list(play.events(log))
+    wrong = [0] if len(events) != len(responses) or play.fault or play.damages or play.cuts else []
+    for event, response in zip(events, responses):
+        is_refused = any(bytes.fromhex(response)[6:10])
+        is_told = bool(event.refused), event.reason is not None
+        if event.differences or not event.answers or is_told != (is_refused, is_refused):
+            wrong.append(event.line)
+    return wrong
+
+
+def check(program, script, folder):
+    """How many commands were explained of a script, and which wrongly."""
+    printed = ran(program, "run", "--trace", "--state", folder, str(script)).output
+    lines = answered_since(printed)
+    responses = lines[1::2]
+    journal = pathlib.Path(folder, "journal").read_bytes()
+    told = ran(program, "script", folder).output
+    logs = (journal, []), (told, []), (journal, lines)
+    return len(logs) * len(responses), [it for log in logs for it in wrong_lines(*log, responses)]
+
+
+def main():
+    program, count, faults = sys.argv[1], 0, 0
+    found = [*TOP.glob("tests/**/*.tpm"), *TOP.glob("examples/*.tpm")]
+    scripts = [it for it in found if it.stat().st_size <= MOST_BYTES]
+    for script in sorted(it for it in scripts if it.with_suffix(".out").exists()):
+        with tempfile.TemporaryDirectory(dir=".") as folder:
+            commands, wrong = check(program, script, folder)
+        count += commands
+        faults += len(wrong)
+        if wrong:
+            print(f"{script.relative_to(TOP)} is explained wrongly in the lines {wrong[:SHOWN]}")
+    print("thousands of commands" if count >= 3000 else f"{count} commands", end=", ")
+    print(f"{faults} explained otherwise than they were answered")
+    return 1 if faults else 0
+
+
+if __name__ == "__main__":
+    sys.exit(main())

@@ -1,0 +1,6 @@
+# Journals of devices in folders, and what `tpmsim script` prints of them, are explained as the commands in
+# them were answered: no accepted one as refused, and no refused one as accepted.
+tests=$(cd "$(dirname "$0")/.." && pwd -P)
+. "$tests/common/cases.sh"
+needs python3
+python3 "$tests/python/explained_journals.py" "$program"

@@ -1,0 +1,16 @@
+#!/bin/sh
+# Plays the scripts of tests, and explains each journal and log that they leave: a command is explained as
+# accepted where it was answered so, and else as refused, as the sums in the log say. Journals that a test
+# has damaged are listed with what is wrong. Needs python3.
+#
+#   tools/soak/explained.sh            all
+#   tools/soak/explained.sh attached_cut 'swtpm/*'
+#
+# The status is 1 where a log that is whole is explained otherwise than it was answered.
+set -u
+
+top=$(CDPATH='' cd "$(dirname "$0")/../.." && pwd -P) || exit 1
+work=$(mktemp -d) || exit 1
+trap 'rm -rf "$work"' EXIT
+KEPT_JOURNALS=$work "$top/tools/scripts.sh" "$@" | tail -n 1
+"$top/tools/python.sh" "$top/tools/soak/explained.py" "$work"
