@@ -3,13 +3,16 @@
     tpmsim-explain LOG [ANSWERS] [--image START] [--at LINE] [--try VALUE].. [--json | --html]
 
 LOG is a script, as docs/SCRIPTS.md has it: of `cmd`, `do`, `wait`, `loc`, `entropy` and `power`
-lines. It may have its answers in comments, as a trace, a response code or a response; ANSWERS may be
-what `tpmsim run` or `tpmsim run --trace` printed of it. `-` is standard input. With --image the
-device is no new one, but that of an image, behind a power cycle.
+lines; or the journal of a device in a folder, a log of `tpmsim serve`, what `tpmsim script` prints,
+the report of a failed test, or several of these one behind another. It may have its answers in
+comments, as a trace, a response code or a response; ANSWERS may be what `tpmsim run` or `tpmsim run
+--trace` printed of it. `-` is standard input. The device is that of the image in the log; else with
+--image that of START, behind a power cycle; else a new one.
 
-It plays the log on the device in Python, and tells of each refusal which check refused it, in words
-and numbers; of a wrong HMAC what goes into it, and which usual slip makes the one that was given; of
-what was accepted what is worth a look; and where the log's answers are not the model's.
+It plays the log on the device in Python, and tells where the log's answers are not the model's; of each
+refusal which check refused it, in words and numbers; of a wrong HMAC what goes into it, and which
+usual slip makes the one that was given; of what was accepted what is worth a look; and how much the
+completing layer answered.
 
     --at LINE    tells all of the command in one line of the log, accepted or refused
     --try VALUE  tries a text, or bytes as hex:00ff, in each place of a wrong HMAC or password, or of a
