@@ -120,15 +120,16 @@ def explain(asked: Asked, counts: text.Counts) -> tuple[str, Play]:
             told.append(event)
     if asked.at is not None and not told:
         raise Usage(f"line {asked.at} of {asked.log} executes nothing")
+    return said_of(asked, told, play, counts), play
+
+
+def said_of(asked: Asked, told: list[Event], play: Play, counts: text.Counts) -> str:
     if asked.form == "json":
         value = text.value_of_log(told, counts, play, asked.at is not None)
-        return json.dumps(value, indent=1), play
+        return json.dumps(value, indent=1)
     if asked.at is not None:
-        return (
-            "\n".join(it for event in told for it in (*text.whole(event), *text.told(event))),
-            play,
-        )
-    return "\n".join([*text.of_log(told, play), counts.words()]), play
+        return "\n".join(it for event in told for it in (*text.whole(event), *text.told(event)))
+    return "\n".join([*text.of_log(told, play), counts.words()])
 
 
 def tell(words: str) -> None:
