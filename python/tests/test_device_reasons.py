@@ -2,13 +2,17 @@
 
 import os
 import pathlib
+import shutil
 import subprocess
+import sys
 import tempfile
 import time
 import unittest
 
+import tpmsim
 from tpmsim.caller import area, BY_VALUE, Caller, Refused
 from tpmsim.device import ChildDevice, KeptDevice, library, LibraryDevice, ModelDevice, ServedDevice
+from tpmsim.device import SimulatorDevice, StartedSwtpm
 from tpmsim.device.child import program_found
 from tpmsim.explain.of_device import log_of, why_refused
 from tpmsim.standard import AES
@@ -97,6 +101,28 @@ class Reasons(unittest.TestCase):
 
     def test_on_a_socket(self):
         self.assert_explained(self.served())
+
+    def test_at_a_simulator(self):
+        words = [sys.executable, "-m", "tpmsim.simulator", "--port", "0", "--image", "image"]
+        given = {**os.environ, "PYTHONPATH": str(pathlib.Path(tpmsim.__file__).parents[1])}
+        pipe = subprocess.PIPE
+        process = subprocess.Popen(words, cwd=self.folder, env=given, stdout=pipe, text=True)
+        self.enterContext(process)
+        self.addCleanup(process.kill)
+        host, port = process.stdout.readline().split()
+        self.assert_explained(SimulatorDevice(host, int(port)))
+
+    @unittest.skipUnless(shutil.which("swtpm"), "there is no swtpm")
+    def test_of_another_maker(self):
+        """As long as another TPM answers as this one does."""
+        with StartedSwtpm() as device:
+            tpm = Caller(device)
+            tpm.start_up()
+            index = tpm.define(area(attributes=BY_VALUE), auth=b"right")
+            tpm.send(tpm.writing(index, b"8 bytes.", tpm.session(cipher=AES).decrypting))
+            wrong = tpm.writing(index, b"8 bytes.", b"wrong")
+            self.assertRaises(Refused, tpm.send, wrong)
+            self.assertIn("The password of the entry is not", why_refused(log_of(device)))
 
     def test_what_was_there_before(self):
         """A device that had something before it was told anything is not explained wrongly."""
