@@ -1,0 +1,123 @@
+//! A device with a session: its state text, and the devices that are restored from it.
+
+use std::alloc::Global;
+use std::process::Abort;
+use std::test::Fail;
+use tpm_lists::{Task, run_over_lists};
+use tpm_machine::Machine;
+use tpm_record::Keep;
+use tpm_slots::SlotKeep;
+use tpm_state_text::{
+    RestoreFault, STATE_TEXT_LIMIT, StateFault, restore_into, restored, snapshot_into,
+};
+use tpm_step::{Event, Outcome};
+use tpm_types::Locality;
+
+/// TPM2_Startup(CLEAR).
+const STARTUP: &[u8] = b"\x80\x01\0\0\0\x0c\0\0\x01\x44\0\0";
+
+/// TPM2_StartAuthSession of a policy session, with SHA-256 and without a cipher.
+const START_SESSION: &[u8] = b"\x80\x01\0\0\0\x2b\0\0\x01\x76\x40\0\0\x07\x40\0\0\x07\0\x10\
+    \0\0\0\0\0\0\0\0\0\0\0\0\0\0\0\0\0\0\x01\0\x10\0\x0b";
+
+/// The last bytes of the state text, which are those of its digest, by the device in Python.
+const END: &[u8] = &[0x3d, 0x27, 0x66, 0xed, 0x8f, 0x1c, 0xe2, 0xb1];
+
+/// Ends the test where the value found is not the one wanted.
+fn check<R: Abort, T: PartialEq + Drop>(rt: &R, found: T, wanted: T) {
+    assert!(rt; found == wanted);
+}
+
+/// A device with a session, made of random bytes of zeros.
+fn device<K: Keep>(alloc: Global) -> Result<Machine<K>, Fail> {
+    let mut machine: Machine<K> = Machine::manufacture(alloc, &[0; 256])?;
+    let mut outcome = Outcome::empty();
+    for buffer in [STARTUP, START_SESSION] {
+        let event = Event::of_command(buffer, Locality::new(0).unwrap(), 0, [7; 256]);
+        machine.execute_into(&event, &mut outcome);
+    }
+    Ok(machine)
+}
+
+/// The state text of a device without the completing layer.
+fn text_of<K: Keep>(alloc: Global, keep: &K) -> Result<Vec<u8>, Fail> {
+    let mut text = vec![in alloc; 0u8; STATE_TEXT_LIMIT]?;
+    let size = snapshot_into(keep, None, &mut text);
+    text.truncate(size);
+    Ok(text)
+}
+
+/// What a test does with any type that implements `Keep`.
+trait Trial {
+    fn run<K: Keep, R: Abort>(rt: &R, alloc: Global) -> Result<(), Fail>;
+}
+
+#[derive(Drop)]
+struct Given<'a, T, R> {
+    trial: T,
+    rt: &'a R,
+    alloc: Global,
+}
+
+impl<T: Trial + Drop, R: Abort> Task<Fail> for Given<'_, T, R> {
+    ghost may_give = { λ _ _. Unit {0} };
+
+    fn run<K: Keep>(self) -> Result<(), Fail> {
+        T::run::<K, R>(self.rt, self.alloc)
+    }
+}
+
+fn run_over_both<T: Trial + Drop, R: Abort>(trial: T, rt: &R, alloc: Global) -> Result<(), Fail> {
+    T::run::<SlotKeep, R>(rt, alloc)?;
+    run_over_lists(Given { trial, rt, alloc })
+}
+
+#[derive(Drop)]
+struct WrittenAndRead;
+
+impl Trial for WrittenAndRead {
+    fn run<K: Keep, R: Abort>(rt: &R, alloc: Global) -> Result<(), Fail> {
+        let machine: Machine<K> = device(alloc)?;
+        let text = text_of(alloc, machine.keep())?;
+        check(rt, text.len(), 1_733);
+        check(rt, text.as_slice().ends_with(END), true);
+        let Ok((keep, layer)) = restored::<K>(alloc, text.as_slice()) else {
+            return Err(Fail::new("not restored"));
+        };
+        check(rt, layer.is_none(), true);
+        check(rt, text_of(alloc, &keep)?.as_slice(), text.as_slice());
+        Ok(())
+    }
+}
+
+#[derive(Drop)]
+struct PutInPlace;
+
+impl Trial for PutInPlace {
+    fn run<K: Keep, R: Abort>(rt: &R, alloc: Global) -> Result<(), Fail> {
+        let machine: Machine<K> = device(alloc)?;
+        let text = text_of(alloc, machine.keep())?;
+        let mut other: K = K::empty(alloc)?;
+        let before = text_of(alloc, &other)?;
+        let Some((_, cut)) = text.as_slice().split_last() else {
+            return Err(Fail::new("no text"));
+        };
+        let refused = restore_into(&mut other, alloc, cut).err();
+        check(rt, refused, Some(RestoreFault::Text(StateFault::Length)));
+        check(rt, text_of(alloc, &other)?.as_slice(), before.as_slice());
+        let put = restore_into(&mut other, alloc, text.as_slice()).is_ok();
+        check(rt, put, true);
+        check(rt, text_of(alloc, &other)?.as_slice(), text.as_slice());
+        Ok(())
+    }
+}
+
+#[test]
+fn a_device_is_restored_from_its_text(rt: HostRuntime) -> Result<(), Fail> {
+    run_over_both(WrittenAndRead, &rt, rt.alloc())
+}
+
+#[test]
+fn a_cut_text_leaves_the_device(rt: HostRuntime) -> Result<(), Fail> {
+    run_over_both(PutInPlace, &rt, rt.alloc())
+}
