@@ -55,7 +55,7 @@ class Reasons(unittest.TestCase):
 
     @unittest.skipUnless(library.is_there(), "there is no library")
     def test_kept(self):
-        """Also behind a power cycle, and with the completing layer."""
+        """Also after a power cycle, and with the completing layer."""
         self.assert_explained(KeptDevice(self.folder / "kept"))
         with KeptDevice(self.folder / "other", completes=True) as device:
             Caller(device).start_up()

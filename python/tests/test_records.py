@@ -1,4 +1,4 @@
-"""What was recorded is read as it was: heads with images, cut ends, answers before and behind."""
+"""What was recorded is read as it was: heads with images, cut ends, answers before and after their commands."""
 
 import contextlib
 import io
@@ -66,7 +66,7 @@ class Heads(unittest.TestCase):
         self.assertEqual(codes(events), ["", "98e"])
         self.assertFalse(any(it.differences for it in events))
 
-    def test_one_log_behind_another(self):
+    def test_one_log_after_another(self):
         """One of the same device goes on, and knows what came before; another one is another device."""
         first = Journal().play(START, DEFINE)
         before = first.text
@@ -105,7 +105,7 @@ def records_of(line):
 
 class Ends(unittest.TestCase):
     def test_a_cut_end(self):
-        """A journal that ends anywhere, with zeros behind it or without, has its whole records."""
+        """A journal that ends anywhere, with zeros after it or without, has its whole records."""
         journal = journal_with_index()
         for size in range(journal.head_bytes, len(journal.text)):
             whole = sum(it <= size for it in journal.ends) - 1
@@ -117,14 +117,14 @@ class Ends(unittest.TestCase):
                 self.assertEqual(cuts, [size - last + zeros] if size - last + zeros else [])
                 self.assertFalse(any(it.differences for it in events))
 
-    def test_another_log_behind_a_cut_end(self):
+    def test_another_log_after_a_cut_end(self):
         journal = journal_with_index()
         for size in range(journal.ends[1], journal.ends[2]):
             play, events = played(journal.text[:size] + journal.text)
             self.assertEqual([it.is_power for it in events], [False, True, False, False, False])
             self.assertEqual((codes(events)[-2:], play.fault), (["98e", ""], ""))
 
-    def test_lines_behind_a_journal(self):
+    def test_lines_after_a_journal(self):
         """Whoever goes on with a journal by hand is followed."""
         journal = journal_with_index()
         play, events = played(journal.text + f"{WRONG}\n# by hand".encode())
@@ -195,7 +195,7 @@ class Audits(unittest.TestCase):
             self.assertIn(words, output)
             self.assertIn(more, output)
 
-    def test_journals_one_behind_another(self):
+    def test_journals_one_after_another(self):
         journal = Journal().play(START, DEFINE)
         before = journal.text
         journal.begin()

@@ -48,7 +48,7 @@ def tpm_saved(request: pytest.FixtureRequest, tmp_path: Path) -> Iterator[Caller
 
 @pytest.fixture
 def tpm_of(request: pytest.FixtureRequest) -> Iterator[Callable[[Transport], Caller]]:
-    """Makes a caller of a device of yours, wherever it is, which is closed behind the test."""
+    """Makes a caller of a device of yours, wherever it is, which is closed after the test."""
     devices = list[Transport]()
 
     def made(device: Transport) -> Caller:

@@ -4,7 +4,7 @@
 
 LOG is a script, as docs/SCRIPTS.md has it: of `cmd`, `do`, `wait`, `loc`, `entropy` and `power`
 lines; or the journal of a device in a folder, a log of `tpmsim serve`, what `tpmsim script` prints,
-the report of a failed test, or several of these one behind another. It may have its answers in
+the report of a failed test, or several of these one after another. It may have its answers in
 comments, as a trace, a response code or a response; ANSWERS may be what `tpmsim run` or `tpmsim run
 --trace` printed of it. `-` is standard input. The device is that of the image in the log; else with
 --image that of START, behind a power cycle; else a new one.

@@ -183,7 +183,7 @@ class Completion:
         waiting = [(it.waits, at) for at, it in enumerate(self.objects) if it.waits]
         return min(waiting)[1] if waiting else None
 
-    # Answers behind the device's.
+    # Answers after the device's.
 
     def reply(self, device: Model, buffer: bytes, own: Outcome) -> Completed:
         stands, asked = Completed(own, own), asked_of(buffer)

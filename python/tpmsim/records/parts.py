@@ -16,7 +16,7 @@ LINE_OF_MARK = re.compile(rb"^" + MARK.pattern + rb"\n", re.MULTILINE)
 
 @dataclass(frozen=True)
 class Part:
-    """A log: its text, the number of its first line, and the bytes that a crash left behind it."""
+    """A log: its text, the number of its first line, and the bytes that a crash left after it."""
 
     text: bytes
     line: int

@@ -1,5 +1,5 @@
 """What a log says, step by step: a script, by hand or of a device in Python; a journal, and a log of
-`tpmsim serve`; what `tpmsim script` prints; and several of these one behind another.
+`tpmsim serve`; what `tpmsim script` prints; and several of these one after another.
 """
 
 from __future__ import annotations
@@ -21,7 +21,7 @@ GIVEN = re.compile(r"# (\d\d:\d\d:\d\d\.\d{3} )?" rf"({TRACE}|[0-9a-f]{{8}}|{RES
 # How `tpmsim script` says that the completing layer was there for a command, in place of a trace.
 COMPLETED = "completed"
 
-# What makes an answer be read behind its command, where it stands first in a log.
+# What makes an answer be read after its command, where it stands first in a log.
 COMMANDS = b"cmd", b"do "
 
 DAMAGED_HEAD = "the head is damaged: its sums are others"
@@ -49,7 +49,7 @@ class Power:
 @dataclass(frozen=True)
 class Command:
     """A command with what is said of its answer: traces, codes and responses in comments before or
-    behind it, and the mark of a journal, which has the sum of the response. `damage` says what is wrong
+    after it, and the mark of a journal, which has the sum of the response. `damage` says what is wrong
     with its record.
     """
 
@@ -114,14 +114,14 @@ class Reading:
         self.line, self.lines = part.line - 1, text.removesuffix(b"\n").split(b"\n") if text else []
         self.words, self.sum = Words(), OFFSET_BASIS
         self.said, self.is_completed = list[str](), False
-        self.behind: list[str] | None = None  # where an answer behind a command goes
+        self.after: list[str] | None = None  # where an answer after a command goes
         self.mark: Mark | None = None
         self.damage = ""
         self.tells_random = any(it.startswith(b"entropy ") for it in self.lines)
         self.is_before = answers_come_first(self.lines)
 
     def whole_steps(self) -> Iterator[Step]:
-        """Each step; a command once the answers behind it were read, and before the comments there."""
+        """Each step; a command once the answers after it were read, and before the comments there."""
         waiting = list[Step]()
         for step in self.steps():
             if not isinstance(step, Comment):
@@ -178,7 +178,7 @@ class Reading:
         if len(text) > LINE_BYTES:
             raise BadLine
         if text == b"power":
-            self.behind = None
+            self.after = None
             yield Power(self.line)
         elif not text or text.startswith(b"#"):
             yield from self.comment(text)
@@ -199,8 +199,8 @@ class Reading:
             yield Comment(self.line, text[1:].strip().decode("latin-1"))
         elif self.is_before or given[1] is not None:
             self.said.append(given[2])
-        elif self.behind is not None:
-            self.behind.append(given[2])
+        elif self.after is not None:
+            self.after.append(given[2])
 
     def command(self, text: bytes, buffer: bytes) -> Command:
         words, mark = self.words, self.mark
@@ -213,7 +213,7 @@ class Reading:
             told = {"random": random, "completes": mark.completes, "mark": mark, "damage": damage}
             found = replace(found, **told)
         words.elapsed, self.mark, self.is_completed = 0, None, False
-        self.behind, self.said = self.said, []
+        self.after, self.said = self.said, []
         return found
 
 
