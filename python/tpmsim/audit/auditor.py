@@ -178,7 +178,7 @@ class Auditor:
 
 def bad_words(step: records.Bad) -> str:
     if isinstance(step, records.BadHead):
-        return f"script line {step.line}: the head is cut"
+        return f"script line {step.line}: the head is not whole"
     if step.line > LINES:
         return f"the script has more than {LINES} lines; up to there the log agrees"
     return f"script line {step.line} is no line of a script; up to it the log agrees"

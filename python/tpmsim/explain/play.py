@@ -323,7 +323,7 @@ class Play(Watched):
         elif isinstance(step, records.Bad):
             self.bad_line, self.fault = step.line, f"script line {step.line}"
             if isinstance(step, records.BadHead):
-                self.fault = f"line {step.line}: the head is cut"
+                self.fault = f"line {step.line}: the head is not whole"
         return None
 
     def told(self, step: records.Command) -> Event:

@@ -90,7 +90,7 @@ class Bad:
 
 @dataclass(frozen=True)
 class BadHead(Bad):
-    """A head that is cut."""
+    """A head that is not whole."""
 
 
 Step = Begin | Power | Command | Comment | Cut | Bad
