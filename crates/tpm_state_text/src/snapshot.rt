@@ -6,11 +6,11 @@ ghost use Rattle.tpm_state_text.specs.Filling.{state_of};
 ghost use Rattle.tpm_state_text.specs.Sizes.{state_text_size};
 ghost use Rattle.tpm_state_text.specs.State.{state_text};
 
-use crate::body::write_body;
+use crate::body::{StateBody, write_body};
 use crate::frame::head;
 use crate::layer::Layer;
 use tpm_bytes::Sink;
-use tpm_image_text::{Text, put_front};
+use tpm_image_text::put_front;
 use tpm_mac::{HashAlg, digest_parts};
 use tpm_record::Keep;
 
@@ -20,7 +20,7 @@ pub const STATE_TEXT_LIMIT: usize = 36_323;
 /// Writes the body of a state text, and the digest after it, to an empty text. Returns the head,
 /// which stands before them.
 #[tactic(auto, unfolding(crate::specs::State::state_text))]
-fn write_state<K: Keep>(keep: &K, layer: Option<&Layer>, text: &mut Text) -> Sink<10>
+fn write_state<K: Keep>(keep: &K, layer: Option<&Layer>, text: &mut StateBody) -> Sink<10>
     requires { text.old ≡ [] }
     ensures state { result ++ text.new
         ≡ state_text (state_of (K.record_of keep.now) (option_copied layer.entry)) }
@@ -42,7 +42,7 @@ pub fn snapshot_into<K: Keep>(keep: &K, layer: Option<&Layer>, buffer: &mut [u8]
     // A buffer of STATE_TEXT_LIMIT bytes is always large enough.
     ensures small { result ≤ state_text_size }
 {
-    let mut text = Text::new();
+    let mut text = StateBody::new();
     let head = write_state(keep, layer, &mut text);
     put_front(head.as_slice(), text.as_slice(), buffer)
 }
