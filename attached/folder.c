@@ -178,7 +178,7 @@ void folder_unlock(struct folder *folder) {
     if (folder->lock >= 0 && flock(folder->lock, LOCK_UN) != 0) close_lock(folder);
 }
 
-/* Forces the folder that this one stands in. If its user may not read that one, or its file system
+/* Forces the folder that this one is in. If its user may not read that one, or its file system
  * does not force folders, the whole file system of this one is forced instead. */
 static bool force_name(const struct folder *folder, struct reason *reason) {
     int above = openat(folder->descriptor, "..", O_RDONLY | O_DIRECTORY | O_CLOEXEC);

@@ -138,7 +138,7 @@ static bool execute(struct kept *kept, const uint8_t *buffer, size_t size, uint8
                                              kept->force == KEPT_FORCE_ALWAYS, reason);
 }
 
-/* Lets the others go on, and tells what was cut off the journal. */
+/* Lets the others go on, and reports what was cut off the journal. */
 static void unlock_and_tell(struct kept *kept) {
     char *sentence = kept->journal.notice.text;
     folder_unlock(&kept->journal.folder);
