@@ -3,6 +3,7 @@
 from tpmsim.model.image import image
 from tpmsim.model.machine import Model
 from tpmsim.model.player import RANDOM_BYTES, Words
+from tpmsim.model.state_text import state_text
 from tpmsim.records.marks import OFFSET_BASIS, sum_from, sum_of
 from tpmsim.standard import number
 
@@ -18,10 +19,18 @@ class Journal:
 
     def begin(self):
         self.model.power_cycle()
-        text = self.image = image(self.model)
+        self.image = image(self.model)
+        self.head(1, self.image)
+
+    def go_on(self, layer=None):
+        """Begins anew with the whole state, in place of all that was executed."""
+        self.head(2, state_text(self.model, layer))
+
+    def head(self, kind, text):
         mark = number(0, 8) + number(len(text), 4) + number(sum_of(text), 8)
         self.sum = sum_from(OFFSET_BASIS, mark)
-        self.text = f"# tpmsim journal 1 {mark.hex()} {self.sum:016x}\n# {text.hex()}\n".encode()
+        line = f"# tpmsim journal {kind} {mark.hex()} {self.sum:016x}"
+        self.text = f"{line}\n# {text.hex()}\n".encode()
         self.head_bytes, self.ends = len(self.text), [len(self.text)]
 
     def play(self, *lines):

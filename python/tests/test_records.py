@@ -164,7 +164,7 @@ class Answers(unittest.TestCase):
         output, error, status = told(text, own)
         self.assertEqual((error, status), ("", 0))
         output, _, status = told(text, Journal().image)
-        words = "line 1: the image in the log is another one than that of --image\n"
+        words = "line 1: the device in the log is another one than that of --image\n"
         self.assertEqual((output[: len(words)], status), (words, 1))
 
     def test_what_was_cut_is_told(self):

@@ -55,6 +55,8 @@ two_pcrs sha256 $zeros $zeros
 of_pcrs sha256 $zeros 0000017f 00000001000b03800800 two_pcrs
 both sha256 of_pcrs 0000016b
 two_banks sha1 $zeros_1 0000017f 00000002 000403010080 000b03800000 $zeros_1
+three_values sha1 $zeros_1 $zeros $zeros
+of_values sha1 $zeros_1 0000017f 00000002 000403800000 000b03001800 three_values
 no_bank sha256 $zeros 0000017f 00000000 $value
 arguments sha256 0000000000000005 0000 0007
 compared sha256 $zeros 00000149 arguments $index
@@ -102,6 +104,10 @@ echo "PolicySecret $index -" | digest 'a Name' sha1 "$of_name"
 # The digest of two PCRs is that of 64 zeros; the others are digests of nothing.
 printf 'PolicyPCR sha256:7,11 %s\nPolicyAuthValue\n' "$two_pcrs" |
     digest 'PCRs and the value' sha256 "$both"
+printf 'PolicyPCR sha256:7=%s,11=%s\nPolicyAuthValue\n' $zeros $zeros |
+    digest 'the values of PCRs' sha256 "$both"
+echo "PolicyPCR sha1:7=$zeros_1+sha256:11,12=$zeros" | sed "s/,12/=$zeros,12/" |
+    digest 'values of PCRs in two banks' sha1 "$of_values"
 echo "PolicyPCR sha1:0,23+sha256:7 $zeros_1" | digest 'PCRs of two banks' sha1 "$two_banks"
 echo "PolicyPCR - $value" | digest 'PCRs of none' sha256 "$no_bank"
 echo "PolicyNV $index 0000000000000005 0 uge" | digest 'an index' sha256 "$compared"
@@ -134,7 +140,7 @@ set --
 for file in digests/*; do
     set -- "$@" --policy "$file"
 done
-python3 "$audit" empty empty "$@" 2>error |
+python3 "$audit" --digest "$@" |
     awk '/^Policy/ { name = $2 } /^  its digest/ { print name " " $4 $5 }' >given
 while IFS="$(printf '\t')" read -r file label algorithm digest; do
     found=$(sed -n "s|^$file $algorithm:||p" given)
@@ -207,6 +213,20 @@ echo 'A POLICY THAT NOTHING HAS, by one digit:'
 sed 's/6469736b/6469736c/' policies/written_policies/disk >policies/written_policies/other
 audit_by written_policies other
 rm policies/written_policies/other
+
+echo 'A POLICY WITH THE VALUES OF PCRs: what is told of its uses is the same.'
+value_of() {
+    python3 "$audit" "$(script written_policies)" written_policies --policy policies/written_policies/disk |
+        sed -n "s/^ *policy line 4.*[:,]$1=\([0-9a-f]*\).*/\1/p" | sed -n 1p
+}
+sed "s/PolicyPCR.*/PolicyPCR sha256:7=$(value_of 7),11=$(value_of 11)/" policies/written_policies/disk \
+    >policies/written_policies/values
+audit_by written_policies disk >by_digest
+audit_by written_policies values >by_values
+sed -i 's|policies/written_policies/[a-z]*|FILE|; s/PolicyPCR sha256:.*/PolicyPCR/; /by sha1/d' \
+    by_digest by_values
+cmp by_digest by_values && echo 'the same'
+rm policies/written_policies/values
 
 # Those of tests/sessions/lost_grounds.tpm: PCR 16 is zeros, and an index has 8 bytes, and is the owner's.
 trace lost_grounds
@@ -365,4 +385,8 @@ fault 'an odd operand' "PolicyNV $index 0 0 eq\n"
 fault 'an offset of 17 bits' "PolicyNV $index 00 65536 eq\n"
 fault 'an offset in hex' "PolicyNV $index 00 0x1 eq\n"
 fault 'a comparison by its number' "PolicyNV $index 00 0 7\n"
+fault 'a value of another size' "PolicyPCR sha256:7=$zeros_1\n"
+fault 'a PCR without its value' "PolicyPCR sha256:7=$value,11\n"
+fault 'values in another order' "PolicyPCR sha256:11=$value,7=$zeros\n"
+fault 'a digest behind values' "PolicyPCR sha256:7=$value $value\n"
 python3 "$scripts/cases.py" <cases

@@ -12,8 +12,7 @@ from tpmsim.audit.session_lines import SessionLines
 from tpmsim.audit.start import Start
 from tpmsim.audit.uses import Guesses, Refusals, Uses
 from tpmsim.audit.watch import Entities, Seen, Watch
-from tpmsim.model import image as images
-from tpmsim.model.completion import Completion
+from tpmsim.model.image import Fault
 from tpmsim.model.player import LINES
 from tpmsim.policies.policy_file import PolicyFile
 from tpmsim.standard import lines
@@ -43,12 +42,13 @@ class Auditor:
         device, history = start.device, start.history
         self.start, self.log, self.history = start, log, history
         self.watch = Watch(device)
+        self.watch.layer = start.layer
         self.device, self.counts, self.last = device, Counts(), 0
         self.cut: records.Cut | None = None
-        self.pcrs = PcrLines(history, start.has_image)
-        self.values = ValueLines(start.has_image)
-        self.sessions = SessionLines(history)
-        self.entities, self.counters = Entities(device), CounterLines(device, history)
+        self.pcrs, self.values = PcrLines(history, start.text), ValueLines(start.text)
+        self.sessions = SessionLines(history, start.text)
+        self.entities = Entities(device, start.text)
+        self.counters = CounterLines(device, history, start.text)
         self.guesses = Guesses(device, self.sessions)
         self.repeats, self.refusals = Repeats(self.sessions), Refusals()
         self.grounds = Grounds(history, self.sessions, self.pcrs, self.values)
@@ -77,20 +77,21 @@ class Auditor:
         self.log.end()
 
     def begin(self, step: records.Begin, is_begun: bool) -> None:
-        """A head, which is the start's, or another one of the same device."""
+        """A head, which is the start's, or another one of the same device; an image has it behind a power
+        cycle.
+        """
         if step.damage:
             raise Disagreement(f"script line {step.line}: {step.damage}")
-        if is_begun:
-            try:
-                goes_on = images.goes_on(self.device, step.image)
-            except images.Fault as fault:
-                raise Disagreement(
-                    f"script line {step.line} begins with no image: {fault}"
-                ) from None
-            if not goes_on:
-                raise Disagreement(f"script line {step.line} begins with another device")
+        try:
+            begun = records.opened(step.content, step.start)
+            goes_on = not is_begun or records.goes_on(self.device, step.content)
+        except Fault as fault:
+            raise Disagreement(f"script line {step.line} begins with no device: {fault}") from None
+        if not goes_on:
+            raise Disagreement(f"script line {step.line} begins with another device")
+        if is_begun and not begun.is_state:
             self.power(step.line)
-        self.watch.layer = Completion(step.start)
+        self.watch.layer = begun.layer
 
     def power(self, line: int) -> None:
         self.device.power_cycle()

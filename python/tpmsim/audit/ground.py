@@ -122,6 +122,11 @@ class Grounds:
         none = f"no authorization value authorizes it for {command_words(use.code)}"
         return [Finding(False, none), shown]
 
+    def pcr_words(self, use: Use) -> list[str]:
+        """The values at a use of the PCRs that its session's policy is of."""
+        begun = self.sessions.live.get(use.entry.handle)
+        return [self.pcrs.words(*it) for it in begun.pcrs] if begun else []
+
     def password(self, use: Use) -> Finding:
         holds = trimmed(use.entry.hmac) == use.value
         told = self.values.words(use.authorized, use.value)
@@ -182,11 +187,11 @@ def conditions(
     yield Finding(takes_policy, f"{who} this entity for {command_words(use.code)}")
     if told.update_counter is not None:
         first = session_lines.live[use.entry.handle].first_pcr or 0
-        since, last = f"its first TPM2_PolicyPCR, line {first}", pcr_lines.last_change
+        since = f"its first TPM2_PolicyPCR, {f'line {first}' if first else 'before the log'}"
         yield either(
-            last <= first and history.pcrs.updates == told.update_counter,
+            pcr_lines.last_change <= first and history.pcrs.updates == told.update_counter,
             f"no PCR was written and no TPM2_Clear accepted since {since}",
-            f"line {last} {pcr_lines.last_words} after {since}",
+            f"{pcr_lines.change} after {since}",
         )
     yield from told_conditions(use)
     if view.public is not None:

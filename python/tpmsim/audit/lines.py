@@ -12,6 +12,8 @@ from tpmsim.explain.words import command_words
 from tpmsim.model import pcrs, state
 from tpmsim.model.history import Accepted, defined_index, History
 from tpmsim.model.machine import Model
+from tpmsim.model.parameters import Selection
+from tpmsim.policies.pcr_values import PcrValues
 from tpmsim.standard import CC, HASH_WORDS, is_pcr, nv, PCRS, RH_ENDORSEMENT, RH_LOCKOUT, RH_OWNER
 from tpmsim.standard import RH_PLATFORM, SE_HMAC, SHA1, SHA256
 from tpmsim.standard.lines import handle_word
@@ -21,18 +23,25 @@ if TYPE_CHECKING:
     from tpmsim.audit.session_lines import SessionLines
 
 BANKS = SHA1, SHA256
-OF_IMAGE = "written before the image"
 
 
 class PcrLines:
-    """The line that wrote each value last, and the last that wrote one or was a TPM2_Clear."""
+    """The line that wrote each value last, and the last that wrote one or was a TPM2_Clear. What no line
+    wrote is of the text that the log begins with, if it begins with one.
+    """
 
-    def __init__(self, history: History, has_image: bool) -> None:
-        self.pcrs, self.updates = history.pcrs, 0
+    def __init__(self, history: History, text: str) -> None:
+        self.pcrs, self.updates = history.pcrs, history.pcrs.updates
         self.last_change, self.last_words = 0, ""
-        self.written: dict[tuple[int, int], str] = {}
-        saved = [(bank, pcr) for bank in BANKS for pcr in PCRS if has_image]
-        self.saved = dict.fromkeys(saved, OF_IMAGE)
+        self.saved = {(bank, pcr): f"written before {text}" for bank in BANKS for pcr in PCRS}
+        self.written = dict(self.saved)
+
+    @property
+    def change(self) -> str:
+        """What wrote a PCR last."""
+        if not self.last_change:
+            return "something before the log wrote a PCR"
+        return f"line {self.last_change} {self.last_words}"
 
     def note(self, seen: Seen) -> None:
         """An event, once the history has it."""
@@ -53,10 +62,25 @@ class PcrLines:
                 if at[1] < state.SAVED_PCRS:
                     self.written[at] = f"{was}, and taken up by line {seen.line}"
 
+    def values(self, selected: Selection) -> str:
+        """Those of now, as a policy in words has them."""
+        banks = [
+            (bank, tuple((it, self.pcrs.values[bank][it]) for it in numbers))
+            for bank, numbers in selected
+        ]
+        return PcrValues(tuple(banks)).word or "no PCR"
+
+    def words(self, bank: int, pcr: int) -> str:
+        value = self.pcrs.values[bank][pcr]
+        by = "as a startup leaves it"
+        if value != pcrs.starting_value(bank, pcr):
+            by = self.written[bank, pcr]
+        return f"{HASH_WORDS[bank]} PCR {pcr}: {value.hex()}, {by}"
+
     def report(self) -> Iterator[str]:
         title = "PCRs that are not as a startup leaves them, each with the line that wrote it last"
         told = (
-            f"    {HASH_WORDS[bank]} PCR {pcr}: {value.hex()}, {self.written[bank, pcr]}"
+            f"    {self.words(bank, pcr)}"
             for bank in BANKS
             for pcr, value in enumerate(self.pcrs.values[bank])
             if value != pcrs.starting_value(bank, pcr)
@@ -77,8 +101,8 @@ def written_by(event: Accepted) -> list[tuple[int, int]]:
 class ValueLines:
     """The line that set the value of each handle; what no line set is the start's."""
 
-    def __init__(self, has_image: bool) -> None:
-        self.at_first = "that the image has" if has_image else "of a new device"
+    def __init__(self, text: str) -> None:
+        self.at_first = f"that {text} has" if text else "of a new device"
         self.set_by: dict[int, str] = {}
 
     def note(self, seen: Seen) -> None:
@@ -130,15 +154,15 @@ class Counted:
 
 
 class CounterLines:
-    def __init__(self, device: Model, history: History) -> None:
+    def __init__(self, device: Model, history: History, text: str) -> None:
         self.device, self.history = device, history
         self.now: dict[int, Counted] = {}
         self.all: list[Counted] = []
         for handle in device.indices:
             if self.is_counter(handle):
-                counted = self.begin(handle, "of the image")
+                counted = self.begin(handle, f"of {text}")
                 if handle in history.counters.values:
-                    counted.count(history.counters.values[handle], "the image")
+                    counted.count(history.counters.values[handle], text)
 
     def is_counter(self, handle: int) -> bool:
         return self.device.indices[handle].public.kind == nv.Type.COUNTER

@@ -3,7 +3,7 @@ its entity. Its session has to have asserted what is written, one after another 
 at each PolicyOR, as tpm_policy_meaning has it (Meaning); and that has to hold at the use.
 """
 
-from dataclasses import dataclass
+from dataclasses import dataclass, replace
 from typing import Iterator, Sequence
 
 from tpmsim.audit import broken
@@ -20,6 +20,14 @@ from tpmsim.standard import CC, nv, policy, SE_POLICY
 from tpmsim.standard.lines import handle_word
 
 
+@dataclass(frozen=True)
+class Told:
+    """What a session asserted in the log, and the digest that it had before that, if it had one."""
+
+    asserted: Sequence[Asserted]
+    before: bytes = b""
+
+
 class NotMet(Exception):
     """What of a policy a session did not assert, in words."""
 
@@ -28,6 +36,19 @@ class NotMet(Exception):
 class Step:
     written: Written
     asserted: Asserted
+
+
+@dataclass(frozen=True)
+class Before:
+    """What a session was told before the log, which its digest then was of: the policy's first lines."""
+
+    policy: Policy
+
+    @property
+    def words(self) -> str:
+        lines = [it.line for it in self.policy.assertions]
+        last = lines[-1] if lines else self.policy.line
+        return f"up to policy line {last}: asserted before the log, by the digest at its start"
 
 
 @dataclass(frozen=True)
@@ -45,32 +66,51 @@ class Choice:
         return f"policy line {self.line}, either: {branch}, by line {self.asserted.line} (PolicyOR)"
 
 
-def steps_of(algorithm: int, of: Policy, told: Sequence[Asserted]) -> list[Step | Choice]:
+# A step of a session.
+Taken = Step | Before | Choice
+
+
+def steps_of(algorithm: int, of: Policy, told: Told) -> list[Taken]:
     """The steps by which assertions meet a policy, in their order; NotMet where they do not."""
-    earlier, steps = list(told), list[Step | Choice]()
-    for written in reversed(of.assertions):
-        head = f"policy line {written.line}, {written.said.words}"
-        if not earlier:
-            raise NotMet(f"{head}: it was not asserted")
-        latest = earlier.pop()
-        if not latest.says(written.said):
-            raise NotMet(f"{head}: line {latest.line} asserts {latest.said.words} in its place")
+    steps, left = list[Taken](), list(of.assertions)
+    while left:
+        if is_before(algorithm, replace(of, assertions=tuple(left)), told):
+            return [Before(replace(of, assertions=tuple(left))), *steps]
+        written = left.pop()
+        told, latest = step_at(algorithm, written, told)
         steps.insert(0, Step(written, latest))
-    return [*(steps_at_or(algorithm, of, earlier) if of.branches else []), *steps]
+    return [*(steps_at_or(algorithm, of, told) if of.branches else []), *steps]
 
 
-def steps_at_or(algorithm: int, of: Policy, told: Sequence[Asserted]) -> list[Step | Choice]:
+def is_before(algorithm: int, of: Policy, told: Told) -> bool:
+    return not told.asserted and bool(told.before) and policy_digest(algorithm, of) == told.before
+
+
+def step_at(algorithm: int, written: Written, told: Told) -> tuple[Told, Asserted]:
+    """What asserts a policy's last assertion, with all that was told before it."""
+    head = f"policy line {written.line}, {written.said.words}"
+    if not told.asserted:
+        raise NotMet(f"{head}: it was not asserted")
+    *earlier, latest = told.asserted
+    if not latest.says(written.said.by(algorithm)):
+        raise NotMet(f"{head}: line {latest.line} asserts {latest.said.words} in its place")
+    return replace(told, asserted=earlier), latest
+
+
+def steps_at_or(algorithm: int, of: Policy, told: Told) -> list[Taken]:
     """Those of the branch whose digest TPM2_PolicyOR found."""
     head = f"policy line {of.line}, either"
-    if not told or told[-1].said.code != CC.PolicyOR:
+    if is_before(algorithm, replace(of, assertions=()), told):
+        return [Before(replace(of, assertions=()))]
+    if not told.asserted or told.asserted[-1].said.code != CC.PolicyOR:
         raise NotMet(f"{head}: TPM2_PolicyOR was not asserted")
-    *earlier, latest = told
+    *earlier, latest = told.asserted
     fault = NotMet(f"{head}: before line {latest.line} (PolicyOR) the digest is that of no branch")
     for place, branch in enumerate(of.branches, 1):
         if policy_digest(algorithm, branch) == latest.before:
             choice = Choice(of.line, place, len(of.branches), latest)
             try:
-                return [*steps_of(algorithm, branch, earlier), choice]
+                return [*steps_of(algorithm, branch, replace(told, asserted=earlier)), choice]
             except NotMet as of_branch:
                 fault = of_branch
     raise fault
@@ -79,7 +119,7 @@ def steps_at_or(algorithm: int, of: Policy, told: Sequence[Asserted]) -> list[St
 def finding(step: Step, use: Use, grounds: Grounds) -> Finding:
     written, asserted = step.written, step.asserted
     name, other = written.said.code.name, asserted.said.code.name
-    found = of_assertion(written.said, asserted, use, grounds)
+    found = of_assertion(written.said.by(use.session.algorithm), asserted, use, grounds)
     by = f"line {asserted.line}" if other == name else f"line {asserted.line} ({other})"
     joined = "and" if found.holds else "but"
     words = f"policy line {written.line}, {name}: {by} asserts it, {joined} {found.words}"
@@ -111,11 +151,12 @@ def of_assertion(said: Said, asserted: Asserted, use: Use, grounds: Grounds) -> 
 def of_pcrs(selection: bytes, digest: bytes, line: int, use: Use, grounds: Grounds) -> Finding:
     selected = Parameters(selection).next().selection()
     now, lines = grounds.history.pcrs.digest(use.session.algorithm, selected), grounds.pcrs
+    values = lines.values(selected)
     if now != digest:
-        return Finding(False, f"the PCRs have the digest {now.hex()} at the use")
+        return Finding(False, f"the PCRs have the digest {now.hex()} at the use: {values}")
     if lines.last_change > line:
-        return Finding(False, f"line {lines.last_change} {lines.last_words} after that")
-    return Finding(True, "the PCRs have that digest: none was written since then")
+        return Finding(False, f"line {lines.last_change} {lines.last_words} after that: {values}")
+    return Finding(True, f"the PCRs have that digest, and none was written since then: {values}")
 
 
 def of_value(use: Use, grounds: Grounds) -> Finding:
@@ -154,15 +195,15 @@ class Judged:
         if not use.is_policy:
             told.append(f"    {words} asks for no policy")
             return
-        asserted = grounds.sessions.live[use.entry.handle].asserted
-        lacks, conditions = self.judged(use, asserted, grounds)
+        begun = grounds.sessions.live[use.entry.handle]
+        lacks, conditions = self.judged(use, Told(begun.asserted, begun.before), grounds)
         told.append(f"    {words} {'does not meet it' if lacks else 'meets it'}")
         told += [f"        {it}" for it in conditions]
         if lacks:
             named = f"script line {line}, {name} of {handle_word(use.authorized)}"
             self.unmet.append(f"{self.file.name}: {named}, does not meet it: {lacks}")
 
-    def judged(self, use: Use, asserted: Sequence[Asserted], grounds: Grounds) -> Judgement:
+    def judged(self, use: Use, told: Told, grounds: Grounds) -> Judgement:
         public, digest = use.view.public, use.session.policy.digest
         assert public is not None
         if use.session.kind != SE_POLICY:
@@ -171,11 +212,11 @@ class Judged:
         algorithm, has_digest = public.name_algorithm, digest == public.auth_policy
         other = f"its session has another digest, {digest.hex()}"
         try:
-            steps = steps_of(algorithm, self.file.policy, asserted)
+            steps = steps_of(algorithm, self.file.policy, told)
         except NotMet as fault:
-            explained = broken.explanation(algorithm, self.file.policy, asserted)
-            told = [str(fault), explained if has_digest else other]
-            return "; ".join(told), told
+            explained = broken.explanation(algorithm, self.file.policy, told.asserted)
+            words = [str(fault), explained if has_digest else other]
+            return "; ".join(words), words
         return held(steps, use, grounds) if has_digest else (other, [other])
 
     def report(self, entities: list[Entity]) -> Iterator[str]:
@@ -191,10 +232,12 @@ class Judged:
         return entity.public is not None and self.file.is_of(entity.public)
 
 
-def held(steps: list[Step | Choice], use: Use, grounds: Grounds) -> Judgement:
-    """The first condition that does not hold at a use is what it lacks."""
+def held(steps: list[Taken], use: Use, grounds: Grounds) -> Judgement:
+    """The first condition that does not hold at a use is what it lacks. Those of what was asserted before
+    the log are held against the state text, as each use is.
+    """
     found = [
-        Finding(True, it.words) if isinstance(it, Choice) else finding(it, use, grounds)
+        finding(it, use, grounds) if isinstance(it, Step) else Finding(True, it.words)
         for it in steps
     ]
     lacks = next((it.words for it in found if not it.holds), None)

@@ -9,6 +9,7 @@ from tpmsim.explain.past import said_words
 from tpmsim.explain.words import command_words, handle_words, SESSIONS
 from tpmsim.model import history
 from tpmsim.model.history import History, LiveSession, Pcrs
+from tpmsim.model.parameters import Parameters
 from tpmsim.policies.written import Said, said_of
 from tpmsim.standard import CC, HASH_WORDS, SE_HMAC
 from tpmsim.standard.lines import handle_word
@@ -49,7 +50,8 @@ def asserted_by(seen: Seen, before: LiveSession, after: LiveSession, pcrs: Pcrs)
 class Begun:
     """A session: the line that started it, how its bind entity is protected, the line of its first
     TPM2_PolicyPCR and what was asserted since its policy began, what happened to it, a text a line,
-    and which commands were accepted with an hmac of it.
+    and which commands were accepted with an hmac of it. One that a state text has was begun in no line;
+    `before` is the digest that its policy had there.
     """
 
     line: int
@@ -59,24 +61,39 @@ class Begun:
     title: str = ""
     told: list[str] = field(default_factory=list)
     accepted: dict[bytes, tuple[int, bytes]] = field(default_factory=dict)
+    before: bytes = b""
 
     def tell(self, line: int, words: str) -> None:
-        self.told.append(f"    line {line}: {words}")
+        self.told.append(f"    {f'line {line}' if line else 'before the log'}: {words}")
+
+    @property
+    def pcrs(self) -> list[tuple[int, int]]:
+        """Those that its policy is of, each with its bank."""
+        those = (it.said.values[0] for it in self.asserted if it.said.code == CC.PolicyPCR)
+        banks = (bank for text in those for bank in Parameters(text).next().selection())
+        return sorted({(bank, pcr) for bank, numbers in banks for pcr in numbers})
 
     def restart(self) -> None:
-        self.first_pcr, self.asserted = None, []
+        self.first_pcr, self.asserted, self.before = None, [], b""
 
 
 class SessionLines:
     """Those that live by their handles, and all that have a policy."""
 
-    def __init__(self, told: History) -> None:
-        self.history = told
+    def __init__(self, told: History, text: str) -> None:
+        self.history, self.text = told, text
         self.live: dict[int, Begun] = {}
         self.all: list[Begun] = []
+        for handle, session in told.sessions.live.items():
+            digest = session.policy.digest
+            before = digest if any(digest) else b""
+            self.begin(handle, Begun(0, session.bound[2] if session.bound else None, before=before))
+            if before:
+                self.live[handle].tell(0, f"it has the digest {before.hex()}")
 
     def words(self, handle: int) -> str:
-        return f"line {self.live[handle].line}"
+        line = self.live[handle].line
+        return f"line {line}" if line else self.text
 
     def protection(self, handle: int) -> str | None:
         return self.live[handle].protection if handle in self.live else None
@@ -124,12 +141,14 @@ class SessionLines:
                 self.live[use.handle].restart()
 
     def start(self, seen: Seen) -> None:
-        handle, bind = seen.accepted.handle, seen.views[1]
+        self.begin(seen.accepted.handle, Begun(seen.line, seen.views[1].protection))
+
+    def begin(self, handle: int, begun: Begun) -> None:
         session = self.history.sessions.live[handle]
-        begun = self.live[handle] = Begun(seen.line, bind.protection)
+        self.live[handle] = begun
         if session.kind != SE_HMAC:
             kind, algorithm = SESSIONS[session.kind], HASH_WORDS[session.algorithm]
-            begun.title = f"{kind} {handle_word(handle)} of line {seen.line}, {algorithm}"
+            begun.title = f"{kind} {handle_word(handle)} of {self.words(handle)}, {algorithm}"
             self.all.append(begun)
 
     def end(self, line: int, handle: int, words: str) -> None:

@@ -1,33 +1,50 @@
 """With what a log begins: a device, and what the history before tells of it. Of a new device that
-is nothing; of one that is opened from an image it is what the image holds.
+is nothing; of one that is opened from an image or a state text it is what that text holds.
 """
 
 import hashlib
-from dataclasses import dataclass
+from dataclasses import dataclass, field, replace
 
 from tpmsim import records
 from tpmsim.model import state
-from tpmsim.model.history import History
-from tpmsim.model.image import Fault, goes_on, open_image
+from tpmsim.model.completion import Completion
+from tpmsim.model.history import History, LiveSession
+from tpmsim.model.image import Fault
 from tpmsim.model.machine import Model
 from tpmsim.standard import HIERARCHIES, nv
 
 
 @dataclass
 class Start:
+    """`text` is what holds it, as "the image", if anything does."""
+
     device: Model
     history: History
     words: str
-    has_image: bool = False
+    text: str = ""
+    layer: Completion = field(default_factory=Completion)
 
 
 def new() -> Start:
     return Start(Model(), History(), "a new device")
 
 
-def of_image(text: bytes) -> Start:
-    """The device of an image; one that is none is image.Fault."""
-    device, history = open_image(text), History()
+def of_text(text: bytes) -> Start:
+    """The device of an image or of a state text; of what is neither, Fault."""
+    begun = records.opened(text)
+    history = history_of(begun.device)
+    held = "state text" if begun.is_state else "image"
+    if begun.is_state:
+        add_state(history, begun.device)
+    digest = hashlib.sha256(text).hexdigest()
+    article = "a" if begun.is_state else "an"
+    words = f"the device of {article} {held}, whose SHA-256 is {digest}"
+    return Start(begun.device, history, words, f"the {held}", begun.layer)
+
+
+def history_of(device: Model) -> History:
+    """What a device has without power."""
+    history = History()
     for handle in (*HIERARCHIES, *device.objects, *device.indices):
         history.auth_values.values[handle] = device.auth_value(handle)
     for handle, index in device.indices.items():
@@ -37,21 +54,32 @@ def of_image(text: bytes) -> Start:
     if device.saved == state.Saved.STATE:
         for bank, values in device.saved_banks.items():
             history.pcrs.saved[bank][: len(values)] = values
-    digest = hashlib.sha256(text).hexdigest()
-    words = f"the device of an image, whose SHA-256 is {digest}"
-    return Start(device, history, words, has_image=True)
+    return history
 
 
-def of_log(script: bytes, image: bytes | None) -> Start:
-    """The device of the image that is given, of the one that the log begins with, or a new one. Fault
-    where that is no image, or where the two are of different devices.
+def add_state(history: History, device: Model) -> None:
+    """The PCRs and the sessions, which a power cycle would take."""
+    history.pcrs.values = {bank: list(values) for bank, values in device.banks.items()}
+    history.pcrs.updates = device.update_counter
+    for handle, it in device.sessions.items():
+        bound = (it.bind, it.bind_auth, it.bind_protection) if it.is_bound else None
+        kinds = it.kind, it.algorithm, it.cipher
+        live = LiveSession(*kinds, bound, it.key, it.nonce_tpm, replace(it.policy))
+        history.sessions.live[handle] = live
+
+
+def of_log(script: bytes, given: bytes | None) -> Start:
+    """The device of the text that is given, of the one that the log begins with, or a new one. Fault
+    where that is none, or where the two are of different devices.
     """
     begun = first_of(script)
-    if begun is not None and image is not None and not goes_on(open_image(begun.image), image):
-        raise Fault("of another device than the log begins with")
-    if begun is not None:
-        return of_image(begun.image)
-    return new() if image is None else of_image(image)
+    if begun is None:
+        return new() if given is None else of_text(given)
+    if given is not None:
+        own = records.opened(begun.content)
+        if own.is_state != records.opened(given).is_state or not records.goes_on(own.device, given):
+            raise Fault("of another device than the log begins with")
+    return of_text(begun.content)
 
 
 def first_of(script: bytes) -> records.Begin | None:

@@ -141,6 +141,7 @@ class Uses:
             self.grounds.sessions.use_for(use.seen.line, use.entry.handle, use.code, use.authorized)
             used.append(told)
             used += [f"        {it.words}" for it in findings]
+            used += self.pcr_rows(use)
         else:
             used.append(f"{told}: {findings[-1].words}")
 
@@ -159,7 +160,10 @@ class Uses:
         if use.handle is not None:
             self.refused += 1
             told = f"{self.words(use)} is refused by {seen.outcome.refused}: {words}"
-            self.entities.of(use.handle).used.append(told)
+            self.entities.of(use.handle).used += [told, *self.pcr_rows(use)]
+
+    def pcr_rows(self, use: Use) -> list[str]:
+        return [f"        {it}" for it in self.grounds.pcr_words(use)]
 
     def lacking(self, seen: Seen) -> tuple[Use, str] | None:
         """The first entry that has no ground, with what it lacks; None where there is none."""

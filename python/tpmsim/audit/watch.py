@@ -175,6 +175,14 @@ def means_words(public: Public) -> str:
     return f"by its value or {policy}" if policy else "by its value"
 
 
+def is_again(public: Public, had: Public) -> bool:
+    """Whether the Name was there before; that of an index changes when it is first written."""
+    if isinstance(public, nv.Public) and isinstance(had, nv.Public):
+        had = had.but(cleared=nv.Attribute.WRITTEN)
+        public = public.but(cleared=nv.Attribute.WRITTEN)
+    return public.name == had.name
+
+
 @dataclass
 class Entity:
     """What a handle names while it stays the same, with its uses, a text a line."""
@@ -183,22 +191,26 @@ class Entity:
     title: str
     first: int = 0
     public: Public | None = None
+    since: str = ""
     used: list[str] = field(default_factory=list)
 
 
 class Entities:
-    def __init__(self, device: Model) -> None:
+    def __init__(self, device: Model, text: str) -> None:
         self.device = device
         self.now: dict[int, Entity] = {}
         self.all: list[Entity] = []
         for handle in (*device.objects, *device.indices):
-            self.begin(handle, 0, "of the image")
+            self.begin(handle, 0, f"of {text}")
 
     def begin(self, handle: int, line: int, since: str) -> None:
         public = view_of(self.device, handle).public
         assert public is not None
         title = f"{handle_word(handle)}, {kind_words(public)} {since}; {means_words(public)}"
-        self.keep(Entity(handle, title, line, public))
+        had = next((it for it in self.all if it.public and is_again(public, it.public)), None)
+        if had is not None:
+            title += f"; by its Name the one {had.since}"
+        self.keep(Entity(handle, title, line, public, since))
 
     def keep(self, entity: Entity) -> Entity:
         self.now[entity.handle] = entity

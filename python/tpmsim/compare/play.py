@@ -80,7 +80,7 @@ class Comparison:
             if isinstance(step, records.Bad):
                 raise BadLine(f"line {step.line}")
             if isinstance(step, records.Begin):
-                self.begin(step.image, is_begun)
+                self.begin(step.content, is_begun)
             elif isinstance(step, records.Power):
                 self.power()
             elif isinstance(step, records.Command):
@@ -90,10 +90,12 @@ class Comparison:
         self.state()
         return self.report
 
-    def begin(self, image: bytes, is_begun: bool) -> None:
-        if is_begun and self.here.is_device_of(image):
-            self.power()
-        elif is_begun or not self.here.open_empty(image):
+    def begin(self, content: bytes, is_begun: bool) -> None:
+        """A head: of the same device again, which a state text finds as it is; or of a new one."""
+        if is_begun and self.here.is_device_of(content):
+            if not records.is_state_text(content):
+                self.power()
+        elif is_begun or not self.here.open_empty(content):
             raise ValueError(f"line {self.line} begins with a device that no other TPM can be made")
 
     def send(self, buffer: bytes) -> bytes:

@@ -9,10 +9,10 @@ from tpmsim.device.child import ChildDevice
 from tpmsim.device.library import LibraryDevice
 from tpmsim.device.told import Device
 from tpmsim.model.general import Command
-from tpmsim.model.image import goes_on, open_image
 from tpmsim.model.machine import MANUFACTURED, Model
 from tpmsim.model.policy_state import Session
 from tpmsim.model.protection import Lockout
+from tpmsim.records import goes_on, opened
 from tpmsim.standard import ALG_NULL, DECRYPT, ENCRYPT, Entry, Fields, frames, NUMBERED, SESSIONS
 from tpmsim.standard import sessions, Short
 from tpmsim.standard.frames import NO_SESSIONS
@@ -68,12 +68,15 @@ class Reference:
             raise AssertionError(f"the device in Python answers otherwise: {buffer.hex()}")
         return event
 
-    def is_device_of(self, image: bytes) -> bool:
-        return goes_on(self.model, image)
+    def is_device_of(self, content: bytes) -> bool:
+        return goes_on(self.model, content)
 
     def open_empty(self, image: bytes) -> bool:
         """Becomes the device of an image, if that has nothing that a new one has not."""
-        found = open_image(image)
+        begun = opened(image)
+        if begun.is_state:
+            return False
+        found = begun.device
         is_used = found.objects or found.indices or found.saved or any(found.auth_values.values())
         if is_used or found.disable_clear or found.lockout != Lockout():
             return False

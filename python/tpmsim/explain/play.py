@@ -14,7 +14,7 @@ from tpmsim.model import image as images
 from tpmsim.model.completion import Completed, Completion
 from tpmsim.model.general import Command
 from tpmsim.model.machine import Model, Outcome
-from tpmsim.records import TRACE
+from tpmsim.records import goes_on, Opened, opened, TRACE
 from tpmsim.records.marks import sum_of
 from tpmsim.standard import lines, policy
 
@@ -285,8 +285,12 @@ class Play(Watched):
         at: int | None = None,
         is_whole: bool = False,
     ) -> None:
-        """image.Fault of no image. The line `at`, or each with `is_whole`, is looked at whole."""
-        super().__init__(Model() if image is None else images.open_image(image))
+        """image.Fault of what is neither an image nor a state text. The line `at`, or each with
+        `is_whole`, is looked at whole.
+        """
+        begun = Opened(Model(), Completion()) if image is None else opened(image)
+        super().__init__(begun.device)
+        self.layer = begun.layer
         self.at, self.is_whole = -1 if at is None else at, is_whole
         self.answers, self.given = Answers(answers), image
         self.bad_line: int | None = None
@@ -352,20 +356,27 @@ class Play(Watched):
             self.comments.append("")
 
     def begin(self, step: records.Begin) -> Event | None:
-        """The device of a head, with its power just on. Where it is that of the log before, it goes on,
-        behind a power cycle.
+        """The device of a head. Where it is that of the log before, it goes on: behind a power cycle, if
+        the head holds an image.
         """
         is_first = self.event is None
         if step.damage:
             self.damages.append(f"line {step.line}: {step.damage}")
-        goes_on = images.goes_on(self.model, step.image)
-        if is_first and self.given is not None and not goes_on:
-            words = "the image in the log is another one than that of --image"
+        begun, is_same = opened(step.content, step.start), self.is_same(step, is_first)
+        if is_first or not is_same:
+            self.put(begun.device)
+        self.layer = begun.layer
+        if is_first or begun.is_state:
+            return None
+        return self.shown(self.power(), b"power")
+
+    def is_same(self, step: records.Begin, is_first: bool) -> bool:
+        """Whether the head's device is the one that is looked at."""
+        is_same = goes_on(self.model, step.content)
+        if is_first and self.given is not None and not is_same:
+            words = "the device in the log is another one than that of --image"
             self.damages.append(f"line {step.line}: {words}")
-        if is_first or not goes_on:
-            self.put(images.open_image(step.image))
-        self.layer = Completion(step.start)
-        return None if is_first else self.shown(self.power(), b"power")
+        return is_same
 
 
 def entry_facts(scene: Scene) -> Iterator[tuple[int, list[Fact]]]:

@@ -43,9 +43,11 @@ def policy_lacks(use: Use) -> str:
 
 def difference(use: Use, wanted: bytes, found: Reason) -> str:
     """In words, with facts, as far as it can be seen."""
-    steps = use.begun.told if use.begun else []
+    if use.begun is None:
+        return "Its session began before the log, which does not have all that it was told."
+    steps = use.begun.told
     if not steps:
-        line = use.begun.restarted if use.begun else 0
+        line = use.begun.restarted
         since = f" since line {line}, with which its policy began anew" if line else ""
         return f"It was told nothing{since}."
     earlier = use.scene.past.made.get(wanted)
@@ -190,8 +192,9 @@ def pcrs(use: Use, found: Reason) -> bool:
     past = use.scene.past
     line = (past.lines_told(use.entry.handle, CC.PolicyPCR) or [0])[0]
     moved = past.moved_since(line)
-    by = moved_words(moved) if moved else "a power cycle"
-    found.words = f"After PolicyPCR in line {line} PCRs have moved: by {by}."
+    by = moved_words(moved) if moved else "a power cycle" if line else "what came before the log"
+    since = f"PolicyPCR in line {line}" if line else "its PolicyPCR, before the log,"
+    found.words = f"After {since} PCRs have moved: by {by}."
     found.add("update counter recorded", str(told), WANTED)
     found.add("update counter now", str(now), HAD)
     return True

@@ -131,7 +131,7 @@ class Reader:
             said = read_assertion(row.text)
         except Unsaid as fault:
             raise Fault(row.number, fault) from None
-        if said.code in (CC.PolicyPCR, CC.PolicyCpHash):
+        if said.code in (CC.PolicyPCR, CC.PolicyCpHash) and isinstance(said.values[-1], bytes):
             size = len(said.values[-1])
             if self.size is None:
                 self.size, self.size_line = size, row.number
@@ -188,7 +188,8 @@ def digest_of(words: str, algorithm: int = SHA256) -> bytes:
 
 def steps_of(policy: Policy, algorithm: int) -> tuple[Step, ...]:
     """All steps of a policy, those of its branches within the first."""
-    steps = [Step(it.said.code, it.said.parameters, it.said.name) for it in policy.assertions]
+    those = [it.said.by(algorithm) for it in policy.assertions]
+    steps = [Step(it.code, it.parameters, it.name) for it in those]
     if policy.branches:
         digests = [policy_digest(algorithm, it) for it in policy.branches]
         branches = tuple(steps_of(it, algorithm) for it in policy.branches)

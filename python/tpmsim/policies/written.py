@@ -2,9 +2,12 @@
 their words in docs/USING.md, what they put into the digest, and what a session is told of them.
 """
 
+from __future__ import annotations
+
 from dataclasses import dataclass
 from typing import Any, Callable, Sequence
 
+from tpmsim.policies.pcr_values import PcrValues, read_values
 from tpmsim.standard import CC, digest, DIGEST_BYTES, digest_bytes, Fields, frames, HIERARCHIES
 from tpmsim.standard import Kind, name_of, number, NUMBERED, PCRS, SHA1, SHA256, sized, values
 from tpmsim.standard.lines import bytes_of, HANDLE_NAMES, handle_word, hex_word, number_up_to, WORDS
@@ -120,6 +123,7 @@ SELECTION = Word(
 DIGEST = Word("a digest of 20 or 32 bytes in hex", read_digest)
 CODE = Word("a command", read_code, code_word)
 LOCALITY_LIST = Word("a list of localities from 0 to 4", read_localities, localities_word)
+PCR_VALUES = Word("PCRs with their values", read_values, lambda it: str(it.word))
 IS_WRITTEN = Word("0 or 1", lambda word: number_up_to(1, word), str)
 NAME = Word("a Name", read_name, name_word)
 INDEX_NAME = Word("the Name of an NV index", read_index_name)
@@ -141,12 +145,20 @@ FORMS: dict[CC, tuple[Word, ...]] = {
     CC.PolicyNV: (INDEX_NAME, OPERAND, OFFSET, OPERATION),
 }
 
+# What may stand in place of a selection and a digest: the values themselves.
+BY_VALUES = {CC.PolicyPCR: (PCR_VALUES,)}
+
+
+def form_of(code: CC, count: int) -> tuple[Word, ...]:
+    """The words behind an assertion's name, where there are so many."""
+    return BY_VALUES[code] if count == 1 and code in BY_VALUES else FORMS.get(code, ())
+
 
 @dataclass(frozen=True)
 class Said:
     """An assertion, with a value for each of its words. What it demands of a use: of PolicyPCR, that
-    the selected PCRs have this digest, the selection being its text; of PolicyAuthValue and
-    PolicyPassword, the authorization value in the HMAC's key or as the password; of
+    the selected PCRs have this digest, the selection being its text, or that PCRs have these values;
+    of PolicyAuthValue and PolicyPassword, the authorization value in the HMAC's key or as the password; of
     PolicyCommandCode, PolicyCpHash and PolicyLocality (bit n for locality n), such a command; of
     PolicyNvWritten, an NV index that is written, or is not; of PolicySecret, that the entity of the
     Name was authorized for the policyRef; and of PolicyNV, that the bytes of the index of the Name
@@ -159,11 +171,18 @@ class Said:
 
     @property
     def words(self) -> str:
-        pairs = zip(FORMS.get(self.code, ()), self.values)
+        pairs = zip(form_of(self.code, len(self.values)), self.values)
         return " ".join([str(self.code.name), *(word.written(it) for word, it in pairs)])
 
-    def update(self, algorithm: int) -> Update:
+    def by(self, algorithm: int) -> Said:
+        """What a session of this hash is told: of PCRs with values their digest."""
         match self.code, *self.values:
+            case CC.PolicyPCR, PcrValues() as found:
+                return Said(self.code, (found.selection, found.digest(algorithm)))
+        return self
+
+    def update(self, algorithm: int) -> Update:
+        match self.code, *self.by(algorithm).values:
             case CC.PolicyOR, *digests:
                 return Update(self.code, b"".join(digests), forgets=True)
             case CC.PolicyPassword, *_:
@@ -182,7 +201,7 @@ class Said:
 
     @property
     def parameters(self) -> bytes:
-        """Those of its command, which a session is told."""
+        """Those of its command, which a session is told; no PCRs with values are among them."""
         match self.code, *self.values:
             case CC.PolicyPCR, selection, values_digest:
                 return sized(values_digest) + bytes(selection)
@@ -234,9 +253,11 @@ def read_assertion(text: bytes) -> Said:
     code = CC.__members__.get(name.decode("latin-1"))
     if code not in FORMS:
         raise Unsaid(f"{shown(name)} is no assertion")
-    words = FORMS[code]
+    has_values = code in BY_VALUES and b"=" in text
+    words = BY_VALUES[code] if has_values else FORMS[code]
     if len(given) != len(words):
-        wanted = ", then ".join(it.name for it in words) or "nothing"
+        wanted = ", then ".join(it.name for it in FORMS[code]) or "nothing"
+        wanted += "".join(f", or {it.name}" for it in BY_VALUES.get(code, ()))
         raise Unsaid(f"behind {code.name} stands {wanted}")
     said = Said(code, tuple(map(read_word, words, given)))
     if said.words.encode("ascii") != text:

@@ -11,9 +11,10 @@ from tpmsim.standard import Fields
 
 OFFSET_BASIS, PRIME, SUM_BITS = 0xCBF29CE484222325, 0x100000001B3, 0xFFFF_FFFF_FFFF_FFFF
 
-HEAD = re.compile(rb"# tpmsim journal 1 ([0-9a-f]{40}) ([0-9a-f]{16})")
+HEAD = re.compile(rb"# tpmsim journal ([12]) ([0-9a-f]{40}) ([0-9a-f]{16})")
 MARK = re.compile(rb"# ([0-9a-f]{52}) ([0-9a-f]{16})")
-HEAD_LINE_BYTES, MARK_LINE_BYTES = 76, 72
+STATE = b"2"
+MARK_LINE_BYTES = 72
 
 # An entry's lines beside its mark have so many bytes, and two for each that was drawn or sent.
 LINES_BYTES = 36
@@ -31,11 +32,14 @@ def sum_of(data: bytes) -> int:
 
 @dataclass(frozen=True)
 class HeadMark:
-    """The clock as power came on, and of the image its size and sum; `said` is the mark's own sum."""
+    """The host's clock, and of the image or the state text its size and sum; `said` is the mark's own
+    sum.
+    """
 
+    is_state: bool
     clock: int
     size: int
-    image: int
+    content: int
     text: bytes
     said: int
 
@@ -44,14 +48,15 @@ class HeadMark:
         found = HEAD.fullmatch(line)
         if found is None:
             return None
-        text, said = (bytes.fromhex(it.decode("ascii")) for it in found.groups())
+        kind, *marked = found.groups()
+        text, said = (bytes.fromhex(it.decode("ascii")) for it in marked)
         fields = Fields(text)
         numbers = fields.number(8), fields.number(4), fields.number(8)
-        return cls(*numbers, text, int.from_bytes(said, "big"))
+        return cls(kind == STATE, *numbers, text, int.from_bytes(said, "big"))
 
-    def is_of(self, image: bytes) -> bool:
+    def is_of(self, content: bytes) -> bool:
         own = sum_of(self.text) == self.said
-        return own and len(image) == self.size and sum_of(image) == self.image
+        return own and len(content) == self.size and sum_of(content) == self.content
 
 
 @dataclass(frozen=True)

@@ -6,9 +6,9 @@ from typing import Iterator
 
 from tpmsim.records.marks import HEAD, Mark, MARK
 
-# A head as a journal has it, and the image of the start as Python's devices and pytest report it.
+# A head as a journal has it, and the start as Python's devices and pytest report it.
 # What a crash left of a journal has no newline before the head of the next one.
-HEADS = re.compile(HEAD.pattern + rb"(?=\n)|^# image (?=[0-9a-f]*$)", re.MULTILINE)
+HEADS = re.compile(HEAD.pattern + rb"(?=\n)|^# (image|state) (?=[0-9a-f]*$)", re.MULTILINE)
 LINES_OF_HEAD, LINES_OF_ENTRY = 2, 5
 BEGUN = re.compile(rb"#( ([0-9a-f]+( [0-9a-f]*)?)?)?")
 LINE_OF_MARK = re.compile(rb"^" + MARK.pattern + rb"\n", re.MULTILINE)

@@ -11,6 +11,7 @@ from typing import Iterator
 from tpmsim.model.player import BadLine, LINE_BYTES, LINES, RANDOM_BYTES, Words
 from tpmsim.records.drawn import drawn_of
 from tpmsim.records.marks import HeadMark, Mark, OFFSET_BASIS, sum_from
+from tpmsim.records.opened import is_state_text
 from tpmsim.records.parts import Part, parts_of
 
 # An answer in a comment: a trace, which may have the time of day before it, a code or a response.
@@ -24,19 +25,24 @@ COMPLETED = "completed"
 # What makes an answer be read after its command, where it stands first in a log.
 COMMANDS = b"cmd", b"do "
 
+# How the start of a device in Python is reported.
+REPORTED = re.compile(rb"# (image|state) ")
+
 DAMAGED_HEAD = "the head is damaged: its sums are others"
+OTHER_KIND = "the head is damaged: it holds {}"
 DAMAGED_MARK = "the record is damaged: the sum of its mark is another one"
 OTHER_LINES = "the record is damaged: its lines are not those of its mark"
 
 
 @dataclass(frozen=True)
 class Begin:
-    """The power comes on of the device of an image. `start` is the number by which the completing layer
-    knows the contexts of this time of power; `damage` says what is wrong with the head.
+    """The power comes on of the device of an image, or the device of a state text goes on. `start` is the
+    number by which a completing layer that begins here knows its contexts; `damage` says what is wrong
+    with the head.
     """
 
     line: int
-    image: bytes
+    content: bytes
     start: int = 0
     damage: str = ""
 
@@ -156,23 +162,21 @@ class Reading:
     def head(self) -> Iterator[Step]:
         """That of a journal has two lines, that of a report one."""
         first = self.lines[0] if self.lines else b""
-        mark, word = HeadMark.read(first), b"# image "
-        if mark is None and not first.startswith(word):
+        mark, reported = HeadMark.read(first), REPORTED.match(first)
+        if mark is None and reported is None:
             return
-        image = hex_of(first.removeprefix(word))
-        if mark is not None:
-            self.sum = mark.said
-            image = hex_of(self.lines[1].removeprefix(b"# ")) if len(self.lines) > 1 else None
-        self.line += 1 if mark is None else 2
-        del self.lines[: 1 if mark is None else 2]
-        if image is None or mark is not None and len(image) < mark.size:
+        count = 1 if mark is None else 2
+        last = self.lines[1].removeprefix(b"# ") if len(self.lines) >= count > 1 else b"?"
+        content = hex_of(first[reported.end() :] if reported else last)
+        self.line += count
+        del self.lines[:count]
+        if content is None or mark is not None and len(content) < mark.size:
             yield BadHead(self.line)
-            return
-        if mark is None:
-            yield Begin(self.line, image)
+        elif mark is None:
+            yield Begin(self.line, content)
         else:
-            damage = "" if mark.is_of(image) else DAMAGED_HEAD
-            yield Begin(self.line - 1, image, self.sum, damage)
+            self.sum = mark.said
+            yield Begin(self.line - 1, content, self.sum, damage_of(mark, content))
 
     def step(self, text: bytes) -> Iterator[Step]:
         if len(text) > LINE_BYTES:
@@ -234,3 +238,11 @@ def hex_of(text: bytes) -> bytes | None:
         return bytes.fromhex(text.decode("ascii"))
     except ValueError:
         return None
+
+
+def damage_of(mark: HeadMark, content: bytes) -> str:
+    if not mark.is_of(content):
+        return DAMAGED_HEAD
+    if mark.is_state == is_state_text(content):
+        return ""
+    return OTHER_KIND.format("an image" if mark.is_state else "a state text")

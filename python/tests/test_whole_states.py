@@ -1,0 +1,180 @@
+"""Logs that begin with a whole state: sessions, objects, PCRs and policies go on from it, for whoever
+explains, judges or compares them.
+"""
+
+import random
+import unittest
+
+from journals import Journal
+from tpmsim import records
+from tpmsim.audit import start
+from tpmsim.audit.auditor import Auditor, report
+from tpmsim.audit.log import Disagreement, NoLog
+from tpmsim.caller import Caller, HERE, sealed, storage_key
+from tpmsim.compare.play import Comparison
+from tpmsim.device import library, ModelDevice
+from tpmsim.explain.of_device import log_of
+from tpmsim.explain.play import Play
+from tpmsim.model.completion import CONTEXT_LOAD
+from tpmsim.model.state_text import Layer
+from tpmsim.policies.policy_file import digest_of, PolicyFile
+from tpmsim.standard import number
+from tpmsim.standard.objects import Attribute
+
+START = "do Startup 0"
+POLICY = f"PolicyPCR sha256:16={bytes(32).hex()}\nPolicyCommandCode NV_Read\n"
+DEFINE = "do NV_DefineSpace OWNER pw:- - 01000001000b02080002{}0008".replace(
+    "{}", "0020" + digest_of(POLICY).hex()
+)
+WRITE = "do NV_Write OWNER 01000001 pw:- 3820627974657321 0"
+SESSION = (
+    "entropy 00112233445566778899aabbccddeeff",
+    "do StartAuthSession NULL NULL 00112233445566778899aabbccddeeff - 1 null sha256",
+)
+PCR, CODE = "do PolicyPCR 03000000 - sha256:16", "do PolicyCommandCode 03000000 0x14e"
+READ = "do NV_Read 01000001 01000001 s:03000000:-:01:- 8 0"
+EXTEND = "do PCR_Event 00000010 pw:- 01"
+
+
+def before():
+    """A journal of a device that has an index with a policy, and a session that was told of a PCR."""
+    return Journal().play(START, DEFINE, WRITE, *SESSION, PCR)
+
+
+def gone_on(*lines):
+    journal = before()
+    journal.go_on()
+    return journal.play(*lines)
+
+
+def judged(text, *policies):
+    files = [PolicyFile("policy", it.encode()) for it in policies]
+    auditor = Auditor(start.of_log(text, None), NoLog(), files)
+    auditor.read(text)
+    return auditor, list(report(auditor))
+
+
+def loaded_twice():
+    """A log in which an object is loaded, used by its policy and flushed, and loaded again."""
+    device = ModelDevice(seed=b"reloads")
+    tpm = Caller(device, random.Random(1).randbytes)
+    tpm.start_up()
+    parent = tpm.create_primary(storage_key())
+    public = sealed(attributes=HERE | Attribute.NO_DA, auth_policy=digest_of("PolicyAuthValue\n"))
+    made = tpm.create(parent, public, user_auth=b"PIN", data=b"secret")
+    for _ in range(2):
+        handle = tpm.load(parent, made)
+        tpm.send(tpm.unsealing(handle, tpm.policy("PolicyAuthValue\n")))
+        tpm.send(tpm.flush(handle))
+    return log_of(device)
+
+
+class Explained(unittest.TestCase):
+    def test_a_session_goes_on(self):
+        play = Play()
+        events = list(play.events(gone_on(CODE, READ).text))
+        self.assertEqual([it.refused for it in events], ["", ""])
+        self.assertFalse(any(it.differences or it.is_power for it in events))
+        self.assertEqual((play.fault, play.damages), ("", []))
+
+    def test_a_refusal_of_what_was_told_before(self):
+        events = list(Play().events(gone_on(EXTEND, CODE, READ).text))
+        self.assertEqual(events[-1].refused, "PCR_CHANGED")
+        self.assertIn(
+            "After its PolicyPCR, before the log, PCRs have moved", events[-1].reason.words
+        )
+        events = list(Play().events(gone_on(READ).text))
+        self.assertEqual(events[-1].refused, "POLICY_FAIL/s1")
+        self.assertIn("began before the log", events[-1].reason.words)
+
+    def test_one_head_after_another(self):
+        """The state is that of the log before, which goes on with all that is known of it."""
+        first = before()
+        text = first.text
+        first.go_on()
+        events = list(Play().events(text + first.play(READ).text))
+        self.assertFalse(any(it.differences or it.is_power for it in events))
+        self.assertIn("told by", " ".join(map(str, events[-1].reason.facts)))
+
+    def test_another_device(self):
+        """Nothing is known of it but its state, and its power is on."""
+        text = Journal().play(START).text + gone_on(CODE, READ).text
+        play = Play()
+        events = list(play.events(text))
+        self.assertEqual([it.refused for it in events], ["", "", ""])
+        self.assertEqual((play.fault, play.damages), ("", []))
+
+    def test_the_completing_layer(self):
+        """It knows the contexts of a state that has it."""
+        journal = Journal().play(START, *SESSION)
+        layer = Layer(start=7, count=1)
+        layer.sessions[0] = 1
+        journal.go_on(layer)
+        play = Play()
+        list(play.events(journal.text))
+        context = play.layer.context(0x03000000, 1)
+        buffer = b"\x80\x01" + number(10 + len(context), 4) + number(CONTEXT_LOAD, 4) + context
+        event = play.command(buffer, 0, b"", 0, completes=True)
+        self.assertEqual(event.response[10:].hex(), "03000000")
+
+    def test_heads_that_are_damaged(self):
+        text = gone_on(CODE).text
+        for bent in (
+            text.replace(b"journal 2", b"journal 1", 1),
+            text.replace(b"5450", b"5550", 1),
+        ):
+            play = Play()
+            list(play.events(bent))
+            self.assertTrue(play.damages or play.fault)
+        self.assertTrue(list(records.steps_of(text[: text.index(b"\n")]))[0].line)
+
+
+class Judged(unittest.TestCase):
+    def test_a_policy(self):
+        """What was asserted before the log is what the digest in the state is of."""
+        auditor, told = judged(gone_on(CODE, READ).text, POLICY)
+        self.assertEqual(auditor.policies.faults(), [])
+        words = "        up to policy line 1: asserted before the log, by the digest at its start"
+        self.assertIn(words, told)
+        self.assertIn("        sha256:16", " ".join(told).replace("PolicyPCR ", "        "))
+
+    def test_a_refusal(self):
+        """A PCR is written after the state, and that is what the use lacks."""
+        auditor, told = judged(gone_on(EXTEND, CODE, READ).text, POLICY)
+        self.assertEqual(auditor.policies.faults(), [])
+        words = "refused by PCR_CHANGED: line 7 wrote a PCR after its first TPM2_PolicyPCR, before the log"
+        self.assertTrue(any(it.endswith(words) for it in told))
+
+    def test_another_device(self):
+        """A later head is that of the device before it, or the audit ends there."""
+        with self.assertRaises(Disagreement):
+            judged(Journal().play(START).text + gone_on(CODE).text)
+        first = before()
+        text = first.text
+        first.go_on()
+        auditor, _ = judged(text + first.play(CODE, READ).text, POLICY)
+        self.assertEqual((auditor.counts.power_cycles, auditor.policies.faults()), (0, []))
+
+    def test_an_index_after_power_cycles(self):
+        """Each use is judged, of each journal."""
+        journal = before().play(CODE, READ)
+        text = journal.text
+        journal.begin()
+        journal.play(START, *SESSION, PCR, CODE, READ)
+        auditor, told = judged(text + journal.text, POLICY)
+        self.assertEqual(auditor.policies.faults(), [])
+        self.assertEqual(sum(it.endswith(" meets it") for it in told), 2)
+        _, told = judged(journal.text, POLICY)
+        self.assertIn("  01000001, an NV index of bytes of the image", " ".join(told))
+
+    def test_an_object_that_is_loaded_again(self):
+        auditor, told = judged(loaded_twice(), "PolicyAuthValue\n")
+        self.assertEqual(auditor.policies.faults(), [])
+        self.assertTrue(any("by its Name the one of line" in it for it in told))
+
+
+class Compared(unittest.TestCase):
+    @unittest.skipUnless(library.is_there(), "there is no library")
+    def test_a_state_is_no_new_tpm(self):
+        with self.assertRaises(ValueError):
+            Comparison(None).play(gone_on(CODE).text)

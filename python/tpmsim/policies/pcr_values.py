@@ -1,0 +1,59 @@
+"""PCRs with their values, as a policy in words may have them: `sha256:7=HEX,11=HEX`. Each hash makes a
+digest of them, which is what TPM2_PolicyPCR is told.
+"""
+
+from __future__ import annotations
+
+from dataclasses import dataclass
+
+from tpmsim.standard import digest, digest_bytes, frames, HASH_WORDS, PCRS
+from tpmsim.standard.lines import bytes_of, HASHES, hex_word, JOIN, number_up_to, Wrong
+
+# The PCRs of a bank, in order, each with its value.
+Pairs = tuple[tuple[int, bytes], ...]
+
+
+@dataclass(frozen=True)
+class PcrValues:
+    """For each bank its hash algorithm, and its PCRs with their values."""
+
+    banks: tuple[tuple[int, Pairs], ...]
+
+    @property
+    def selection(self) -> bytes:
+        return frames.selection(*((it, [pcr for pcr, _ in pairs]) for it, pairs in self.banks))
+
+    def digest(self, algorithm: int) -> bytes:
+        values = [value for _, pairs in self.banks for _, value in pairs]
+        return digest(algorithm, b"".join(values))
+
+    @property
+    def word(self) -> str:
+        banks = [f"{HASH_WORDS[it]}:{','.join(map(pair_word, pairs))}" for it, pairs in self.banks]
+        return JOIN.decode("ascii").join(banks)
+
+
+def pair_word(pair: tuple[int, bytes]) -> str:
+    return f"{pair[0]}={hex_word(pair[1])}"
+
+
+def read_values(word: bytes) -> PcrValues:
+    """Wrong where a word is none."""
+    return PcrValues(tuple(map(read_bank, word.split(JOIN))))
+
+
+def read_bank(piece: bytes) -> tuple[int, Pairs]:
+    name, _, rest = piece.partition(b":")
+    if name not in HASHES:
+        raise Wrong
+    algorithm = HASHES[name]
+    found = dict(read_pair(algorithm, it) for it in rest.split(b","))
+    return algorithm, tuple(sorted(found.items()))
+
+
+def read_pair(algorithm: int, piece: bytes) -> tuple[int, bytes]:
+    number, _, value = piece.partition(b"=")
+    found = bytes_of(value)
+    if len(found) != digest_bytes(algorithm):
+        raise Wrong
+    return number_up_to(PCRS[-1], number), found
