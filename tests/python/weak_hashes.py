@@ -14,9 +14,9 @@ from contextlib import ExitStack
 from unittest import mock
 
 from tpmsim.audit import broken
-from tpmsim.policies import policy_texts, written
+from tpmsim.policies import pcr_values, policy_texts, written
 from tpmsim.policies.policy_file import PolicyFile
-from tpmsim.standard import CC, SHA1, SHA256, digest, nv, policy
+from tpmsim.standard import CC, SHA1, SHA256, digest, nv, policy, selection
 from tests.python import cases
 
 # What TPM2_PolicyLocality of locality 0 is hashed by, behind the digest of a start.
@@ -33,6 +33,10 @@ OWNER = bytes(32) + bytes.fromhex("0000015140000001")
 PLATFORM = bytes(32) + bytes.fromhex("000001514000000c")
 BY_OWNER = digest(SHA256, digest(SHA256, OWNER))
 WRITE = policy.after_command_code(SHA256, bytes(32), CC.NV_Write)
+
+# PCR 16 has zeros, and another value is written in the policy.
+OTHER_VALUE = b"\x11" * 32
+BY_PCR = policy.after_pcr(SHA256, bytes(32), selection((SHA256, [16])), digest(SHA256, bytes(32)))
 
 
 def script(algorithm, auth_policy, *assertions):
@@ -78,6 +82,13 @@ WEAK = (
         False,
     ),
     (
+        "the values of two PCRs have one hash",
+        {OTHER_VALUE: digest(SHA256, bytes(32))},
+        f"PolicyPCR sha256:16={OTHER_VALUE.hex()}",
+        script(SHA256, BY_PCR, "PolicyPCR 03000000 - sha256:16"),
+        False,
+    ),
+    (
         "two branches have one hash, and the second one is met",
         {bytes(20) + LOCALITY_0: UNSEAL},
         "either\n    PolicyCommandCode Unseal\nor\n    PolicyLocality 0",
@@ -91,7 +102,7 @@ def weakly(other):
     """Where policies are hashed, these texts have other hashes."""
     stack = ExitStack()
     weak = lambda algorithm, text: other.get(text) or digest(algorithm, text)
-    for module in (policy, policy_texts, broken, written):
+    for module in (policy, pcr_values, policy_texts, broken, written):
         stack.enter_context(mock.patch.object(module, "digest", weak))
     return stack
 

@@ -13,6 +13,7 @@ from tpmsim.audit.session_lines import Asserted
 from tpmsim.audit.watch import Entities, Entity
 from tpmsim.explain.words import command_words
 from tpmsim.model.parameters import Parameters
+from tpmsim.policies.pcr_values import PcrValues
 from tpmsim.policies.policy_file import PolicyFile
 from tpmsim.policies.policy_texts import Policy, policy_digest, Written
 from tpmsim.policies.written import Said
@@ -120,6 +121,8 @@ def finding(step: Step, use: Use, grounds: Grounds) -> Finding:
     written, asserted = step.written, step.asserted
     name, other = written.said.code.name, asserted.said.code.name
     found = of_assertion(written.said.by(use.session.algorithm), asserted, use, grounds)
+    if written.said.values and isinstance(written.said.values[0], PcrValues) and found.holds:
+        found = of_pcr_values(written.said.values[0], grounds)
     by = f"line {asserted.line}" if other == name else f"line {asserted.line} ({other})"
     joined = "and" if found.holds else "but"
     words = f"policy line {written.line}, {name}: {by} asserts it, {joined} {found.words}"
@@ -157,6 +160,15 @@ def of_pcrs(selection: bytes, digest: bytes, line: int, use: Use, grounds: Groun
     if lines.last_change > line:
         return Finding(False, f"line {lines.last_change} {lines.last_words} after that: {values}")
     return Finding(True, f"the PCRs have that digest, and none was written since then: {values}")
+
+
+def of_pcr_values(wanted: PcrValues, grounds: Grounds) -> Finding:
+    """The PCRs have the digest of the values that are wanted."""
+    values = grounds.pcrs.values(Parameters(wanted.selection).next().selection())
+    if values != wanted.word:
+        words = f"two texts have one hash: the PCRs have {values} in place of {wanted.word}"
+        return Finding(False, words)
+    return Finding(True, f"the PCRs have these values, and none was written since then: {values}")
 
 
 def of_value(use: Use, grounds: Grounds) -> Finding:
