@@ -6,7 +6,7 @@ tests=$(cd "$(dirname "$0")/.." && pwd -P)
 needs cc
 
 ln -s "$dist" dist
-awk '/^```/ { shown = $0 == "```c"; next } shown' "$tests/../docs/LIBRARY.md" >program.c
+awk '/^```/ { shown = $0 == "```c" && !blocks++; next } shown' "$tests/../docs/LIBRARY.md" >program.c
 cc -std=gnu11 -Wall -Wextra -Werror -Idist -c program.c && echo 'the program in C has no warning'
 type_lines "$tests/../docs/LIBRARY.md"
 echo "program.c: $(awk 'NF { lines++ } END { print lines }' program.c) lines"

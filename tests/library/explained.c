@@ -1,0 +1,56 @@
+/* A caller in C that logs what it executes, by the functions of docs/LIBRARY.md:
+
+    explained LOG
+
+The second read of an index has another password than the index. */
+#include "common.h"
+#include "log_in_c.h"
+
+static tpmsim device;
+static uint8_t random_bytes[RANDOM_BYTES], response[RESPONSE_BYTES], image[28361];
+
+static const uint8_t DEFINE[] = {
+    0x80, 2, 0, 0, 0, 0x31, 0, 0, 0x01, 0x2a, 0x40, 0, 0, 0x01, 0,    0, 0, 9, 0x40, 0, 0, 9, 0, 0, 0,
+    0,    0, 0, 4, 'g', 'o', 'o', 'd', 0, 14, 1, 0, 0, 1, 0, 11, 2, 4, 0, 4, 0, 0, 0, 8};
+static const uint8_t WRITE[] = {0x80, 2, 0,    0, 0, 0x2b, 0, 0,   0x01, 0x37, 1,   0, 0, 1, 1,
+                                0,    0, 1,    0, 0, 0,    13, 0x40, 0,   0,    9,   0, 0, 0, 0,
+                                4,    'g', 'o', 'o', 'd', 0, 4, 1, 2, 3, 4, 0, 0};
+static const uint8_t READ[] = {0x80, 2, 0, 0, 0, 0x27, 0, 0, 0x01, 0x4e, 1, 0, 0, 1, 1, 0, 0, 1, 0, 0,
+                               0, 13, 0x40, 0, 0, 9, 0, 0, 0, 0, 4, 'g', 'o', 'o', 'D', 0, 4, 0, 0};
+
+static void play(FILE *log, const uint8_t *buffer, size_t size) {
+    tpmsim_answered told;
+    char text[5];
+    must(!tpmsim_execute(&device, buffer, size, 0, 0, random_bytes, response, &told), "no device");
+    log_command(log, buffer, size, random_bytes, response, &told);
+    printf("%08x by %s\n", told.code, tpmsim_check_text(told.check, text));
+}
+
+static void check_texts(void) {
+    static const struct {
+        uint8_t check;
+        const char *text;
+    } CHECKS[] = {{0, "ok"},   {1, "G1"},    {9, "G9"},    {11, "G11"}, {20, "G20"},
+                  {21, "A1"},  {30, "A10"},  {119, "A99"}, {120, "A100"}, {254, "A234"},
+                  {255, "M"}};
+    char text[5];
+    for (size_t i = 0; i < sizeof CHECKS / sizeof *CHECKS; i++)
+        must(!strcmp(tpmsim_check_text(CHECKS[i].check, text), CHECKS[i].text), CHECKS[i].text);
+}
+
+int main(int count, char **words) {
+    must(count == 2, "a log is named");
+    FILE *log = fopen(words[1], "w");
+    must(log != NULL, "the log");
+    check_texts();
+    count_up(random_bytes, 1);
+    must(!tpmsim_manufacture(&device, random_bytes), "no memory");
+    log_bytes(log, "# image ", image, tpmsim_save(&device, image, sizeof image));
+    play(log, STARTUP, sizeof STARTUP);
+    play(log, GET_RANDOM, sizeof GET_RANDOM);
+    play(log, DEFINE, sizeof DEFINE);
+    play(log, WRITE, sizeof WRITE);
+    play(log, READ, sizeof READ);
+    must(!fclose(log), "the log is not written");
+    tpmsim_free(&device);
+}

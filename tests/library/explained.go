@@ -1,0 +1,59 @@
+// A caller in Go that logs what it executes, by the function of docs/LIBRARY.md:
+//
+//	explained LOG
+//
+// An index is read that nobody has written.
+package main
+
+// #include "tpmsim.h"
+import "C"
+
+import (
+	"encoding/hex"
+	"fmt"
+	"os"
+	"strings"
+	"unsafe"
+)
+
+func bytes(text string) []byte {
+	found, err := hex.DecodeString(strings.ReplaceAll(text, " ", ""))
+	if err != nil {
+		panic(err)
+	}
+	return found
+}
+
+func pointer(bytes []byte) *C.uint8_t { return (*C.uint8_t)(unsafe.Pointer(&bytes[0])) }
+
+func main() {
+	log, err := os.Create(os.Args[1])
+	if err != nil {
+		panic(err)
+	}
+	var holder C.struct_tpmsim
+	random, image, response := make([]byte, 256), make([]byte, 28361), make([]byte, 4096)
+	for i := range random {
+		random[i] = byte(i + 1)
+	}
+	if C.tpmsim_manufacture(&holder, pointer(random)) != C.TPMSIM_DONE {
+		panic("no memory")
+	}
+	size := C.tpmsim_save(&holder, pointer(image), C.size_t(len(image)))
+	fmt.Fprintf(log, "# image %x\n", image[:size])
+	for _, command := range []string{
+		"8001 0000000c 00000144 0000",
+		"8001 0000000c 0000017b 0010",
+		"8002 0000002d 0000012a 40000001 00000009 40000009 0000 00 0000 0000 000e 01000001 000b 00020002 0000 0008",
+		"8002 00000023 0000014e 40000001 01000001 00000009 40000009 0000 00 0000 0008 0000",
+	} {
+		var told C.struct_tpmsim_answered
+		buffer := bytes(command)
+		C.tpmsim_execute(&holder, pointer(buffer), C.size_t(len(buffer)), 0, 0, pointer(random),
+			pointer(response), &told)
+		logCommand(log, buffer, random[:told.drawn], response[:told.size])
+		fmt.Printf("%08x by %d\n", told.code, told.check)
+	}
+	C.tpmsim_free(&holder)
+	log.Close()
+}
