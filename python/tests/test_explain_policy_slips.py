@@ -3,6 +3,7 @@ two are named as two, and nothing is named where no slip explains.
 """
 
 import hashlib
+import itertools
 import random
 import re
 import unittest
@@ -117,7 +118,7 @@ def link(place, make):
 
 def reordered(*names):
     def turn(case, links):
-        those = {it: links[it] for it in names}
+        those = {it: links[it] for it in names if it in links}
         links.clear()
         links.update(those)
 
@@ -223,6 +224,15 @@ NONE = (
 )
 
 
+def pairs_of(rows, most=100):
+    """Some pairs of rows: first those that are made otherwise, and then what is arranged otherwise."""
+    pairs = list(itertools.combinations(rows, 2))
+    for first, second in random.Random("pairs").sample(pairs, most):
+        places = [getattr(it[1], "place", None) for it in (first, second)]
+        if places[0] is None or places[0] != places[1]:
+            yield (second, first) if places[1] and not places[0] else (first, second)
+
+
 class PolicySlips(unittest.TestCase):
     def turned(self, case, *turns):
         links = case.links()
@@ -239,18 +249,18 @@ class PolicySlips(unittest.TestCase):
                     self.assertEqual(found.slips, [name])
 
     def test_two(self):
-        """Two links that are made otherwise, or one of them in another order."""
-        links = [it for it in ROWS if it[1].__name__ == "of_link"]
-        for at in range(40):
-            case = Case(f"two {at}")
-            first, second = case.pick.sample(links, 2)
-            if at % 2:
-                second = ROWS[0]
-            elif first[1].place == second[1].place:
+        """Any two in different places, of which neither undoes the other."""
+        named = 0
+        for at, (first, second) in enumerate(pairs_of(ROWS)):
+            case = Case(f"two {at} {first[0]}, {second[0]}")
+            made = self.turned(case, first[1], second[1])
+            if made in [self.turned(case, *those) for those in ((), first[1:], second[1:])]:
                 continue
             with self.subTest(f"{at} {first[0]}, {second[0]}"):
-                found = case.refused(self.turned(case, first[1], second[1]))
+                found = case.refused(made)
                 self.assertEqual(sorted(found.slips), sorted([first[0], second[0]]))
+                named += 1
+        self.assertGreater(named, 80)
 
     def test_none(self):
         for at, turn in enumerate(NONE):
@@ -273,7 +283,8 @@ class PolicySlips(unittest.TestCase):
         self.assertRaises(Refused, tpm.send, tpm.unsealing(handle, session))
         words = explained(tpm.device).reason.words
         tried = int(re.search(r"([\d,]+) digests", words)[1].replace(",", ""))
-        self.assertTrue(300 < tried <= 4 * policy_slips.MOST_LINKS // 300)
+        most = 2 * policy_slips.MOST_LINKS + 3 * policy_slips.MOST_PAIRED
+        self.assertTrue(300 < tried <= most // 300)
 
     def test_words(self):
         case = Case("words")

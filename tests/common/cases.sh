@@ -25,7 +25,7 @@ trap 'keep_journals; rm -rf "$room"' EXIT
 # keep_journals: with KEPT_JOURNALS, a folder, copies what a test leaves of journals and logs there.
 keep_journals() {
     [ -n "${KEPT_JOURNALS:-}" ] || return 0
-    grep -rla '^# tpmsim journal 1 ' "$room" 2>/dev/null | while read -r journal; do
+    grep -rlaE '^# (tpmsim journal [12]|image|state) [0-9a-f]{40}' "$room" 2>/dev/null | while read -r journal; do
         cp "$journal" "$(mktemp "$KEPT_JOURNALS/$(basename "$0" .sh).XXXXXX")"
     done
 }

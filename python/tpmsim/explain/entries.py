@@ -7,7 +7,7 @@ from tpmsim.explain.forms import forms_of
 from tpmsim.explain.ingredients import Use
 from tpmsim.explain.policies import unavailable
 from tpmsim.explain.reason import HAD, Reason, Scene, WANTED
-from tpmsim.explain.slip_table import Told
+from tpmsim.explain.slip import Told
 from tpmsim.explain.words import bytes_words, handle_words, seconds_words
 from tpmsim.model.protection import LOCKOUT_AUTH, MILLISECONDS, TRIES
 from tpmsim.standard import Entry, is_policy, policy, trimmed

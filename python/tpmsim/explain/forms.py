@@ -37,8 +37,8 @@ def of_sized(value: bytes) -> bytes:
     return value[2:] if value == sized(value[2:]) else b""
 
 
-# Forms that another one may be made of.
-INNER = (
+# Forms of which two may be one in the other.
+NESTED = (
     Form("with a line break", "with a line break after it", lambda it: it + b"\n"),
     Form("as SHA-256", "as its SHA-256 digest", lambda it: hashlib.sha256(it).digest()),
     Form("as SHA-1", "as its SHA-1 digest", lambda it: hashlib.sha1(it).digest()),
@@ -56,13 +56,6 @@ INNER = (
     Form("in quotes", "in quotes", lambda it: b'"' + it + b'"'),
     Form("in capitals", "in capitals", bytes.upper),
     Form("in small letters", "in small letters", bytes.lower),
-)
-
-# Those of them that are made of another one.
-OUTER = tuple(
-    it
-    for it in INNER
-    if it.name.startswith("as ") or it.name in ("with a line break", "with its size")
 )
 
 CUTS = (
@@ -101,10 +94,10 @@ def forms_of(value: bytes) -> Iterator[Formed]:
             seen.add(turned)
             yield Formed((*before, form), turned)
 
-    inner = [it for form in INNER for it in fresh((), form, form.turn(value))]
+    inner = [it for form in NESTED for it in fresh((), form, form.turn(value))]
     yield from inner
     for form in (*CUTS, *ALONE):
         yield from fresh((), form, form.turn(value))
     for it in inner:
-        for form in (*OUTER, *CUTS):
+        for form in (*NESTED, *CUTS):
             yield from fresh(it.forms, form, form.turn(it.value))

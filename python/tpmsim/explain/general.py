@@ -3,11 +3,11 @@
 from typing import Callable
 
 from tpmsim.explain.reason import HAD, Reason, Scene
-from tpmsim.explain.words import attribute_words, command_words, handle_words, kind_words, plural
+from tpmsim.explain.words import attribute_words, command_words, handle_words, kind_words
+from tpmsim.explain.words import not_served, plural
 from tpmsim.model.general import LEAST_AREA, MOST_NONCE_OR_HMAC
 from tpmsim.standard import CC, COMMAND_BYTES, DECRYPT, ENCRYPT, Entry, Fields, frames, HEADER_BYTES
 from tpmsim.standard import is_session, MOST_ENTRIES, RS_PW, Short
-from tpmsim.standard.command_names import command_name
 from tpmsim.standard.handle_kinds import HANDLES
 
 PLACE_BITS = 0xFF_FFFF
@@ -36,11 +36,7 @@ def command_size(scene: Scene) -> Reason:
 
 
 def command(scene: Scene) -> Reason:
-    name, number = command_name(scene.number), f"{scene.number:08x}"
-    words = (
-        f"TPM2_{name} ({number}) is not served." if name else f"No command has the number {number}."
-    )
-    return Reason("G4", words, at=6)
+    return Reason("G4", not_served(scene.number), at=6)
 
 
 def startup(scene: Scene) -> Reason:

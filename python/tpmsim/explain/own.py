@@ -5,7 +5,7 @@ from tpmsim.explain.past import values_digest
 from tpmsim.explain.policies import moved_words
 from tpmsim.explain.reason import Check, Look, Reason, said, Scene
 from tpmsim.explain.words import algorithm_words, bytes_words, command_words, kind_words, listed
-from tpmsim.explain.words import localities_words, OPERATIONS
+from tpmsim.explain.words import localities_words, not_served, OPERATIONS
 from tpmsim.model import pcrs
 from tpmsim.model.machine import LEAST_NONCE, SESSIONS
 from tpmsim.model.nv_commands import signed, unsigned
@@ -147,7 +147,7 @@ def other_code(look: Look) -> None:
     look.found.compare(f"{told:08x}", f"{look['code']:08x}", "code")
 
 
-code_not_served = said(lambda it: f"No command {it['code']:08x} is served.", "code")
+code_not_served = said(lambda it: not_served(it["code"]), "code")
 
 
 def cp_hash_size(look: Look) -> None:

@@ -1,15 +1,21 @@
 """Slips in cpHash: another Name, another form of it, other parameters, or the whole buffer."""
 
+from dataclasses import replace
 from typing import Any, Iterator, Sequence
 
 from tpmsim.explain import ingredients
 from tpmsim.explain.ingredients import Use
-from tpmsim.explain.slip_table import NAME_FORMS, other_hash, Slip
+from tpmsim.explain.name_forms import NAME_FORMS
+from tpmsim.explain.slip import other_hash, Slip
 from tpmsim.explain.words import ALGORITHMS, handle_words
 from tpmsim.model.machine import Model
 from tpmsim.model.object_rules import loaded, Object
-from tpmsim.standard import CC, digest, frames, HEADER_BYTES, name_of, number, NUMBERED, nv
-from tpmsim.standard import objects, sized
+from tpmsim.standard import CC, digest, digest_bytes, frames, HEADER_BYTES, name_of, number
+from tpmsim.standard import NUMBERED, nv, objects, sized
+
+
+# The Names of how many other entities are tried together with another slip.
+PAIRED_OTHERS = 8
 
 
 def renamed(use: Use, handles: Sequence[int], names: Sequence[bytes]) -> tuple[bytes, ...]:
@@ -109,15 +115,15 @@ def is_parent(it: Object, held: Object) -> bool:
 
 
 def names_of_others(use: Use, handles: list[int]) -> Iterator[Slip]:
-    """Those of all else that is there, which are not paired."""
+    """Those of all else that is there."""
     model = use.scene.model
     known = [*model.objects, *model.indices]
     for handle in handles:
-        for it in known:
+        for at, it in enumerate(known):
             if it != handle:
                 words = f"the Name of {handle_words(it)} instead of that of {handle_words(handle)}"
                 names = renamed(use, [handle], [model.name(it)])
-                yield name_slip("another's Name", words, names, False)
+                yield name_slip("another's Name", words, names, at < PAIRED_OTHERS)
 
 
 # What else is hashed.
@@ -129,7 +135,7 @@ def parameters(use: Use) -> Iterator[Slip]:
     for code in NUMBERED.values():
         if code != use.code:
             words = f"cpHash has the command code of {code.name}, and this is {use.code.name}"
-            yield Slip.of("another command code", words, False, code=number(code, 4))
+            yield Slip.of("another command code", words, code=number(code, 4))
 
 
 def plain_parameters(use: Use) -> Iterator[Slip]:
@@ -155,18 +161,24 @@ def whole_buffers(use: Use) -> Iterator[Slip]:
         yield Slip.of("whole buffer hashed", f"cpHash is over the whole buffer, {words}", **changes)
 
 
+def blank_entries(use: Use) -> Iterator[tuple[str, list[frames.Entry]]]:
+    """The entries with what a caller may have in place of the HMAC as it makes it: in all of them, or in
+    its own alone.
+    """
+    entries, size = use.command.entries or [], digest_bytes(use.session.algorithm)
+    for whose, places in (("its HMACs", range(len(entries))), ("its own HMAC", [use.place - 1])):
+        for what, most in (("zeros", None), (f"{size} zeros", size), ("empty", 0)):
+            blank = list(entries)
+            for at in places:
+                count = len(entries[at].hmac) if most is None else most
+                blank[at] = replace(entries[at], hmac=bytes(count))
+            yield f"{whose} being {what}", blank
+
+
 def texts_of_buffer(use: Use) -> Iterator[tuple[str, bytes]]:
     command, buffer, code = use.command, use.scene.buffer, CC(use.code)
-    entries = command.entries or []
-    for words, hmacs in (
-        ("its HMACs being zeros", [bytes(len(it.hmac)) for it in entries]),
-        ("its HMACs being empty", [b"" for _ in entries]),
-    ):
-        blank = [
-            frames.Entry(it.handle, it.nonce, it.attributes, hmac)
-            for it, hmac in zip(entries, hmacs)
-        ]
-        yield words, frames.buffer_of(code, command.handles, blank, command.parameters)
+    for words, entries in blank_entries(use):
+        yield words, frames.buffer_of(code, command.handles, entries, command.parameters)
     rest = b"".join(map(name_of, command.handles)) + command.parameters
     words = "without its authorization area"
     yield words, buffer[:HEADER_BYTES] + rest

@@ -1,57 +1,13 @@
-"""The usual slips of a caller in an HMAC: tables of a name, of words, and of how the ingredients, the
-parts of KDFa or a Name are turned.
+"""The usual slips in the parts of an HMAC: a table of a name, of words, and of how the ingredients are
+turned.
 """
 
-from __future__ import annotations
-
-from dataclasses import dataclass, field
-from typing import Any, Callable, Iterator, Mapping, NamedTuple
+from typing import Callable, Iterator
 
 from tpmsim.explain.ingredients import Ingredients
-from tpmsim.explain.words import ALGORITHMS
-from tpmsim.standard import digest, digest_bytes, number, SHA1, SHA256, sized
+from tpmsim.explain.slip import Changes, other_hash, other_words, Row, Slip
+from tpmsim.standard import digest, number, sized
 from tpmsim.standard.sessions import mac
-
-Told = tuple[str, str]
-Changes = Mapping[str, Any]
-
-
-@dataclass(frozen=True)
-class Slip:
-    """What the ingredients have instead of the right ones. It has a name and words, or two where two
-    mistakes are in one ingredient. One that is not paired comes alone.
-    """
-
-    told: tuple[Told, ...] = ()
-    changes: Changes = field(default_factory=dict)
-    is_paired: bool = True
-
-    @classmethod
-    def of(cls, name: str, words: str, is_paired: bool = True, **changes: Any) -> Slip:
-        return cls(((name, words),), changes, is_paired)
-
-    @property
-    def name(self) -> str:
-        return self.told[0][0]
-
-    def change(self, right: Ingredients) -> Ingredients:
-        return right._replace(**self.changes)
-
-
-class Row(NamedTuple):
-    """A slip whose changes are made of the right ingredients, or of the right parts of KDFa."""
-
-    name: str
-    words: str
-    turn: Callable[[Any], Changes]
-
-
-def other_hash(own: int) -> int:
-    return SHA1 if own == SHA256 else SHA256
-
-
-def other_words(own: int) -> str:
-    return f"by {ALGORITHMS[other_hash(own)]}, and the session has {ALGORITHMS[own]}"
 
 
 # How the parts are put together in another way.
@@ -93,6 +49,17 @@ def mac_of_hash(algorithm: int, key: bytes, message: bytes) -> bytes:
 
 def by_other(*names: str) -> Callable[[Ingredients], Changes]:
     return lambda it: {name: other_hash(it.algorithm) for name in names}
+
+
+CpHashOf = Callable[[int, bytes], bytes]
+
+
+def then(made: CpHashOf, turn: Callable[[bytes], bytes]) -> CpHashOf:
+    return lambda algorithm, text: turn(made(algorithm, text))
+
+
+def as_hex(data: bytes) -> bytes:
+    return data.hex().encode()
 
 
 def without_size(parameters: bytes) -> bytes:
@@ -247,12 +214,12 @@ ROWS = (
     Row(
         "cpHash with its size",
         "cpHash has its two bytes of size in front; the HMAC has none",
-        lambda it: {"cp_hash_of": lambda algorithm, text: sized(digest(algorithm, text))},
+        lambda it: {"cp_hash_of": then(it.cp_hash_of, sized)},
     ),
     Row(
         "cpHash as hex",
         "the HMAC has cpHash as the text of its hex",
-        lambda it: {"cp_hash_of": lambda algorithm, text: digest(algorithm, text).hex().encode()},
+        lambda it: {"cp_hash_of": then(it.cp_hash_of, as_hex)},
     ),
     # The hashes.
     Row("wrong hash", "cpHash was made {hash}", by_other("hash_algorithm")),
@@ -303,122 +270,4 @@ def of_rows(right: Ingredients) -> Iterator[Slip]:
     for row in ROWS:
         changes = row.turn(right)
         if any(getattr(right, name) != it for name, it in changes.items()):
-            yield Slip(((row.name, row.words.format(hash=said)),), changes)
-
-
-class Kdf(NamedTuple):
-    """What a session key is made of, in the order of KDFa's text."""
-
-    algorithm: int
-    value: bytes
-    newer: bytes
-    older: bytes
-    counter: bytes
-    label: bytes
-    zero: bytes
-    bits: bytes
-
-    @property
-    def key(self) -> bytes:
-        """Of a session key there is one block."""
-        text = self.counter + self.label + self.zero + self.newer + self.older + self.bits
-        return mac(self.algorithm, self.value, text)
-
-
-def right_kdf(algorithm: int, value: bytes, nonce_tpm: bytes, nonce_caller: bytes) -> Kdf:
-    bits = number(8 * digest_bytes(algorithm), 4)
-    nonces = nonce_tpm, nonce_caller
-    return Kdf(algorithm, value, *nonces, number(1, 4), b"ATH", b"\0", bits)
-
-
-def with_label(label: str) -> Callable[[Kdf], Changes]:
-    return lambda it: {"label": label.encode()}
-
-
-KDF_ROWS = (
-    Row(
-        "KDFa in bytes",
-        "made with a size in bytes at the end of KDFa's text; it is in bits",
-        lambda it: {"bits": number(digest_bytes(it.algorithm), 4)},
-    ),
-    Row("KDFa without its zero", "made without the zero after the label", lambda it: {"zero": b""}),
-    Row(
-        "KDFa with two zeros",
-        "made with two zeros after the label: the label ends in the one that KDFa has",
-        lambda it: {"zero": bytes(2)},
-    ),
-    Row("KDFa without its label", "made without the label ATH", lambda it: {"label": b""}),
-    *(
-        Row("KDFa with another label", f'made with the label "{it}"; it is "ATH"', with_label(it))
-        for it in ("ath", "SECRET", "CFB", "XOR")
-    ),
-    Row("KDFa without its counter", "made without KDFa's counter", lambda it: {"counter": b""}),
-    Row(
-        "KDFa counts from 0",
-        "made with a counter of KDFa that begins at 0; it begins at 1",
-        lambda it: {"counter": bytes(4)},
-    ),
-    Row(
-        "KDFa's counter in one byte",
-        "made with KDFa's counter in one byte; it has four",
-        lambda it: {"counter": b"\1"},
-    ),
-    Row(
-        "KDFa without its size",
-        "made without the size at the end of KDFa's text",
-        lambda it: {"bits": b""},
-    ),
-    Row(
-        "KDFa's size in two bytes",
-        "made with the size at the end of KDFa's text in two bytes; it has four",
-        lambda it: {"bits": it.bits[2:]},
-    ),
-    Row(
-        "session key, nonces swapped",
-        "made with the nonces swapped: nonceTPM comes first",
-        lambda it: {"newer": it.older, "older": it.newer},
-    ),
-    Row(
-        "session key, nonces with their sizes",
-        "made of nonces with their two bytes of size in front; KDFa has none",
-        lambda it: {"newer": sized(it.newer), "older": sized(it.older)},
-    ),
-    Row("session key, nonceTPM left out", "made without nonceTPM", lambda it: {"newer": b""}),
-    Row("session key, nonceCaller left out", "made without nonceCaller", lambda it: {"older": b""}),
-    Row(
-        "wrong hash",
-        "made {hash}",
-        lambda it: right_kdf(other_hash(it.algorithm), *it[1:4])._asdict(),
-    ),
-)
-
-
-def of_kdf(right: Kdf) -> Iterator[tuple[Told, bytes]]:
-    """Each slip in a session key that is made of the right parts, and the key that it makes."""
-    said = other_words(right.algorithm)
-    for row in KDF_ROWS:
-        words = "the session key was " + row.words.format(hash=said)
-        yield (row.name, words), right._replace(**row.turn(right)).key
-
-
-class NameForm(NamedTuple):
-    """A form in which cpHash has Names; an empty one is no form."""
-
-    name: str
-    words: str
-    turn: Callable[[bytes], bytes]
-
-
-def of_digest(turn: Callable[[bytes], bytes]) -> Callable[[bytes], bytes]:
-    """A form of Names that have a digest, and not of a handle that is its own Name."""
-    return lambda name: turn(name) if len(name) > 4 else b""
-
-
-NAME_FORMS = (
-    NameForm("Name with its size", "with its two bytes of size in front", sized),
-    NameForm(
-        "Name without nameAlg", "without the two bytes of its nameAlg", of_digest(lambda it: it[2:])
-    ),
-    NameForm("Name cut", "cut to 20 bytes", of_digest(lambda it: it[:20])),
-    NameForm("Name as hex", "as the text of its hex", of_digest(lambda it: it.hex().encode())),
-)
+            yield Slip(((row.name, row.words.format(hash=said)),), changes, turn=row.turn)

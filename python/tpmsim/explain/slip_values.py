@@ -1,12 +1,13 @@
 """Slips in the key of an HMAC: another authorization value, another form of it, another session key.
 """
 
-from typing import Any, Iterator
+from typing import Any, Callable, Iterator
 
-from tpmsim.explain import ingredients, slip_table
+from tpmsim.explain import ingredients, slip_kdf
 from tpmsim.explain.forms import forms_of
-from tpmsim.explain.ingredients import Use
-from tpmsim.explain.slip_table import Kdf, right_kdf, Slip, Told
+from tpmsim.explain.ingredients import Ingredients, Use
+from tpmsim.explain.slip import Changes, Slip, Told
+from tpmsim.explain.slip_kdf import Kdf, right_kdf
 from tpmsim.explain.words import bytes_words, handle_words
 from tpmsim.standard import RH_NULL, trimmed
 
@@ -118,10 +119,17 @@ def zeros(use: Use) -> Iterator[Slip]:
             f"the authValue was padded with zeros to {size} bytes: within the hash's block of {BLOCK} "
             "they do no harm, and with the session key they are longer"
         )
-        yield value_slip("zeros", words, value.ljust(size, b"\0"), False)
+        yield padded(value, words, bytes.ljust, size)
     for size in range(len(value) + 1, BLOCK + 1):
         words = f"the authValue has zeros in front, to {size} bytes"
-        yield value_slip("zeros", words, value.rjust(size, b"\0"), False)
+        yield padded(value, words, bytes.rjust, size)
+
+
+def padded(value: bytes, words: str, pad: Callable[[bytes, int, bytes], bytes], size: int) -> Slip:
+    def turn(it: Ingredients) -> Changes:
+        return {"auth_value": pad(it.auth_value, size, b"\0")}
+
+    return Slip((("zeros", words),), {"auth_value": pad(value, size, b"\0")}, turn=turn)
 
 
 # The session key.
@@ -141,7 +149,7 @@ def session_keys(use: Use) -> Iterator[Slip]:
     if kdf is None:
         yield from keys_made(use)
         return
-    for told, key in slip_table.of_kdf(kdf):
+    for told, key in slip_kdf.of_kdf(kdf):
         yield Slip((told,), {"session_key": key})
     latest = use.session.nonce_tpm
     if latest != kdf.newer:
@@ -161,7 +169,7 @@ def session_keys(use: Use) -> Iterator[Slip]:
         )
         formed_kdf = kdf._replace(value=value)
         yield Slip(of_bind, {"session_key": formed_kdf.key}, is_single)
-        for told, key in slip_table.of_kdf(formed_kdf) if is_single else ():
+        for told, key in slip_kdf.of_kdf(formed_kdf) if is_single else ():
             yield Slip((*of_bind, told), {"session_key": key}, False)
 
 

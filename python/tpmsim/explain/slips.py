@@ -1,24 +1,24 @@
 """Which usual slips of a caller come to just the HMAC that it gave: one, or two together.
 
-A slip is told only where its HMAC is the one that was given. Two are tried together where each turns
-other ingredients. The tables of slips are in slip_table.py and forms.py.
+A slip is told only where its HMAC is the one that was given. The tables of slips are in slip_table.py,
+slip_kdf.py, name_forms.py and forms.py; two at once are tried by slip_pairs.py.
 """
 
 from __future__ import annotations
 
 from dataclasses import dataclass, field
-from itertools import chain, combinations, islice
+from itertools import chain, islice
 from typing import Iterable, Iterator
 
-from tpmsim.explain import ingredients, slip_hashes, slip_table, slip_values
+from tpmsim.explain import ingredients, slip_hashes, slip_pairs, slip_table, slip_values
 from tpmsim.explain.ingredients import Ingredients, Use
-from tpmsim.explain.slip_table import Slip, Told
+from tpmsim.explain.slip import Slip, Told
 from tpmsim.explain.words import attribute_words, plural, size_words
 from tpmsim.standard import CONTINUE_SESSION, DECRYPT, digest_bytes, ENCRYPT, HASH_WORDS, number
 from tpmsim.standard import trimmed
 
 # How many slips are tried alone, and how many pairs of them, at most: so many HMACs are computed.
-MOST_ALONE, MOST_PAIRS = 10_000, 10_000
+MOST_ALONE, MOST_PAIRS = 10_000, 100_000
 
 # How many old nonces are tried together with another slip, and how many of a session are tried at
 # all, beside its first one.
@@ -96,32 +96,11 @@ class Search:
         return f"there are bytes after the HMAC: it has {has}" if given.startswith(made) else ""
 
     def pair(self, right: Ingredients, those: list[Slip]) -> list[Told]:
-        turned = [Turned(it, it.change(right)) for it in those]
-        for first, second in islice(pairs_of(turned), MOST_PAIRS):
+        for first, second, made in islice(slip_pairs.hmacs_of(those, right), MOST_PAIRS):
             self.found.pairs += 1
-            if first.hmac_with(second, right) == self.given:
-                return [*first.slip.told, *second.slip.told]
+            if made == self.given:
+                return [*first.told, *second.told]
         return []
-
-
-OF_KEY = {"session_key", "auth_value", "key_of"}
-
-
-class Turned:
-    """A slip that is tried with others: its key, and the text of its HMAC, are made once."""
-
-    def __init__(self, slip: Slip, made: Ingredients) -> None:
-        self.slip, self.made = slip, made
-        self.names = set(slip.changes)
-        self.is_of_key, self.has_key = self.names <= OF_KEY, bool(self.names & OF_KEY)
-        self.key, self.message = made.key, made.message
-
-    def hmac_with(self, other: Turned, right: Ingredients) -> bytes:
-        if self.is_of_key and not other.has_key:
-            return other.made.mac_of(other.made.algorithm, self.key, other.message)
-        if other.is_of_key and not self.has_key:
-            return self.made.mac_of(self.made.algorithm, other.key, self.message)
-        return right._replace(**self.slip.changes, **other.slip.changes).hmac
 
 
 def kept(those: Iterator[Slip], tried: list[Slip]) -> Iterator[Slip]:
@@ -130,13 +109,6 @@ def kept(those: Iterator[Slip], tried: list[Slip]) -> Iterator[Slip]:
         if it.is_paired:
             tried.append(it)
         yield it
-
-
-def pairs_of(those: list[Turned]) -> Iterator[tuple[Turned, Turned]]:
-    """Each two that turn other ingredients."""
-    for first, second in combinations(those, 2):
-        if first.names.isdisjoint(second.names):
-            yield first, second
 
 
 def slips(use: Use) -> Iterator[Slip]:
@@ -189,12 +161,14 @@ def old_nonces(use: Use) -> Iterator[Slip]:
 def other_attributes(use: Use) -> Iterator[Slip]:
     """All of them; of those of the entry before the words say so."""
     last = use.begun.last_attributes if use.begun else None
-    sent = f"sent were {attribute_words(use.entry.attributes)}"
+    own = use.entry.attributes
+    sent = f"sent were {attribute_words(own)}"
+    likely = {0, CONTINUE_SESSION, last, *(own ^ it for it in (CONTINUE_SESSION, DECRYPT, ENCRYPT))}
     for value in range(0x100):
-        if value != use.entry.attributes:
+        if value != own:
             of_before = ", which are those of the entry before" if value == last else ""
             words = f"the attributes were {attribute_words(value)}{of_before}; {sent}"
-            is_paired = value in (0, CONTINUE_SESSION, last)
+            is_paired = value in likely
             yield Slip.of("other attributes", words, is_paired, attributes=number(value, 1))
 
 
@@ -212,7 +186,7 @@ def others(use: Use) -> Iterator[Slip]:
             words = f"it is by the key and the nonceTPM of another session, {handle:08x}"
             yield Slip.of("another session", words, session_key=it.key, older=it.nonce_tpm)
             words = f"nonceTPM is that of another session, {handle:08x}"
-            yield Slip.of("another session's nonceTPM", words, False, older=it.nonce_tpm)
+            yield Slip.of("another session's nonceTPM", words, older=it.nonce_tpm)
     for place, entry, _ in use.command.places:
         other = ingredients.use_of(use.scene, place)
         if place != use.place and other is not None and entry.hmac:

@@ -73,6 +73,13 @@ def command_words(code: int) -> str:
     return command_name(code) or f"{code:08x}"
 
 
+def not_served(code: int) -> str:
+    name, number = command_name(code), f"{code:08x}"
+    return (
+        f"TPM2_{name} ({number}) is not served." if name else f"No command has the number {number}."
+    )
+
+
 def printable(data: bytes) -> bool:
     return len(data) > 2 and all(0x20 <= it < 0x7F for it in data)
 

@@ -1,0 +1,152 @@
+"""One assertion of a policy with other values: of PCRs, other Names, or values that the user wants tried."""
+
+from __future__ import annotations
+
+from dataclasses import dataclass
+from itertools import islice, permutations
+from typing import Any, Callable, Iterator, Sequence
+
+from tpmsim.explain.ingredients import Use
+from tpmsim.explain.name_forms import NAME_FORMS
+from tpmsim.explain.past import Banks, Step, values_digest
+from tpmsim.explain.slip import other_hash, Told
+from tpmsim.explain.slip_hashes import public_names
+from tpmsim.explain.words import algorithm_words, bytes_words, handle_words, localities_words
+from tpmsim.policies.written import Said
+from tpmsim.standard import CC, digest, frames, number, NUMBERED, policy
+
+# The digest after an assertion, from the one before it.
+Link = Callable[[bytes], bytes]
+
+
+@dataclass(frozen=True)
+class Turned:
+    """An assertion in another way, at its place."""
+
+    place: int
+    link: Link
+    told: Told
+    banks: Banks | None = None
+
+
+def link_of(algorithm: int, step: Step) -> Link:
+    update = step.said.update(algorithm)
+    if update.forgets or update.reference is not None:
+        return lambda old: step.after(algorithm, old)
+    text = number(update.code, 4) + update.about
+    return lambda old: digest(algorithm, old + text)
+
+
+def turned(use: Use, place: int, step: Step, told: Told, banks: Banks | None = None) -> Turned:
+    return Turned(place, link_of(use.session.algorithm, step), told, banks)
+
+
+def of_values(use: Use, place: int, step: Step) -> Iterator[Turned]:
+    """Other values in the same assertion."""
+    if step.selected is not None:
+        yield from of_pcrs(use, place, step)
+    if step.handle is not None:
+        yield from of_names(use, place, step, step.handle)
+    for values, words in other_values(step):
+        other = Step(step.line, Said(step.code, values), "")
+        told = "other value in a policy", f"With {words} in {step.code.name} it would be."
+        yield turned(use, place, other, told)
+
+
+def other_values(step: Step) -> Iterator[tuple[tuple[Any, ...], str]]:
+    own = step.said.values
+    match step.code:
+        case CC.PolicyCommandCode:
+            yield from (((int(it),), it.name) for it in NUMBERED.values() if it != own[0])
+        case CC.PolicyNvWritten:
+            yield (1 - own[0],), str(1 - own[0])
+        case CC.PolicyLocality:
+            for bits in range(1, policy.ALL_LOCALITIES + 1):
+                if bits != own[0]:
+                    yield (bits,), f"localities {localities_words(bits)}"
+        case CC.PolicyOR:
+            for it in islice(permutations(own), 1, 120):
+                yield it, "its branches in another order"
+        case CC.PolicySecret if own[1]:
+            yield (own[0], b""), "an empty policyRef"
+
+
+def pcr_step(step: Step, selected: Sequence[Any], algorithm: int, banks: Banks) -> Step:
+    values = frames.selection(*selected), values_digest(algorithm, selected, banks)
+    return Step(step.line, Said(step.code, values), "")
+
+
+def of_pcrs(use: Use, place: int, step: Step) -> Iterator[Turned]:
+    """Other values of the PCRs, the latest first; other banks; another PCR."""
+    algorithm, selected, past = use.session.algorithm, step.selected or [], use.scene.past
+    now = past.told_banks.get(step.line, use.scene.model.banks)
+    pairs = list(zip(past.pcr_states, [*past.pcr_states[1:], None]))
+    for (_, banks), later in reversed(pairs):
+        if later is not None:
+            words = f"With the PCRs as they were before line {later[0]} it would be"
+            other = pcr_step(step, selected, algorithm, banks)
+            yield turned(use, place, other, ("PCRs moved", words), banks)
+    for others in other_banks(selected):
+        said = " and ".join(dict.fromkeys(algorithm_words(bank) for bank, _ in others))
+        for when, banks in [("", now), *((it, at[1]) for at, it in before_words(pairs))]:
+            words = f"With the PCRs of the bank {said}{when} it would be."
+            other = pcr_step(step, others, algorithm, banks)
+            yield turned(use, place, other, ("other bank", words))
+    for pcr in range(len(now[frames.SHA256])) if len(selected) == 1 else ():
+        bank, pcrs = selected[0]
+        if len(pcrs) == 1 and pcrs[0] != pcr:
+            words = f"With PCR {pcr} instead of PCR {pcrs[0]} it would be."
+            other = pcr_step(step, [(bank, (pcr,))], algorithm, now)
+            yield turned(use, place, other, ("another PCR", words))
+
+
+def before_words(pairs: Sequence[Any]) -> Iterator[tuple[Any, str]]:
+    for state, later in reversed(pairs):
+        if later is not None:
+            yield state, f", as they were before line {later[0]},"
+
+
+def other_banks(selected: Sequence[Any]) -> Iterator[list[Any]]:
+    """The same PCRs of the other bank, or of both; of both the banks in the other order, or one."""
+    if len(selected) == 1:
+        bank, pcrs = selected[0]
+        other = other_hash(bank), pcrs
+        yield [other]
+        yield [(bank, pcrs), other]
+        yield [other, (bank, pcrs)]
+    elif len(selected) > 1:
+        yield list(reversed(selected))
+        yield from ([it] for it in selected)
+
+
+def of_names(use: Use, place: int, step: Step, handle: int) -> Iterator[Turned]:
+    said, name = handle_words(handle), step.given
+    for since in use.scene.past.names.get(handle, []):
+        if since.value != name:
+            words = f"the Name that {said} had since line {since.line}"
+            told = "old Name in a policy", f"With {words} in {step.code.name} it would be."
+            yield turned(use, place, step.but(since.value), told)
+    others = [(it.name, f"the Name of {said} {it.words}", it.turn(name)) for it in NAME_FORMS]
+    held = use.scene.model.held(handle)
+    if held is not None:
+        handles = "handle as Name", f"the handle {handle:08x} instead of its Name"
+        others.append((*handles, number(handle, 4)))
+        made = public_names(held.public)
+        others += [(slip, f"the Name of {said} {words}", value) for slip, words, value in made]
+    for slip, words, value in others:
+        if value and value != name:
+            told = slip, f"With {words} in {step.code.name} it would be."
+            yield turned(use, place, step.but(value), told)
+
+
+def of_tried(use: Use, place: int, step: Step) -> Iterator[Turned]:
+    """The user's values in the place of each of the assertion's buffers."""
+    for value in use.scene.tried:
+        for at, own in enumerate(step.said.values):
+            if isinstance(own, bytes):
+                values = (*step.said.values[:at], value, *step.said.values[at + 1 :])
+                words = (
+                    f"With the tried value, {bytes_words(value)}, in {step.code.name} it would be."
+                )
+                other = Step(step.line, Said(step.code, values), "")
+                yield turned(use, place, other, ("tried value", words))

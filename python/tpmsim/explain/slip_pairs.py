@@ -1,0 +1,71 @@
+"""Two slips at once in an HMAC: each two that turn other ingredients, and one made of what another one
+has turned.
+
+Each of three parts of an HMAC, its key, cpHash and the rest of its text, is made once for each slip that
+turns that part alone, and two such are put together.
+"""
+
+from __future__ import annotations
+
+from itertools import combinations
+from typing import Iterator, Sequence
+
+from tpmsim.explain.ingredients import Ingredients
+from tpmsim.explain.slip import Slip
+
+KEY, CP_HASH, REST = "key", "cpHash", "rest"
+PARTS = {
+    **dict.fromkeys(("session_key", "auth_value", "key_of"), KEY),
+    **dict.fromkeys(("hash_algorithm", "code", "names", "parameters"), CP_HASH),
+    **dict.fromkeys(("text_of", "cp_hash_of"), CP_HASH),
+    **dict.fromkeys(("newer", "older", "others", "attributes", "message_of"), REST),
+}
+
+
+class Turned:
+    """A slip that is tried with others; `part` is the one that it turns, if that is one alone."""
+
+    def __init__(self, slip: Slip, right: Ingredients) -> None:
+        self.slip, self.made, self.names = slip, slip.change(right), frozenset(slip.changes)
+        parts = {PARTS.get(it, "") for it in self.names}
+        self.part = parts.pop() if len(parts) == 1 else ""
+        self.key, self.cp_hash, self.message = self.made.key, self.made.cp_hash, self.made.message
+
+    def message_with(self, cp_hash: bytes) -> bytes:
+        it = self.made
+        return it.message_of(cp_hash, it.newer, it.older, b"".join(it.others), it.attributes)
+
+
+def hmacs_of(those: Sequence[Slip], right: Ingredients) -> Iterator[tuple[Slip, Slip, bytes]]:
+    """Two slips, the inner one first, and the HMAC that they make. The likely ones are first."""
+    turned = [Turned(it, right) for it in those]
+    for first, second in combinations(turned, 2):
+        if first.names.isdisjoint(second.names):
+            yield first.slip, second.slip, together(first, second, right)
+    for inner in turned:
+        for outer in turned:
+            made = upon(inner, outer)
+            if made is not None:
+                yield inner.slip, outer.slip, made.hmac
+
+
+def together(first: Turned, second: Turned, right: Ingredients) -> bytes:
+    """The HMAC of two that turn other ingredients."""
+    parts = first.part, second.part
+    if "" in parts or parts[0] == parts[1]:
+        return right._replace(**first.slip.changes, **second.slip.changes).hmac
+    if KEY not in parts:
+        of_hash, of_rest = (first, second) if parts[0] == CP_HASH else (second, first)
+        return right.mac_of(right.algorithm, right.key, of_rest.message_with(of_hash.cp_hash))
+    of_key, of_text = (first, second) if parts[0] == KEY else (second, first)
+    return right.mac_of(right.algorithm, of_key.key, of_text.message)
+
+
+def upon(inner: Turned, outer: Turned) -> Ingredients | None:
+    """What an outer slip makes of what an inner one has turned, where both turn one ingredient."""
+    if inner is outer or outer.slip.turn is None or inner.names.isdisjoint(outer.names):
+        return None
+    changes = outer.slip.turn(inner.made)
+    if all(getattr(inner.made, name) == it for name, it in changes.items()):
+        return None
+    return inner.made._replace(**changes)
