@@ -80,8 +80,10 @@ class Scripts:
         return self.bent(found) if found and chance.random() < 0.04 else found
 
 
-def play(device, chance, count):
-    """So many commands; what each was answered since power came on last."""
+def play(device, chance, count, completed=0.97):
+    """So many commands, such a part of them with the layer; what each was answered since power came on
+    last.
+    """
     scripts, answered = Scripts(chance), list[bytes]()
     device.execute(command(CC.Startup, bytes(2)))
     answered.append(device.events[-1].response)
@@ -90,7 +92,7 @@ def play(device, chance, count):
             device.power_cycle()
             answered.clear()
             continue
-        device.completes = chance.random() < 0.97
+        device.completes = chance.random() < completed
         buffer = scripts.next()
         response = device.execute(buffer).response
         scripts.heard(buffer, response)

@@ -1,15 +1,20 @@
 """Scripts on two TPMs: the device here with other seeds, which differs in nothing, and others."""
 
 import pathlib
+import random
 import shutil
+import tempfile
 import unittest
 
 from tpmsim.compare.differences import cause_of
 from tpmsim.compare.main import other_tpm, told
 from tpmsim.compare.play import Comparison
-from tpmsim.device import Answered, Device, StartedSwtpm
+from tpmsim.caller import Caller, hmac_key
+from tpmsim.device import Answered, Device, KeptDevice, library, StartedSwtpm
+from tpmsim.model.completion import CONTEXT_LOAD, CONTEXT_SAVE
 from tpmsim.model.machine import Model
-from tpmsim.standard import number
+from tpmsim.standard import command, number, SHA256
+import completed_scripts
 from journals import Journal
 
 TESTS = pathlib.Path(__file__).resolve().parents[2] / "tests"
@@ -79,6 +84,57 @@ do GetRandom 4
             words = "line 2 begins with a device that no other TPM can be made"
             text = b"# a head of its own follows\n" + journal.text
             self.assertRaisesRegex(ValueError, words, Comparison(other).play, text)
+
+
+@unittest.skipUnless(library.is_there(), "there is no library")
+class Completed(unittest.TestCase):
+    """A journal that the completing layer was there for, beside another TPM that has contexts."""
+
+    def recorded(self, play):
+        with tempfile.TemporaryDirectory() as folder:
+            with KeptDevice(folder, forces=False, completes=True) as device:
+                play(device)
+            return pathlib.Path(folder, "journal").read_bytes()
+
+    def compared(self, journal):
+        with tempfile.TemporaryDirectory() as folder:
+            with KeptDevice(folder, forces=False, completes=True) as other:
+                return Comparison(other).play(journal)
+
+    def test_commands_at_random(self):
+        for seed in range(4):
+            chance = random.Random(seed)
+            journal = self.recorded(lambda it: completed_scripts.play(it, chance, 300, 1))
+            report = self.compared(journal)
+            self.assertEqual(report.differences, [])
+            self.assertGreater(report.commands, 200)
+            self.assertLess(len(report.not_comparable), 20)
+
+    def test_an_object_with_another_handle(self):
+        """Its context is loaded there to another handle, by which it is used."""
+        journal = self.recorded(contexts_that_move)
+        report = self.compared(journal)
+        self.assertEqual((report.differences, report.not_comparable), ([], []))
+
+
+def contexts_that_move(device):
+    """Two keys whose contexts are loaded in the other order, as tools do it that hold no handles."""
+    tpm = Caller(device)
+    tpm.start_up()
+    contexts = []
+    for value in (b"one", b"two"):
+        handle = tpm.create_primary(hmac_key(), data=b"key of " + value, user_auth=value)
+        contexts.append((value, saved_context(device, handle)))
+        tpm.send(tpm.flush(handle))
+    for value, context in reversed(contexts):
+        buffer = command(CONTEXT_LOAD, context)
+        handle = int.from_bytes(device.execute(buffer).response[10:], "big")
+        tpm.call("HMAC", handle, uses=[value], buffer=b"data", hashAlg=SHA256)
+        tpm.send(tpm.flush(handle))
+
+
+def saved_context(device, handle):
+    return device.execute(command(CONTEXT_SAVE, number(handle, 4))).response[10:]
 
 
 class Others(unittest.TestCase):

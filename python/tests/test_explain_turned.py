@@ -3,6 +3,8 @@ as two, and nothing is named where no slip explains.
 """
 
 import base64
+import itertools
+import random
 import re
 import unittest
 
@@ -295,15 +297,44 @@ NONE = (
     ({}, setting(parameters=lambda it: it.parameters[1:])),
 )
 
-# Those that go together with any other of another place in these.
-PLACES = (
-    [row for row in VALUES if row[0].endswith(("line break", "SHA-256", "UTF-16", "hex"))],
-    [row for row in NAMES if row[0] in ("handle as Name", "Name with its size", "Names left out")],
-    [row for row in HASHED if row[0] in ("command code left out", "parameters left out")],
-    [row for row in REST if row[0].startswith(("nonces ", "nonceTPM "))],
-    [row for row in REST if row[0] in ("attributes left out", "attributes in four bytes")],
-    [row for row in REST if row[0] == "HMAC of a hash"],
-)
+# In the order in which one goes into the next.
+IN_ORDER = VALUES, KEYS, NAMES, HASHED, OTHERS, REST
+PLACES = {id(row): place for place, rows in enumerate(IN_ORDER) for row in rows}
+
+# Two that make together what another one or two make too, which are told in their place.
+TOLD_OTHERWISE = {
+    frozenset(("nonceCaller left out", "nonceTPM left out")),
+    frozenset(("nonceCaller with its size", "nonceTPM with its size")),
+    frozenset(("nonces swapped", "nonceCaller left out")),
+    frozenset(("nonces swapped", "nonceTPM left out")),
+    frozenset(("nonces with their sizes", "nonceCaller left out")),
+    frozenset(("nonces with their sizes", "nonceTPM left out")),
+    frozenset(("another session", "nonceTPM left out")),
+    frozenset(("another session", "key in another order")),
+}
+
+
+def together(first, second):
+    """The choices of both, if they go together."""
+    if len({first.get("more"), second.get("more")} - {None}) > 1:
+        return None
+    choices = first | second
+    for name in (first.keys() & second.keys()) - {"more"}:
+        both = [
+            set(it[name] if isinstance(it[name], tuple) else (it[name],)) for it in (first, second)
+        ]
+        choices[name] = tuple(sorted(set.intersection(*both)))
+    return None if () in choices.values() else choices
+
+
+def pairs_of(count):
+    """Random pairs of rows of different places, or of two of the last, with what both choose."""
+    pairs = list(itertools.combinations(ROWS, 2))
+    for pair in random.Random("pairs").sample(pairs, count):
+        first, second = sorted(pair, key=lambda it: PLACES[id(it)])
+        choices = together(first[1], second[1])
+        if first[0] != second[0] and choices is not None:
+            yield first, second, choices
 
 
 # What is given instead of a password.
@@ -341,21 +372,31 @@ class Turned(unittest.TestCase):
                     self.assertEqual(self.slips_of(case, turn).slips, [name])
 
     def test_two(self):
-        rows = [(place, row) for place, rows in enumerate(PLACES) for row in rows]
-        for at in range(50):
-            pick = Drawn(f"two {at}").pick
-            (_, first), (_, second) = self.two_of(pick, rows)
-            choices = {**NAMED, "algorithm": SHA256, "bind": "none"}
-            case = Drawn(f"two {at} {first[0]}, {second[0]}", **choices)
-            found = self.slips_of(case, first[2], second[2])
-            self.assertEqual(sorted(found.slips), sorted([first[0], second[0]]), case.seed)
+        """Random pairs, of which neither undoes the other; two forms of one value have a test of theirs."""
+        named = 0
+        for at, (first, second, choices) in enumerate(pairs_of(100)):
+            name = f"two {at} {first[0]}, {second[0]}"
+            made = {self.made(name, choices, *turns) for turns in ((), first[2:], second[2:])}
+            both = first[2], second[2]
+            is_one = PLACES[id(first)] == PLACES[id(second)] == 0
+            if is_one or len(made) < 3 or self.made(name, choices, *both) in made:
+                continue
+            with self.subTest(name):
+                found = self.slips_of(Drawn(name, **choices), *both)
+                wanted = {first[0], second[0]}
+                if wanted not in TOLD_OTHERWISE:
+                    self.assertEqual(set(found.slips), wanted)
+                    named += 1
+                self.assertTrue(found.slips)
+        self.assertGreater(named, 60)
 
-    def two_of(self, pick, rows):
-        """Of two places, the one first that goes into the other."""
-        while True:
-            first, second = sorted(pick.sample(rows, 2), key=lambda it: it[0])
-            if first[0] != second[0]:
-                return first, second
+    def made(self, name, choices, *turns):
+        """The HMAC of a random session."""
+        case = Drawn(name, **choices)
+        parts = case.parts()
+        for turn in turns:
+            turn(case, parts)
+        return parts.hmac()
 
     def test_two_forms_of_a_value(self):
         """As `echo PIN | sha256sum` makes them."""

@@ -8,7 +8,7 @@ TPM is one of
     device:FILE                             such as /dev/tpmrm0, whose power nobody switches
 
 What a TPM that runs has in it is its own: clear it before. A journal or log is a script too, if its
-device was a new one; what the completing layer answered is compared without that layer. The status
+device was a new one; a command that the completing layer saw is played with that layer. The status
 is 0 where nothing differs, 1 where something does, and 2 where it cannot be compared.
 """
 

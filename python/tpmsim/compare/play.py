@@ -13,8 +13,9 @@ from tpmsim.device.told import MOST_MILLISECONDS
 from tpmsim.model.general import Command
 from tpmsim.model.player import BadLine
 from tpmsim.standard import CC, COMMAND_BYTES, CONTINUE_SESSION, Entry, frames, HEADER_BYTES
-from tpmsim.standard import is_policy, is_session, NUMBERED, NV, PERSISTENT, POLICY_SESSION, SHA1
+from tpmsim.standard import is_policy, is_session, NV, PERSISTENT, POLICY_SESSION, SHA1
 from tpmsim.standard import SHA256, TRANSIENT
+from tpmsim.standard.command_names import command_name
 from tpmsim.standard.values import read_all
 
 # What a command changes beside its handles, so that a later difference follows from it.
@@ -80,7 +81,7 @@ class Comparison:
             if isinstance(step, records.Bad):
                 raise BadLine(f"line {step.line}")
             if isinstance(step, records.Begin):
-                self.begin(step.content, is_begun)
+                self.begin(step, is_begun)
             elif isinstance(step, records.Power):
                 self.power()
             elif isinstance(step, records.Command):
@@ -90,12 +91,12 @@ class Comparison:
         self.state()
         return self.report
 
-    def begin(self, content: bytes, is_begun: bool) -> None:
+    def begin(self, step: records.Begin, is_begun: bool) -> None:
         """A head: of the same device again, which a state text finds as it is; or of a new one."""
-        if is_begun and self.here.is_device_of(content):
-            if not records.is_state_text(content):
+        if is_begun and self.here.is_device_of(step):
+            if not records.is_state_text(step.content):
                 self.power()
-        elif is_begun or not self.here.open_empty(content):
+        elif is_begun or not self.here.open_empty(step):
             raise ValueError(f"line {self.line} begins with a device that no other TPM can be made")
 
     def send(self, buffer: bytes) -> bytes:
@@ -154,7 +155,7 @@ class Comparison:
 
     def execute(self, buffer: bytes) -> Executed:
         now, self.now = self.now, replace(self.now, elapsed=0)
-        return self.here.execute(buffer, now.locality, now.elapsed, now.random)
+        return self.here.execute(replace(now, buffer=buffer))
 
     def compare(
         self,
@@ -165,10 +166,11 @@ class Comparison:
         response: bytes,
     ) -> None:
         codes = [int.from_bytes(it[6:10], "big") for it in (event.response, response)]
-        code = NUMBERED.get(int.from_bytes(event.buffer[6:10], "big"))
-        name = code.name if code else "?"
+        name = command_name(int.from_bytes(event.buffer[6:10], "big")) or "?"
         if codes[0] != codes[1]:
             self.differ(name, asked, "code", *map(code_word, codes))
+        if asked is None and not any(codes):
+            self.translation.contexts.note(event.buffer, event.response, response)
         if asked is None or isinstance(prepared, bytes):
             return
         there = self.translation.received(prepared, response) if not codes[1] else None

@@ -3,13 +3,15 @@
 from dataclasses import dataclass, field
 from typing import Any
 
+from tpmsim import records
 from tpmsim.device import library
 from tpmsim.device.base import Executed
 from tpmsim.device.child import ChildDevice
 from tpmsim.device.library import LibraryDevice
 from tpmsim.device.told import Device
+from tpmsim.model.completion import Completion
 from tpmsim.model.general import Command
-from tpmsim.model.machine import MANUFACTURED, Model
+from tpmsim.model.machine import MANUFACTURED, Model, Outcome
 from tpmsim.model.policy_state import Session
 from tpmsim.model.protection import Lockout
 from tpmsim.records import goes_on, opened
@@ -54,39 +56,58 @@ class Received:
 
 
 class Reference:
-    """The device here, twice: one that answers, and one in Python that can be looked into."""
+    """The device here, twice: one that answers, and one in Python that can be looked into. Above both stands
+    the completing layer.
+    """
+
+    event: Executed
 
     def __init__(self) -> None:
         self.model = Model()
         in_process = library.is_there()
         own: Device = LibraryDevice(manufactured=MANUFACTURED) if in_process else ChildDevice()
-        self.device = own
+        self.device, self.layer = own, Completion()
 
-    def execute(self, buffer: bytes, locality: int, elapsed: int, random: bytes) -> Executed:
-        event = self.device.answer(buffer, locality, elapsed, random)
-        if self.model.execute(buffer, locality, random, elapsed).response != event.response:
+    def execute(self, step: records.Command) -> Executed:
+        """A command as the records say it, with the completing layer where that was there."""
+        told = step.buffer, step.locality, step.random, step.elapsed
+        if not step.completes:
+            self.outcome(*told)
+            self.layer.forget(self.model)
+            return self.event
+        done = self.layer.execute(self.model, told, self.outcome, self.outcome)
+        return Executed(*(step.buffer, done.outcome.response, step.locality, step.elapsed))
+
+    def outcome(self, buffer: bytes, locality: int, random: bytes, elapsed: int) -> Outcome:
+        self.event = self.device.answer(buffer, locality, elapsed, random)
+        outcome = self.model.execute(buffer, locality, random, elapsed)
+        if outcome.response != self.event.response:
             raise AssertionError(f"the device in Python answers otherwise: {buffer.hex()}")
-        return event
+        return outcome
 
-    def is_device_of(self, content: bytes) -> bool:
-        return goes_on(self.model, content)
+    def is_device_of(self, step: records.Begin) -> bool:
+        if not goes_on(self.model, step.content):
+            return False
+        self.layer = opened(step.content, step.start).layer
+        return True
 
-    def open_empty(self, image: bytes) -> bool:
+    def open_empty(self, step: records.Begin) -> bool:
         """Becomes the device of an image, if that has nothing that a new one has not."""
-        begun = opened(image)
+        begun = opened(step.content, step.start)
         if begun.is_state:
             return False
         found = begun.device
         is_used = found.objects or found.indices or found.saved or any(found.auth_values.values())
         if is_used or found.disable_clear or found.lockout != Lockout():
             return False
-        self.device.begin(image)
-        self.model = found
+        self.device.begin(step.content)
+        self.model, self.layer = found, begun.layer
         return True
 
     def power_cycle(self) -> None:
         self.device.cycle()
         self.model.power_cycle()
+        self.layer.forget(self.model)
 
     def shown(self, command: Command, place: int, entry: Entry, handle: int | None) -> Shown:
         """How the entry of a session that is there is right, before the command is executed."""

@@ -2,6 +2,7 @@
 
 from tpmsim.caller.entries import flipped, Prepared, Session, Use
 from tpmsim.caller.knowledge import Knowledge, WrongResponse
+from tpmsim.compare.contexts import Contexts
 from tpmsim.compare.reference import parsed, Received, Reference
 from tpmsim.model.general import Command
 from tpmsim.standard import ALG_NULL, CC, CONTINUE_SESSION, DECRYPT, Entry, Fields, first_byte
@@ -34,11 +35,13 @@ class Translation:
         self.private_auths: dict[bytes, bytes] = {}
         self.tied: dict[int, int] = {}
         self.hashed: dict[int, int] = {}
+        self.contexts = Contexts(self)
 
     def power_cycle(self) -> None:
         for handle in [it for it in self.handles if is_session(it) or first_byte(it) == 0x80]:
             del self.handles[handle]
         self.sessions, self.tied, self.hashed = {}, {}, {}
+        self.contexts.kept.clear()
         self.lost = {it: line for it, line in self.lost.items() if first_byte(it) in (1, 0x81)}
 
     def handle(self, number: int) -> int:
@@ -50,7 +53,7 @@ class Translation:
         """The command for the other TPM; bytes that are no command are sent as they are."""
         asked = parsed(buffer)
         if asked is None:
-            return buffer
+            return self.contexts.command(buffer)
         handles = [self.handle(it) for it in asked.handles]
         if asked.code == CC.PolicyGetDigest and asked.handles[0] in self.tied:
             raise NotComparable(TIED, self.tied[asked.handles[0]])
