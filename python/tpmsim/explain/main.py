@@ -6,8 +6,8 @@ LOG is a script, as docs/SCRIPTS.md has it: of `cmd`, `do`, `wait`, `loc`, `entr
 lines; or the journal of a device in a folder, a log of `tpmsim serve`, what `tpmsim script` prints,
 the report of a failed test, or several of these one after another. It may have its answers in
 comments, as a trace, a response code or a response; ANSWERS may be what `tpmsim run` or `tpmsim run
---trace` printed of it. `-` is standard input. The device is that of the image in the log; else with
---image that of START, behind a power cycle; else a new one.
+--trace` printed of it. `-` is standard input. The device is that of the image in the log, or as the
+state text in the log has it; else with --image that of START; else a new one.
 
 It plays the log on the device in Python, and tells where the log's answers are not the model's; of each
 refusal which check refused it, in words and numbers; of a wrong HMAC what goes into it, and which
