@@ -216,7 +216,9 @@ class Policies(unittest.TestCase):
         self.tpm.send(self.tpm.restart(again))
         line = len(self.device.trace) - 1
         found = self.reason(8, self.tpm.unsealing(handle, again))
-        self.assertIn(f"It was told nothing since line {line}, with which", found.words)
+        self.assertIn(
+            f"It was told nothing since line {line} (PolicyRestart), with which", found.words
+        )
 
     def test_name_of_an_index(self):
         """A policy that names an index by the Name that it had before its first write."""

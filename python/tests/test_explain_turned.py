@@ -374,7 +374,7 @@ class Turned(unittest.TestCase):
     def test_two(self):
         """Random pairs, of which neither undoes the other; two forms of one value have a test of theirs."""
         named = 0
-        for at, (first, second, choices) in enumerate(pairs_of(100)):
+        for at, (first, second, choices) in enumerate(pairs_of(70)):
             name = f"two {at} {first[0]}, {second[0]}"
             made = {self.made(name, choices, *turns) for turns in ((), first[2:], second[2:])}
             both = first[2], second[2]
@@ -388,7 +388,7 @@ class Turned(unittest.TestCase):
                     self.assertEqual(set(found.slips), wanted)
                     named += 1
                 self.assertTrue(found.slips)
-        self.assertGreater(named, 60)
+        self.assertGreater(named, 40)
 
     def made(self, name, choices, *turns):
         """The HMAC of a random session."""

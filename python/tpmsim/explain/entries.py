@@ -6,7 +6,7 @@ from tpmsim.explain import ingredients, policies, slips
 from tpmsim.explain.forms import forms_of
 from tpmsim.explain.ingredients import Use
 from tpmsim.explain.policies import unavailable
-from tpmsim.explain.reason import HAD, Reason, Scene, WANTED
+from tpmsim.explain.reason import HAD, Reason, Scene, SLIP, WANTED
 from tpmsim.explain.slip import Told
 from tpmsim.explain.words import bytes_words, handle_words, seconds_words
 from tpmsim.model.protection import LOCKOUT_AUTH, MILLISECONDS, TRIES
@@ -92,7 +92,7 @@ def wrong_hmac(use: Use, found: Reason) -> None:
     for name, words in explained.told:
         found.slip(name, words)
     if not explained.told:
-        found.add("slip", explained.none_words())
+        found.add(SLIP, explained.none_words())
 
 
 def wrong_password(scene: Scene, found: Reason, entry: Entry, handle: int) -> None:
@@ -115,7 +115,7 @@ def name_password(scene: Scene, found: Reason, entry: Entry, handle: int) -> Non
             return
     if tried:
         words = "other forms of the value, past values and those of others"
-        found.add("slip", f"none of {tried} that were tried: {words}; --try VALUE tries yours")
+        found.add(SLIP, f"none of {tried} that were tried: {words}; {slips.TRY}")
 
 
 def passwords(scene: Scene, handle: int) -> Iterator[tuple[tuple[Told, ...], bytes]]:

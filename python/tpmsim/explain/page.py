@@ -262,7 +262,7 @@ class PageData:
         return [self.shapes.of(shape), [self.texts.of(it.meaning) for it in those]]
 
     def reason(self, reason: Reason) -> list[Any]:
-        facts = [[self.texts.of(it.label), it.value, it.sort] for it in reason.facts]
+        facts = [[self.texts.of(it.label), it.value, it.sort] for it in reason.told]
         return [
             reason.words,
             facts,

@@ -86,6 +86,9 @@ def said_words(code: CC, handles: list[int], plain: bytes) -> str:
     return said
 
 
+# Why a policy begins anew behind a use.
+USED = "which it authorized: each use is told its policy anew"
+
 WRITES_PCR = CC.PCR_Extend, CC.PCR_Event, CC.PCR_Reset
 # How many states of the PCRs are kept.
 MOST_STATES = 64
@@ -108,13 +111,14 @@ class Begun:
     nonces: list[Since] = field(default_factory=list)
     told: list[Step] = field(default_factory=list)
     restarted: int = 0
+    restarted_by: str = ""
     last_attributes: int | None = None
     last_nonce: bytes | None = None
     caller_nonces: dict[bytes, int] = field(default_factory=dict)
     own_nonces: dict[bytes, int] = field(default_factory=dict)
 
-    def restart(self, line: int) -> None:
-        self.told, self.restarted = [], line
+    def restart(self, line: int, by: str) -> None:
+        self.told, self.restarted, self.restarted_by = [], line, by
 
     def take(self, line: int) -> None:
         self.nonces.append(Since(line, self.session.nonce_tpm))
@@ -185,7 +189,7 @@ class Past:
             if handle is not None and handle_kinds.is_policy(entry.handle):
                 # A policy session that authorized begins anew.
                 if entry.handle in self.sessions:
-                    self.sessions[entry.handle].restart(line)
+                    self.sessions[entry.handle].restart(line, f"{name}, {USED}")
 
     def note_value(self, command: Command, plain: bytes, answered: int | None) -> None:
         """An authorization value as it was given, with the zeros at its end."""
@@ -215,7 +219,7 @@ class Past:
         if begun is None:
             return
         if command.code == CC.PolicyRestart:
-            begun.restart(line)
+            begun.restart(line, command.code.name)
             return
         begun.told.append(step_of(line, command, plain, self.model, names))
         banks = banks_of(self.model)

@@ -47,8 +47,8 @@ def difference(use: Use, wanted: bytes, found: Reason) -> str:
         return "Its session began before the log, which does not have all that it was told."
     steps = use.begun.told
     if not steps:
-        line = use.begun.restarted
-        since = f" since line {line}, with which its policy began anew" if line else ""
+        line, by = use.begun.restarted, use.begun.restarted_by
+        since = f" since line {line} ({by}), with which its policy began anew" if line else ""
         return f"It was told nothing{since}."
     earlier = use.scene.past.made.get(wanted)
     if earlier is not None:

@@ -24,6 +24,9 @@ RULES: dict[str, list[str]] = json.loads(RULES_FILE.read_text("utf-8"))
 WANTED, HAD, PLAIN = "wanted", "had", ""
 
 
+SLIP = "slip"
+
+
 @dataclass(frozen=True)
 class Fact:
     """A value with what it is; long values are in hex."""
@@ -56,6 +59,11 @@ class Reason:
         """Where in docs/table the sentence stands."""
         return RULES[self.rule][1]
 
+    @property
+    def told(self) -> list[Fact]:
+        """The facts, of which the slips are first."""
+        return sorted(self.facts, key=lambda it: it.label != SLIP)
+
     def add(self, label: str, value: str, sort: str = PLAIN) -> None:
         self.facts.append(Fact(label, value, sort))
 
@@ -65,7 +73,7 @@ class Reason:
 
     def slip(self, name: str, words: str) -> None:
         self.slips.append(name)
-        self.add("slip", words)
+        self.add(SLIP, words)
 
 
 @dataclass

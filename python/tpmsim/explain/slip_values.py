@@ -157,6 +157,9 @@ def session_keys(use: Use) -> Iterator[Slip]:
         key = kdf._replace(newer=latest).key
         yield Slip.of("session key, latest nonceTPM", words, session_key=key)
     words = "the session key is the authValue itself; KDFa makes it of that"
+    if use.was_bound:
+        words = "the key is the authValue alone, as of a session that is bound to nothing; of one that is "
+        words += f"bound to {handle_words(use.authorized)} KDFa makes the key of it"
     yield Slip.of("session key without KDFa", words, session_key=kdf.value)
     for value, said in bind_values(use):
         key = kdf._replace(value=value).key

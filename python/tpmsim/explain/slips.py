@@ -28,6 +28,10 @@ PAIRED, MOST_NONCES = 3, 100
 LEAST_CUT = 4
 
 
+# What is left to the user.
+TRY = "--try VALUE tries one that the log does not have, as a mistyped PIN"
+
+
 @dataclass
 class Found:
     """The slips that explain an HMAC, and how many were tried alone and in pairs."""
@@ -39,7 +43,7 @@ class Found:
     def none_words(self) -> str:
         tried = f"{plural(self.alone, 'slip')} and {plural(self.pairs, 'pair')} of them were tried"
         places = "in the key, cpHash, the nonces, the attributes and the hashes"
-        return f"none makes this HMAC: {tried}, {places}. --try VALUE tries a value of yours"
+        return f"none makes this HMAC: {tried}, {places}; {TRY}"
 
 
 def found(use: Use) -> Found:

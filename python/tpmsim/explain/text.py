@@ -143,7 +143,7 @@ def own_words(event: Event) -> str:
 
 def told_words(reason: Reason) -> Iterator[str]:
     yield from wrapped(reason.words)
-    yield from facts_words(reason.facts)
+    yield from facts_words(reason.told)
 
 
 def of_reason(reason: Reason) -> Iterator[str]:
@@ -244,7 +244,7 @@ def value_of_layer(event: Event) -> Value | None:
 def value_of_reason(reason: Reason) -> Value:
     names = "rule", "sentence", "link", "words", "at", "slips"
     told = {it: getattr(reason, it) for it in names}
-    return {**told, "facts": [vars(it) for it in reason.facts]}
+    return {**told, "facts": [vars(it) for it in reason.told]}
 
 
 def value_of_field(field: Field) -> Value:
