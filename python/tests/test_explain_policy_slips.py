@@ -224,7 +224,7 @@ NONE = (
 )
 
 
-def pairs_of(rows, most=35):
+def pairs_of(rows, most=60):
     """Some pairs of rows: first those that are made otherwise, and then what is arranged otherwise."""
     pairs = list(itertools.combinations(rows, 2))
     for first, second in random.Random("pairs").sample(pairs, most):
@@ -260,7 +260,7 @@ class PolicySlips(unittest.TestCase):
                 found = case.refused(made)
                 self.assertEqual(sorted(found.slips), sorted([first[0], second[0]]))
                 named += 1
-        self.assertGreater(named, 25)
+        self.assertGreater(named, 45)
 
     def test_none(self):
         for at, turn in enumerate(NONE):

@@ -56,6 +56,7 @@ class Search:
 
     def one_turned(self, items: Items, those: Sequence[Turned]) -> list[Told]:
         """One of these assertions in another way."""
+        self.tried += 1
         before = digests_before(self.zeros, items)
         places = {it.place: at for at, it in enumerate(items) if it.place is not None}
         for it in those:
@@ -72,6 +73,8 @@ class Search:
         """Two assertions in another way."""
         until = self.tried + self.most_paired
         for at, first in enumerate(self.alternatives):
+            if self.tried >= until:
+                break
             later = [it for it in self.alternatives[at + 1 :] if it.place != first.place]
             found = self.one_turned(with_link(self.items, first), later[: until - self.tried])
             if found:
@@ -82,6 +85,8 @@ class Search:
         """One assertion in another way, and one more mistake in which there are, or in their order."""
         until = self.tried + self.most_paired
         for items, told in arrangements(self.items, self.missing[:LIKELY]):
+            if self.tried >= until:
+                break
             found = self.one_turned(items, self.alternatives[: until - self.tried])
             if found:
                 return [*found, told]
