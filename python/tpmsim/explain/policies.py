@@ -44,7 +44,7 @@ def policy_lacks(use: Use) -> str:
 def difference(use: Use, wanted: bytes, found: Reason) -> str:
     """In words, with facts, as far as it can be seen."""
     if use.begun is None:
-        return "Its session began before the log, which does not have all that it was told."
+        return "Its session began before the log, which may not have all that it was told."
     steps = use.begun.told
     if not steps:
         line, by = use.begun.restarted, use.begun.restarted_by
