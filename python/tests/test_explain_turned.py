@@ -82,6 +82,9 @@ VALUES = (
     ("authValue in quotes", {}, valued(lambda it: b'"' + it + b'"')),
     ("authValue in capitals", {}, valued(bytes.upper)),
     ("authValue without its last byte", {}, valued(lambda it: it[:-1])),
+    ("authValue mistyped", {}, valued(lambda it: it[:3] + it[4:])),
+    ("authValue mistyped", {}, valued(lambda it: it[:3] + it[3:5][::-1] + it[5:])),
+    ("authValue mistyped", {}, valued(lambda it: it[:3] + b"7" + it[4:])),
     ("another's authValue", UNBOUND, lambda case, it: vars(it).update(value=case.other)),
     ("zeros", BOTH, lambda case, it: vars(it).update(value=it.value.ljust(70, b"\0"))),
 )
@@ -349,6 +352,8 @@ PASSWORDS = (
     ("password as base64", base64.b64encode),
     ("password with str:", lambda it: b"str:" + it),
     ("password in capitals", bytes.upper),
+    ("password mistyped", lambda it: it[:3] + it[4:]),
+    ("password mistyped", lambda it: it[:3] + b"7" + it[3:]),
     ("zeros", lambda it: it.rjust(20, b"\0")),
 )
 
@@ -463,10 +468,10 @@ class Turned(unittest.TestCase):
     def test_no_password(self):
         for round in range(ROUNDS):
             case = Drawn(f"password {round}")
-            self.refused_password(case, b"?" + case.value[1:])
+            self.refused_password(case, b"??" + case.value[2:])
             found = explained(case.device).reason
             self.assertEqual(found.slips, [])
-            self.assertRegex(found.facts[-1].value, r"none of \d+ that were tried: other forms")
+            self.assertRegex(found.facts[-1].value, r"none of [\d,]+ that were tried: other forms")
 
     # Values that the user wants tried.
 

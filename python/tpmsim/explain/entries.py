@@ -3,7 +3,7 @@
 from typing import Iterator
 
 from tpmsim.explain import ingredients, policies, slips
-from tpmsim.explain.forms import forms_of
+from tpmsim.explain.forms import forms_of, mistypings
 from tpmsim.explain.ingredients import Use
 from tpmsim.explain.policies import unavailable
 from tpmsim.explain.reason import HAD, Reason, Scene, SLIP, WANTED
@@ -115,7 +115,7 @@ def name_password(scene: Scene, found: Reason, entry: Entry, handle: int) -> Non
             return
     if tried:
         words = "other forms of the value, past values and those of others"
-        found.add(SLIP, f"none of {tried} that were tried: {words}; {slips.TRY}")
+        found.add(SLIP, f"none of {tried:,} that were tried: {words}; {slips.TRY}")
 
 
 def passwords(scene: Scene, handle: int) -> Iterator[tuple[tuple[Told, ...], bytes]]:
@@ -129,6 +129,9 @@ def passwords(scene: Scene, handle: int) -> Iterator[tuple[tuple[Told, ...], byt
             front = f"the password has zeros in front, to {size} bytes"
             zeros = "zeros", f"{front}; those at its end alone do not count"
             yield (zeros,), value.rjust(size, b"\0")
+    for typed in mistypings(value):
+        words = f'{said} has {bytes_words(value)}, which was mistyped as "{typed.decode("ascii")}"'
+        yield (("password mistyped", words),), typed
     for past in scene.past.values.get(handle, [])[:-1]:
         words = f"that is the value that {said} had since line {past.line}, which is past"
         yield (("old password", words),), past.value

@@ -101,3 +101,24 @@ def forms_of(value: bytes) -> Iterator[Formed]:
     for it in inner:
         for form in (*NESTED, *CUTS):
             yield from fresh(it.forms, form, form.turn(it.value))
+
+
+# A text of at most so many characters may be mistyped.
+MOST_TYPED = 24
+CHARACTERS = [bytes([it]) for it in range(0x20, 0x7F)]
+
+
+def mistypings(value: bytes) -> Iterator[bytes]:
+    """Other texts: with one character too few, too many, or another one, or with two of them swapped."""
+    yield from (it for it in dict.fromkeys(typed(value)) if it != value)
+
+
+def typed(value: bytes) -> Iterator[bytes]:
+    is_text = all(0x20 <= it < 0x7F for it in value)
+    if not is_text or not 0 < len(value) <= MOST_TYPED:
+        return
+    places = range(len(value))
+    yield from (value[:at] + value[at + 1 :] for at in places)
+    yield from (value[:at] + value[at : at + 2][::-1] + value[at + 2 :] for at in places[:-1])
+    yield from (value[:at] + it + value[at + 1 :] for at in places for it in CHARACTERS)
+    yield from (value[:at] + it + value[at:] for at in (*places, len(value)) for it in CHARACTERS)

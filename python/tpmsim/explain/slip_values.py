@@ -4,7 +4,7 @@
 from typing import Any, Callable, Iterator
 
 from tpmsim.explain import ingredients, slip_kdf
-from tpmsim.explain.forms import forms_of
+from tpmsim.explain.forms import forms_of, mistypings
 from tpmsim.explain.ingredients import Ingredients, Use
 from tpmsim.explain.slip import Changes, Slip, Told
 from tpmsim.explain.slip_kdf import Kdf, right_kdf
@@ -28,7 +28,8 @@ def auth_values(use: Use) -> Iterator[Slip]:
     if use.takes_value and value:
         yield left_out(use)
     if not use.takes_value and value:
-        words = f"the authValue of {said} was put into the key: {use.value_words()}"
+        why = use.value_words().removeprefix("not in the key: ")
+        words = f"the authValue of {said} was put into the key, where it is not wanted: {why}"
         yield value_slip("authValue put in", words, value)
     for past in use.past_values:
         if past.value:
@@ -48,9 +49,8 @@ def left_out(use: Use) -> Slip:
     if use.was_bound:
         lapsed = f"the binding to {said} has lapsed, {use.lapse_words()}"
         return value_slip("binding lapsed", f"the authValue was left out; {lapsed}", b"")
-    words = (
-        f"the authValue of {said} was left out of the key, where it belongs: {use.value_words()}"
-    )
+    why = use.value_words().removeprefix("in the key: ")
+    words = f"the authValue of {said} was left out of the key, where it belongs: {why}"
     return value_slip("authValue left out", words, b"")
 
 
@@ -130,6 +130,22 @@ def padded(value: bytes, words: str, pad: Callable[[bytes, int, bytes], bytes], 
         return {"auth_value": pad(it.auth_value, size, b"\0")}
 
     return Slip((("zeros", words),), {"auth_value": pad(value, size, b"\0")}, turn=turn)
+
+
+def mistyped(use: Use) -> Iterator[Slip]:
+    """The value with one slip of the finger, in the key and in the session key."""
+    kdf = kdf_of(use)
+    values = {use.auth_value} if use.takes_value else set()
+    for value in sorted(values | ({kdf.value} if kdf else set())):
+        for other in mistypings(value):
+            words = f'the authValue {bytes_words(value)} was mistyped, as "{other.decode("ascii")}"'
+            changes: dict[str, Any] = {}
+            if value in values:
+                changes["auth_value"] = other
+                yield Slip.of("authValue mistyped", words, False, **changes)
+            if kdf is not None and kdf.value == value:
+                changes["session_key"] = kdf._replace(value=other).key
+                yield Slip.of("authValue mistyped", words, False, **changes)
 
 
 # The session key.

@@ -29,7 +29,7 @@ LEAST_CUT = 4
 
 
 # What is left to the user.
-TRY = "--try VALUE tries one that the log does not have, as a mistyped PIN"
+TRY = "--try VALUE tries one that the log does not have, as another PIN"
 
 
 @dataclass
@@ -127,6 +127,7 @@ def slips(use: Use) -> Iterator[Slip]:
     yield from slip_values.tried(use)
     yield from slip_values.zeros(use)
     yield from other_attributes(use)
+    yield from slip_values.mistyped(use)
 
 
 def plain_value(use: Use) -> list[Told]:
