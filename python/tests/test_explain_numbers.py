@@ -139,6 +139,22 @@ class Numbers(unittest.TestCase):
         self.assertEqual((found.rule, found.words), ("NV_Read/A3", words))
         self.assertEqual(last(DEFINE, DEFINE).words, "There is an index 01000001 since line 2.")
 
+    def test_others_of_its_kind(self):
+        """Of a session or an index that is not there the log tells those that are."""
+        start = "do StartAuthSession NULL NULL 00112233445566778899aabbccddeeff - 0 null sha256"
+        for wrong, there in (
+            (
+                "do NV_Read OWNER 01000001 s:02000001:00112233445566778899aabbccddeeff:01:- 8 0",
+                "02000000",
+            ),
+            ("do NV_Read OWNER 01000002 pw:- 8 0", "01000001"),
+        ):
+            facts = last(DEFINE, start, wrong).facts
+            line = {"01000001": 2, "02000000": 3}[there]
+            self.assertEqual(
+                [(it.label, it.value) for it in facts], [(there, f"is there since line {line}")]
+            )
+
 
 class Policies(unittest.TestCase):
     def setUp(self):

@@ -7,7 +7,7 @@ from tpmsim.explain.words import attribute_words, command_words, handle_words, k
 from tpmsim.explain.words import not_served, plural
 from tpmsim.model.general import LEAST_AREA, MOST_NONCE_OR_HMAC
 from tpmsim.standard import CC, COMMAND_BYTES, DECRYPT, ENCRYPT, Entry, Fields, frames, HEADER_BYTES
-from tpmsim.standard import is_session, MOST_ENTRIES, RS_PW, Short
+from tpmsim.standard import first_byte, is_session, MOST_ENTRIES, RS_PW, Short
 from tpmsim.standard.handle_kinds import HANDLES
 
 PLACE_BITS = 0xFF_FFFF
@@ -61,7 +61,23 @@ def handles(scene: Scene) -> Reason:
         found.compare(HANDLES[wanted.kind].words, f"{handle:08x}")
         return found
     rule = "G6/REFERENCE" if scene.name.startswith("REFERENCE") else "G6/HANDLE"
-    return Reason(rule, f"{said}. It is not there: {missing_words(scene, handle)}.", at=at)
+    words = f"{said}. It is not there: {missing_words(scene, handle)}."
+    return with_others(scene, handle, Reason(rule, words, at=at))
+
+
+# Of how many others of its kind it is said that they are there.
+MOST_OTHERS = 8
+
+
+def with_others(scene: Scene, handle: int, found: Reason) -> Reason:
+    """With those of the kind of what is not there that are."""
+    model, past = scene.model, scene.past
+    held = sorted({*model.sessions, *model.objects, *model.indices})
+    kind = [it for it in held if first_byte(it) == first_byte(handle)]
+    for it in kind[:MOST_OTHERS]:
+        line = past.begun.get(it, 0)
+        found.add(f"{it:08x}", f"is there since line {line}" if line else "is there")
+    return found
 
 
 def missing_words(scene: Scene, handle: int) -> str:
@@ -103,8 +119,9 @@ def entries(scene: Scene) -> Reason:
         found.compare("40000009 (a password), 02.. or 03.. (a session)", f"{entry.handle:08x}")
         return found
     if scene.name.startswith("REFERENCE"):
-        said = f"Entry {place} has session {entry.handle:08x}, which is not there"
-        return Reason("G8/REFERENCE", f"{said}: {missing_words(scene, entry.handle)}.", at=at)
+        words = f"Entry {place} has session {entry.handle:08x}, which is not there: "
+        found = Reason("G8/REFERENCE", f"{words}{missing_words(scene, entry.handle)}.", at=at)
+        return with_others(scene, entry.handle, found)
     return entry_attributes(scene, those, place, at)
 
 
