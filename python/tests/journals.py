@@ -31,7 +31,7 @@ class Journal:
         self.sum = sum_from(OFFSET_BASIS, mark)
         line = f"# tpmsim journal {kind} {mark.hex()} {self.sum:016x}"
         self.text = f"{line}\n# {text.hex()}\n".encode()
-        self.head_bytes, self.ends = len(self.text), [len(self.text)]
+        self.head_bytes, self.ends, self.responses = len(self.text), [len(self.text)], []
 
     def play(self, *lines):
         for line in lines:
@@ -57,4 +57,5 @@ class Journal:
         )
         self.text += "".join(f"{it}\n" for it in lines).encode()
         self.ends.append(len(self.text))
+        self.responses.append(response)
         return response

@@ -5,6 +5,7 @@ explains, judges or compares them.
 import random
 import unittest
 
+from explained_logs import TOP
 from journals import Journal
 from tpmsim import records
 from tpmsim.audit import start
@@ -16,6 +17,7 @@ from tpmsim.device import library, ModelDevice
 from tpmsim.explain.of_device import log_of
 from tpmsim.explain.play import Play
 from tpmsim.model.completion import CONTEXT_LOAD
+from tpmsim.model.player import Words
 from tpmsim.model.state_text import Layer
 from tpmsim.policies.policy_file import digest_of, PolicyFile
 from tpmsim.standard import number
@@ -171,6 +173,48 @@ class Judged(unittest.TestCase):
         auditor, told = judged(loaded_twice(), "PolicyAuthValue\n")
         self.assertEqual(auditor.policies.faults(), [])
         self.assertTrue(any("by its Name the one of line" in it for it in told))
+
+
+class AtRandom(unittest.TestCase):
+    """Scripts whose journals begin anew with the whole state, again and again: each of these is a log of
+    its own, and all of them one after another are one.
+    """
+
+    SCRIPTS = "lost_grounds", "lockout_sessions", "startup_state"
+
+    def logs_of(self, name):
+        chance, journal, words = random.Random(name), Journal(), Words()
+        (path,) = (TOP / "tests").glob(f"*/{name}.tpm")
+        for line in path.read_bytes().splitlines():
+            if line == b"power":
+                yield journal.text, journal.responses
+                journal.begin()
+            elif words.take(line) is not None and chance.random() < 0.03:
+                yield journal.text, journal.responses
+                journal.go_on()
+            if line != b"power":
+                journal.play(line.decode())
+        yield journal.text, journal.responses
+
+    def explained(self, text):
+        play = Play()
+        events = [it for it in play.events(text) if not it.is_power]
+        self.assertEqual((play.fault, play.damages), ("", []))
+        self.assertFalse(any(it.differences for it in events))
+        self.assertTrue(all((it.reason is None) == (not it.refused) for it in events))
+        return [it.response for it in events]
+
+    def test_each_log(self):
+        for name in self.SCRIPTS:
+            with self.subTest(name):
+                logs = list(self.logs_of(name))
+                self.assertGreater(len(logs), 3)
+                for text, responses in logs:
+                    self.assertEqual(self.explained(text), responses)
+                    judged(text)
+                whole = b"".join(text for text, _ in logs)
+                self.assertEqual(self.explained(whole), [it for _, those in logs for it in those])
+                judged(whole)
 
 
 class Compared(unittest.TestCase):
