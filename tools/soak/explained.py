@@ -1,13 +1,16 @@
-"""Explains the journals and logs of a folder, and holds that against the sums of the answers in them:
+"""Explains the journals and logs of a folder, and holds that against the sums of the answers in them; then
+each script of tests/ and examples/, which is held against what a program answers:
 
-    explained.py FOLDER
+    explained.py FOLDER PROGRAM
 """
 
 import pathlib
+import subprocess
 import sys
 
 from tpmsim.explain.play import Play
 
+TOP = pathlib.Path(__file__).resolve().parents[2]
 OTHERWISE = "the response is another one than was recorded, by its sum"
 
 
@@ -17,28 +20,51 @@ def faults_of(play, events):
     return [*([play.fault] if play.fault else []), *play.damages, *words]
 
 
-def main(folder):
-    logs = commands = accepted = refused = completed = cuts = wrong = 0
+def others_of(events):
+    """Those that are explained otherwise than they were answered."""
+    return [it for it in events if it.differences or (it.reason is None) == bool(it.refused)]
+
+
+def logs(folder):
+    """The events of each whole log, and how many have a cut end; a damaged one is printed."""
+    found, cuts = dict[pathlib.Path, list](), 0
     for path in sorted(pathlib.Path(folder).iterdir()):
         play = Play()
         events = [it for it in play.events(path.read_bytes()) if not it.is_power]
         faults = faults_of(play, events)
-        other = [it for it in events if it.differences or (it.reason is None) == bool(it.refused)]
         if faults:
             print(f"{path.name}: {faults[0]}, of {len(faults)} faults in {len(events)} commands")
             continue
+        found[path], cuts = events, cuts + len(play.cuts)
+    return found, f"{len(found)} whole logs, {cuts} of them with a cut end"
+
+
+def scripts(program):
+    found = dict[pathlib.Path, list]()
+    for path in sorted([*TOP.glob("tests/*/*.tpm"), *TOP.glob("examples/*.tpm")]):
+        told = subprocess.run([program, "run", "--trace", path], capture_output=True).stdout
+        found[path] = [it for it in Play(None, told).events(path.read_bytes()) if not it.is_power]
+    return found, f"{len(found)} scripts"
+
+
+def report(found, words):
+    """How many there are of which kind; those that are explained otherwise."""
+    for path, events in found.items():
+        other = others_of(events)
         if other:
             print(f"{path.name}: line {other[0].line} is explained otherwise, of {len(other)} such")
-        logs, commands, wrong = logs + 1, commands + len(events), wrong + len(other)
-        refused += sum(bool(it.refused) for it in events)
-        accepted += sum(not it.refused for it in events)
-        completed += sum(bool(it.layer) for it in events)
-        cuts += len(play.cuts)
-    print(f"{logs} whole logs, {cuts} of them with a cut end: {commands:,} commands,", end=" ")
-    print(f"{accepted:,} accepted, {refused:,} refused, {completed:,} of these by the layer,", end=" ")
+    events = [it for those in found.values() for it in those]
+    refused, wrong = sum(bool(it.refused) for it in events), len(others_of(events))
+    completed = sum(bool(it.layer) for it in events)
+    print(f"{words}: {len(events):,} commands, {len(events) - refused:,} accepted,", end=" ")
+    print(f"{refused:,} refused, {completed:,} of these by the layer,", end=" ")
     print(f"{wrong} explained otherwise than they were answered")
-    return 1 if wrong or not commands else 0
+    return wrong or not events
+
+
+def main(folder, program):
+    return int(bool(report(*logs(folder)) | report(*scripts(program))))
 
 
 if __name__ == "__main__":
-    sys.exit(main(sys.argv[1]))
+    sys.exit(main(*sys.argv[1:]))

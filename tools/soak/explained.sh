@@ -1,7 +1,8 @@
 #!/bin/sh
 # Plays the scripts of tests, and explains each journal and log that they leave: a command is explained as
 # accepted where it was answered so, and else as refused, as the sums in the log say. Journals that a test
-# has damaged are listed with what is wrong. Needs python3.
+# has damaged are listed with what is wrong. Then it explains all scripts of tests/ and examples/ so, by
+# what dist/tpmsim answers. Needs python3.
 #
 #   tools/soak/explained.sh            all
 #   tools/soak/explained.sh attached_cut 'swtpm/*'
@@ -13,4 +14,4 @@ top=$(CDPATH='' cd "$(dirname "$0")/../.." && pwd -P) || exit 1
 work=$(mktemp -d) || exit 1
 trap 'rm -rf "$work"' EXIT
 KEPT_JOURNALS=$work "$top/tools/scripts.sh" "$@" | tail -n 1
-"$top/tools/python.sh" "$top/tools/soak/explained.py" "$work"
+"$top/tools/python.sh" "$top/tools/soak/explained.py" "$work" "$top/dist/tpmsim"
