@@ -32,7 +32,6 @@ class Translation:
         self.lost: dict[int, int] = {}
         self.sessions: dict[int, Session] = {}
         self.values: dict[bytes, bytes] = {}
-        self.private_auths: dict[bytes, bytes] = {}
         self.tied: dict[int, int] = {}
         self.hashed: dict[int, int] = {}
         self.contexts = Contexts(self)
@@ -180,17 +179,7 @@ class Translation:
             pass  # a Name by a hash algorithm that there is only there
         answer.fields = read_all(prepared.code.answered_parameters, parameters)
         answer.wrong = "; ".join(wrong) or None
-        self.note_auth(prepared, request, answer)
         return answer
-
-    def note_auth(self, prepared: Prepared, request: bytes, answer: Received) -> None:
-        """The authorization value of a created object is that of the loaded one."""
-        if prepared.code == CC.Create:
-            user_auth = Fields(Fields(request).sized()).sized()
-            self.private_auths[answer.fields["outPrivate"]] = sessions.trimmed(user_auth)
-        elif prepared.code == CC.Load and answer.handle is not None:
-            value = self.private_auths.get(Fields(request).sized(), b"")
-            self.known.auth_values[answer.handle] = value
 
     def note_both(
         self, asked: Command, prepared: Prepared, here: Received, there: Received, line: int
@@ -202,6 +191,9 @@ class Translation:
         if here.handle is not None and there.handle is not None:
             self.handles[here.handle] = there.handle
             self.lost.pop(here.handle, None)
+            if asked.code == CC.Load:
+                value = self.here.model.auth_value(here.handle)
+                self.known.auth_values[there.handle] = value
         fields = Fields(there.request)
         if asked.code == CC.StartAuthSession:
             self.start(prepared, there)
