@@ -1,6 +1,7 @@
 """Slips in cpHash: another Name, another form of it, other parameters, or the whole buffer."""
 
 from dataclasses import replace
+from itertools import product
 from typing import Any, Iterator, Sequence
 
 from tpmsim.explain import ingredients
@@ -166,13 +167,17 @@ def blank_entries(use: Use) -> Iterator[tuple[str, list[frames.Entry]]]:
     its own alone.
     """
     entries, size = use.command.entries or [], digest_bytes(use.session.algorithm)
-    for whose, places in (("its HMACs", range(len(entries))), ("its own HMAC", [use.place - 1])):
-        for what, most in (("zeros", None), (f"{size} zeros", size), ("empty", 0)):
-            blank = list(entries)
-            for at in places:
-                count = len(entries[at].hmac) if most is None else most
-                blank[at] = replace(entries[at], hmac=bytes(count))
-            yield f"{whose} being {what}", blank
+    sizes = ("zeros", None), (f"{size} zeros", size), ("empty", 0)
+    for (what, most), is_alone in product(sizes, (False, True)):
+        whose = "its own HMAC" if is_alone else "its HMACs"
+        yield f"{whose} being {what}", [
+            it if is_alone and at != use.place else with_zeros(it, most)
+            for at, it in enumerate(entries, 1)
+        ]
+
+
+def with_zeros(entry: frames.Entry, size: int | None) -> frames.Entry:
+    return replace(entry, hmac=bytes(len(entry.hmac) if size is None else size))
 
 
 def texts_of_buffer(use: Use) -> Iterator[tuple[str, bytes]]:

@@ -7,7 +7,7 @@ turns that part alone, and two such are put together.
 
 from __future__ import annotations
 
-from itertools import combinations
+from itertools import combinations, product
 from typing import Iterator, Sequence
 
 from tpmsim.explain.ingredients import Ingredients
@@ -42,11 +42,10 @@ def hmacs_of(those: Sequence[Slip], right: Ingredients) -> Iterator[tuple[Slip, 
     for first, second in combinations(turned, 2):
         if first.names.isdisjoint(second.names):
             yield first.slip, second.slip, together(first, second, right)
-    for inner in turned:
-        for outer in turned:
-            made = upon(inner, outer)
-            if made is not None:
-                yield inner.slip, outer.slip, made.hmac
+    for inner, outer in product(turned, turned):
+        made = upon(inner, outer)
+        if made is not None:
+            yield inner.slip, outer.slip, made.hmac
 
 
 def together(first: Turned, second: Turned, right: Ingredients) -> bytes:
