@@ -136,9 +136,8 @@ class Judged(unittest.TestCase):
         """What was asserted before the log is what the digest in the state is of."""
         auditor, told = judged(gone_on(CODE, READ).text, POLICY)
         self.assertEqual(auditor.policies.faults(), [])
-        words = "        up to policy line 1: asserted before the log, by the digest at its start"
-        self.assertIn(words, told)
-        self.assertIn("        sha256:16", " ".join(told).replace("PolicyPCR ", "        "))
+        words = "policy line 1, PolicyPCR: a line before the log asserts it, and the PCRs have these values"
+        self.assertTrue(any(it.strip().startswith(words) for it in told))
 
     def test_a_refusal(self):
         """A PCR is written after the state, and that is what the use lacks."""

@@ -41,15 +41,13 @@ class Step:
 
 @dataclass(frozen=True)
 class Before:
-    """What a session was told before the log, which its digest then was of: the policy's first lines."""
+    """`either` of a line was met before the log, by a branch that it does not tell."""
 
-    policy: Policy
+    line: int
 
     @property
     def words(self) -> str:
-        lines = [it.line for it in self.policy.assertions]
-        last = lines[-1] if lines else self.policy.line
-        return f"up to policy line {last}: asserted before the log, by the digest at its start"
+        return f"policy line {self.line}, either: a branch was met before the log"
 
 
 @dataclass(frozen=True)
@@ -73,18 +71,30 @@ Taken = Step | Before | Choice
 
 def steps_of(algorithm: int, of: Policy, told: Told) -> list[Taken]:
     """The steps by which assertions meet a policy, in their order; NotMet where they do not."""
-    steps, left = list[Taken](), list(of.assertions)
+    steps, left = list[Taken](), of.assertions
     while left:
-        if is_before(algorithm, replace(of, assertions=tuple(left)), told):
-            return [Before(replace(of, assertions=tuple(left))), *steps]
-        written = left.pop()
+        rest = replace(of, assertions=left)
+        if is_before(algorithm, rest, told):
+            return [*steps_before(rest), *steps]
+        *earlier, written = left
         told, latest = step_at(algorithm, written, told)
+        left = tuple(earlier)
         steps.insert(0, Step(written, latest))
     return [*(steps_at_or(algorithm, of, told) if of.branches else []), *steps]
 
 
 def is_before(algorithm: int, of: Policy, told: Told) -> bool:
+    """Whether a session had the digest of a policy before the log, and nothing was told since."""
     return not told.asserted and bool(told.before) and policy_digest(algorithm, of) == told.before
+
+
+def steps_before(of: Policy) -> Iterator[Taken]:
+    """Those that the log does not have."""
+    if of.branches:
+        yield Before(of.line)
+    for written in of.assertions:
+        asserted = Asserted(0, written.said, "what has that Name", b"", b"")
+        yield Step(written, asserted)
 
 
 def step_at(algorithm: int, written: Written, told: Told) -> tuple[Told, Asserted]:
@@ -102,7 +112,7 @@ def steps_at_or(algorithm: int, of: Policy, told: Told) -> list[Taken]:
     """Those of the branch whose digest TPM2_PolicyOR found."""
     head = f"policy line {of.line}, either"
     if is_before(algorithm, replace(of, assertions=()), told):
-        return [Before(replace(of, assertions=()))]
+        return [Before(of.line)]
     if not told.asserted or told.asserted[-1].said.code != CC.PolicyOR:
         raise NotMet(f"{head}: TPM2_PolicyOR was not asserted")
     *earlier, latest = told.asserted
@@ -123,7 +133,8 @@ def finding(step: Step, use: Use, grounds: Grounds) -> Finding:
     found = of_assertion(written.said.by(use.session.algorithm), asserted, use, grounds)
     if written.said.values and isinstance(written.said.values[0], PcrValues) and found.holds:
         found = of_pcr_values(written.said.values[0], grounds)
-    by = f"line {asserted.line}" if other == name else f"line {asserted.line} ({other})"
+    by = f"line {asserted.line}" if asserted.line else "a line before the log"
+    by += "" if other == name else f" ({other})"
     joined = "and" if found.holds else "but"
     words = f"policy line {written.line}, {name}: {by} asserts it, {joined} {found.words}"
     return Finding(found.holds, words)
@@ -245,9 +256,7 @@ class Judged:
 
 
 def held(steps: list[Taken], use: Use, grounds: Grounds) -> Judgement:
-    """The first condition that does not hold at a use is what it lacks. Those of what was asserted before
-    the log are held against the state text, as each use is.
-    """
+    """The first condition that does not hold at a use is what it lacks."""
     found = [
         finding(it, use, grounds) if isinstance(it, Step) else Finding(True, it.words)
         for it in steps
