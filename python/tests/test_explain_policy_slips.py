@@ -137,6 +137,7 @@ def other(algorithm):
 
 
 SECRET = number(RH_ENDORSEMENT, 4)
+SIGN = 0x15D  # which is not served
 AUTH, PASSWORD = number(CC.PolicyAuthValue, 4), number(CC.PolicyPassword, 4)
 
 ROWS = (
@@ -200,6 +201,13 @@ ROWS = (
             lambda case, old: case.hash(
                 old + number(CC.PolicyCommandCode, 4) + number(CC.NV_Read, 4)
             ),
+        ),
+    ),
+    (
+        "other value in a policy",
+        link(
+            "code",
+            lambda case, old: case.hash(old + number(CC.PolicyCommandCode, 4) + number(SIGN, 4)),
         ),
     ),
     (

@@ -13,7 +13,8 @@ from tpmsim.explain.slip import other_hash, Told
 from tpmsim.explain.slip_hashes import public_names
 from tpmsim.explain.words import algorithm_words, bytes_words, handle_words, localities_words
 from tpmsim.policies.written import Said
-from tpmsim.standard import CC, digest, frames, number, NUMBERED, policy
+from tpmsim.standard import CC, digest, frames, number, policy
+from tpmsim.standard.command_names import NAMES
 
 # The digest after an assertion, from the one before it.
 Link = Callable[[bytes], bytes]
@@ -57,7 +58,7 @@ def other_values(step: Step) -> Iterator[tuple[tuple[Any, ...], str]]:
     own = step.said.values
     match step.code:
         case CC.PolicyCommandCode:
-            yield from (((int(it),), it.name) for it in NUMBERED.values() if it != own[0])
+            yield from (((code,), name) for code, name in NAMES.items() if code != own[0])
         case CC.PolicyNvWritten:
             yield (1 - own[0],), str(1 - own[0])
         case CC.PolicyLocality:

@@ -69,10 +69,25 @@ NOT_SERVED = {
     0x191: "CreateLoaded",
     0x192: "PolicyAuthorizeNV",
     0x193: "EncryptDecrypt2",
+    0x194: "AC_GetCapability",
+    0x195: "AC_Send",
+    0x196: "Policy_AC_SendSelect",
+    0x197: "CertifyX509",
+    0x198: "ACT_SetTimeout",
+    0x199: "ECC_Encrypt",
+    0x19A: "ECC_Decrypt",
+    0x19B: "PolicyCapability",
+    0x19C: "PolicyParameters",
+    0x19D: "NV_DefineSpace2",
+    0x19E: "NV_ReadPublic2",
+    0x19F: "SetCapability",
+    0x2000_0000: "Vendor_TCG_Test",
 }
+
+# The names of all, by their numbers.
+NAMES = {**{int(it): it.name for it in NUMBERED.values()}, **NOT_SERVED}
 
 
 def command_name(number: int) -> str:
     """The command's name without `TPM2_`; nothing of a number that no command has."""
-    found = NUMBERED.get(number)
-    return found.name if found is not None else NOT_SERVED.get(number, "")
+    return NAMES.get(number, "")
