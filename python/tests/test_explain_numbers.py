@@ -135,7 +135,7 @@ class Numbers(unittest.TestCase):
         self.assertEqual(found.rule, "NV_Write/A4")
         self.assertIn("7 + 2 > 8", found.words)
         found = last(DEFINE, "do NV_Read OWNER 01000001 pw:- 1 0")
-        words = "01000001 is not written: it has no WRITTEN, and no data."
+        words = "01000001 is not written: it has no WRITTEN, and no data; NV_Write writes it."
         self.assertEqual((found.rule, found.words), ("NV_Read/A3", words))
         self.assertEqual(last(DEFINE, DEFINE).words, "There is an index 01000001 since line 2.")
 

@@ -140,9 +140,12 @@ def lockable(look: Look) -> None:
     add_attributes(look, look.public)
 
 
-unwritten = said(
-    lambda it: f"{it.public.index:08x} is not written: it has no WRITTEN, and no data."
-)
+def unwritten(look: Look) -> None:
+    writes = {int(kind): code.name for code, kind in WRITTEN_TYPES.items()}
+    by = f"; {writes[look.public.kind]} writes it" if look.public.kind in writes else ""
+    look.say(f"{look.public.index:08x} is not written: it has no WRITTEN, and no data{by}.")
+
+
 undefine = said(
     lambda it: f"{it.said(1)} has PLATFORMCREATE, and OWNER removes it: PLATFORM alone may."
 )
