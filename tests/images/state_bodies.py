@@ -46,9 +46,26 @@ def of_session(handle=BOUND, **fields):
     return changed(change)
 
 
-def of_policy(**fields):
-    session = worked_state.device().sessions[BOUND]
-    return of_session(policy=replace(session.policy, **fields))
+def of_policy(handle=BOUND, **fields):
+    session = worked_state.device().sessions[handle]
+    return of_session(handle, policy=replace(session.policy, **fields))
+
+
+def size_pairs():
+    """Sizes that the hash of a session does not allow: of the bound one that is SHA-256, of the other
+    SHA-1."""
+    for handle, sizes in ((BOUND, ((15, 16), (33, 32))), (HMAC, ((15, 16), (21, 20)))):
+        for size, near in sizes:
+            bodies = (of_session(handle, nonce_tpm=bytes(it)) for it in (size, near))
+            yield f"a nonce of {size} bytes in {handle:08x}", *bodies
+    for handle, near in ((BOUND, 32), (HMAC, 0)):
+        for size in sorted({0, 1, 19, 20, 21, 31, 32, 33} - {near}):
+            bodies = (of_session(handle, key=bytes(it)) for it in (size, near))
+            yield f"a key of {size} bytes in {handle:08x}", *bodies
+    for handle, near in ((BOUND, 32), (HMAC, 20)):
+        for size in sorted({0, 20, 32, 33} - {near}):
+            bodies = (of_policy(handle, digest=bytes(it)) for it in (size, near))
+            yield f"a policy digest of {size} bytes in {handle:08x}", *bodies
 
 
 def of_lockout(**fields):
@@ -79,16 +96,13 @@ def session_pairs():
     session = state_text.session_text(bind)
     yield "a session of type 2", *spelled(b"\2" + session[1:], session)
     yield "a session of the hash NULL", *spelled(session[:1] + b"\0\x10" + session[3:], session)
-    yield "a nonce of 33 bytes", of_session(nonce_tpm=bytes(33)), of_session(nonce_tpm=bytes(32))
-    for size, near in ((1, 0), (19, 20), (21, 20), (31, 32), (33, 32)):
-        yield f"a key of {size} bytes", of_session(key=bytes(size)), of_session(key=bytes(near))
+    yield from size_pairs()
     yield "a binding that is there by 2", *spelled(b"\2" + bound, b"\1" + bound)
     yield "a bound Name of 35 bytes", of_session(bind=bytes(35)), of_session(bind=bytes(34))
     for value, near in ((b"a\0", b"a"), (b"a" * 33, b"a" * 32)):
         words = f"a bound authorization value {value[-2:]!r} of {len(value)} bytes"
         yield words, of_session(bind_auth=value), of_session(bind_auth=near)
     yield "a protection of 3", *spelled(bound[:-1] + b"\3", bound)
-    yield "a policy digest of 33 bytes", of_policy(digest=bytes(33)), of_policy(digest=bytes(32))
     yield "a cpHash of 33 bytes", of_policy(cp_hash=bytes(33)), of_policy(cp_hash=bytes(32))
     yield "localities of 32", of_policy(localities=32), of_policy(localities=31)
     yield "a demand of 3", *spelled(policy[:-1] + b"\3", policy)

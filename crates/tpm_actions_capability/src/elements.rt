@@ -52,7 +52,7 @@ fn session<K: Keep>(keep: &K, place: u32, elements: &mut Elements)
     if let Some(session) = keep.sessions().in_place(place as usize) {
         elements.push(Element {
             number: place,
-            told: handle_of(session.kind, place as usize).number,
+            told: handle_of(session.kind(), place as usize).number,
         });
     }
 }

@@ -46,10 +46,10 @@ impl AssertionParameters<'_> {
             (assertion_of (K.record_of keep.now) self.now session.now) policy.old)
             policy.old result policy.new }
     {
-        let hash = session.hash;
+        let hash = session.hash();
         match *self {
             AssertionParameters::Pcr(pcrs) => pcrs.assert_on(keep, session, policy),
-            AssertionParameters::Or(digests) => policy.or(hash, session.kind.is_trial(), digests),
+            AssertionParameters::Or(digests) => policy.or(hash, session.kind().is_trial(), digests),
             AssertionParameters::AuthValue => {
                 policy.auth_value(hash);
                 Ok(())
@@ -81,6 +81,7 @@ pub fn policy_session<K: Keep>(keep: &K, handle: Handle) -> Result<&Session, Ref
 
 /// Asserts what is asked for on a copy of the policy of a handle's session, which the session
 /// takes if the assertion is not refused.
+#[tactic(auto, using(tpm_policy::proofs::Sizes::made_sized))]
 pub fn make_assertion<K: Keep>(
     keep: &mut K,
     handle: Handle,
@@ -92,7 +93,7 @@ pub fn make_assertion<K: Keep>(
         (K.record_of keep.old) result (K.record_of keep.new) }
 {
     let session = policy_session(keep, handle)?;
-    let mut policy = session.policy.copy();
+    let mut policy = session.policy().copy();
     let asserted = asked.assert_on(keep, session, &mut policy);
     asserted.map_err(fault_refusal)?;
     keep.sessions_mut().set_policy(handle, policy);

@@ -62,6 +62,6 @@ impl ComparedIndex<'_> {
             operation: self.operation,
             compared: self.compared(keep),
         };
-        policy.nv(session.hash, session.kind.is_trial(), &about)
+        policy.nv(session.hash(), session.kind().is_trial(), &about)
     }
 }

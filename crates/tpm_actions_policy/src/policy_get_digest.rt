@@ -29,6 +29,6 @@ pub fn policy_get_digest<K: Keep>(
     let handle = call.first_handle()?;
     end(&Cursor::new(call.parameters))?;
     let session = policy_session(keep, handle)?;
-    answer.parameters.append_sized(session.policy.digest());
+    answer.parameters.append_sized(session.policy().digest());
     Ok(())
 }

@@ -45,14 +45,14 @@ impl ComparedPcrs<'_> {
             policy.old result policy.new }
     {
         let banks = &keep.fixed().banks;
-        let digest = banks.select_digest(session.hash, self.selection);
+        let digest = banks.select_digest(session.hash(), self.selection);
         let pcrs = PcrAssertion {
             given: self.given,
             selection: self.selection,
             digest: digest.as_slice(),
             update_count: banks.update_count(),
         };
-        policy.pcr(session.hash, session.kind.is_trial(), &pcrs)
+        policy.pcr(session.hash(), session.kind().is_trial(), &pcrs)
     }
 }
 

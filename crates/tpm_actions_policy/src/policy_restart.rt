@@ -17,7 +17,7 @@ use tpm_record::rows::reading::end;
 use tpm_types::Refused;
 
 /// TPM2_PolicyRestart: returns the policy of a session to its start.
-#[tactic(auto, unfolding(crate::specs::PolicyRestart::policy_restart_row))]
+#[tactic(auto, unfolding(crate::specs::PolicyRestart::policy_restart_row), using(tpm_policy::proofs::Sizes::starting_sized))]
 pub fn policy_restart<K: Keep>(
     keep: &mut K,
     call: &Call,
@@ -29,7 +29,7 @@ pub fn policy_restart<K: Keep>(
 {
     let handle = call.first_handle()?;
     end(&Cursor::new(call.parameters))?;
-    let policy = PolicyState::new(policy_session(keep, handle)?.hash);
+    let policy = PolicyState::new(policy_session(keep, handle)?.hash());
     keep.sessions_mut().set_policy(handle, policy);
     Ok(())
 }

@@ -55,12 +55,12 @@ impl ShownSecret<'_> {
         let secret = SecretAssertion {
             name: &name,
             nonce: self.nonce,
-            nonce_tpm: session.nonce_tpm.as_slice(),
+            nonce_tpm: session.nonce_tpm().as_slice(),
             cp_hash: self.cp_hash,
             reference: self.reference,
             expiration: self.expiration,
         };
-        policy.secret(session.hash, session.kind.is_trial(), &secret)
+        policy.secret(session.hash(), session.kind().is_trial(), &secret)
     }
 }
 

@@ -110,7 +110,7 @@ fn lacks_cipher<K: Keep>(keep: &K, entry: &AuthEntry) -> bool
         return false;
     }
     match keep.sessions().get(entry.session) {
-        Some(session) => session.symmetric == SymmetricDefinition::Null,
+        Some(session) => session.symmetric() == SymmetricDefinition::Null,
         None => false,
     }
 }

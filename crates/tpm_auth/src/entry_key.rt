@@ -27,7 +27,7 @@ fn is_bound_to<K: Keep>(keep: &K, session: &Session, used: &Used) -> bool
     requires { IsUsed (K.record_of keep.now) used.now }
     ensures { result ≡ is_bound_to (K.record_of keep.now) session.now (used_handle used.now) }
 {
-    match &session.binding {
+    match session.binding() {
         Some(binding) => {
             binding.auth_value.is_same(used.resolved.auth_value(keep))
                 && used.is_named(&binding.name)
@@ -42,7 +42,7 @@ pub fn takes_value<K: Keep>(keep: &K, session: &Session, granted: &Granted) -> b
     requires { IsToGrant (K.record_of keep.now) granted.now }
     ensures { result ≡ takes_value (K.record_of keep.now) session.now (grant_by granted.now) }
 {
-    match session.kind {
+    match session.kind() {
         SessionType::Hmac => !is_bound_to(keep, session, &granted.used),
         SessionType::Policy | SessionType::Trial => granted.demand == Demand::AuthValue,
     }
@@ -95,7 +95,7 @@ fn nonce_of<'a, K: Keep>(keep: &'a K, entry: &AuthEntry) -> &'a [u8]
     ensures { result.now ≡ entry_nonce (K.record_of keep.now) (entry_of entry.now) }
 {
     match keep.sessions().get(entry.session) {
-        Some(session) => session.nonce_tpm.as_slice(),
+        Some(session) => session.nonce_tpm().as_slice(),
         None => &[],
     }
 }
@@ -177,11 +177,11 @@ pub fn is_authentic<K: Keep>(
     ensures same { hashes.new ≡ hashes.old }
 {
     let value = value_in_key(keep, session, granted);
-    if session.key.as_slice().is_empty() && value.is_empty() && entry.hmac.is_empty() {
+    if session.key().as_slice().is_empty() && value.is_empty() && entry.hmac.is_empty() {
         return true;
     }
     let others = other_entries(command, number);
-    let hash = hashes.by(session.hash);
+    let hash = hashes.by(session.hash());
     let text = CommandText {
         hash: hash.as_slice(),
         nonce_caller: entry.nonce,

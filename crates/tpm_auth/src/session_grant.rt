@@ -35,7 +35,7 @@ pub struct Grant {
 fn binding_protection(session: &Session) -> Protection
     ensures { result ≡ binding_protection session.now }
 {
-    match &session.binding {
+    match session.binding() {
         Some(binding) => binding.protection,
         None => Protection::None,
     }
@@ -125,8 +125,8 @@ fn use_of<'a, K: Keep>(
     let place = usize::from(number) - 1;
     Use {
         entry: number,
-        kind: session.kind,
-        hash: session.hash,
+        kind: session.kind(),
+        hash: session.hash(),
         available: resolved.is_available(Means::Policy, code.nv_use_at(place)),
         update_count: keep.fixed().banks.update_count(),
         command: code.number(),
@@ -155,9 +155,9 @@ fn policy_demand<K: Keep>(
         (locality_number sent.now.locality) number resolved.now.handle session.now }
     ensures same { hashes.new ≡ hashes.old }
 {
-    let cp_hash = hashes.by(session.hash);
+    let cp_hash = hashes.by(session.hash());
     let asked = use_of(keep, sent, cp_hash.as_slice(), number, resolved, session);
-    match session.policy.check_use(&asked) {
+    match session.policy().check_use(&asked) {
         Ok(demand) => Ok(demand),
         Err(rc) => Err(Refused::by(Check::Authorization, rc)),
     }
@@ -182,7 +182,7 @@ fn demand_of<K: Keep>(
     ensures same { hashes.new ≡ hashes.old }
 {
     let nv_use = sent.command.code.nv_use_at(usize::from(number) - 1);
-    match session.kind {
+    match session.kind() {
         SessionType::Hmac if resolved.is_available(Means::AuthValue, nv_use) => Ok(Demand::None),
         SessionType::Hmac => {
             let rc = ResponseCode::AuthUnavailable.anywhere();

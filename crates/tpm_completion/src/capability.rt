@@ -202,7 +202,7 @@ fn session<K: Keep>(layer: &Completion, keep: &K, saved: bool, place: u32, eleme
         return;
     }
     if let Some(session) = keep.sessions().in_place(place as usize) {
-        let handle = handle_of(session.kind, place as usize);
+        let handle = handle_of(session.kind(), place as usize);
         elements.push(element(place, handle.number));
     }
 }

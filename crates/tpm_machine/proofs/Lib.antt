@@ -6,3 +6,4 @@ pub mod Running
 pub mod Histories
 pub mod Modesty
 pub mod Following
+mod Nonces

@@ -31,7 +31,7 @@ fn draw_of<K: Keep>(keep: &K, entry: &AuthEntry) -> usize
     ensures small { result ≤ 32 }
 {
     match keep.sessions().get(entry.session) {
-        Some(session) => session.nonce_tpm.len(),
+        Some(session) => session.nonce_tpm().len(),
         None => 0,
     }
 }
@@ -89,7 +89,7 @@ fn answer_mac<K: Keep>(
         return Digest::new();
     }
     let value = used_auth_value(keep, session, grant);
-    let hash = hashes.by(session.hash);
+    let hash = hashes.by(session.hash());
     let nonce = entry.nonce;
     session.response_mac(value, hash.as_slice(), nonce, entry.attributes, keyed)
 }
@@ -111,7 +111,7 @@ fn answer_session<K: Keep>(
     ensures same { hashes.new ≡ hashes.old }
 {
     let mac = answer_mac(keep, hashes, keyed, grant, entry, session);
-    area.append_sized(session.nonce_tpm.as_slice());
+    area.append_sized(session.nonce_tpm().as_slice());
     area.append_u8(entry.attributes.octet);
     area.append_sized(mac.as_slice());
 }
@@ -161,12 +161,12 @@ pub fn answer_entries<K: Keep>(
 }
 
 /// Returns the policy of an entry's session to its start, if it is a policy session.
-#[tactic(auto, unfolding(tpm_step::specs::Entries::entry_restarted))]
+#[tactic(auto, unfolding(tpm_step::specs::Entries::entry_restarted), using(tpm_policy::proofs::Sizes::starting_sized))]
 fn restart_entry<K: Keep>(keep: &mut K, entry: &AuthEntry)
     ensures { K.record_of keep.new ≡ entry_restarted (K.record_of keep.old) (entry_of entry.now) }
 {
     let policy = match keep.sessions().get(entry.session) {
-        Some(session) if session.kind == SessionType::Policy => PolicyState::new(session.hash),
+        Some(session) if session.kind() == SessionType::Policy => PolicyState::new(session.hash()),
         _ => return,
     };
     keep.sessions_mut().set_policy(entry.session, policy);

@@ -65,7 +65,7 @@ fn pass_first(
     ensures { text.new ≡ with_first_buffer
         (session_bytes direction session.now value.now (entry_of entry.now)) text.old }
 {
-    let (caller, tpm) = (entry.nonce, session.nonce_tpm.as_slice());
+    let (caller, tpm) = (entry.nonce, session.nonce_tpm().as_slice());
     match direction {
         Direction::Decrypt => decrypt_first(session, value, caller, tpm, text),
         Direction::Encrypt => encrypt_first(session, value, tpm, caller, text),

@@ -1,7 +1,7 @@
 //! Sessions by their handles, in both kinds of places, and values that were computed outside: HMACs
 //! and hashes by Python's `hmac` and `hashlib`, the encrypted parameter by OpenSSL.
 
-ghost use Rattle.std.specs.Prelude.{◌≤◌, length};
+ghost use Rattle.std.specs.Prelude.{◌≡◌, ◌≤◌, length};
 
 use super::comparison::check;
 use std::alloc::Global;
@@ -56,7 +56,7 @@ const MASKED: &[u8] = b"\xb9\xa7\x60\x5e\xe4\x00\x34\x4b\xa2\xa5\x9c\x4f\x9c\x9d
 /// computes nothing.
 fn short(bytes: &[u8]) -> &[u8]
     requires { length bytes.now ≤ 32 }
-    ensures { length result.now ≤ 32 }
+    ensures { length result.now ≡ length bytes.now }
 {
     bytes
 }
@@ -70,7 +70,9 @@ fn owner() -> Binding {
     }
 }
 
-fn start(kind: SessionType, binding: Option<Binding>) -> Start<'static> {
+fn start(kind: SessionType, binding: Option<Binding>) -> Start<'static>
+    ensures { length result.nonce_tpm ≡ length result.nonce_caller.now }
+{
     Start {
         kind,
         hash: HashAlg::Sha256,
@@ -97,7 +99,7 @@ fn nonce_of<S: Slots<Session, SESSION_LIMIT>>(
     number: u32,
 ) -> Option<&[u8]> {
     let session = sessions.get(Handle { number })?;
-    Some(session.nonce_tpm.as_slice())
+    Some(session.nonce_tpm().as_slice())
 }
 
 #[test]
@@ -143,10 +145,20 @@ const POLICY: Handle = Handle {
     number: 0x0300_0001,
 };
 
+/// Gives a session another nonceTPM, unless the session's own has another size.
+fn roll<S: Slots<Session, SESSION_LIMIT>>(sessions: &mut Sessions<S>, nonce: &[u8]) -> bool
+    requires { length nonce.now ≤ 32 }
+{
+    match sessions.get(POLICY) {
+        Some(session) if session.nonce_tpm().len() != nonce.len() => false,
+        _ => sessions.roll(POLICY, Nonce::of(nonce)),
+    }
+}
+
 fn roll_policy<S: Slots<Session, SESSION_LIMIT>, R: Abort>(rt: &R, sessions: &mut Sessions<S>) {
-    check(rt, sessions.roll(POLICY, Nonce::of(b"new")), true);
+    check(rt, roll(sessions, short(NONCE_CALLER)), true);
     let rolled = nonce_of(sessions, 0x0300_0001);
-    check(rt, rolled, Some(b"new".as_slice()));
+    check(rt, rolled, Some(NONCE_CALLER));
     check(rt, nonce_of(sessions, 0x0300_0002), Some(NONCE_TPM));
 }
 
@@ -154,7 +166,7 @@ fn roll_policy<S: Slots<Session, SESSION_LIMIT>, R: Abort>(rt: &R, sessions: &mu
 fn flush_policy<S: Slots<Session, SESSION_LIMIT>, R: Abort>(rt: &R, sessions: &mut Sessions<S>) {
     check(rt, sessions.flush(POLICY), true);
     check(rt, sessions.flush(POLICY), false);
-    check(rt, sessions.roll(POLICY, Nonce::of(b"")), false);
+    check(rt, roll(sessions, b""), false);
     let next = started(sessions, SessionType::Hmac);
     check(rt, next, Ok(0x0200_0001));
 }
@@ -174,6 +186,7 @@ fn fill_sessions<S: Slots<Session, SESSION_LIMIT>, R: Abort>(rt: &R, alloc: Glob
     check(rt, full, Err(StartFault::SessionMemory));
     let mut short = start(SessionType::Policy, None);
     short.nonce_caller = b"fifteen bytes..";
+    short.nonce_tpm = Nonce::of(short.nonce_caller);
     check(rt, sessions.start(short).err(), Some(StartFault::Size));
     for (size, fits) in [(15, false), (16, true), (20, true), (21, false)] {
         check(rt, (size, is_nonce_size(HashAlg::Sha1, size)), (size, fits));
@@ -206,17 +219,50 @@ fn hashes_are_those_of_the_standard(rt: HostRuntime) {
 }
 
 /// A session that is bound to the owner.
-fn bound_session(symmetric: SymmetricDefinition) -> Session {
+fn bound_session<R: Abort>(rt: &R, symmetric: SymmetricDefinition) -> Session {
     let binding = Some(owner());
-    Session {
-        kind: SessionType::Hmac,
-        hash: HashAlg::Sha256,
+    let nonce = Nonce::of(short(NONCE_TPM));
+    let key = SessionKey::derived(HashAlg::Sha256, &binding, NONCE_TPM, NONCE_CALLER);
+    let policy = PolicyState::new(HashAlg::Sha256);
+    let kind = SessionType::Hmac;
+    Session::of(
+        kind,
+        HashAlg::Sha256,
         symmetric,
-        nonce_tpm: Nonce::of(short(NONCE_TPM)),
-        key: SessionKey::derived(HashAlg::Sha256, &binding, NONCE_TPM, NONCE_CALLER),
+        nonce,
+        key,
         binding,
-        policy: PolicyState::new(HashAlg::Sha256),
+        policy,
+    )
+    .expect(rt, "the sizes are those of SHA-256")
+}
+
+/// A session of SHA-256 that is not bound, if a nonce of this size and a key make one.
+fn unbound_session(nonce: usize, key: SessionKey) -> Option<Session>
+    requires { nonce ≤ 32 }
+{
+    let nonce = Nonce::of(&[0; 32][..nonce]);
+    let (kind, hash) = (SessionType::Hmac, HashAlg::Sha256);
+    Session::of(
+        kind,
+        hash,
+        SymmetricDefinition::Null,
+        nonce,
+        key,
+        None,
+        PolicyState::new(hash),
+    )
+}
+
+#[test]
+fn a_session_has_the_sizes_of_its_hash(rt: HostRuntime) {
+    for (size, fits) in [(15, false), (16, true), (32, true)] {
+        let made = unbound_session(size, SessionKey::empty());
+        check(&rt, (size, made.is_some()), (size, fits));
     }
+    let binding = Some(owner());
+    let key = SessionKey::derived(HashAlg::Sha256, &binding, NONCE_TPM, NONCE_CALLER);
+    check(&rt, unbound_session(16, key).is_some(), false);
 }
 
 const ATTRIBUTES: SessionAttributes = SessionAttributes { octet: 0x21 };
@@ -234,7 +280,7 @@ fn command_text() -> CommandText<'static> {
 
 #[test]
 fn an_entry_has_an_hmac(rt: HostRuntime) {
-    let session = bound_session(SymmetricDefinition::Null);
+    let session = bound_session(&rt, SymmetricDefinition::Null);
     let command = session.command_mac(b"entity", &command_text(), &mut KeyedMac::new());
     check(&rt, command.as_slice(), COMMAND_MAC);
     let response = session.response_mac(
@@ -249,7 +295,7 @@ fn an_entry_has_an_hmac(rt: HostRuntime) {
 
 #[test]
 fn an_entry_s_text_is_written(rt: HostRuntime) {
-    let session = bound_session(SymmetricDefinition::Null);
+    let session = bound_session(&rt, SymmetricDefinition::Null);
     let mut bytes: Sink<161> = Sink::new();
     let written = session.command_text(&command_text()).write(&mut bytes);
     check(&rt, written.is_ok(), true);
@@ -263,7 +309,7 @@ fn an_entry_s_text_is_written(rt: HostRuntime) {
 
 /// Encrypts the plain parameter, which has to become this one, and decrypts it again.
 fn close_and_open<R: Abort>(rt: &R, symmetric: SymmetricDefinition, encrypted: &[u8]) {
-    let session = bound_session(symmetric);
+    let session = bound_session(rt, symmetric);
     let mut parameter = [0; 25];
     parameter.copy_from_slice(PLAIN);
     let closed = session.close_parameter(b"entity", NONCE_CALLER, NONCE_TPM, &mut parameter);
@@ -280,7 +326,7 @@ fn a_parameter_is_encrypted(rt: HostRuntime) {
     close_and_open(&rt, SymmetricDefinition::Xor(HashAlg::Sha256), MASKED);
     let mut parameter = [0; 25];
     parameter.copy_from_slice(PLAIN);
-    let bare = bound_session(SymmetricDefinition::Null);
+    let bare = bound_session(&rt, SymmetricDefinition::Null);
     let refused = bare.close_parameter(b"", b"", b"", &mut parameter);
     check(&rt, refused, Err(SymmetricFault));
     let refused = bare.open_parameter(b"", b"", b"", &mut parameter);

@@ -6,7 +6,7 @@ use Rattle.tpm_policy.specs.Assertion.{Assertion, AuthValue, Password, asserted,
 use Rattle.tpm_policy.specs.Made.{policy_with}
 use Rattle.tpm_policy.specs.State.{Policy}
 
-ok_bind : {A B E : Type 0} (Q : B → Type 0) (x : Result A E) (f : A → Result B E) → ((a : A) → IfOk (f a) Q) → IfOk (x >>= f) Q
+pub ok_bind : {A B E : Type 0} (Q : B → Type 0) (x : Result A E) (f : A → Result B E) → ((a : A) → IfOk (f a) Q) → IfOk (x >>= f) Q
 ok_bind Q (Ok a) f h = h a
 ok_bind Q (Err e) f h = tt
 

@@ -1,16 +1,19 @@
 //! The laws of assertions.
 
-ghost use Rattle.std.specs.Prelude.{◌≡◌, Bool, Ok};
+ghost use Rattle.std.specs.Prelude.{◌≡◌, Bool, Ok, length};
+ghost use Rattle.tpm_mac.specs.Digest.{digest_size};
 ghost use Rattle.tpm_mac.specs.declared.algorithm.HashAlg.{HashAlg};
 ghost use Rattle.tpm_policy.specs.Assertion.{Assertion, asserted};
 ghost use Rattle.tpm_policy.specs.Made.{policy_with};
 ghost use Rattle.tpm_policy.specs.State.{Policy};
 
-/// An assertion that passes its checks makes of a policy what its definition without checks does.
-/// The function does nothing.
+/// An assertion that passes its checks makes of a policy what its definition without checks does,
+/// and its digest has the size of the session's hash. The function does nothing.
 #[inline(always)]
-#[tactic(auto, using(crate::proofs::Made::policy_made))]
+#[tactic(auto, using(crate::proofs::Made::policy_made, crate::proofs::Sizes::made_sized))]
 pub fn assertion_laws()
-    ensures { (hash : HashAlg) (trial : Bool) (a : Assertion) (old new : Policy)
+    ensures made { (hash : HashAlg) (trial : Bool) (a : Assertion) (old new : Policy)
         → asserted hash trial a old ≡ Ok new → new ≡ policy_with hash trial a old }
+    ensures sized { (hash : HashAlg) (trial : Bool) (a : Assertion) (old new : Policy)
+        → asserted hash trial a old ≡ Ok new → length new.digest ≡ digest_size hash }
 {}

@@ -1,2 +1,3 @@
 pub mod KeySizes
 pub mod Masks
+pub mod StartSizes

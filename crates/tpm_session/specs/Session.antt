@@ -1,11 +1,25 @@
 -- Sessions. TPM 2.0 Library, Part 1, sections 19.6 and 19.7.
 use Rattle.std.specs.Prelude.{◌≡◌, ℕ, ◌≤◌, ◌==◌, ◌&&◌, if◌then◌else◌, Bool, true, IfSome, List, length, Option, Some, None}
 use Rattle.tpm_mac.specs.Digest.{digest_size}
+use Rattle.tpm_mac.specs.declared.algorithm.HashAlg.{HashAlg}
 use Rattle.tpm_policy.specs.State.{IsPolicy, Policy}
 use Rattle.tpm_types.specs.AuthValue.{IsAuthValue}
-use Rattle.tpm_session.specs.Key.{is_key_size, key_size}
+use Rattle.tpm_types.specs.declared.session_type.SessionType.{SessionType}
+use Rattle.tpm_types.specs.declared.symmetric.SymmetricDefinition.{SymmetricDefinition}
+use Rattle.tpm_session.specs.Key.{is_key_size, is_nonce_size, key_size}
 use Rattle.tpm_session.specs.declared.session.Binding.{Binding}
-use Rattle.tpm_session.specs.declared.session.Session.{Session}
+
+-- a session: its type, its hash and its symmetric definition; the nonce that the device gave last;
+-- the key; what it is bound to; and the policy that its assertions made, which of an HMAC session
+-- stays as it starts
+pub record Session : Type 0 where
+  pub kind : SessionType
+  pub hash : HashAlg
+  pub symmetric : SymmetricDefinition
+  pub nonce_tpm : List ℕ
+  pub key : List ℕ
+  pub binding : Option Binding
+  pub policy : Policy
 
 -- a session with another nonceTPM
 abbrev pub with_nonce : Session → List ℕ → Session
@@ -15,16 +29,21 @@ with_nonce session nonce = record session { nonce_tpm = nonce }
 abbrev pub with_policy : Session → Policy → Session
 with_policy session policy = record session { policy = policy }
 
--- whether nonceTPM, the key and the policy digest of a session have the sizes that its hash gives
--- them: those of a digest, and no byte for the key of a session that is not bound (sections 19.6.8
--- and 19.7)
-abbrev pub has_hash_sizes : Session → Bool
-has_hash_sizes session =
-    length session.nonce_tpm == digest_size session.hash
-    && length session.key == key_size session.hash session.binding
-    && length session.policy.digest == digest_size session.hash
+-- whether a session of this hash, bound or not, may have a nonceTPM, a key and a policy digest of
+-- these sizes. nonceTPM has the size of the caller's first nonce (section 19.6.3), the key is empty
+-- without a binding, and else as long as a digest (section 19.6.8), and so is the policy digest
+-- (section 19.7)
+abbrev pub are_hash_sizes : HashAlg → Option Binding → (nonce_tpm key digest : List ℕ) → Bool
+are_hash_sizes hash binding nonce_tpm key digest =
+    is_nonce_size hash (length nonce_tpm)
+    && length key == key_size hash binding
+    && length digest == digest_size hash
 
--- a session, if it has the sizes that its hash gives it
+-- whether nonceTPM, the key and the policy digest of a session have sizes that its hash allows
+abbrev pub has_hash_sizes : Session → Bool
+has_hash_sizes s = are_hash_sizes s.hash s.binding s.nonce_tpm s.key s.policy.digest
+
+-- a session, if it has sizes that its hash allows
 abbrev pub if_hash_sized : Session → Option Session
 if_hash_sized session = if has_hash_sizes session then Some session else None
 
@@ -34,9 +53,10 @@ pub record IsBinding (binding : Binding) : Type 0 where
   pub name : length binding.name ≤ 34
   pub auth_value : IsAuthValue binding.auth_value
 
--- What holds of every session: a nonceTPM of at most 32 bytes, and a key that is empty or as long
--- as a digest.
+-- What holds of every session: nonceTPM, the key and the policy digest have sizes that its hash
+-- allows; so a nonceTPM has at most 32 bytes, and a key is empty or as long as a digest.
 pub record IsSession (session : Session) : Type 0 where
+  pub sizes : has_hash_sizes session ≡ true
   pub nonce_tpm : length session.nonce_tpm ≤ 32
   pub key : is_key_size (length session.key) ≡ true
   pub binding : IfSome session.binding IsBinding

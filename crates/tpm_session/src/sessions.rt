@@ -2,8 +2,10 @@
 //! (TPM 2.0 Library, Part 3, section 11.1).
 
 ghost use Rattle.tpm_types.specs.Limits.{session_limit};
-ghost use Rattle.std.specs.Prelude.{◌≡◌, ◌<◌, is_some, length, option_copied};
+ghost use Rattle.std.specs.Prelude.{◌≡◌, ◌<◌, true, IfSome, is_some, length, option_copied};
 ghost use Rattle.tpm_containers.specs.Slots.{AreAll, Puts, at_place, free};
+ghost use Rattle.tpm_mac.specs.Digest.{digest_size};
+ghost use Rattle.tpm_session.specs.Key.{is_nonce_size};
 ghost use Rattle.tpm_session.specs.Session.{IsSession};
 ghost use Rattle.tpm_session.specs.Sessions.{Starts, flushed, handle_of, places_of, rolled, session_at, started_session, with_session_policy};
 
@@ -56,6 +58,7 @@ pub fn handle_of(kind: SessionType, place: usize) -> Handle
 
 /// The session that is started, with its key.
 fn started_session(start: Start) -> Session
+    requires { is_nonce_size start.hash (length start.nonce_tpm) ≡ true }
     ensures { result ≡ started_session start.entry }
 {
     let key = SessionKey::derived(
@@ -85,8 +88,10 @@ impl<S: Slots<Session, SESSION_LIMIT>> Sessions<S> {
         }
     }
 
-    /// Starts a session, under the handle of the lowest free place.
+    /// Starts a session, under the handle of the lowest free place. The device's nonce is as long
+    /// as the caller's.
     pub fn start(&mut self, start: Start) -> Result<Handle, StartFault>
+        requires { length start.nonce_tpm ≡ length start.nonce_caller.now }
         ensures { Starts S.can_refuse (places_of S.places self.old) start.entry result
             (places_of S.places self.new) }
     {
@@ -143,9 +148,12 @@ impl<S: Slots<Session, SESSION_LIMIT>> Sessions<S> {
         self.slots.clear();
     }
 
-    /// Gives the session of a handle another nonceTPM, and tells whether there was one.
+    /// Gives the session of a handle another nonceTPM, as long as its own, and tells whether there
+    /// was one.
     #[tactic(auto, unfolding(crate::specs::Sessions::rolled, crate::specs::Sessions::session_at))]
     pub fn roll(&mut self, handle: Handle, nonce: Nonce) -> bool
+        requires { IfSome (session_at (places_of S.places self.old) handle)
+            (λ session. length nonce ≡ length session.nonce_tpm) }
         ensures there { result ≡ is_some (session_at (places_of S.places self.old) handle) }
         ensures after { places_of S.places self.new
             ≡ rolled (places_of S.places self.old) handle nonce }
@@ -159,9 +167,12 @@ impl<S: Slots<Session, SESSION_LIMIT>> Sessions<S> {
         }
     }
 
-    /// Gives the session of a handle another policy, and tells whether there was one.
+    /// Gives the session of a handle another policy, whose digest has the size of the session's
+    /// hash, and tells whether there was one.
     #[tactic(auto, unfolding(crate::specs::Sessions::with_session_policy, crate::specs::Sessions::session_at))]
     pub fn set_policy(&mut self, handle: Handle, policy: PolicyState) -> bool
+        requires { IfSome (session_at (places_of S.places self.old) handle)
+            (λ session. length policy.digest ≡ digest_size session.hash) }
         ensures there { result ≡ is_some (session_at (places_of S.places self.old) handle) }
         ensures after { places_of S.places self.new
             ≡ with_session_policy (places_of S.places self.old) handle policy }

@@ -11,7 +11,7 @@ use Rattle.tpm_policy.specs.State.{IsPolicy, Policy}
 use Rattle.tpm_policy.specs.declared.state.Demand.{Demand}
 use Rattle.tpm_policy.specs.declared.state.Demand.TheVariants as demand
 use Rattle.tpm_session.specs.Key.{is_key_size}
-use Rattle.tpm_session.specs.Session.{IsBinding, IsSession}
+use Rattle.tpm_session.specs.Session.{IsBinding, IsSession, has_hash_sizes}
 use Rattle.tpm_session.specs.declared.session.Binding.{Binding}
 use Rattle.tpm_session.specs.declared.session.Protection.{Protection}
 use Rattle.tpm_session.specs.declared.session.Protection.TheVariants as protection
@@ -33,7 +33,7 @@ use Rattle.tpm_image_text.specs.Fields.{malformed, yes_no_text}
 use Rattle.tpm_image_text.proofs.FieldSpelling.{auth_value_spelled, buffer_in_spelled, in_body_spelled, names_spelled, number_in_spelled, passing_spelled, three_texts, wide64, yes_no_spelled}
 use Rattle.tpm_state_text.specs.Places.{optional_text}
 use Rattle.tpm_state_text.specs.Policies.{are_localities, demand_in, demand_named, demand_number, localities_in, policy_in, policy_text}
-use Rattle.tpm_state_text.specs.Sessions.{binding_in, binding_text, is_key, key_in, protection_in, protection_named, protection_number, session_in, session_text, sessions_in, sessions_text}
+use Rattle.tpm_state_text.specs.Sessions.{binding_in, binding_text, is_key, key_in, protection_in, protection_named, protection_number, session_fields_in, session_in, session_text, sessions_in, sessions_text}
 use Rattle.tpm_state_text.proofs.PlaceLaws.{optional_spelled, places_spelled}
 
 -- ---- policies
@@ -181,13 +181,14 @@ abbrev session_of : SessionFields → Session
 session_of f = record { kind = f.0.0.0.0.0.0; hash = f.0.0.0.0.0.1; symmetric = f.0.0.0.0.1; nonce_tpm = f.0.0.0.1; key = f.0.0.1; binding = f.0.1; policy = f.1 }
 
 session_spelled : Spelled session_text IsSession session_in
-unfolding session_in session_text
+unfolding session_in session_fields_in session_text
 session_spelled =
     let last = then key_spelled (then (optional_spelled binding_spelled) (then policy_spelled (all_read session_fields session_of (λ _. refl) (λ _. refl)))) in
-    respelled (first (in_body_spelled type_spelled) (then (in_body_spelled hash_spelled) (then (in_body_spelled symmetric_spelled) (then (buffer_in_spelled 32 (omega arith)) last))))
+    let fields = first (in_body_spelled type_spelled) (then (in_body_spelled hash_spelled) (then (in_body_spelled symmetric_spelled) (then (buffer_in_spelled 32 (omega arith)) last))) in
+    respelled (passing_spelled has_hash_sizes fields)
     (λ s. seven_texts (to_be_bytes w8 (type_number s.kind)) (to_be_bytes w16 (hash_number s.hash)) (symmetric_text s.symmetric) (sized_text s.nonce_tpm) (sized_text s.key) (optional_text binding_text s.binding) (policy_text s.policy))
-    (λ s is. record { nonce_tpm = is.1.1.1.0; key = is.1.1.1.1.0; binding = is.1.1.1.1.1.0; policy = is.1.1.1.1.1.1.0 })
-    (λ s is. (tt, (tt, (tt, (is.nonce_tpm, (is.key, (is.binding, (is.policy, tt))))))))
+    (λ s is. record { sizes = is.1; nonce_tpm = is.0.1.1.1.0; key = is.0.1.1.1.1.0; binding = is.0.1.1.1.1.1.0; policy = is.0.1.1.1.1.1.1.0 })
+    (λ s is. ((tt, (tt, (tt, (is.nonce_tpm, (is.key, (is.binding, (is.policy, tt))))))), is.sizes))
 
 pub sessions_spelled : Spelled sessions_text (λ sessions. (length sessions ≡ session_limit) × AreAll IsSession sessions) sessions_in
 unfolding sessions_in sessions_text

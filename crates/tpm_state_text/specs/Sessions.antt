@@ -9,6 +9,7 @@ use Rattle.tpm_bytes.specs.Writing.{sized_text}
 use Rattle.tpm_image_text.specs.Fields.{auth_value_in, buffer_in, in_body, passing}
 use Rattle.tpm_image_text.specs.declared.fault.Malformed.{Malformed}
 use Rattle.tpm_session.specs.Key.{is_key_size}
+use Rattle.tpm_session.specs.Session.{has_hash_sizes}
 use Rattle.tpm_session.specs.declared.session.Binding.{Binding}
 use Rattle.tpm_session.specs.declared.session.Protection.{Protection}
 use Rattle.tpm_session.specs.declared.session.Protection.TheVariants as protection
@@ -73,8 +74,9 @@ session_text s =
     ++ sized_text s.nonce_tpm ++ sized_text s.key
     ++ optional_text binding_text s.binding ++ policy_text s.policy
 
-unfoldable pub session_in : List ℕ → Result (Session × List ℕ) Malformed
-session_in text = do
+-- the fields of a session, whatever sizes they have
+unfoldable pub session_fields_in : List ℕ → Result (Session × List ℕ) Malformed
+session_fields_in text = do
   kind ← in_body session_type_at text
   hash ← in_body hash_at kind.1
   symmetric ← in_body symmetric_at hash.1
@@ -94,6 +96,11 @@ session_in text = do
     },
     policy.1,
   )
+
+-- a session is refused if nonceTPM, the key or the policy digest has a size that its hash does not
+-- allow
+unfoldable pub session_in : List ℕ → Result (Session × List ℕ) Malformed
+session_in text = passing has_hash_sizes session_fields_in text
 
 -- the text of the sessions, by their places
 unfoldable pub sessions_text : List (Option Session) → List ℕ

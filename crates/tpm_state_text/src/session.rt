@@ -68,7 +68,7 @@ fn read_key(text: &mut Cursor) -> Result<SessionKey, Malformed>
     Ok(SessionKey::of(bytes))
 }
 
-#[tactic(auto, unfolding(crate::specs::Sessions::session_in))]
+#[tactic(auto, unfolding(crate::specs::Sessions::session_fields_in, crate::specs::Sessions::session_in))]
 fn read_session(text: &mut Cursor) -> Result<Session, Malformed>
     ensures { Reads (λ session. session) (session_in text.old) text.old result text.new }
 {
@@ -80,16 +80,12 @@ fn read_session(text: &mut Cursor) -> Result<Session, Malformed>
     let key = read_key(&mut ahead)?;
     let binding = read_optional_binding(&mut ahead)?;
     let policy = read_policy(&mut ahead)?;
+    let parts = Session::of(kind, hash, symmetric, nonce_tpm, key, binding, policy);
+    let Some(session) = parts else {
+        return Err(Malformed);
+    };
     *text = ahead;
-    Ok(Session {
-        kind,
-        hash,
-        symmetric,
-        nonce_tpm,
-        key,
-        binding,
-        policy,
-    })
+    Ok(session)
 }
 
 /// Reads the session of a place, if there is one.
@@ -113,13 +109,13 @@ fn write_session(session: &Session, text: &mut Text)
     ensures written { text.new ≡ text.old ++ session_text session.now }
     ensures small { length text.new ≤ length text.old + session_size }
 {
-    text.append_u8(session.kind.number());
-    write_u16(hash_number(session.hash), text);
-    session.symmetric.append_to(text);
-    write_sized(session.nonce_tpm.as_slice(), 32, text);
-    write_sized(session.key.as_slice(), 32, text);
-    write_optional_binding(&session.binding, text);
-    write_policy(&session.policy, text);
+    text.append_u8(session.kind().number());
+    write_u16(hash_number(session.hash()), text);
+    session.symmetric().append_to(text);
+    write_sized(session.nonce_tpm().as_slice(), 32, text);
+    write_sized(session.key().as_slice(), 32, text);
+    write_optional_binding(session.binding(), text);
+    write_policy(session.policy(), text);
 }
 
 /// Writes the session of a place, if there is one.

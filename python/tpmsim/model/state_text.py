@@ -14,12 +14,12 @@ from typing import Callable, TypeVar
 from tpmsim.model import image, object_rules, policy_state
 from tpmsim.model.general import Refusal
 from tpmsim.model.image import check
-from tpmsim.model.machine import HANDLE_KINDS, Model, PLACE_BITS, SESSIONS
+from tpmsim.model.machine import HANDLE_KINDS, LEAST_NONCE, Model, PLACE_BITS, SESSIONS
 from tpmsim.model.object_commands import OBJECTS
 from tpmsim.model.parameters import Parameters
 from tpmsim.model.policy_state import Session, State
 from tpmsim.model.protection import LOCKOUT_AUTH, Lockout, MILLISECONDS, TRIES
-from tpmsim.standard import AES, aes, DIGEST_BYTES, digest_bytes, frames, HASHES, name_of, number
+from tpmsim.standard import AES, aes, DIGEST_BYTES, digest_bytes, frames, name_of, number
 from tpmsim.standard import PCRS, policy, RH_NULL, Short, sized, TRANSIENT
 from tpmsim.standard.aes_tables import encrypt_block
 
@@ -31,7 +31,6 @@ MAGIC, VERSION = b"TPMS", 1
 PROTECTIONS = None, TRIES, LOCKOUT_AUTH
 DEMANDS = None, policy.AUTH_VALUE, policy.PASSWORD
 
-KEY_SIZES = 0, *sorted(map(digest_bytes, HASHES))
 LOCALITY_BITS = range(policy.ALL_LOCALITIES + 1)
 LOCKOUT_TIMES = range(MILLISECONDS * 2**32)
 
@@ -190,11 +189,20 @@ def read_session(fields: Parameters) -> Session:
     kind, algorithm = fields.one_of(1, HANDLE_KINDS, "VALUE"), fields.hash()
     cipher, masks = fields.symmetric()
     nonce_tpm, key = fields.sized(DIGEST_BYTES), fields.sized(DIGEST_BYTES)
-    check(len(key) in KEY_SIZES)
     bound = optional(fields, read_binding)
     binding = bound or (name_of(RH_NULL), b"", None)
     kept = kind, algorithm, cipher, nonce_tpm, key
-    return Session(*kept, *binding, read_policy(fields), masks, bound is not None)
+    session = Session(*kept, *binding, read_policy(fields), masks, bound is not None)
+    check(has_hash_sizes(session))
+    return session
+
+
+def has_hash_sizes(session: Session) -> bool:
+    """Whether nonceTPM, the key and the policy digest have sizes that the session's hash allows."""
+    digest = digest_bytes(session.algorithm)
+    key = digest if session.is_bound else 0
+    sizes = len(session.key), len(session.policy.digest)
+    return LEAST_NONCE <= len(session.nonce_tpm) <= digest and sizes == (key, digest)
 
 
 def read_binding(fields: Parameters) -> tuple[bytes, bytes, str | None]:

@@ -65,7 +65,8 @@ use Rattle.tpm_step.proofs.Binding.{asked, ok_bind, ok_bind_is, ok_then, some_is
 use Rattle.tpm_step.proofs.rows.Order.{ordered_steps}
 use Rattle.tpm_step.proofs.rows.PlainSteps.{plain_steps}
 use Rattle.tpm_step.proofs.rows.SessionPlaces.{flushed_all, stays_put}
-use Rattle.tpm_step.proofs.rows.SizedParts.{key_sized, nonce_few, nonce_taken, starting_sized}
+use Rattle.tpm_policy.proofs.Sizes.{starting_sized}
+use Rattle.tpm_step.proofs.rows.SizedParts.{key_sized, nonce_few, nonce_taken}
 use Rattle.tpm_step.proofs.rows.Successes.{drawn_as_read, in_place, in_place_steps, none_drawn}
 use Rattle.std.proofs.Common.{Err, IfOk, Result}
 use Rattle.std.proofs.Common.{ap}

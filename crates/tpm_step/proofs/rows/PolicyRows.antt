@@ -47,7 +47,7 @@ use Rattle.tpm_step.proofs.rows.Order.{late_found, ordered_steps}
 use Rattle.tpm_step.proofs.rows.Parts.{same_sessions}
 use Rattle.tpm_step.proofs.rows.PlainSteps.{plain_steps}
 use Rattle.tpm_step.proofs.rows.SessionPlaces.{policy_all, policy_same, policy_stays}
-use Rattle.tpm_step.proofs.rows.SizedParts.{asserted_sized, starting_sized}
+use Rattle.tpm_policy.proofs.Sizes.{asserted_sized, starting_sized}
 use Rattle.tpm_step.proofs.rows.Successes.{GrowsNothing, in_place_steps, none_drawn}
 
 -- ---- how the rows of policies refuse

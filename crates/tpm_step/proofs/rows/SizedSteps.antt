@@ -40,7 +40,8 @@ use Rattle.tpm_step.proofs.rows.Draws.{general_few}
 use Rattle.tpm_step.specs.rows.Sizes.{AreSized, IsSized}
 use Rattle.tpm_step.proofs.rows.AllPlaces.{all_changed, all_found, all_free}
 use Rattle.tpm_step.proofs.Binding.{ok_bind, ok_then, ok_in_command}
-use Rattle.tpm_step.proofs.rows.SizedParts.{starting_sized, nonce_few, nonce_taken}
+use Rattle.tpm_policy.proofs.Sizes.{starting_sized}
+use Rattle.tpm_step.proofs.rows.SizedParts.{nonce_few, nonce_taken}
 use Rattle.tpm_step.proofs.rows.SessionPlaces.{flushed_all, policy_all}
 use Rattle.tpm_step.proofs.rows.Table.{row_draws, row_sized}
 
