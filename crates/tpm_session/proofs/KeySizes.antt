@@ -1,6 +1,5 @@
--- A key that is as long as a digest has a size of a session's key, and the key of a session that
--- starts is as long as its hash and its binding say.
-use Rattle.std.proofs.Common.{◌≡◌, ℕ, true, refl, List, [], ◌++◌, length, take, Option, Some, None, append-nil, arith}
+-- The key of a session that starts is as long as its hash and its binding say.
+use Rattle.std.proofs.Common.{◌≡◌, ℕ, refl, List, [], ◌++◌, length, take, Option, Some, None, append-nil, arith}
 use Rattle.std.proofs.lemmas.List.{length-take}
 use Rattle.tpm_mac.specs.Digest.{digest_size}
 use Rattle.tpm_mac.specs.Hmac.{hmac_of}
@@ -8,12 +7,8 @@ use Rattle.tpm_mac.specs.Kdf.{kdfa_of}
 use Rattle.tpm_mac.specs.declared.algorithm.HashAlg.{HashAlg}
 use Rattle.tpm_mac.specs.declared.algorithm.HashAlg.TheVariants.{Sha1, Sha256}
 use Rattle.tpm_mac.proofs.DigestSize.{length-hmac_of}
-use Rattle.tpm_session.specs.Key.{is_key_size, key_size, session_key}
+use Rattle.tpm_session.specs.Key.{key_size, session_key}
 use Rattle.tpm_session.specs.declared.session.Binding.{Binding}
-
-pub digest_sized : (hash : HashAlg) (size : ℕ) → size ≡ digest_size hash → is_key_size size ≡ true
-digest_sized Sha1 size is = rw is refl
-digest_sized Sha256 size is = rw is refl
 
 front : (n : ℕ) (block : List ℕ) → length block ≡ n → length (take n (block ++ [])) ≡ n
 front n block is = rw append-nil (omega (arith, is, length-take n block))

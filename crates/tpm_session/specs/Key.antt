@@ -1,20 +1,15 @@
 -- Nonces and keys of sessions. TPM 2.0 Library, Part 1, sections 19.6.8 (sessionKey creation) and
 -- 19.6.10 (bound sessions), and Part 3, section 11.1 (TPM2_StartAuthSession).
-use Rattle.std.specs.Prelude.{ℕ, ◌&&◌, ◌||◌, ◌==◌, nat_le, Bool, List, [], ◌∷◌, Option, Some, None}
+use Rattle.std.specs.Prelude.{ℕ, ◌&&◌, nat_le, Bool, List, [], ◌∷◌, Option, Some, None}
 use Rattle.tpm_mac.specs.Digest.{digest_size}
 use Rattle.tpm_mac.specs.Kdf.{kdfa_of}
 use Rattle.tpm_mac.specs.declared.algorithm.HashAlg.{HashAlg}
-use Rattle.tpm_mac.specs.declared.algorithm.HashAlg.TheVariants.{Sha1, Sha256}
 use Rattle.tpm_session.specs.declared.session.Binding.{Binding}
 
 -- whether a caller's first nonce has a size that it may have: at least 16 bytes, and no more than a
 -- digest
 abbrev pub is_nonce_size : HashAlg → ℕ → Bool
 is_nonce_size hash size = nat_le 16 size && nat_le size (digest_size hash)
-
--- whether a session's key has a size that it may have: it is empty, or as long as a digest
-abbrev pub is_key_size : ℕ → Bool
-is_key_size size = size == 0 || size == digest_size Sha1 || size == digest_size Sha256
 
 -- how many bytes the key of a session has: those of a digest where it is bound, and none without a
 -- binding

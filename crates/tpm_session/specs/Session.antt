@@ -6,7 +6,7 @@ use Rattle.tpm_policy.specs.State.{IsPolicy, Policy}
 use Rattle.tpm_types.specs.AuthValue.{IsAuthValue}
 use Rattle.tpm_types.specs.declared.session_type.SessionType.{SessionType}
 use Rattle.tpm_types.specs.declared.symmetric.SymmetricDefinition.{SymmetricDefinition}
-use Rattle.tpm_session.specs.Key.{is_key_size, is_nonce_size, key_size}
+use Rattle.tpm_session.specs.Key.{is_nonce_size, key_size}
 use Rattle.tpm_session.specs.declared.session.Binding.{Binding}
 
 -- a session: its type, its hash and its symmetric definition; the nonce that the device gave last;
@@ -54,10 +54,10 @@ pub record IsBinding (binding : Binding) : Type 0 where
   pub auth_value : IsAuthValue binding.auth_value
 
 -- What holds of every session: nonceTPM, the key and the policy digest have sizes that its hash
--- allows; so a nonceTPM has at most 32 bytes, and a key is empty or as long as a digest.
+-- allows, and none has more than 32 bytes.
 pub record IsSession (session : Session) : Type 0 where
   pub sizes : has_hash_sizes session ≡ true
   pub nonce_tpm : length session.nonce_tpm ≤ 32
-  pub key : is_key_size (length session.key) ≡ true
+  pub key : length session.key ≤ 32
   pub binding : IfSome session.binding IsBinding
   pub policy : IsPolicy session.policy

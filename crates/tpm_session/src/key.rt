@@ -1,10 +1,10 @@
 //! The key of a session, derived from what it is bound to and from the first nonces (TPM 2.0
 //! Library, Part 1, section 19.6.8).
 
-ghost use Rattle.std.specs.Prelude.{◌≡◌, ◌≤◌, ◌++◌, [], length, true};
+ghost use Rattle.std.specs.Prelude.{◌≡◌, ◌≤◌, ◌++◌, [], length};
 ghost use Rattle.tpm_mac.specs.Digest.{digest_size};
 ghost use Rattle.tpm_mac.specs.Kdf.{kdfa_of};
-ghost use Rattle.tpm_session.specs.Key.{is_key_size, is_nonce_size, key_label, key_size, session_key};
+ghost use Rattle.tpm_session.specs.Key.{is_nonce_size, key_label, key_size, session_key};
 
 use crate::session::Binding;
 use arrayvec::ArrayVec;
@@ -15,21 +15,18 @@ use tpm_mac::{HashAlg, kdfa};
 /// The label of KDFa for session keys.
 const KEY_LABEL: &[u8] = b"ATH";
 
-/// The key of a session: empty, or as long as a digest. Contracts see it as its bytes.
+/// The key of a session, of at most 32 bytes. Contracts see it as its bytes.
 #[derive(Drop)]
 pub struct SessionKey {
     bytes: ArrayVec<u8, 32>,
 }
 
 impl Model for SessionKey {
-    ghost use Rattle.std.specs.Prelude.{◌≡◌, ℕ, List, length, true};
-    ghost use Rattle.tpm_session.specs.Key.{is_key_size};
+    ghost use Rattle.std.specs.Prelude.{ℕ, List};
 
     ghost Value = { List ℕ };
 
     ghost view = { λ k. k.bytes.items };
-
-    ghost invariant = { λ k. is_key_size (length k.bytes.items) ≡ true };
 }
 
 /// Whether a caller's first nonce may have this many bytes: at least 16, and no more than a digest
@@ -81,10 +78,9 @@ impl SessionKey {
         }
     }
 
-    /// The key of these bytes, which are as many as a key has.
+    /// The key of these bytes.
     pub fn of(bytes: &[u8]) -> SessionKey
-        requires size { is_key_size (length bytes.now) ≡ true }
-        requires fits { length bytes.now ≤ 32 }
+        requires { length bytes.now ≤ 32 }
         ensures { result ≡ bytes.now }
     {
         SessionKey {
@@ -92,7 +88,6 @@ impl SessionKey {
         }
     }
 
-    #[tactic(auto, using(crate::proofs::KeySizes::digest_sized))]
     fn bound(hash: HashAlg, auth_value: &[u8], nonce_tpm: &[u8], nonce_caller: &[u8]) -> SessionKey
         ensures { result ≡ kdfa_of hash auth_value.now key_label nonce_tpm.now nonce_caller.now
             (digest_size hash) }
@@ -109,12 +104,5 @@ impl SessionKey {
         ensures fits { length result.now ≤ 32 }
     {
         self.bytes.as_slice()
-    }
-    /// The key is empty, or as long as a digest. The call only reads.
-    #[inline(always)]
-    pub(crate) fn read_size(&self)
-        ensures { is_key_size (length self.now) ≡ true }
-    {
-        let _bytes = &self.bytes;
     }
 }

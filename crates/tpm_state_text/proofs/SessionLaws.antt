@@ -10,7 +10,6 @@ use Rattle.tpm_mac.specs.declared.algorithm.HashAlg.{HashAlg}
 use Rattle.tpm_policy.specs.State.{IsPolicy, Policy}
 use Rattle.tpm_policy.specs.declared.state.Demand.{Demand}
 use Rattle.tpm_policy.specs.declared.state.Demand.TheVariants as demand
-use Rattle.tpm_session.specs.Key.{is_key_size}
 use Rattle.tpm_session.specs.Session.{IsBinding, IsSession, has_hash_sizes}
 use Rattle.tpm_session.specs.declared.session.Binding.{Binding}
 use Rattle.tpm_session.specs.declared.session.Protection.{Protection}
@@ -33,7 +32,7 @@ use Rattle.tpm_image_text.specs.Fields.{malformed, yes_no_text}
 use Rattle.tpm_image_text.proofs.FieldSpelling.{auth_value_spelled, buffer_in_spelled, in_body_spelled, names_spelled, number_in_spelled, passing_spelled, three_texts, wide64, yes_no_spelled}
 use Rattle.tpm_state_text.specs.Places.{optional_text}
 use Rattle.tpm_state_text.specs.Policies.{are_localities, demand_in, demand_named, demand_number, localities_in, policy_in, policy_text}
-use Rattle.tpm_state_text.specs.Sessions.{binding_in, binding_text, is_key, key_in, protection_in, protection_named, protection_number, session_fields_in, session_in, session_text, sessions_in, sessions_text}
+use Rattle.tpm_state_text.specs.Sessions.{binding_in, binding_text, protection_in, protection_named, protection_number, session_fields_in, session_in, session_text, sessions_in, sessions_text}
 use Rattle.tpm_state_text.proofs.PlaceLaws.{optional_spelled, places_spelled}
 
 -- ---- policies
@@ -154,23 +153,6 @@ symmetric_spelled = record {
   again = λ x rest is. symmetric_again x rest;
 }
 
--- a key is empty, or has the 20 or 32 bytes of a digest
-pub key_small : (size : ℕ) → is_key_size size ≡ true → size ≤ 32
-key_small size is = by (size == 0) (size == 20) (size == 32) refl refl refl is
-  where
-    by : (a b c : Bool) → (size == 0) ≡ a → (size == 20) ≡ b → (size == 32) ≡ c → (a || b || c) ≡ true → size ≤ 32
-    by true b c none _ _ is = omega (arith, eqb-true size 0 none)
-    by false true c _ short _ is = omega (arith, eqb-true size 20 short)
-    by false false true _ _ long is = omega (arith, eqb-true size 32 long)
-    by false false false _ _ _ is = absurd cc
-
-key_spelled : Spelled sized_text (λ key. is_key key ≡ true) key_in
-unfolding key_in
-key_spelled =
-    respelled (passing_spelled is_key (buffer_in_spelled 32 (omega arith))) (λ key. refl)
-    (λ key is. is.1)
-    (λ key is. (key_small (length key) is, is))
-
 abbrev SessionFields : Type 0
 SessionFields = (((((SessionType × HashAlg) × SymmetricDefinition) × List ℕ) × List ℕ) × Option Binding) × Policy
 
@@ -183,7 +165,7 @@ session_of f = record { kind = f.0.0.0.0.0.0; hash = f.0.0.0.0.0.1; symmetric = 
 session_spelled : Spelled session_text IsSession session_in
 unfolding session_in session_fields_in session_text
 session_spelled =
-    let last = then key_spelled (then (optional_spelled binding_spelled) (then policy_spelled (all_read session_fields session_of (λ _. refl) (λ _. refl)))) in
+    let last = then (buffer_in_spelled 32 (omega arith)) (then (optional_spelled binding_spelled) (then policy_spelled (all_read session_fields session_of (λ _. refl) (λ _. refl)))) in
     let fields = first (in_body_spelled type_spelled) (then (in_body_spelled hash_spelled) (then (in_body_spelled symmetric_spelled) (then (buffer_in_spelled 32 (omega arith)) last))) in
     respelled (passing_spelled has_hash_sizes fields)
     (λ s. seven_texts (to_be_bytes w8 (type_number s.kind)) (to_be_bytes w16 (hash_number s.hash)) (symmetric_text s.symmetric) (sized_text s.nonce_tpm) (sized_text s.key) (optional_text binding_text s.binding) (policy_text s.policy))

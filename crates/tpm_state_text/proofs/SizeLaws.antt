@@ -34,7 +34,6 @@ use Rattle.tpm_state_text.specs.Policies.{policy_text}
 use Rattle.tpm_state_text.specs.Sessions.{binding_text, session_text, sessions_text}
 use Rattle.tpm_state_text.specs.Sizes.{banks_size, layer_size, policy_size, session_size, sessions_size, state_text_size, transients_size, volatile_size}
 use Rattle.tpm_state_text.proofs.PlaceLaws.{each_of_all}
-use Rattle.tpm_state_text.proofs.SessionLaws.{key_small}
 
 -- ---- values that may be there, and lists
 
@@ -82,7 +81,7 @@ session_small : (s : Session) → IsSession s → length (session_text s) ≤ se
 unfolding session_text
 session_small s is =
     let binding = optional_small binding_text IsBinding 71 binding_small s.binding is.binding in
-    simp length-append (omega (arith, is.nonce_tpm, key_small (length s.key) is.key, symmetric_small s.symmetric, binding, policy_small s.policy is.policy))
+    simp length-append (omega (arith, is.nonce_tpm, is.key, symmetric_small s.symmetric, binding, policy_small s.policy is.policy))
 
 -- ---- banks
 

@@ -8,7 +8,6 @@ use Rattle.tpm_bytes.specs.Reading.{◌>>=◌}
 use Rattle.tpm_bytes.specs.Writing.{sized_text}
 use Rattle.tpm_image_text.specs.Fields.{auth_value_in, buffer_in, in_body, passing}
 use Rattle.tpm_image_text.specs.declared.fault.Malformed.{Malformed}
-use Rattle.tpm_session.specs.Key.{is_key_size}
 use Rattle.tpm_session.specs.Session.{has_hash_sizes}
 use Rattle.tpm_session.specs.declared.session.Binding.{Binding}
 use Rattle.tpm_session.specs.declared.session.Protection.{Protection}
@@ -58,13 +57,6 @@ binding_in text = do
 
 -- ---- sessions
 
--- whether bytes are as many as a session's key has: none, or those of a digest
-abbrev pub is_key : List ℕ → Bool
-is_key key = is_key_size (length key)
-
-unfoldable pub key_in : List ℕ → Result (List ℕ × List ℕ) Malformed
-key_in text = passing is_key (buffer_in 32) text
-
 -- the text of a session: its type, its hash and its symmetric definition; nonceTPM and the key; what
 -- it is bound to, if anything; and its policy
 unfoldable pub session_text : Session → List ℕ
@@ -81,7 +73,7 @@ session_fields_in text = do
   hash ← in_body hash_at kind.1
   symmetric ← in_body symmetric_at hash.1
   nonce_tpm ← buffer_in 32 symmetric.1
-  key ← key_in nonce_tpm.1
+  key ← buffer_in 32 nonce_tpm.1
   binding ← optional_in binding_in key.1
   policy ← policy_in binding.1
   Ok (

@@ -4,9 +4,8 @@ ghost use Rattle.std.specs.Prelude.{◌≡◌, ◌≤◌, ◌+◌, ◌++◌, len
 ghost use Rattle.tpm_bytes.specs.Reading.{Reads};
 ghost use Rattle.tpm_image_text.specs.Fields.{in_body};
 ghost use Rattle.tpm_image_text.specs.Sizes.{text_size};
-ghost use Rattle.tpm_session.specs.Key.{is_key_size};
 ghost use Rattle.tpm_state_text.specs.Places.{optional_in, optional_text};
-ghost use Rattle.tpm_state_text.specs.Sessions.{key_in, session_in, session_text};
+ghost use Rattle.tpm_state_text.specs.Sessions.{session_in, session_text};
 ghost use Rattle.tpm_state_text.specs.Sizes.{session_size};
 ghost use Rattle.tpm_types.specs.Algorithm.{hash_at};
 ghost use Rattle.tpm_types.specs.SessionType.{session_type_at};
@@ -48,26 +47,6 @@ fn read_symmetric(text: &mut Cursor) -> Result<SymmetricDefinition, Malformed>
     }
 }
 
-/// Whether a key has this many bytes: none, or those of a digest.
-fn is_key_size(size: usize) -> bool
-    ensures { result ≡ is_key_size size }
-{
-    size == 0 || size == 20 || size == 32
-}
-
-#[tactic(auto, unfolding(crate::specs::Sessions::key_in))]
-fn read_key(text: &mut Cursor) -> Result<SessionKey, Malformed>
-    ensures { Reads (λ key. key) (key_in text.old) text.old result text.new }
-{
-    let mut ahead = Cursor::new(text.rest());
-    let bytes = read_sized(&mut ahead, 32)?;
-    if !is_key_size(bytes.len()) {
-        return Err(Malformed);
-    }
-    *text = ahead;
-    Ok(SessionKey::of(bytes))
-}
-
 #[tactic(auto, unfolding(crate::specs::Sessions::session_fields_in, crate::specs::Sessions::session_in))]
 fn read_session(text: &mut Cursor) -> Result<Session, Malformed>
     ensures { Reads (λ session. session) (session_in text.old) text.old result text.new }
@@ -77,7 +56,7 @@ fn read_session(text: &mut Cursor) -> Result<Session, Malformed>
     let hash = read_algorithm(&mut ahead)?;
     let symmetric = read_symmetric(&mut ahead)?;
     let nonce_tpm = Nonce::of(read_sized(&mut ahead, 32)?);
-    let key = read_key(&mut ahead)?;
+    let key = SessionKey::of(read_sized(&mut ahead, 32)?);
     let binding = read_optional_binding(&mut ahead)?;
     let policy = read_policy(&mut ahead)?;
     let parts = Session::of(kind, hash, symmetric, nonce_tpm, key, binding, policy);

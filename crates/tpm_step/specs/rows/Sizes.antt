@@ -1,4 +1,5 @@
--- Sizes of sessions, which follow from how sessions are made, and which no type of the code says.
+-- Sizes of sessions, which follow from how sessions are made. The code has them by the type of a
+-- session (`IsSession`).
 use Rattle.std.specs.Prelude.{◌≡◌, ◌⊎◌, true, [], length}
 use Rattle.tpm_mac.specs.Digest.{digest_size}
 use Rattle.tpm_containers.specs.Slots.{AreAll}
