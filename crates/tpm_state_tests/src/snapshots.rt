@@ -24,12 +24,12 @@ const START_SESSION: &[u8] = b"\x80\x01\0\0\0\x2b\0\0\x01\x76\x40\0\0\x07\x40\0\
 const END: &[u8] = &[0x3d, 0x27, 0x66, 0xed, 0x8f, 0x1c, 0xe2, 0xb1];
 
 /// Ends the test where the value found is not the one wanted.
-fn check<R: Abort, T: PartialEq + Drop>(rt: &R, found: T, wanted: T) {
+pub fn check<R: Abort, T: PartialEq + Drop>(rt: &R, found: T, wanted: T) {
     assert!(rt; found == wanted);
 }
 
 /// A device with a session, made of random bytes of zeros.
-fn device<K: Keep>(alloc: Global) -> Result<Machine<K>, Fail> {
+pub fn device<K: Keep>(alloc: Global) -> Result<Machine<K>, Fail> {
     let mut machine: Machine<K> = Machine::manufacture(alloc, &[0; 256])?;
     let mut outcome = Outcome::empty();
     for buffer in [STARTUP, START_SESSION] {
@@ -40,7 +40,7 @@ fn device<K: Keep>(alloc: Global) -> Result<Machine<K>, Fail> {
 }
 
 /// The state text of a device without the completing layer.
-fn text_of<K: Keep>(alloc: Global, keep: &K) -> Result<Vec<u8>, Fail> {
+pub fn text_of<K: Keep>(alloc: Global, keep: &K) -> Result<Vec<u8>, Fail> {
     let mut text = vec![in alloc; 0u8; STATE_TEXT_LIMIT]?;
     let size = snapshot_into(keep, None, &mut text);
     text.truncate(size);
@@ -48,7 +48,7 @@ fn text_of<K: Keep>(alloc: Global, keep: &K) -> Result<Vec<u8>, Fail> {
 }
 
 /// What a test does with any type that implements `Keep`.
-trait Trial {
+pub trait Trial {
     fn run<K: Keep, R: Abort>(rt: &R, alloc: Global) -> Result<(), Fail>;
 }
 
@@ -67,7 +67,11 @@ impl<T: Trial + Drop, R: Abort> Task<Fail> for Given<'_, T, R> {
     }
 }
 
-fn run_over_both<T: Trial + Drop, R: Abort>(trial: T, rt: &R, alloc: Global) -> Result<(), Fail> {
+pub fn run_over_both<T: Trial + Drop, R: Abort>(
+    trial: T,
+    rt: &R,
+    alloc: Global,
+) -> Result<(), Fail> {
     T::run::<SlotKeep, R>(rt, alloc)?;
     run_over_lists(Given { trial, rt, alloc })
 }
