@@ -36,9 +36,15 @@ indices_size = 2 + entries_size
 abbrev pub body_size : ℕ
 body_size = limits_size + (state_size + (objects_size + indices_size))
 
--- the most bytes of a body with the digest after it, and of the image, whose head has 10 bytes
-abbrev pub text_size : ℕ
-text_size = body_size + 32
-
+-- the most bytes of the image, whose head has 10 bytes, and whose digest 32
 abbrev pub image_size : ℕ
-image_size = 10 + text_size
+image_size = 10 + (body_size + 32)
+
+-- the most bytes of what a state text has in addition to the body of the image
+abbrev pub more_size : ℕ
+more_size = 7962
+
+-- the most bytes of a body that is written, with the digest after it: that of a state text is the
+-- longer one
+abbrev pub text_size : ℕ
+text_size = body_size + more_size + 32

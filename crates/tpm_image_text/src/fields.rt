@@ -27,8 +27,16 @@ const OBJECTS_SIZE: usize = 2 + PERSISTENT_LIMIT * 330;
 
 const INDICES_SIZE: usize = 2 + NV_INDEX_LIMIT * 84 + NV_SPACE_LIMIT;
 
-/// The most bytes of a body, together with the digest after it.
-pub const TEXT_LIMIT: usize = LIMITS_SIZE + STATE_SIZE + OBJECTS_SIZE + INDICES_SIZE + 32;
+/// The most bytes of what a state text has in addition to the body of the image.
+const MORE_SIZE: usize = 7_962;
+
+/// The most bytes of a body, of an image or of a state text, together with the digest after it.
+pub const TEXT_LIMIT: usize = LIMITS_SIZE
+    + STATE_SIZE
+    + OBJECTS_SIZE
+    + INDICES_SIZE
+    + MORE_SIZE
+    + 32;
 
 /// A body that is being written.
 pub type Text = Sink<TEXT_LIMIT>;

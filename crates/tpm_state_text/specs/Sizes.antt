@@ -29,10 +29,6 @@ volatile_size = 25 + banks_size + sessions_size + transients_size
 abbrev pub layer_size : ℕ
 layer_size = 16 + object_limit * 16 + session_limit * 8
 
--- the most bytes of what a state text has in addition to the body of the image
-abbrev pub more_size : ℕ
-more_size = volatile_size + 1 + layer_size
-
 -- the most bytes of a state text, whose head has 10 bytes, and whose digest 32: 36,323
 abbrev pub state_text_size : ℕ
 state_text_size = 10 + (body_size + volatile_size + 1 + layer_size) + 32

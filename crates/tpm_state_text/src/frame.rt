@@ -3,8 +3,7 @@
 ghost use Rattle.std.specs.Prelude.{◌≡◌, ◌≤◌, ◌+◌};
 ghost use Rattle.tpm_bytes.specs.Reading.{AreBytes, Gives};
 ghost use Rattle.tpm_image_text.specs.Frame.{head_in, within_frame};
-ghost use Rattle.tpm_image_text.specs.Sizes.{body_size};
-ghost use Rattle.tpm_state_text.specs.Sizes.{more_size};
+ghost use Rattle.tpm_image_text.specs.Sizes.{body_size, more_size};
 ghost use Rattle.tpm_state_text.specs.Frame.{state_format};
 
 use crate::fault::StateFault;

@@ -34,4 +34,4 @@ mod volatile;
 pub use fault::{RestoreFault, StateFault};
 pub use layer::{Held, Layer};
 pub use restoring::{restore_into, restore_new, restored};
-pub use snapshot::{STATE_TEXT_LIMIT, snapshot_into};
+pub use snapshot::{STATE_TEXT_LIMIT, StateBody, snapshot_into, write_state};

@@ -6,21 +6,24 @@ ghost use Rattle.tpm_state_text.specs.Filling.{state_of};
 ghost use Rattle.tpm_state_text.specs.Sizes.{state_text_size};
 ghost use Rattle.tpm_state_text.specs.State.{state_text};
 
-use crate::body::{StateBody, write_body};
+use crate::body::write_body;
 use crate::frame::head;
 use crate::layer::Layer;
 use tpm_bytes::Sink;
-use tpm_image_text::put_front;
+use tpm_image_text::{Text, put_front};
 use tpm_mac::{HashAlg, digest_parts};
 use tpm_record::Keep;
 
 /// The most bytes of a state text.
 pub const STATE_TEXT_LIMIT: usize = 36_323;
 
+/// A body of a state text that is being written, and after it the digest.
+pub type StateBody = Text;
+
 /// Writes the body of a state text, and the digest after it, to an empty text. Returns the head,
 /// which stands before them.
 #[tactic(auto, unfolding(crate::specs::State::state_text))]
-fn write_state<K: Keep>(keep: &K, layer: Option<&Layer>, text: &mut StateBody) -> Sink<10>
+pub fn write_state<K: Keep>(keep: &K, layer: Option<&Layer>, text: &mut StateBody) -> Sink<10>
     requires { text.old ≡ [] }
     ensures state { result ++ text.new
         ≡ state_text (state_of (K.record_of keep.now) (option_copied layer.entry)) }
