@@ -25,5 +25,5 @@ mod reply;
 mod room;
 mod saving;
 
-pub use completion::Completion;
+pub use completion::{Completion, Held};
 pub use execution::execute;

@@ -1,0 +1,14 @@
+-- What restoring a machine from the state text of a device answers and leaves.
+use Rattle.std.specs.Prelude.{◌≡◌, Bool, true, Option, Result, Ok, Err}
+use Rattle.tpm_record.specs.Record.{Record}
+use Rattle.tpm_state_text.specs.Body.{WholeState}
+use Rattle.tpm_state_text.specs.Filling.{state_of}
+use Rattle.tpm_state_text.specs.declared.fault.RestoreFault.{RestoreFault}
+use Rattle.tpm_state_text.specs.declared.fault.RestoreFault.TheVariants as unrestored
+use Rattle.tpm_state_text.specs.declared.layer.Layer.{Layer}
+
+-- A machine has just this state, with the layer that was answered; or memory was refused.
+abbrev pub HasState : Bool → WholeState → Record → Result (Option Layer) RestoreFault → Type 0
+HasState can state device (Ok layer) = state_of device layer ≡ state
+HasState can state device (Err (unrestored.Text fault)) = ⊥
+HasState can state device (Err unrestored.NoMemory) = can ≡ true
