@@ -8,6 +8,8 @@ use Rattle.tpm_image_text.specs.declared.version.Version.TheVariants.{Two}
 use Rattle.tpm_journal.specs.Command.{Command, Executed, command_at, elapsed_of, entry_of}
 use Rattle.tpm_journal.specs.Opening.{IsJournal, OpensJournal}
 use Rattle.tpm_journal.specs.State.{journal_after, journal_begun}
+use Rattle.tpm_completion.specs.declared.completion.Completion.{Completion}
+use Rattle.tpm_journal.specs.declared.journal.Journal.{Journal}
 use Rattle.tpm_journal.specs.declared.opening.OpenFault.{OpenFault}
 use Rattle.tpm_journal_text.specs.Entry.{entry_text}
 use Rattle.tpm_record.specs.Cycle.{cycled}
@@ -52,6 +54,10 @@ seen_in room answered after = record {
   layer = after.journal.layer;
   drawn = answered.drawn;
 }
+
+-- a journal whose layer is another, with the sum and the time that it has
+abbrev pub journal_with : Journal → Completion → Journal
+journal_with journal layer = record journal { layer = layer }
 
 -- A device executed a command, with its completing layer or without it. Its response stands at the
 -- front of one room, and its entry, of `size` bytes, at the front of another. The execution says

@@ -2,4 +2,5 @@ pub mod Held
 pub mod State
 pub mod Told
 pub mod Journal
+pub mod Restoring
 pub mod Version

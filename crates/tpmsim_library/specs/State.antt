@@ -1,7 +1,9 @@
--- The record of a device, and the effect of an event on it.
-use Rattle.std.specs.Prelude.{List, [], take, ℕ}
+-- The record of a device, its whole state, and the effect of an event on it.
+use Rattle.std.specs.Prelude.{List, [], take, ℕ, Some}
 use Rattle.tpm_record.specs.Record.{Record}
 use Rattle.tpm_slots.specs.SlotRecord.{slot_record}
+use Rattle.tpm_snapshot.specs.Layer.{layer_of}
+use Rattle.tpm_state_text.specs.Body.{WholeState}
 use Rattle.tpm_step.specs.Step.{Stepped}
 use Rattle.tpmsim_library.specs.declared.device.Answered.{Answered}
 use Rattle.tpmsim_library.specs.declared.device.Device.{Device}
@@ -9,6 +11,13 @@ use Rattle.tpmsim_library.specs.declared.device.Device.{Device}
 -- the record of a device; its containers are seen as their contents
 abbrev pub record_of : Device → Record
 record_of device = slot_record device.machine.keep
+
+-- the whole state of a device, which always has its completing layer
+abbrev pub whole_state : Device → WholeState
+whole_state device = record {
+  device = record_of device;
+  layer = Some (layer_of device.journal.layer);
+}
 
 -- the effect of a command: the response at the front of the room for it, the row, and the record
 -- after it

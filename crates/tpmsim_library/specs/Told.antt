@@ -6,6 +6,10 @@ use Rattle.tpm_journal.specs.declared.following.FollowFault.{FollowFault}
 use Rattle.tpm_journal.specs.declared.following.FollowFault.TheVariants as follow
 use Rattle.tpm_journal.specs.declared.opening.OpenFault.{OpenFault}
 use Rattle.tpm_journal.specs.declared.opening.OpenFault.TheVariants as opening
+use Rattle.tpm_state_text.specs.declared.fault.RestoreFault.{RestoreFault}
+use Rattle.tpm_state_text.specs.declared.fault.RestoreFault.TheVariants as restore
+use Rattle.tpm_state_text.specs.declared.fault.StateFault.{StateFault}
+use Rattle.tpm_state_text.specs.declared.fault.StateFault.TheVariants as state
 use Rattle.tpmsim_library.specs.declared.device.Device.{Device}
 
 abbrev pub done : ℕ
@@ -29,6 +33,20 @@ fault_number fault.Length = 7
 fault_number fault.Digest = 8
 fault_number fault.Body = 9
 fault_number fault.NoMemory = no_memory
+
+-- the number of the fault for which bytes are no state text
+abbrev pub state_number : StateFault → ℕ
+state_number state.Short = 13
+state_number state.Magic = 14
+state_number state.Version = 15
+state_number state.Length = 16
+state_number state.Digest = 17
+state_number state.Body = 18
+
+-- the number of the fault for which a device is not restored
+abbrev pub restore_number : RestoreFault → ℕ
+restore_number (restore.Text fault) = state_number fault
+restore_number restore.NoMemory = no_memory
 
 -- the number of how far a text was followed: to its end, or to this fault
 abbrev pub follow_number : Option FollowFault → ℕ

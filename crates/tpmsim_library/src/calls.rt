@@ -123,7 +123,7 @@ pub extern "C" fn tpmsim_save(alloc: Global, holder: &mut Holder, room: &mut [u8
         room.new) }
     ensures kept { holder.new.device ≡ holder.old.device }
 {
-    let Some(device) = holder.take(alloc) else {
+    let Some(mut device) = holder.take(alloc) else {
         return 0;
     };
     let size = device.save_into(room);
@@ -139,7 +139,7 @@ pub extern "C" fn tpmsim_kept(alloc: Global, holder: &mut Holder, room: &mut [u8
         (λ device. PutsFront (kept_text (record_of device)) room.old result room.new) }
     ensures kept { holder.new.device ≡ holder.old.device }
 {
-    let Some(device) = holder.take(alloc) else {
+    let Some(mut device) = holder.take(alloc) else {
         return 0;
     };
     let size = device.kept_into(room);

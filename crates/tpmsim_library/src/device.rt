@@ -1,6 +1,6 @@
 //! A device in memory of its own.
 
-ghost use Rattle.std.specs.Prelude.{◌≡◌, ◌∷◌, [], IfErr, IfOk, IfSome, drop, false, length};
+ghost use Rattle.std.specs.Prelude.{◌≡◌, ◌≤◌, ◌∷◌, [], IfErr, IfOk, IfSome, drop, false, length};
 ghost use Rattle.std.specs.Prelude.{replicate, take, true};
 ghost use Rattle.tpm_machine.specs.Follows.{After, Follows};
 ghost use Rattle.tpm_machine.specs.History.{History, PowerCycled};
@@ -16,29 +16,39 @@ ghost use Rattle.tpm_record.specs.IsRecord.{IsRecord};
 ghost use Rattle.tpm_record.specs.Record.{Record, manufactured};
 ghost use Rattle.tpm_step.specs.Events.{Cycled, plain_event};
 ghost use Rattle.tpm_step.specs.Execution.{Executes};
+ghost use Rattle.tpm_completion.specs.Execution.{CompletesIf};
 ghost use Rattle.tpm_journal.specs.Replay.{Replays};
 ghost use Rattle.tpm_journal_text.specs.Head.{head_text};
 ghost use Rattle.tpm_types.specs.Locality.{locality_number};
 ghost use Rattle.tpmsim_library.specs.Journal.{BeginsIfRoom, HasFault, IsOfJournal, OpensDevice};
 ghost use Rattle.tpmsim_library.specs.Journal.{Records, command_by, image_at_power};
-ghost use Rattle.tpmsim_library.specs.State.{command_seen, cycle_seen, record_of};
+ghost use Rattle.tpmsim_library.specs.Journal.{journal_with, seen_in};
+ghost use Rattle.tpm_state_text.specs.Body.{IsWholeState};
+ghost use Rattle.tpm_state_text.specs.Sizes.{state_text_size};
+ghost use Rattle.tpm_state_text.specs.State.{state_text};
+ghost use Rattle.tpmsim_library.specs.Restoring.{RestoresDevice};
+ghost use Rattle.tpmsim_library.specs.State.{command_seen, cycle_seen, record_of, whole_state};
 
+use crate::scratch::Scratch;
 use std::alloc::Global;
-use tpm_image::{ImageFault, fault_of, kept_into, open_into, save_into};
+use tpm_completion::execute as complete;
+use tpm_image::{ImageFault, fault_of, open_into};
 use tpm_journal::opening::open;
 use tpm_journal::{Followed, Journal, OpenFault};
 use tpm_machine::Machine;
 use tpm_slots::SlotKeep;
+use tpm_snapshot::{RestoreFault, completion_of, layer_of, restore_new};
 use tpm_step::{Event, Outcome};
 use tpm_types::Locality;
 
-/// A device, the outcome of its latest event, over which the next outcome is written, and the state
-/// of its journal.
+/// A device, the outcome of its latest event, over which the next outcome is written, the state of
+/// its journal, and the buffer for its texts.
 #[derive(Drop)]
 pub struct Device {
     machine: Machine<SlotKeep>,
     outcome: Outcome,
     journal: Journal,
+    scratch: Scratch,
 }
 
 /// What the caller of a command is told beside its response.
@@ -68,6 +78,7 @@ impl Device {
             machine,
             outcome: Outcome::empty(),
             journal: Journal::begun(0, 0),
+            scratch: Scratch::new(),
         };
         match Box::new(alloc, device) {
             Ok(device) => Some(device),
@@ -104,6 +115,21 @@ impl Device {
         tell(&self.outcome, self.machine.drawn(), response)
     }
 
+    /// Executes a command with the completing layer above the device, and writes its response to
+    /// the front of a buffer, whose rest stays.
+    pub fn complete(&mut self, event: &Event, response: &mut [u8; 4096]) -> Answered
+        ensures completes { CompletesIf false true self.old.journal.layer (record_of self.old)
+            (plain_event event.now) (seen_in response.new result self.new) }
+        ensures journal { self.new.journal
+            ≡ journal_with self.old.journal self.new.journal.layer }
+        ensures rest { drop result.size response.new ≡ drop result.size response.old }
+    {
+        let layer = &mut self.journal.layer;
+        complete(&mut self.machine, layer, true, event, &mut self.outcome);
+        let drawn = self.machine.drawn();
+        tell(&self.outcome, drawn, response)
+    }
+
     /// Takes power away and gives it back.
     pub fn cycle_power(&mut self)
         ensures executes { Executes false (record_of self.old) Cycled (cycle_seen self.new) }
@@ -115,19 +141,61 @@ impl Device {
 
     /// Writes the image to the front of a room, if that is large enough. Gives how many bytes it
     /// has.
-    pub fn save_into(&self, room: &mut [u8]) -> usize
-        ensures { PutsFront (image_text Two (kept_of (record_of self.now))) room.old result
+    pub fn save_into(&mut self, room: &mut [u8]) -> usize
+        ensures put { PutsFront (image_text Two (kept_of (record_of self.old))) room.old result
             room.new }
+        ensures kept { self.new ≡ self.old }
     {
-        save_into(&self.machine, room)
+        self.scratch.save_into(&self.machine, room)
     }
 
     /// Writes what the device keeps without power, but for its clock, to the front of a room, if
     /// that fits. Gives how many bytes it has.
-    pub fn kept_into(&self, room: &mut [u8]) -> usize
-        ensures { PutsFront (kept_text (record_of self.now)) room.old result room.new }
+    pub fn kept_into(&mut self, room: &mut [u8]) -> usize
+        ensures put { PutsFront (kept_text (record_of self.old)) room.old result room.new }
+        ensures kept { self.new ≡ self.old }
     {
-        kept_into(&self.machine, room)
+        self.scratch.kept_into(&self.machine, room)
+    }
+
+    /// Writes the state text to the front of a buffer, if that is large enough. Returns how many
+    /// bytes it has.
+    pub fn snapshot_into(&mut self, buffer: &mut [u8]) -> usize
+        ensures put { PutsFront (state_text (whole_state self.old)) buffer.old result buffer.new }
+        ensures small { result ≤ state_text_size }
+        ensures is_state { IsWholeState (whole_state self.old) }
+        ensures kept { self.new ≡ self.old }
+    {
+        let layer = layer_of(&self.journal.layer);
+        self.scratch
+            .snapshot_into(&self.machine, Some(&layer), buffer)
+    }
+
+    /// The device of a state text, or the first fault of the text; NoMemory if memory is refused,
+    /// whatever the text is.
+    pub fn restored(alloc: Global, text: &[u8]) -> Result<Box<Device>, RestoreFault>
+        ensures { RestoresDevice (λ b. b.value) text.now result }
+    {
+        let Some(mut device) = Device::manufacture(alloc, &[0; 256]) else {
+            return Err(RestoreFault::NoMemory);
+        };
+        device.restore(text)?;
+        Ok(device)
+    }
+
+    /// Makes a new device of zeros the one of a state text. After a fault nothing is said of the
+    /// device.
+    fn restore(&mut self, text: &[u8]) -> Result<(), RestoreFault>
+        requires { record_of self.old ≡ manufactured (replicate 256 0) }
+        ensures { RestoresDevice (λ done. self.new) text.now result }
+    {
+        let layer = restore_new(&mut self.machine, text)?;
+        self.journal = Journal {
+            sum: 0,
+            time: 0,
+            layer: completion_of(layer.as_ref()),
+        };
+        Ok(())
     }
 
     /// Cycles the device's power, and writes the head of its new journal to the front of a room.

@@ -1,20 +1,24 @@
 #![tactic(auto)]
 
 //! libtpmsim: the device inside the process that uses it, by calls under the names that C links.
-//! The crate uses the machine, in fixed places, and its image. The exports stand in [`calls`] and
-//! [`journal`]. An allocator has no bytes, so C passes nothing for it. `library/tpmsim.h` declares
-//! the exports for C, and says what a caller owes.
+//! The crate uses the machine, in fixed places, and its texts. The exports stand in [`calls`],
+//! [`completing`], [`snapshots`] and [`journal`]. An allocator has no bytes, so C passes nothing for
+//! it. `library/tpmsim.h` declares the exports for C, and says what a caller owes.
 //!
 //! A [`Holder`](holder::Holder) is one pointer, which is null where it has no device, so that
 //! memory of zeros is a holder. Each call takes every holder, and answers a [number](told): where
 //! that is not 0, nothing was done, and the holder is as it was. All that a caller owes is that the
 //! buffers lie where the call is told.
 //!
-//! The contracts say of a command and of a power cycle what tpm_machine says, and of an image what
-//! tpm_image says. No contract can say that memory is given back.
+//! The contracts say of a command and of a power cycle what tpm_machine says, of an image what
+//! tpm_image says, and of a state text what tpm_snapshot says. No contract can say that memory is
+//! given back.
 
 mod calls;
+mod completing;
 mod device;
 mod holder;
 mod journal;
+mod scratch;
+mod snapshots;
 mod told;

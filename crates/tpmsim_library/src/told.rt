@@ -2,9 +2,11 @@
 
 ghost use Rattle.std.specs.Prelude.{◌≡◌};
 ghost use Rattle.tpmsim_library.specs.Told.{fault_number, follow_number, open_number};
+ghost use Rattle.tpmsim_library.specs.Told.{restore_number, state_number};
 
 use tpm_image::ImageFault;
 use tpm_journal::{FollowFault, OpenFault};
+use tpm_snapshot::{RestoreFault, StateFault};
 
 /// The call is done.
 pub const DONE: u8 = 0;
@@ -30,6 +32,30 @@ pub fn fault_number(fault: ImageFault) -> u8
         ImageFault::Digest => 8,
         ImageFault::Body => 9,
         ImageFault::NoMemory => NO_MEMORY,
+    }
+}
+
+/// The number of the fault for which bytes are no state text.
+pub fn state_number(fault: StateFault) -> u8
+    ensures { result ≡ state_number fault }
+{
+    match fault {
+        StateFault::Short => 13,
+        StateFault::Magic => 14,
+        StateFault::Version => 15,
+        StateFault::Length => 16,
+        StateFault::Digest => 17,
+        StateFault::Body => 18,
+    }
+}
+
+/// The number of the fault for which a device is not restored.
+pub fn restore_number(fault: RestoreFault) -> u8
+    ensures { result ≡ restore_number fault }
+{
+    match fault {
+        RestoreFault::Text(fault) => state_number(fault),
+        RestoreFault::NoMemory => NO_MEMORY,
     }
 }
 
