@@ -1,5 +1,6 @@
 /* Executes commands for a journal with the completing layer and without it, opens what was written in
- * another handle, and goes on there: what is answered each time. */
+ * another handle, and goes on there: what is answered each time. Then it does without a journal, and
+ * goes on in another handle from a state text. */
 #include "common.h"
 #include "tpmsim.h"
 
@@ -87,15 +88,48 @@ static void load(const char *name) {
     execute(name, 1, command, sizeof command);
 }
 
+/* Goes on with the other handle. */
+static void swap_handles(void) {
+    tpmsim before = device;
+    device = other;
+    other = before;
+}
+
 /* Opens the text in the other handle, and goes on with it. */
 static void open_other(void) {
     size_t size_taken;
     uint8_t told = tpmsim_journal_open(&other, text, text_size, &size_taken);
     printf("opened again: told %u, %s\n", told,
            size_taken == text_size ? "all is taken" : "NOT ALL IS TAKEN");
-    tpmsim before = device;
-    device = other;
-    other = before;
+    swap_handles();
+}
+
+/* Executes a command with the completing layer and without a journal, and reports its code. */
+static void complete(const char *name, const uint8_t *buffer, size_t size) {
+    static uint8_t random_bytes[RANDOM_BYTES];
+    tpmsim_answered answered;
+    must(tpmsim_complete(&device, buffer, size, 0, WAITED, random_bytes, response, &answered) ==
+             TPMSIM_DONE,
+         "a command is not executed");
+    printf("%s: %03x, %zu drawn\n", name, (unsigned)code_of(response), answered.drawn);
+}
+
+static void complete_load(const char *name) {
+    uint8_t command[10 + CONTEXT_BYTES] = {0x80, 1, 0, 0, 0, sizeof command, 0, 0, 1, 0x61};
+    memcpy(command + 10, context, sizeof context);
+    complete(name, command, sizeof command);
+}
+
+/* A context that is saved before a snapshot is loaded once in the device that is restored from it. */
+static void restore_other(void) {
+    complete("a session without a journal", START_SESSION, sizeof START_SESSION);
+    complete("its context", SAVE_SESSION, sizeof SAVE_SESSION);
+    memcpy(context, response + 10, sizeof context);
+    size_t size = tpmsim_snapshot(&device, text, sizeof text);
+    printf("restored: told %u\n", tpmsim_restore(&other, text, size));
+    swap_handles();
+    complete_load("the session loaded");
+    complete_load("loaded twice");
 }
 
 /* A session that is saved is listed as that, and cannot be saved again. */
@@ -160,6 +194,7 @@ int main(void) {
     execute("startup behind a power cycle", 1, STARTUP, sizeof STARTUP);
     load("a context of before");
     open_other();
+    restore_other();
     tpmsim_free(&device);
     tpmsim_free(&other);
     return 0;

@@ -35,6 +35,10 @@ static uint8_t image[ROOM], before[ROOM], behind[ROOM];
 /* The image of the tests' device, from its head on, and how many bytes it has. */
 static size_t image_size;
 
+/* A state text of that device, and how many bytes it has. */
+static uint8_t state[ROOM];
+static size_t state_size;
+
 /* A call that is refused leaves the holder's device as it was: its image says so, and so does the
  * pointer, which a caller must not look at, but a test may. */
 static void *kept_pointer;
@@ -51,13 +55,17 @@ static const char *as_it_was(struct tpmsim *device) {
     return "the device is as it was";
 }
 
-/* Executes GetRandom where it is refused: neither the response nor what is answered is written. */
+/* Executes GetRandom where it is refused, alone and below the completing layer: neither the response nor
+ * what is answered is written. */
 static unsigned refused_command(struct tpmsim *device, uint8_t locality) {
     struct tpmsim_answered answered;
     memset(&answered, FILLED, sizeof answered);
     memset(response, FILLED, sizeof response);
     uint8_t told = tpmsim_execute(device, GET_RANDOM, sizeof GET_RANDOM, locality, 1, random_bytes,
                                   response, &answered);
+    must(tpmsim_complete(device, GET_RANDOM, sizeof GET_RANDOM, locality, 1, random_bytes, response,
+                         &answered) == told,
+         "the completing layer is refused otherwise");
     must(is_filled(response, sizeof response), "a response is written");
     must(answered.size == answered.drawn && is_filled((uint8_t *)&answered.size, sizeof(size_t)) &&
              is_filled((uint8_t *)&answered.code, sizeof answered.code) && answered.check == FILLED,
@@ -72,6 +80,7 @@ static void without_a_device(void) {
     printf("power_cycle %u, ", tpmsim_power_cycle(&none));
     printf("save %zu, ", tpmsim_save(&none, image, ROOM));
     printf("kept %zu, ", tpmsim_kept(&none, image, ROOM));
+    printf("snapshot %zu, ", tpmsim_snapshot(&none, image, ROOM));
     must(is_filled(image, ROOM), "something is written");
     tpmsim_free(&none);
     must(none.private_ == NULL, "the holder has a device");
@@ -125,6 +134,7 @@ static void of_rooms(struct tpmsim *device) {
            tpmsim_save(device, image, 0) == image_size ? "the image's size" : "WRONG");
     in_rooms(device, "save", tpmsim_save);
     in_rooms(device, "kept", tpmsim_kept);
+    in_rooms(device, "snapshot", tpmsim_snapshot);
 }
 
 /* How many bytes of the text are others than those of the image between its head and its digest. */
@@ -182,15 +192,42 @@ static void of_images(struct tpmsim *device, const char *file) {
     puts(as_it_was(device));
 }
 
+/* Restores from a copy of the state text of this size, in which a byte is changed. */
+static void restore_changed(struct tpmsim *device, const char *label, size_t size, size_t place) {
+    keep(device);
+    memcpy(image, state, state_size);
+    image[place] ^= 1;
+    printf("restore %s: %u; ", label, tpmsim_restore(device, image, size));
+    puts(as_it_was(device));
+}
+
+static void of_states(struct tpmsim *device) {
+    state_size = tpmsim_snapshot(device, state, ROOM);
+    must(0 < state_size && state_size < ROOM, "the state text is too large");
+    restore_changed(device, "of nothing", 0, 0);
+    restore_changed(device, "of 41 bytes", 41, 0);
+    restore_changed(device, "of an image's magic", state_size, 3);
+    restore_changed(device, "of another version", state_size, 5);
+    restore_changed(device, "of one byte less", state_size - 1, 20);
+    restore_changed(device, "of one byte more", state_size + 1, 20);
+    restore_changed(device, "of another digest", state_size, state_size - 1);
+    restore_changed(device, "of another body", state_size, 20);
+    keep(device);
+    printf("restore of an image: %u; ", tpmsim_restore(device, before, image_size));
+    puts(as_it_was(device));
+    printf("open of a state text: %u; ", tpmsim_open(device, state, state_size));
+    puts(as_it_was(device));
+}
+
 /* Calls one that takes memory, each time with the next request refused, until it is done. */
-static void starve(struct tpmsim *device, const char *label, int opens) {
+static void starve(struct tpmsim *device, const char *label,
+                   uint8_t (*called)(struct tpmsim *device)) {
     uint8_t told = TPMSIM_NO_MEMORY;
     keep(device);
     for (unsigned number = 1; told != TPMSIM_DONE; number++) {
         asked = 0;
         refused = number;
-        told = opens ? tpmsim_open(device, before, image_size)
-                     : tpmsim_manufacture(device, random_bytes);
+        told = called(device);
         must(asked >= number || told == TPMSIM_DONE, "a call is refused with all its memory");
         refused = 0;
         if (told == TPMSIM_DONE) break;
@@ -200,15 +237,25 @@ static void starve(struct tpmsim *device, const char *label, int opens) {
     printf("%s: %u\n", label, told);
 }
 
+static uint8_t manufacture(struct tpmsim *device) {
+    return tpmsim_manufacture(device, random_bytes);
+}
+
+static uint8_t open_image(struct tpmsim *device) { return tpmsim_open(device, before, image_size); }
+
+static uint8_t restore(struct tpmsim *device) { return tpmsim_restore(device, state, state_size); }
+
 static void of_memory(struct tpmsim *device) {
     asked = 0;
     answered_by(device, GET_RANDOM, sizeof GET_RANDOM, response);
     tpmsim_save(device, image, ROOM);
     tpmsim_kept(device, image, ROOM);
+    tpmsim_snapshot(device, image, ROOM);
     tpmsim_power_cycle(device);
-    printf("execute, save, kept and power_cycle: they take memory %u times\n", asked);
-    starve(device, "manufacture", 0);
-    starve(device, "open", 1);
+    printf("execute, save, kept, snapshot and power_cycle: they take memory %u times\n", asked);
+    starve(device, "manufacture", manufacture);
+    starve(device, "open", open_image);
+    starve(device, "restore", restore);
 }
 
 int main(int count, char **words) {
@@ -225,6 +272,7 @@ int main(int count, char **words) {
     of_buffers(&device);
     of_rooms(&device);
     of_images(&device, words[1]);
+    of_states(&device);
     of_memory(&device);
     start_new(&device, 0);
     of_what_is_kept(&device);

@@ -11,18 +11,32 @@
 #include <ucontext.h>
 
 enum { STACK_BYTES = 128 * 1024, BLOCK_BYTES = 1024, PAGE_BYTES = 4096 };
-enum call { NOTHING, MANUFACTURE, EXECUTE, POWER_CYCLE, SAVE, KEPT, OPEN, FREE, CALLS };
-static const char *const NAMES[CALLS] = {"nothing", "manufacture", "execute", "power_cycle",
-                                         "save",    "kept",        "open",    "free"};
+enum call {
+    NOTHING,
+    MANUFACTURE,
+    EXECUTE,
+    COMPLETE,
+    POWER_CYCLE,
+    SAVE,
+    KEPT,
+    OPEN,
+    SNAPSHOT,
+    RESTORE,
+    FREE,
+    CALLS
+};
+static const char *const NAMES[CALLS] = {"nothing", "manufacture", "execute", "complete",
+                                         "power_cycle", "save", "kept", "open", "snapshot",
+                                         "restore", "free"};
 
 /* What is called, from where, and the most that each call took so far. */
 static enum call current;
 static ucontext_t caller;
-static struct tpmsim device;
+static struct tpmsim device, completed;
 static struct tpmsim_answered answered;
 static uint8_t random_bytes[RANDOM_BYTES], response[RESPONSE_BYTES], locality;
-static uint8_t *buffer, *image;
-static size_t size, image_size;
+static uint8_t *buffer, *image, text[TPMSIM_STATE_SIZE];
+static size_t size, image_size, text_size;
 static uint32_t elapsed, most_code;
 static uint8_t *stack;
 static size_t most[CALLS];
@@ -33,10 +47,16 @@ static void called(void) {
     case EXECUTE:
         tpmsim_execute(&device, buffer, size, locality, elapsed, random_bytes, response, &answered);
         break;
+    case COMPLETE:
+        tpmsim_complete(&completed, buffer, size, locality, elapsed, random_bytes, response,
+                        &answered);
+        break;
     case POWER_CYCLE: tpmsim_power_cycle(&device); break;
     case SAVE: image_size = tpmsim_save(&device, image, image_size); break;
     case KEPT: tpmsim_kept(&device, image, image_size); break;
     case OPEN: tpmsim_open(&device, image, image_size); break;
+    case SNAPSHOT: text_size = tpmsim_snapshot(&device, text, sizeof text); break;
+    case RESTORE: tpmsim_restore(&device, text, text_size); break;
     case FREE: tpmsim_free(&device); break;
     default: break;
     }
@@ -75,15 +95,19 @@ static void begin(void) {
     elapsed = 0;
     count_up(random_bytes, 0);
     run(MANUFACTURE);
+    must(tpmsim_manufacture(&completed, random_bytes) == TPMSIM_DONE, "a device is not made");
 }
 
 static void save_and_open(void) {
+    run(SNAPSHOT);
+    run(RESTORE);
     image_size = tpmsim_save(&device, response, 0);
     image = taken(image_size);
     run(SAVE);
     run(KEPT);
     run(OPEN);
     run(FREE);
+    tpmsim_free(&completed);
     free(image);
 }
 
@@ -97,6 +121,7 @@ static void play(const char *line) {
         buffer = taken(strlen(hex) / 2);
         size = hex_bytes(hex, buffer);
         run(EXECUTE);
+        run(COMPLETE);
         free(buffer);
         elapsed = 0;
     } else if (strncmp(line, "loc ", 4) == 0)

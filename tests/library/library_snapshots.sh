@@ -1,0 +1,19 @@
+# State texts over the library: what each good and bad text is (library/snapshots.py), and devices that
+# are restored at random moments of random scripts (library/moved.c), beside sanitizers and without.
+# tools/soak/snapshots.sh plays more of both.
+tests=$(cd "$(dirname "$0")/.." && pwd -P)
+. "$tests/common/cases.sh"
+. "$tests/common/library.sh"
+needs cc python3
+
+python3 "$sources/snapshots.py" "$shared" 7
+
+compile moved moved "$archive"
+# shellcheck disable=SC2086 # they are words
+compile sanitized_moved moved $sanitizers "$archive"
+for seed in 1 2 3 4; do
+    python3 "$tests/at_random/random_script.py" "$seed" 300 . || exit 1
+    python3 "$sources/scripts.py" --lines "$seed.tpm" || exit 1
+done >lines
+"$room/moved" 1 4 <lines
+"$room/sanitized_moved" 2 4 <lines

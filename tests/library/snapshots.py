@@ -1,0 +1,114 @@
+"""Has the library restore state texts, and compares what it reports with the device in Python:
+
+    tools/python.sh snapshots.py LIBRARY [ONE_IN]
+
+LIBRARY is the shared object. Of the texts with a byte turned, and of those whose digest is right again,
+it is given one in ONE_IN, or all. A text that is refused leaves the device as it was. A text that is
+read is written again as it was; one without the completing layer gets a new one.
+"""
+
+import collections
+import ctypes
+import sys
+from collections.abc import Iterable, Iterator
+
+from tpmsim.model import state_text
+from tpmsim.model.image import DIGEST_AT_END, HEAD_BYTES
+from tpmsim.model.machine import Model
+from tpmsim.model.state_text import Layer
+from tests.common.shims import fail
+from tests.images import state_bodies, worked_state
+
+MOST_BYTES, RANDOM = 36_323, bytes(range(256))
+
+# What a call reports: 13 to 18 are the faults of a text.
+DONE, FIRST_FAULT = 0, 13
+FAULTS = "Short", "Magic", "Version", "Length", "Digest", "Body"
+
+# The lowest bit, the highest one, and by one in the direction that is not the lowest bit's.
+WAYS = (
+    *(lambda byte: byte ^ 0x01, lambda byte: byte ^ 0x80),
+    lambda byte: byte + (1 if byte & 1 else -1) & 0xFF,
+)
+
+
+class Library:
+    """A device of the library."""
+
+    def __init__(self, path: str) -> None:
+        self.calls, self.holder = ctypes.CDLL(path), ctypes.c_void_p()
+        self.calls.tpmsim_snapshot.restype = ctypes.c_size_t
+        self.calls.tpmsim_restore.restype = ctypes.c_uint8
+        self.buffer = ctypes.create_string_buffer(MOST_BYTES)
+        if self.calls.tpmsim_manufacture(ctypes.byref(self.holder), RANDOM):
+            raise MemoryError
+
+    def snapshot(self) -> bytes:
+        room = ctypes.c_size_t(MOST_BYTES)
+        size = self.calls.tpmsim_snapshot(ctypes.byref(self.holder), self.buffer, room)
+        return self.buffer.raw[:size]
+
+    def fault_of(self, text: bytes) -> str | None:
+        """The fault of a text; the device is the one of a text without a fault."""
+        size = ctypes.c_size_t(len(text))
+        told = self.calls.tpmsim_restore(ctypes.byref(self.holder), text, size)
+        return None if told == DONE else FAULTS[told - FIRST_FAULT]
+
+
+def with_layer(text: bytes) -> bytes:
+    """The text of the same device with a completing layer, which is a new one if it has none."""
+    device, layer = state_text.open_state(text)
+    return state_text.state_text(device, layer or Layer())
+
+
+def judge(library: Library, words: str, text: bytes) -> str:
+    """The fault of a text by both devices; a refused text leaves the library's as it was."""
+    wanted, before = state_text.fault_of(text), library.snapshot()
+    given = library.fault_of(text)
+    if given != wanted:
+        fail(f"{words}: {wanted} is wanted, {given} is given")
+    if library.snapshot() != (before if wanted else with_layer(text)):
+        fail(f"{words}: another device is there")
+    return wanted or "restored"
+
+
+def kind(library: Library, words: str, texts: Iterable[bytes]) -> None:
+    """Prints how many texts of a kind there are, and what they are."""
+    counts = collections.Counter(judge(library, words, it) for it in texts)
+    print(f"{words}: {', '.join(f'{count:,} {it}' for it, count in sorted(counts.items()))}")
+
+
+def turned(text: bytes, one_in: int) -> Iterator[bytes]:
+    """The bytes turned, one in so many, each in three ways."""
+    for at in range(0, len(text), one_in):
+        for way in WAYS:
+            yield text[:at] + bytes([way(text[at])]) + text[at + 1 :]
+
+
+def kinds(library: Library, text: bytes, one_in: int) -> None:
+    kind(library, "the text", [text])
+    kind(library, "its proper prefixes", (text[:size] for size in range(len(text))))
+    kind(library, "with bytes behind it", [text + bytes(count) for count in (1, 32, 65_536)])
+    kind(library, "a byte turned", turned(text, one_in))
+    bodies = turned(text[HEAD_BYTES:-DIGEST_AT_END], one_in)
+    kind(library, "a byte turned, with the right digest", map(state_text.framed, bodies))
+
+
+def bodies(library: Library) -> None:
+    for words, bad, good in state_bodies.pairs():
+        told = [judge(library, words, state_text.framed(it)) for it in (good, bad)]
+        if told != ["restored", "Body"]:
+            fail(f"{words}: {told[1]}, and the good one {told[0]}")
+    print("each body with one thing wrong is refused, and the good one beside it restored")
+
+
+def main(path: str, one_in: str = "1") -> None:
+    library = Library(path)
+    kind(library, "a new device", [state_text.state_text(Model())])
+    kind(library, "the largest", [state_text.state_text(*state_bodies.largest())])
+    bodies(library)
+    kinds(library, worked_state.text(), int(one_in))
+
+
+if __name__ == "__main__":
+    main(*sys.argv[1:])

@@ -1,0 +1,49 @@
+#!/bin/sh
+# Plays random scripts over the library on two devices: one that is never taken apart, and one that is
+# restored from its state text in another handle at random moments, before one event in four. Both have
+# to answer every event alike (tests/library/moved.c). Then every prefix of a state text, and every byte
+# turned, is judged by the library and by the device in Python (tests/library/snapshots.py). It is no part
+# of the gate, and needs python3, a C compiler and the library in dist/.
+#
+#   tools/soak/snapshots.sh                 the scripts of the seeds 1 to 100, of 1,000 commands each
+#   tools/soak/snapshots.sh 7               that of seed 7
+#   tools/soak/snapshots.sh 1 200 2000      those of the seeds 1 to 200, of 2,000 commands each
+#
+# Where the devices differ it leaves the script, and says where. Its last line is `N agree, M differ`.
+set -u
+
+top=$(CDPATH='' cd "$(dirname "$0")/../.." && pwd -P) || exit 1
+dist=${DIST:-$top/dist}
+first=${1:-1}
+last=${2:-${1:-100}}
+count=${3:-1000}
+folder=$(mktemp -d) || exit 1
+agree=0
+differ=0
+
+# play SEED: plays the script of a seed on two devices.
+play() {
+    "$top/tools/python.sh" "$top/tests/at_random/random_script.py" "$1" "$count" "$folder" || exit 1
+    "$top/tools/python.sh" "$top/tests/library/scripts.py" --lines "$folder/$1.tpm" >"$folder/lines" ||
+        exit 1
+    "$folder/moved" "$1" 4 <"$folder/lines"
+}
+
+cc -std=c11 -O1 -Wall -Wextra -Werror -I"$dist" -o "$folder/moved" "$top/tests/library/moved.c" \
+    "$dist/libtpmsim.a" || exit 1
+seed=$first
+while [ "$seed" -le "$last" ]; do
+    if play "$seed"; then
+        agree=$((agree + 1))
+        rm "$folder/$seed.tpm" "$folder/$seed.out"
+    else
+        differ=$((differ + 1))
+        echo "DIFFERS: $folder/$seed.tpm"
+    fi
+    seed=$((seed + 1))
+done
+rm "$folder/lines" "$folder/moved"
+[ "$differ" -gt 0 ] || rmdir "$folder"
+"$top/tools/python.sh" "$top/tests/library/snapshots.py" "$dist/libtpmsim.so.0" || differ=$((differ + 1))
+echo "$agree agree, $differ differ"
+[ "$differ" -eq 0 ]
