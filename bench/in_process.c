@@ -6,11 +6,15 @@
  *     power                           takes the power of the device and gives it back
  *     time COUNT HEX..                executes these commands in turn, so many times
  *     session COUNT HANDLE NONCE      executes TPM2_PCR_Reset so many times by this HMAC session
- *     save|open|new|cycle COUNT       does that so many times with a device of libtpmsim
+ *     save|open|new|cycle|snapshot|restore COUNT
+ *                                     does that so many times with a device of libtpmsim
+ *     volatile COUNT                  has libtpms write its volatile state so many times
+ *     sizes                           prints the bytes of an image, of a state text, and of the
+ *                                     volatile state of libtpms
  *
  * DEVICE is tpms, sim, which is that of libtpmsim with fresh bytes for those that a command drew,
- * or still, which is the same device with random bytes that stay. The last three kinds of lines
- * print how many nanoseconds passed. A command that is refused ends the program. */
+ * or still, which is the same device with random bytes that stay. The lines from `time` to
+ * `volatile` print how many nanoseconds passed. A command that is refused ends the program. */
 #define _GNU_SOURCE
 #include "tpmsim.h"
 #include <libtpms/tpm_error.h>
@@ -238,9 +242,10 @@ static void cycle_power(void) {
 
 /* Times a call of libtpmsim that is no command. */
 static void time_call(const char *call, long times) {
-    static uint8_t image[IMAGE_BYTES];
+    static uint8_t image[IMAGE_BYTES], text[TPMSIM_STATE_SIZE];
     struct tpmsim other = {0};
     size_t size = tpmsim_save(&device, image, IMAGE_BYTES);
+    size_t text_size = tpmsim_snapshot(&device, text, sizeof text);
     uint64_t begun = now();
     for (long i = 0; i < times; i++) {
         uint8_t told = 0;
@@ -250,12 +255,36 @@ static void time_call(const char *call, long times) {
             told = tpmsim_open(&other, image, size);
         else if (strcmp(call, "new") == 0)
             told = tpmsim_manufacture(&other, random_bytes);
+        else if (strcmp(call, "snapshot") == 0)
+            text_size = tpmsim_snapshot(&device, text, sizeof text);
+        else if (strcmp(call, "restore") == 0)
+            told = tpmsim_restore(&other, text, text_size);
         else
             told = i ? tpmsim_power_cycle(&other) : tpmsim_open(&other, image, size);
         if (told != TPMSIM_DONE || size > IMAGE_BYTES) fail("a call is refused");
     }
     printf("%llu\n", (unsigned long long)(now() - begun));
     tpmsim_free(&other);
+}
+
+/* Has libtpms write its volatile state, and returns how many bytes it has. */
+static uint32_t store_volatile(void) {
+    unsigned char *state = NULL;
+    uint32_t size = 0;
+    if (TPMLIB_VolatileAll_Store(&state, &size) != TPM_SUCCESS) fail("libtpms stores nothing");
+    TPM_Free(state);
+    return size;
+}
+
+static void time_volatile(long times) {
+    uint64_t begun = now();
+    for (long i = 0; i < times; i++) store_volatile();
+    printf("%llu\n", (unsigned long long)(now() - begun));
+}
+
+static void print_sizes(void) {
+    printf("%zu %zu %u\n", tpmsim_save(&device, room, 0), tpmsim_snapshot(&device, room, 0),
+           (unsigned)store_volatile());
 }
 
 static void follow(char *line) {
@@ -273,6 +302,10 @@ static void follow(char *line) {
         time_commands(rest);
     else if (strcmp(line, "session") == 0)
         time_session(rest);
+    else if (strcmp(line, "volatile") == 0)
+        time_volatile(atol(rest));
+    else if (strcmp(line, "sizes") == 0)
+        print_sizes();
     else
         time_call(line, atol(rest));
     fflush(stdout);

@@ -21,10 +21,14 @@ ROUNDS = 15
 TARGETS = "tpms", "sim", "still"
 SUCCESS = "00000000"
 
+# How many sessions libtpmsim has at most, and how many libtpms has loaded at most.
+MOST_SESSIONS, MOST_SESSIONS_OF_LIBTPMS = 16, 3
+
 HMAC_KEY = replace(hmac_key(), attributes=0x0004_0052)
 SEALED = sealed(attributes=0x0000_0052)
 SECRET, DATA, LARGE = "5a" * 32, "22" * 64, "33" * 1024
 SESSION = f"StartAuthSession NULL NULL {'00' * 16} - {{}} null sha256"
+BOUND = f"StartAuthSession NULL OWNER {'00' * 32} - 0 null sha256"
 BY_SESSION = "PCR_Reset by an HMAC session"
 PARENT, KEY, LOADED = "80000000", "80000001", "80000002"
 
@@ -158,11 +162,30 @@ def measure(program: Program, row: Row, target: str) -> None:
     program.command(hex_of(f"FlushContext 0x{row.tells[target].split(' ')[1]}"))
 
 
+def start_sessions(program: Program, target: str, count: int) -> None:
+    """Starts so many HMAC sessions that are bound to the owner."""
+    program.tell(f"use {target}")
+    for _ in range(count):
+        program.command(hex_of(BOUND))
+
+
 def print_calls(program: Program, rounds: int) -> None:
     program.tell("use still")
     for call, count in ("save", 500), ("open", 500), ("new", 500), ("cycle", 2000):
-        times = [int(program.ask(f"{call} {count}")) / count / 1000 for _ in range(rounds)]
-        print(f"{call}: {statistics.median(times):.2f} ({min(times):.2f})")
+        print_call(program, rounds, call, count)
+    start_sessions(program, "still", MOST_SESSIONS)
+    start_sessions(program, "tpms", MOST_SESSIONS_OF_LIBTPMS)
+    image, text, volatile = program.ask("sizes").split(" ")
+    print(
+        f"with sessions: an image of {image} bytes, a state text of {text}, of libtpms {volatile}"
+    )
+    for call in "snapshot", "restore", "save", "volatile":
+        print_call(program, rounds, call, 500)
+
+
+def print_call(program: Program, rounds: int, call: str, count: int) -> None:
+    times = [int(program.ask(f"{call} {count}")) / count / 1000 for _ in range(rounds)]
+    print(f"{call}: {statistics.median(times):.2f} ({min(times):.2f})")
 
 
 def main() -> None:
