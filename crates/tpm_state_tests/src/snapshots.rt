@@ -3,10 +3,12 @@
 use std::alloc::Global;
 use std::process::Abort;
 use std::test::Fail;
+use tpm_completion::Completion;
 use tpm_lists::{Task, run_over_lists};
 use tpm_machine::Machine;
 use tpm_record::Keep;
 use tpm_slots::SlotKeep;
+use tpm_snapshot::{Layer, completion_of, layer_of};
 use tpm_state_text::{
     RestoreFault, STATE_TEXT_LIMIT, StateFault, restore_into, restored, snapshot_into,
 };
@@ -114,6 +116,52 @@ impl Trial for PutInPlace {
         check(rt, text_of(alloc, &other)?.as_slice(), text.as_slice());
         Ok(())
     }
+}
+
+/// The state text of a machine with this layer.
+fn text_with<K: Keep>(alloc: Global, machine: &Machine<K>, layer: &Layer) -> Result<Vec<u8>, Fail> {
+    let mut text = vec![in alloc; 0u8; STATE_TEXT_LIMIT]?;
+    let size = tpm_snapshot::snapshot_into(machine, Some(layer), &mut text);
+    text.truncate(size);
+    Ok(text)
+}
+
+#[derive(Drop)]
+struct MachineWithLayer;
+
+impl Trial for MachineWithLayer {
+    fn run<K: Keep, R: Abort>(rt: &R, alloc: Global) -> Result<(), Fail> {
+        let machine: Machine<K> = device(alloc)?;
+        let layer = layer_of(&Completion::of_start(7));
+        let text = text_with(alloc, &machine, &layer)?;
+        let Ok((again, read)) = tpm_snapshot::restored::<K>(alloc, text.as_slice()) else {
+            return Err(Fail::new("not restored"));
+        };
+        check(
+            rt,
+            completion_of(read.as_ref()) == Completion::of_start(7),
+            true,
+        );
+        check(
+            rt,
+            text_with(alloc, &again, &layer)?.as_slice(),
+            text.as_slice(),
+        );
+        let mut other: Machine<K> = Machine::manufacture(alloc, &[0; 256])?;
+        let put = tpm_snapshot::restore_into(&mut other, alloc, text.as_slice()).is_ok();
+        check(rt, put, true);
+        check(
+            rt,
+            text_with(alloc, &other, &layer)?.as_slice(),
+            text.as_slice(),
+        );
+        Ok(())
+    }
+}
+
+#[test]
+fn a_machine_is_restored_with_its_layer(rt: HostRuntime) -> Result<(), Fail> {
+    run_over_both(MachineWithLayer, &rt, rt.alloc())
 }
 
 #[test]
