@@ -1,13 +1,15 @@
 -- The parts of a head stand at their places in its mark and in its text.
-use Rattle.std.proofs.Common.{◌≡◌, ℕ, ◌*◌, List, [], ◌∷◌, ◌++◌, length, take, drop, refl, ap, sym, ◌∙◌, append_assoc, arith, length-append}
+use Rattle.std.proofs.Common.{◌≡◌, ℕ, ◌*◌, ◌≤◌, List, [], ◌∷◌, ◌++◌, length, take, drop, get_or, Bool, true, false, refl, ap, sym, ◌∙◌, append_assoc, arith, length-append}
 use Rattle.std.specs.Prelude.{codes}
-use Rattle.std.specs.Int.{w32, w64, from_be_bytes}
+use Rattle.std.specs.Int.{w32, w64, from_be_bytes, to_be_bytes}
 use Rattle.std.proofs.lemmas.List.{take_at, drop_at, take-append-drop}
 use Rattle.std.proofs.lemmas.Nat.{from_be_bytes-to_be_bytes_4, from_be_bytes-to_be_bytes_8}
 use Rattle.hex.specs.Hex.{encode_lower, lower_digits}
 use Rattle.hex.proofs.HexLemmas.{length-encode_with}
 use Rattle.tpm_bytes.specs.Reading.{AreBytes}
-use Rattle.tpm_journal_text.specs.Head.{HasHead, IsHeadOf, head_mark, head_size, head_sum, head_text, head_word}
+use Rattle.tpm_journal_text.specs.Head.{HasHead, IsHeadOf, content_limit, head_mark, head_size, head_sum, head_text, head_word}
+use Rattle.tpm_journal_text.specs.declared.head.HeadKind.{HeadKind}
+use Rattle.tpm_journal_text.specs.declared.head.HeadKind.TheVariants.{Image, State}
 use Rattle.tpm_journal_text.specs.Marked.{marked_line}
 use Rattle.tpm_journal_text.specs.declared.head.Head.{Head}
 use Rattle.tpm_journal_text.specs.Places.{HeadStands}
@@ -15,125 +17,193 @@ use Rattle.tpm_journal_text.specs.Sum.{offset_basis, sum_from}
 use Rattle.tpm_journal_text.proofs.Bytes.{all_small}
 use Rattle.tpm_journal_text.proofs.Pieces.{front_of, hex_same, line_length, line_same}
 
-pub head_mark_many : (clock : ℕ) (image : List ℕ) → length (head_mark clock image) ≡ 20
+pub head_mark_many : (clock : ℕ) (content : List ℕ) → length (head_mark clock content) ≡ 20
 unfolding head_mark
-head_mark_many clock image = refl
+head_mark_many clock content = refl
 
-pub head_mark_bytes : (clock : ℕ) (image : List ℕ) → AreBytes (head_mark clock image)
+pub head_mark_bytes : (clock : ℕ) (content : List ℕ) → AreBytes (head_mark clock content)
 unfolding head_mark
-head_mark_bytes clock image = all_small (head_mark clock image) (omega arith, (omega arith, (omega arith, (omega arith, (omega arith, (omega arith, (omega arith, (omega arith, (omega arith, (omega arith, (omega arith, (omega arith, (omega arith, (omega arith, (omega arith, (omega arith, (omega arith, (omega arith, (omega arith, (omega arith, tt))))))))))))))))))))
+head_mark_bytes clock content = all_small (head_mark clock content) (omega arith, (omega arith, (omega arith, (omega arith, (omega arith, (omega arith, (omega arith, (omega arith, (omega arith, (omega arith, (omega arith, (omega arith, (omega arith, (omega arith, (omega arith, (omega arith, (omega arith, (omega arith, (omega arith, (omega arith, tt))))))))))))))))))))
 
-clock_is : (clock : ℕ) (image : List ℕ) → HasHead clock image → from_be_bytes w64 (take 8 (head_mark clock image)) ≡ clock
+limit_small : (kind : HeadKind) → content_limit kind ≤ 36864
+limit_small Image = omega arith
+limit_small State = omega arith
+
+clock_is : (kind : HeadKind) (clock : ℕ) (content : List ℕ) → HasHead kind clock content → from_be_bytes w64 (take 8 (head_mark clock content)) ≡ clock
 unfolding head_mark
-clock_is clock image has = from_be_bytes-to_be_bytes_8 clock has.in_time
+clock_is kind clock content has = from_be_bytes-to_be_bytes_8 clock has.in_time
 
-count_is : (clock : ℕ) (image : List ℕ) → HasHead clock image → from_be_bytes w32 (take 4 (drop 8 (head_mark clock image))) ≡ length image
+count_is : (kind : HeadKind) (clock : ℕ) (content : List ℕ) → HasHead kind clock content → from_be_bytes w32 (take 4 (drop 8 (head_mark clock content))) ≡ length content
 unfolding head_mark
-count_is clock image has = from_be_bytes-to_be_bytes_4 (length image) (omega (arith, has.small))
+count_is kind clock content has =
+    from_be_bytes-to_be_bytes_4 (length content) (omega (arith, has.small, limit_small kind))
 
-regrouped : (line word image end rest : List ℕ) → (line ++ word ++ image ++ end) ++ rest ≡ (line ++ word) ++ (image ++ (end ++ rest))
-regrouped line word image end rest = simp append_assoc refl
+regrouped : (line word content end rest : List ℕ) → (line ++ word ++ content ++ end) ++ rest ≡ (line ++ word) ++ (content ++ (end ++ rest))
+regrouped line word content end rest = simp append_assoc refl
 
 -- the line of the mark of a head
-head_line : (clock : ℕ) → (image : List ℕ) → List ℕ
-head_line clock image = marked_line head_word (head_mark clock image) (head_sum clock image)
+head_line : HeadKind → (clock : ℕ) → (content : List ℕ) → List ℕ
+head_line kind clock content = marked_line (head_word kind) (head_mark clock content) (head_sum clock content)
 
-parts : (clock : ℕ) (image rest : List ℕ) → head_text clock image ++ rest
-    ≡ (head_line clock image ++ codes "# ") ++ (encode_lower image ++ (10 ∷ [] ++ rest))
+parts : (kind : HeadKind) (clock : ℕ) (content rest : List ℕ) → head_text kind clock content ++ rest
+    ≡ (head_line kind clock content ++ codes "# ") ++ (encode_lower content ++ (10 ∷ [] ++ rest))
 unfolding head_text head_line
-parts clock image rest = regrouped (marked_line head_word (head_mark clock image) (head_sum clock image)) (codes "# ") (encode_lower image) (10 ∷ []) rest
+parts kind clock content rest =
+    regrouped (marked_line (head_word kind) (head_mark clock content) (head_sum clock content)) (codes "# ") (encode_lower content) (10 ∷ []) rest
 
-head_line_many : (clock : ℕ) (image : List ℕ) → length (head_line clock image) ≡ 77
+pub word_many : (kind : HeadKind) → length (head_word kind) ≡ 19
+word_many Image = refl
+word_many State = refl
+
+head_line_many : (kind : HeadKind) (clock : ℕ) (content : List ℕ) → length (head_line kind clock content) ≡ 77
 unfolding head_line
-head_line_many clock image = line_length head_word (head_mark clock image) (head_sum clock image) 20 (head_mark_many clock image)
+head_line_many kind clock content =
+    omega (arith, line_length (head_word kind) (head_mark clock content) (head_sum clock content) 20 (head_mark_many clock content), word_many kind)
 
-before_many : (clock : ℕ) (image : List ℕ) → length (head_line clock image ++ codes "# ") ≡ 79
-before_many clock image = omega (arith, head_line_many clock image, length-append (head_line clock image) (codes "# "))
+before_many : (kind : HeadKind) (clock : ℕ) (content : List ℕ) → length (head_line kind clock content ++ codes "# ") ≡ 79
+before_many kind clock content = omega (arith, head_line_many kind clock content, length-append (head_line kind clock content) (codes "# "))
+
+-- what follows the line of a head's mark
+behind_line : (content rest : List ℕ) → List ℕ
+behind_line content rest = codes "# " ++ (encode_lower content ++ (10 ∷ [] ++ rest))
+
+line_first : (kind : HeadKind) (clock : ℕ) (content rest : List ℕ) → head_text kind clock content ++ rest ≡ head_line kind clock content ++ behind_line content rest
+unfolding behind_line
+line_first kind clock content rest =
+    parts kind clock content rest ∙ append_assoc (head_line kind clock content) (codes "# ") (encode_lower content ++ (10 ∷ [] ++ rest))
 
 -- the line of a head's mark stands at the front of the head's text
-pub head_line_stands : (clock : ℕ) (image text rest : List ℕ) → text ≡ head_text clock image ++ rest
-    → take 77 text ≡ marked_line head_word (head_mark clock image) (head_sum clock image)
+pub head_line_stands : (kind : HeadKind) (clock : ℕ) (content text rest : List ℕ) → text ≡ head_text kind clock content ++ rest
+    → take 77 text ≡ marked_line (head_word kind) (head_mark clock content) (head_sum clock content)
 unfolding head_line
-head_line_stands clock image text rest t =
-    front_of (head_line clock image) (codes "# " ++ (encode_lower image ++ (10 ∷ [] ++ rest))) text 77 (head_line_many clock image)
-    (t ∙ parts clock image rest ∙ append_assoc (head_line clock image) (codes "# ") (encode_lower image ++ (10 ∷ [] ++ rest)))
+head_line_stands kind clock content text rest t =
+    front_of (head_line kind clock content) (behind_line content rest) text 77 (head_line_many kind clock content)
+    (t ∙ line_first kind clock content rest)
 
-pub head_text_many : (clock : ℕ) (image : List ℕ) → length (head_text clock image) ≡ head_size (length image)
+line_word : (word bytes rest : List ℕ) (sum : ℕ) → (more : List ℕ) × (marked_line word bytes sum ++ rest ≡ word ++ more)
+unfolding marked_line
+line_word word bytes rest sum =
+    (encode_lower bytes ++ (32 ∷ [] ++ (encode_lower (to_be_bytes w64 sum) ++ (10 ∷ [] ++ rest))), simp append_assoc refl)
+
+-- the word of a head stands at its front, and so all heads of a text are of one kind
+word_stands : (kind : HeadKind) (clock : ℕ) (content text rest : List ℕ) → text ≡ head_text kind clock content ++ rest
+    → (more : List ℕ) × (text ≡ head_word kind ++ more)
+unfolding head_line
+word_stands kind clock content text rest t =
+    let line = line_word (head_word kind) (head_mark clock content) (behind_line content rest) (head_sum clock content) in
+    (line.0, t ∙ line_first kind clock content rest ∙ line.1)
+
+one_word : (kind other : HeadKind) (x y : List ℕ) → head_word kind ++ x ≡ head_word other ++ y → kind ≡ other
+one_word Image Image x y same = refl
+one_word State State x y same = refl
+one_word Image State x y same =
+    let no : 49 ≡ 50 = ap (λ (l : List ℕ). get_or l 17 0) same in
+    absurd (omega (arith, no))
+one_word State Image x y same =
+    let no : 50 ≡ 49 = ap (λ (l : List ℕ). get_or l 17 0) same in
+    absurd (omega (arith, no))
+
+-- a head is one of a state if the text begins with the word of one, and else one of an image
+pub is_state : (word text rest : List ℕ) (kind : HeadKind) (clock : ℕ) (content : List ℕ) → word ≡ head_word State → take (length word) text ≡ word
+    → text ≡ head_text kind clock content ++ rest → State ≡ kind
+is_state word text rest kind clock content is front t =
+    let stands = word_stands kind clock content text rest t in
+    one_word State kind (drop (length word) text) stands.0
+    (ap (λ (l : List ℕ). l ++ drop (length word) text) (sym is ∙ sym front) ∙ take-append-drop (length word) text ∙ stands.1)
+
+pub is_image : (word text rest : List ℕ) (found : Bool) (kind : HeadKind) (clock : ℕ) (content : List ℕ) → word ≡ head_word State
+    → ((rest : List ℕ) → text ≡ word ++ rest → found ≡ true) → found ≡ false → text ≡ head_text kind clock content ++ rest → Image ≡ kind
+is_image word text rest found Image clock content is none not_found t = refl
+is_image word text rest found State clock content is none not_found t =
+    let stands = word_stands State clock content text rest t in
+    let both : true ≡ false = sym (none stands.0 (stands.1 ∙ ap (λ (l : List ℕ). l ++ stands.0) (sym is))) ∙ not_found in
+    absurd cc
+
+pub head_text_many : (kind : HeadKind) (clock : ℕ) (content : List ℕ) → length (head_text kind clock content) ≡ head_size (length content)
 unfolding head_text head_line
-head_text_many clock image =
-    let line = head_line_many clock image in
-    let a = length-append (head_line clock image) (codes "# ") in
-    let b = length-append (head_line clock image ++ codes "# ") (encode_lower image) in
-    let c = length-append (head_line clock image ++ codes "# " ++ encode_lower image) (10 ∷ []) in
-    omega (arith, line, a, b, c, length-encode_with lower_digits image)
+head_text_many kind clock content =
+    let line = head_line_many kind clock content in
+    let a = length-append (head_line kind clock content) (codes "# ") in
+    let b = length-append (head_line kind clock content ++ codes "# ") (encode_lower content) in
+    let c = length-append (head_line kind clock content ++ codes "# " ++ encode_lower content) (10 ∷ []) in
+    omega (arith, line, a, b, c, length-encode_with lower_digits content)
 
 -- the mark that was read is that of the head
-pub head_mark_stands : (clock : ℕ) (image mark text rest : List ℕ) → length mark ≡ 20 → AreBytes mark
-    → take 77 text ≡ marked_line head_word mark (sum_from offset_basis mark) → text ≡ head_text clock image ++ rest
-    → mark ≡ head_mark clock image
-head_mark_stands clock image mark text rest many are line t =
-    line_same head_word mark (head_mark clock image) (sum_from offset_basis mark) (head_sum clock image) are (head_mark_bytes clock image)
-    (many ∙ sym (head_mark_many clock image)) (sym line ∙ head_line_stands clock image text rest t)
+pub head_mark_stands : (kind : HeadKind) (clock : ℕ) (content mark text rest : List ℕ) → length mark ≡ 20 → AreBytes mark
+    → take 77 text ≡ marked_line (head_word kind) mark (sum_from offset_basis mark) → text ≡ head_text kind clock content ++ rest
+    → mark ≡ head_mark clock content
+head_mark_stands kind clock content mark text rest many are line t =
+    line_same (head_word kind) mark (head_mark clock content) (sum_from offset_basis mark) (head_sum clock content) are (head_mark_bytes clock content)
+    (many ∙ sym (head_mark_many clock content)) (sym line ∙ head_line_stands kind clock content text rest t)
 
-pub head_stands : (clock : ℕ) (image mark text rest : List ℕ) → HasHead clock image → length mark ≡ 20 → AreBytes mark
-    → take 77 text ≡ marked_line head_word mark (sum_from offset_basis mark) → text ≡ head_text clock image ++ rest
-    → HeadStands clock image mark text
-head_stands clock image mark text rest has many are line t =
-    let same : mark ≡ head_mark clock image = head_mark_stands clock image mark text rest many are line t in
+pub head_stands : (kind : HeadKind) (clock : ℕ) (content mark text rest : List ℕ) → HasHead kind clock content → length mark ≡ 20 → AreBytes mark
+    → take 77 text ≡ marked_line (head_word kind) mark (sum_from offset_basis mark) → text ≡ head_text kind clock content ++ rest
+    → HeadStands kind clock content mark text
+head_stands kind clock content mark text rest has many are line t =
+    let same : mark ≡ head_mark clock content = head_mark_stands kind clock content mark text rest many are line t in
     record {
       has = has;
-      clock_told = ap (λ (l : List ℕ). from_be_bytes w64 (take 8 l)) same ∙ clock_is clock image has;
-      count_told = ap (λ (l : List ℕ). from_be_bytes w32 (take 4 (drop 8 l))) same ∙ count_is clock image has;
-      image_told = ap (λ (l : List ℕ). take (2 * length image) (drop 79 l)) (t ∙ parts clock image rest)
-          ∙ rw (drop_at (head_line clock image ++ codes "# ") (encode_lower image ++ (10 ∷ [] ++ rest)) 79 (before_many clock image))
-          (take_at (encode_lower image) (10 ∷ [] ++ rest) (2 * length image) (length-encode_with lower_digits image));
-      long = omega (arith, ap length t, length-append (head_text clock image) rest, head_text_many clock image);
+      clock_told = ap (λ (l : List ℕ). from_be_bytes w64 (take 8 l)) same ∙ clock_is kind clock content has;
+      count_told = ap (λ (l : List ℕ). from_be_bytes w32 (take 4 (drop 8 l))) same ∙ count_is kind clock content has;
+      content_told = ap (λ (l : List ℕ). take (2 * length content) (drop 79 l)) (t ∙ parts kind clock content rest)
+          ∙ rw (drop_at (head_line kind clock content ++ codes "# ") (encode_lower content ++ (10 ∷ [] ++ rest)) 79 (before_many kind clock content))
+          (take_at (encode_lower content) (10 ∷ [] ++ rest) (2 * length content) (length-encode_with lower_digits content));
+      long = omega (arith, ap length t, length-append (head_text kind clock content) rest, head_text_many kind clock content);
     }
 
--- the line of the image follows that of the mark
-pub image_line_stands : (clock : ℕ) (image text rest : List ℕ) → text ≡ head_text clock image ++ rest
-    → drop 77 text ≡ codes "# " ++ (encode_lower image ++ (10 ∷ [] ++ rest))
-image_line_stands clock image text rest t =
-    ap (drop 77) (t ∙ parts clock image rest ∙ append_assoc (head_line clock image) (codes "# ") (encode_lower image ++ (10 ∷ [] ++ rest)))
-    ∙ drop_at (head_line clock image) (codes "# " ++ (encode_lower image ++ (10 ∷ [] ++ rest))) 77 (head_line_many clock image)
+-- the line of the content follows that of the mark
+pub content_line_stands : (kind : HeadKind) (clock : ℕ) (content text rest : List ℕ) → text ≡ head_text kind clock content ++ rest
+    → drop 77 text ≡ codes "# " ++ (encode_lower content ++ (10 ∷ [] ++ rest))
+unfolding behind_line
+content_line_stands kind clock content text rest t =
+    ap (drop 77) (t ∙ line_first kind clock content rest)
+    ∙ drop_at (head_line kind clock content) (behind_line content rest) 77 (head_line_many kind clock content)
 
--- the lines of the mark and of the image make a head
-head_whole : (clock : ℕ) (image text rest : List ℕ) → take 77 text ≡ head_line clock image
-    → drop 77 text ≡ codes "# " ++ (encode_lower image ++ (10 ∷ [] ++ rest)) → text ≡ head_text clock image ++ rest
-head_whole clock image text rest line behind =
-    sym (take-append-drop 77 text) ∙ ap (λ (l : List ℕ). l ++ drop 77 text) line ∙ ap (λ (l : List ℕ). head_line clock image ++ l) behind
-    ∙ sym (append_assoc (head_line clock image) (codes "# ") (encode_lower image ++ (10 ∷ [] ++ rest))) ∙ sym (parts clock image rest)
+-- the lines of the mark and of the content make a head
+head_whole : (kind : HeadKind) (clock : ℕ) (content text rest : List ℕ) → take 77 text ≡ head_line kind clock content
+    → drop 77 text ≡ behind_line content rest → text ≡ head_text kind clock content ++ rest
+head_whole kind clock content text rest line behind =
+    sym (take-append-drop 77 text) ∙ ap (λ (l : List ℕ). l ++ drop 77 text) line ∙ ap (λ (l : List ℕ). head_line kind clock content ++ l) behind
+    ∙ sym (line_first kind clock content rest)
 
-pub head_found : (text mark rest : List ℕ) (head : Head) → HasHead head.clock head.image.now → head_mark head.clock head.image.now ≡ mark
-    → head.sum ≡ sum_from offset_basis mark → take 77 text ≡ marked_line head_word mark head.sum
-    → drop 77 text ≡ codes "# " ++ (encode_lower head.image.now ++ (10 ∷ [] ++ rest)) → head.size ≡ head_size (length head.image.now)
+pub head_found : (text mark rest : List ℕ) (head : Head) → HasHead head.kind head.clock head.content.now → head_mark head.clock head.content.now ≡ mark
+    → head.sum ≡ sum_from offset_basis mark → take 77 text ≡ marked_line (head_word head.kind) mark head.sum
+    → drop 77 text ≡ codes "# " ++ (encode_lower head.content.now ++ (10 ∷ [] ++ rest)) → head.size ≡ head_size (length head.content.now)
     → IsHeadOf text head
-unfolding head_line
+unfolding head_line behind_line
 head_found text mark rest head has is sum line behind size =
-    let after : head.sum ≡ head_sum head.clock head.image.now = sum ∙ ap (sum_from offset_basis) (sym is) in
-    let line_is : take 77 text ≡ head_line head.clock head.image.now =
-    line ∙ ap (λ (m : List ℕ). marked_line head_word m head.sum) (sym is)
-    ∙ ap (marked_line head_word (head_mark head.clock head.image.now)) after in
-    let whole : text ≡ head_text head.clock head.image.now ++ rest = head_whole head.clock head.image.now text rest line_is behind in
-    let many = head_text_many head.clock head.image.now in
+    let after : head.sum ≡ head_sum head.clock head.content.now = sum ∙ ap (sum_from offset_basis) (sym is) in
+    let line_is : take 77 text ≡ head_line head.kind head.clock head.content.now =
+    line ∙ ap (λ (m : List ℕ). marked_line (head_word head.kind) m head.sum) (sym is)
+    ∙ ap (marked_line (head_word head.kind) (head_mark head.clock head.content.now)) after in
+    let whole : text ≡ head_text head.kind head.clock head.content.now ++ rest = head_whole head.kind head.clock head.content.now text rest line_is behind in
+    let many = head_text_many head.kind head.clock head.content.now in
     record {
       has = has;
-      whole = omega (arith, ap length whole, length-append (head_text head.clock head.image.now) rest, many, size);
-      is = front_of (head_text head.clock head.image.now) rest text head.size (many ∙ sym size) whole;
+      whole = omega (arith, ap length whole, length-append (head_text head.kind head.clock head.content.now) rest, many, size);
+      is = front_of (head_text head.kind head.clock head.content.now) rest text head.size (many ∙ sym size) whole;
       after = after;
     }
 
--- two heads at the front of one text are equal
-pub same_head : (clock other : ℕ) (image bytes x y : List ℕ) → HasHead clock image → HasHead other bytes
-    → head_text clock image ++ x ≡ head_text other bytes ++ y → (clock ≡ other) × (image ≡ bytes)
-same_head clock other image bytes x y has others same =
-    let text = head_text clock image ++ x in
-    let mark = head_mark clock image in
-    let line = head_line_stands clock image text x refl in
-    let a = head_stands clock image mark text x has (head_mark_many clock image) (head_mark_bytes clock image) line refl in
-    let b = head_stands other bytes mark text y others (head_mark_many clock image) (head_mark_bytes clock image) line same in
-    let many : length image ≡ length bytes = sym a.count_told ∙ b.count_told in (
+-- two heads at the front of one text are of one kind
+pub same_kind : (kind other : HeadKind) (clock time : ℕ) (content bytes x y : List ℕ)
+    → head_text kind clock content ++ x ≡ head_text other time bytes ++ y → kind ≡ other
+same_kind kind other clock time content bytes x y same =
+    let a = word_stands kind clock content (head_text kind clock content ++ x) x refl in
+    let b = word_stands other time bytes (head_text kind clock content ++ x) y same in
+    one_word kind other a.0 b.0 (sym a.1 ∙ b.1)
+
+-- two heads of one kind at the front of one text are equal
+pub same_head : (kind : HeadKind) (clock other : ℕ) (content bytes x y : List ℕ) → HasHead kind clock content → HasHead kind other bytes
+    → head_text kind clock content ++ x ≡ head_text kind other bytes ++ y → (clock ≡ other) × (content ≡ bytes)
+same_head kind clock other content bytes x y has others same =
+    let text = head_text kind clock content ++ x in
+    let mark = head_mark clock content in
+    let line = head_line_stands kind clock content text x refl in
+    let a = head_stands kind clock content mark text x has (head_mark_many clock content) (head_mark_bytes clock content) line refl in
+    let b = head_stands kind other bytes mark text y others (head_mark_many clock content) (head_mark_bytes clock content) line same in
+    let many : length content ≡ length bytes = sym a.count_told ∙ b.count_told in (
       sym a.clock_told ∙ b.clock_told,
-      hex_same image bytes has.are_bytes others.are_bytes
-          (sym a.image_told ∙ ap (λ (n : ℕ). take (2 * n) (drop 79 text)) many ∙ b.image_told),
+      hex_same content bytes has.are_bytes others.are_bytes
+          (sym a.content_told ∙ ap (λ (n : ℕ). take (2 * n) (drop 79 text)) many ∙ b.content_told),
     )

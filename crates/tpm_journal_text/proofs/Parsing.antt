@@ -1,13 +1,13 @@
 -- A text can be read in only one way.
-use Rattle.std.proofs.Common.{◌≡◌, ℕ, ◌+◌, ◌*◌, inl, inr, Bool, true, false, List, [], ◌∷◌, ◌++◌, length, take, drop, max, refl, ap, sym, subst, ◌∙◌, append_assoc, arith, length-append}
+use Rattle.std.proofs.Common.{◌≡◌, ℕ, ◌+◌, ◌*◌, Bool, true, false, List, [], ◌∷◌, ◌++◌, length, take, drop, max, refl, ap, sym, subst, ◌∙◌, append_assoc, arith}
 use Rattle.std.specs.List.{AllByRecursion}
 use Rattle.std.proofs.lemmas.List.{drop_at}
-use Rattle.tpm_journal_text.specs.Entry.{IsEntry, PlainEntry, entry_size, entry_text, flag, mark_of, sum_after}
+use Rattle.tpm_journal_text.specs.Entry.{IsEntry, PlainEntry, entry_text, flag, mark_of, sum_after}
 use Rattle.tpm_journal_text.specs.Journal.{IsTorn, entries_text, sum_after_all}
 use Rattle.tpm_journal_text.specs.Places.{Stands}
 use Rattle.tpm_journal_text.proofs.Damage.{same_mark, torn_is_no_entry}
 use Rattle.tpm_journal_text.proofs.Pieces.{hex_same}
-use Rattle.tpm_journal_text.proofs.Standing.{entry_text_many, line_stands, mark_bytes, mark_many, stands}
+use Rattle.tpm_journal_text.proofs.Standing.{line_stands, mark_bytes, mark_many, stands}
 
 -- ---- one entry
 

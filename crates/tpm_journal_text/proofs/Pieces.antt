@@ -5,7 +5,7 @@ use Rattle.std.specs.Cmp.Lexicographic.{pointwise}
 use Rattle.std.specs.Int.{w64, to_be_bytes}
 use Rattle.std.proofs.lemmas.Bool.{eq-eqb}
 use Rattle.std.proofs.lemmas.List.{take_at, drop_at, take-append-drop}
-use Rattle.hex.specs.Hex.{decode_of, encode_lower, lower_digits}
+use Rattle.hex.specs.Hex.{decode_of, encode_lower, encode_with, lower_digits}
 use Rattle.hex.proofs.HexLemmas.{decode_of-encode_lower, length-encode_with}
 use Rattle.tpm_bytes.specs.Reading.{AreBytes}
 use Rattle.tpm_bytes.proofs.Fields.{ok_is}
@@ -86,3 +86,13 @@ line_same word bytes others sum other_sum are others_are many e =
     hex_same bytes others are others_are
     (sym (line_digits word bytes text sum size (length others) many whole)
     ∙ line_digits word others text other_sum size (length others) refl (whole ∙ e))
+
+-- the hex of two parts is that of the whole
+hex_parts : (front back : List ℕ) → encode_lower (front ++ back) ≡ encode_lower front ++ encode_lower back
+unfolding encode_with
+hex_parts [] back = refl
+hex_parts (byte ∷ front) back = ap (λ (l : List ℕ). encode_lower (byte ∷ []) ++ l) (hex_parts front back)
+
+pub hex_joined : (before front back end : List ℕ) → before ++ encode_lower front ++ encode_lower back ++ end ≡ before ++ encode_lower (front ++ back) ++ end
+hex_joined before front back end =
+    ap (λ (l : List ℕ). l ++ end) (append_assoc before (encode_lower front) (encode_lower back) ∙ ap (λ (l : List ℕ). before ++ l) (sym (hex_parts front back)))

@@ -1,49 +1,57 @@
--- The head of a journal: the host's clock as power came on, and the image of the device then.
+-- The head of a journal: the host's clock, and what the device was then: its image as power came on,
+-- or its whole state, as a state text has it.
 use Rattle.std.specs.Prelude.{◌≡◌, ℕ, ◌+◌, ◌*◌, ◌≤◌, ◌<◌, ◌^◌, List, [], ◌∷◌, ◌++◌, codes, length, take}
 use Rattle.std.specs.Int.{w32, w64, to_be_bytes}
 use Rattle.hex.specs.Hex.{encode_lower}
 use Rattle.tpm_bytes.specs.Reading.{AreBytes}
 use Rattle.tpm_journal_text.specs.declared.head.Head.{Head}
-use Rattle.tpm_journal_text.specs.Marked.{marked_line, marked_size}
+use Rattle.tpm_journal_text.specs.declared.head.HeadKind.{HeadKind}
+use Rattle.tpm_journal_text.specs.declared.head.HeadKind.TheVariants.{Image, State}
+use Rattle.tpm_journal_text.specs.Marked.{marked_line}
 use Rattle.tpm_journal_text.specs.Sum.{offset_basis, sum_from, sum_of}
 
--- the word with which a journal of this format begins
-abbrev pub head_word : List ℕ
-head_word = codes "# tpmsim journal 1 "
+-- the word with which a journal begins that has a head of this kind
+abbrev pub head_word : HeadKind → List ℕ
+head_word Image = codes "# tpmsim journal 1 "
+head_word State = codes "# tpmsim journal 2 "
 
--- the mark of a head, 20 bytes: the clock in milliseconds, how many bytes the image has, and its
+-- the most bytes that a head of this kind holds
+abbrev pub content_limit : HeadKind → ℕ
+content_limit Image = 28672
+content_limit State = 36864
+
+-- the mark of a head, 20 bytes: the clock in milliseconds, how many bytes the head holds, and their
 -- sum
-unfoldable pub head_mark : (clock : ℕ) → (image : List ℕ) → List ℕ
-head_mark clock image =
-    to_be_bytes w64 clock ++ (to_be_bytes w32 (length image) ++ to_be_bytes w64 (sum_of image))
+unfoldable pub head_mark : (clock : ℕ) → (content : List ℕ) → List ℕ
+head_mark clock content =
+    to_be_bytes w64 clock ++ (to_be_bytes w32 (length content) ++ to_be_bytes w64 (sum_of content))
 
 -- the sum of the mark of a head
-abbrev pub head_sum : (clock : ℕ) → (image : List ℕ) → ℕ
-head_sum clock image = sum_from offset_basis (head_mark clock image)
+abbrev pub head_sum : (clock : ℕ) → (content : List ℕ) → ℕ
+head_sum clock content = sum_from offset_basis (head_mark clock content)
 
--- the text of a head: the line of its mark, and the image in hex in a line that does nothing
-unfoldable pub head_text : (clock : ℕ) → (image : List ℕ) → List ℕ
-head_text clock image =
-    marked_line head_word (head_mark clock image) (head_sum clock image)
-    ++ codes "# " ++ encode_lower image ++ 10 ∷ []
+-- the text of a head: the line of its mark, and what it holds in hex in a line that does nothing
+unfoldable pub head_text : HeadKind → (clock : ℕ) → (content : List ℕ) → List ℕ
+head_text kind clock content =
+    marked_line (head_word kind) (head_mark clock content) (head_sum clock content)
+    ++ codes "# " ++ encode_lower content ++ 10 ∷ []
 
--- how many bytes a head has whose image has `count` bytes
+-- how many bytes the line of a head's mark has, and a head that holds `count` bytes
+abbrev pub head_line_size : ℕ
+head_line_size = 77
+
 abbrev pub head_size : (count : ℕ) → ℕ
-head_size count = marked_size head_word 20 + (3 + 2 * count)
+head_size count = head_line_size + (3 + 2 * count)
 
--- the most bytes of an image that has a head
-abbrev pub image_limit : ℕ
-image_limit = 28672
-
--- A head can be written for this clock and this image.
-pub record HasHead (clock : ℕ) (image : List ℕ) : Type 0 where
+-- A head of this kind can be written for this clock and this content.
+pub record HasHead (kind : HeadKind) (clock : ℕ) (content : List ℕ) : Type 0 where
   pub in_time : clock < 2 ^ 64
-  pub small : length image ≤ image_limit
-  pub are_bytes : AreBytes image
+  pub small : length content ≤ content_limit kind
+  pub are_bytes : AreBytes content
 
--- The text begins with a head of this clock and image, of this size, whose sum is this one.
+-- The text begins with a head of this kind, clock and content, of this size, whose sum is this one.
 pub record IsHeadOf (text : List ℕ) (head : Head) : Type 0 where
-  pub has : HasHead head.clock head.image.now
+  pub has : HasHead head.kind head.clock head.content.now
   pub whole : head.size ≤ length text
-  pub is : take head.size text ≡ head_text head.clock head.image.now
-  pub after : head.sum ≡ head_sum head.clock head.image.now
+  pub is : take head.size text ≡ head_text head.kind head.clock head.content.now
+  pub after : head.sum ≡ head_sum head.clock head.content.now

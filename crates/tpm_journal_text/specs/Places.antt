@@ -3,6 +3,7 @@ use Rattle.std.specs.Prelude.{◌≡◌, ℕ, ◌+◌, ◌*◌, ◌≤◌, List,
 use Rattle.std.specs.Int.{w32, w64, from_be_bytes}
 use Rattle.hex.specs.Hex.{encode_lower}
 use Rattle.tpm_journal_text.specs.Head.{HasHead, head_size}
+use Rattle.tpm_journal_text.specs.declared.head.HeadKind.{HeadKind}
 use Rattle.tpm_journal_text.specs.Entry.{IsEntry, PlainEntry, buffer_size, drawn_size, flag}
 
 -- The parts of an entry stand in a mark and in a text, each at its place.
@@ -19,9 +20,9 @@ pub record Stands (e : PlainEntry) (mark text : List ℕ) : Type 0 where
       ≡ encode_lower e.buffer
 
 -- The parts of a head stand in a mark and in a text, each at its place.
-pub record HeadStands (clock : ℕ) (image : List ℕ) (mark text : List ℕ) : Type 0 where
-  pub has : HasHead clock image
+pub record HeadStands (kind : HeadKind) (clock : ℕ) (content : List ℕ) (mark text : List ℕ) : Type 0 where
+  pub has : HasHead kind clock content
   pub clock_told : from_be_bytes w64 (take 8 mark) ≡ clock
-  pub count_told : from_be_bytes w32 (take 4 (drop 8 mark)) ≡ length image
-  pub image_told : take (2 * length image) (drop 79 text) ≡ encode_lower image
-  pub long : head_size (length image) ≤ length text
+  pub count_told : from_be_bytes w32 (take 4 (drop 8 mark)) ≡ length content
+  pub content_told : take (2 * length content) (drop 79 text) ≡ encode_lower content
+  pub long : head_size (length content) ≤ length text

@@ -1,7 +1,7 @@
 //! The head of a journal.
 
-ghost use Rattle.std.specs.Prelude.{◌≡◌, ◌≤◌, ◌++◌, ℕ, List, IfSome, IsSomeAnd, length, take};
-ghost use Rattle.tpm_journal_text.specs.Head.{head_mark, head_sum, head_text, image_limit};
+ghost use Rattle.std.specs.Prelude.{◌≡◌, ◌≤◌, ◌+◌, ◌++◌, ℕ, List, IfSome, IsSomeAnd, length, take};
+ghost use Rattle.tpm_journal_text.specs.Head.{content_limit, head_mark, head_sum, head_text, head_word};
 ghost use Rattle.tpm_journal_text.specs.Head.{head_size as text_size};
 
 use crate::marked::put_marked_line;
@@ -9,11 +9,22 @@ use crate::put::{put, put_hex};
 use crate::sum::{OFFSET_BASIS, sum_from, sum_of};
 use tpm_bytes::Sink;
 
-/// The most bytes of an image that a head can hold.
-pub const IMAGE_ROOM: usize = 28_672;
+/// What a head holds.
+#[derive(Clone, Copy, PartialEq, Eq)]
+pub enum HeadKind {
+    /// The image of the device as power came on.
+    Image,
+    /// The state text of the device: all that it was.
+    State,
+}
 
-/// The word with which a journal of this format begins.
-pub(crate) const HEAD_WORD: &[u8] = b"# tpmsim journal 1 ";
+/// The most bytes that a head of a kind holds.
+const IMAGE_LIMIT: usize = 28_672;
+
+const STATE_LIMIT: usize = 36_864;
+
+/// The most bytes that any head holds.
+pub const CONTENT_LIMIT: usize = STATE_LIMIT;
 
 /// How many bytes the mark of a head has, and how many the mark's line has.
 pub(crate) const MARK_SIZE: usize = 20;
@@ -23,69 +34,101 @@ pub(crate) const MARK_LINE_SIZE: usize = 77;
 /// A head that was read from a text.
 #[derive(Clone, Copy)]
 pub struct Head<'a> {
-    /// The host's clock in milliseconds, as power came on.
+    pub kind: HeadKind,
+    /// The host's clock in milliseconds, as the device was what the head holds.
     pub clock: u64,
-    pub image: &'a [u8],
+    /// What the head holds.
+    pub content: &'a [u8],
     /// How many bytes the text of the head has.
     pub size: usize,
     /// The sum of the head's mark.
     pub sum: u64,
 }
 
-/// How many bytes a head has whose image has `count` bytes.
+impl HeadKind {
+    /// The word with which a journal begins that has a head of this kind.
+    pub(crate) fn word(self) -> &'static [u8]
+        ensures { result.now ≡ head_word self }
+    {
+        match self {
+            HeadKind::Image => b"# tpmsim journal 1 ",
+            HeadKind::State => b"# tpmsim journal 2 ",
+        }
+    }
+
+    /// The most bytes that a head of this kind holds.
+    pub(crate) fn limit(self) -> usize
+        ensures { result ≡ content_limit self }
+    {
+        match self {
+            HeadKind::Image => IMAGE_LIMIT,
+            HeadKind::State => STATE_LIMIT,
+        }
+    }
+}
+
+/// How many bytes a head has that holds `count` bytes.
 #[tactic(auto, using(crate::proofs::HeadStanding::head_text_many))]
 pub fn head_size(count: usize) -> usize
-    requires { count ≤ image_limit }
+    requires { count ≤ 36864 }
     ensures value { result ≡ text_size count }
-    ensures text { (clock : ℕ) (image : List ℕ) → length image ≡ count
-        → length (head_text clock image) ≡ result }
+    ensures text { (kind : HeadKind) (clock : ℕ) (content : List ℕ) → length content ≡ count
+        → length (head_text kind clock content) ≡ result }
 {
     MARK_LINE_SIZE + 3 + 2 * count
 }
 
-/// The mark of a head.
-#[tactic(auto, unfolding(crate::specs::Head::head_mark))]
-pub(crate) fn mark_of(clock: u64, image: &[u8]) -> Sink<MARK_SIZE>
-    requires { length image.now ≤ image_limit }
-    ensures value { result ≡ head_mark clock image.now }
+/// The mark of a head whose content comes in two parts.
+#[tactic(auto, using(crate::proofs::Sums::sum_behind, crate::proofs::Sums::joined_many), unfolding(crate::specs::Head::head_mark))]
+pub(crate) fn mark_of(clock: u64, front: &[u8], back: &[u8]) -> Sink<MARK_SIZE>
+    requires { length front.now + length back.now ≤ 36864 }
+    ensures value { result ≡ head_mark clock (front.now ++ back.now) }
     ensures many { length result ≡ 20 }
 {
     let mut mark = Sink::new();
     mark.append_u64(clock);
-    mark.append_u32(image.len() as u32);
-    mark.append_u64(sum_of(image));
+    mark.append_u32((front.len() + back.len()) as u32);
+    mark.append_u64(sum_from(sum_of(front), back));
     mark
 }
 
-/// Puts the head of a clock and an image into a room, and gives how many bytes it has. `sum`
-/// becomes the sum of its mark.
-#[tactic(auto, unfolding(crate::specs::Head::head_text))]
-fn put_head(clock: u64, image: &[u8], sum: &mut u64, room: &mut [u8]) -> usize
-    requires small { length image.now ≤ image_limit }
-    requires room { text_size (length image.now) ≤ length room.old }
-    ensures size { result ≡ text_size (length image.now) }
-    ensures written { take result room.new ≡ head_text clock image.now }
-    ensures sum { sum.new ≡ head_sum clock image.now }
-    ensures room { length room.new ≡ length room.old }
+/// Puts the head of a clock and of a content in two parts into a buffer, and returns how many bytes
+/// it has. `sum` becomes the sum of its mark.
+#[tactic(auto, using(crate::proofs::Pieces::hex_joined), unfolding(crate::specs::Head::head_text))]
+fn put_head(
+    kind: HeadKind,
+    clock: u64,
+    front: &[u8],
+    back: &[u8],
+    sum: &mut u64,
+    buffer: &mut [u8],
+) -> usize
+    requires small { length front.now + length back.now ≤ 36864 }
+    requires buffer { text_size (length front.now + length back.now) ≤ length buffer.old }
+    ensures size { result ≡ text_size (length front.now + length back.now) }
+    ensures written { take result buffer.new ≡ head_text kind clock (front.now ++ back.now) }
+    ensures sum { sum.new ≡ head_sum clock (front.now ++ back.now) }
+    ensures buffer { length buffer.new ≡ length buffer.old }
 {
-    let mark = mark_of(clock, image);
+    let mark = mark_of(clock, front, back);
     *sum = sum_from(OFFSET_BASIS, mark.as_slice());
-    let place = put_marked_line(room, 0, HEAD_WORD, mark.as_slice(), *sum);
-    let place = put(room, place, b"# ");
-    let place = put_hex(room, place, image);
-    put(room, place, b"\n")
+    let place = put_marked_line(buffer, 0, kind.word(), mark.as_slice(), *sum);
+    let place = put(buffer, place, b"# ");
+    let place = put_hex(buffer, place, front);
+    let place = put_hex(buffer, place, back);
+    put(buffer, place, b"\n")
 }
 
-/// Writes the head of a clock and an image to a room of exactly its size, and gives the sum of its
-/// mark.
+/// Writes the head of a clock and of a content to a buffer of exactly its size, and returns the sum
+/// of its mark. The content comes in two parts, so that its head and its body need not be joined.
 #[tactic(auto, using(std::proofs::lemmas::List::take_all))]
-pub fn write_head(clock: u64, image: &[u8], room: &mut [u8]) -> u64
-    requires small { length image.now ≤ image_limit }
-    requires room { length room.old ≡ text_size (length image.now) }
-    ensures written { room.new ≡ head_text clock image.now }
-    ensures sum { result ≡ head_sum clock image.now }
+pub fn write_head(kind: HeadKind, clock: u64, front: &[u8], back: &[u8], buffer: &mut [u8]) -> u64
+    requires small { length front.now + length back.now ≤ content_limit kind }
+    requires buffer { length buffer.old ≡ text_size (length front.now + length back.now) }
+    ensures written { buffer.new ≡ head_text kind clock (front.now ++ back.now) }
+    ensures sum { result ≡ head_sum clock (front.now ++ back.now) }
 {
     let mut sum = 0;
-    put_head(clock, image, &mut sum, room);
+    put_head(kind, clock, front, back, &mut sum, buffer);
     sum
 }

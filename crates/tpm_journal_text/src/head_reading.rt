@@ -3,19 +3,21 @@
 ghost use Rattle.std.specs.Prelude.{◌≡◌, ◌≤◌, ◌++◌, ◌∷◌, [], ℕ, List, IfNone, IfSome, IsSomeAnd, codes, drop, length, take};
 ghost use Rattle.hex.specs.Hex.{encode_lower};
 ghost use Rattle.std.specs.Int.{w32, w64, from_be_bytes};
-ghost use Rattle.tpm_journal_text.specs.Head.{HasHead, IsHeadOf, head_text, image_limit};
+ghost use Rattle.tpm_journal_text.specs.Head.{HasHead, IsHeadOf, content_limit, head_line_size, head_text, head_word};
+ghost use Rattle.tpm_journal_text.specs.Marked.{marked_line};
+ghost use Rattle.tpm_journal_text.specs.Sum.{offset_basis, sum_from};
 ghost use Rattle.tpm_journal_text.specs.Places.{HeadStands};
 ghost use Rattle.tpm_bytes.specs.Reading.{AreBytes};
 
-use crate::head::{HEAD_WORD, Head, IMAGE_ROOM, MARK_LINE_SIZE, MARK_SIZE, head_size, mark_of};
+use crate::head::{CONTENT_LIMIT, Head, HeadKind, MARK_LINE_SIZE, MARK_SIZE, head_size, mark_of};
 use crate::marked::read_marked_line;
-use crate::reading::read_hex;
+use crate::reading::{begins_with, read_hex};
 use crate::strip::{strip, strip_hex};
 use crate::sum::OFFSET_BASIS;
 use tpm_bytes::is_equal;
 
-/// Where the image stands in the text of a head.
-const IMAGE_PLACE: usize = MARK_LINE_SIZE + 2;
+/// Where the content stands in the text of a head.
+const CONTENT_PLACE: usize = MARK_LINE_SIZE + 2;
 
 /// The clock in the mark of a head.
 fn clock_of(mark: &[u8; MARK_SIZE]) -> u64
@@ -26,73 +28,119 @@ fn clock_of(mark: &[u8; MARK_SIZE]) -> u64
     ])
 }
 
-/// How many bytes the image has, by the mark of a head.
+/// How many bytes the head holds, by its mark.
 fn count_of(mark: &[u8; MARK_SIZE]) -> usize
     ensures { result ≡ from_be_bytes w32 (take 4 (drop 8 mark.now)) }
 {
     u32::from_be_bytes([mark[8], mark[9], mark[10], mark[11]]) as usize
 }
 
-/// The image of a head whose mark was read; None where the text does not hold it.
-fn image_behind<'a>(
+/// The kind of the head with which a text may begin.
+fn kind_of(text: &[u8]) -> HeadKind
+    ensures { (kind : HeadKind) (clock : ℕ) (content rest : List ℕ)
+        → text.now ≡ head_text kind clock content ++ rest → result ≡ kind }
+{
+    if begins_with(text, HeadKind::State.word()) {
+        HeadKind::State
+    } else {
+        HeadKind::Image
+    }
+}
+
+/// Reads the mark of a head of this kind at the front of a text, and returns its sum; None if no
+/// line of such a mark is there.
+#[tactic(auto, using(crate::proofs::HeadStanding::word_many))]
+fn read_mark(kind: HeadKind, text: &[u8], mark: &mut [u8; MARK_SIZE]) -> Option<u64>
+    requires { head_line_size ≤ length text.now }
+    ensures found { IfSome result (λ sum. (sum ≡ sum_from offset_basis mark.new)
+        × (take head_line_size text.now ≡ marked_line (head_word kind) mark.new sum)) }
+    ensures none { IfNone result ((other : List ℕ) → length other ≡ 20 → AreBytes other
+        → take head_line_size text.now
+        ≡ marked_line (head_word kind) other (sum_from offset_basis other) → ⊥) }
+    ensures size { length mark.new ≡ 20 }
+    ensures bytes { AreBytes mark.new }
+{
+    read_marked_line(text, kind.word(), OFFSET_BASIS, mark)
+}
+
+/// The content of a head whose mark was read; None if the text does not hold it.
+fn content_behind<'a>(
+    kind: HeadKind,
     mark: &[u8; MARK_SIZE],
     text: &[u8],
-    image: &'a mut [u8; IMAGE_ROOM],
+    content: &'a mut [u8; CONTENT_LIMIT],
 ) -> Option<&'a [u8]>
-    ensures small { IfSome result (λ read. length read.now ≤ image_limit) }
+    ensures small { IfSome result (λ read. length read.now ≤ content_limit kind) }
     ensures bytes { IfSome result (λ read. AreBytes read.now) }
-    ensures again { (clock : ℕ) (bytes : List ℕ) → HeadStands clock bytes mark.now text.now
+    ensures again { (clock : ℕ) (bytes : List ℕ) → HeadStands kind clock bytes mark.now text.now
         → IsSomeAnd result (λ read. read.now ≡ bytes) }
 {
     let count = count_of(mark);
-    if count > IMAGE_ROOM || text.len() < head_size(count) {
+    if count > kind.limit() || text.len() < head_size(count) {
         return None;
     }
-    let (image, _) = image.split_at_mut(count);
-    read_hex(text, IMAGE_PLACE, image)
+    let (content, _) = content.split_at_mut(count);
+    read_hex(text, CONTENT_PLACE, content)
 }
 
-/// The text after the line of an image at the front of a text; None where that line is not there.
-fn behind_image<'a>(text: &'a [u8], image: &[u8]) -> Option<&'a [u8]>
+/// The text after the line of a content at the front of a text; None if that line is not there.
+fn behind_content<'a>(text: &'a [u8], content: &[u8]) -> Option<&'a [u8]>
     ensures some { IfSome result (λ rest. text.now
-        ≡ codes "# " ++ (encode_lower image.now ++ (10 ∷ [] ++ rest.now))) }
+        ≡ codes "# " ++ (encode_lower content.now ++ (10 ∷ [] ++ rest.now))) }
     ensures none { IfNone result ((rest : List ℕ)
-        → text.now ≡ codes "# " ++ (encode_lower image.now ++ (10 ∷ [] ++ rest)) → ⊥) }
+        → text.now ≡ codes "# " ++ (encode_lower content.now ++ (10 ∷ [] ++ rest)) → ⊥) }
 {
     let digits = strip(text, b"# ")?;
-    let end = strip_hex(digits, image)?;
+    let end = strip_hex(digits, content)?;
     strip(end, b"\n")
 }
 
-/// Reads the head at the front of a text. Its image goes to `image`.
-pub fn read_head<'a>(text: &[u8], image: &'a mut [u8; IMAGE_ROOM]) -> Option<Head<'a>>
+/// Reads the head of this kind at the front of a text. What it holds goes to `content`.
+fn read_head_of<'a>(
+    kind: HeadKind,
+    text: &[u8],
+    content: &'a mut [u8; CONTENT_LIMIT],
+) -> Option<Head<'a>>
     ensures head { IfSome result (IsHeadOf text.now) }
-    ensures only { (clock : ℕ) (bytes : List ℕ) (rest : List ℕ) → HasHead clock bytes
-        → text.now ≡ head_text clock bytes ++ rest
-        → IsSomeAnd result (λ head. (head.clock ≡ clock) × (head.image.now ≡ bytes)) }
+    ensures kind { IfSome result (λ head. head.kind ≡ kind) }
+    ensures only { (clock : ℕ) (bytes : List ℕ) (rest : List ℕ) → HasHead kind clock bytes
+        → text.now ≡ head_text kind clock bytes ++ rest
+        → IsSomeAnd result (λ head. (head.clock ≡ clock) × (head.content.now ≡ bytes)) }
 {
     if text.len() < MARK_LINE_SIZE {
         return None;
     }
     let mut mark = [0; MARK_SIZE];
-    let Some(sum) = read_marked_line(text, HEAD_WORD, OFFSET_BASIS, &mut mark) else {
+    let Some(sum) = read_mark(kind, text, &mut mark) else {
         return None;
     };
-    let Some(image) = image_behind(&mark, text, image) else {
+    let Some(content) = content_behind(kind, &mark, text, content) else {
         return None;
     };
     let clock = clock_of(&mark);
-    if !is_equal(mark_of(clock, image).as_slice(), &mark) {
+    if !is_equal(mark_of(clock, content, &[]).as_slice(), &mark) {
         return None;
     }
     let (_, back) = text.split_at(MARK_LINE_SIZE);
-    let Some(_) = behind_image(back, image) else {
+    let Some(_) = behind_content(back, content) else {
         return None;
     };
     Some(Head {
+        kind,
         clock,
-        image,
-        size: head_size(image.len()),
+        content,
+        size: head_size(content.len()),
         sum,
     })
+}
+
+/// Reads the head at the front of a text. What it holds goes to `content`.
+pub fn read_head<'a>(text: &[u8], content: &'a mut [u8; CONTENT_LIMIT]) -> Option<Head<'a>>
+    ensures head { IfSome result (IsHeadOf text.now) }
+    ensures only { (kind : HeadKind) (clock : ℕ) (bytes : List ℕ) (rest : List ℕ)
+        → HasHead kind clock bytes → text.now ≡ head_text kind clock bytes ++ rest
+        → IsSomeAnd result (λ head. (head.kind ≡ kind) × (head.clock ≡ clock)
+        × (head.content.now ≡ bytes)) }
+{
+    read_head_of(kind_of(text), text, content)
 }

@@ -17,7 +17,7 @@ pub mod sum;
 pub mod torn;
 
 pub use entry::{ENTRY_LIMIT, ENTRY_ROOM, Entry};
-pub use head::{Head, IMAGE_ROOM, head_size, write_head};
+pub use head::{CONTENT_LIMIT, Head, HeadKind, head_size, write_head};
 pub use head_reading::read_head;
 pub use reading::{BYTES_ROOM, Next, read_entry};
 pub use sum::{sum_from, sum_of};

@@ -1,5 +1,5 @@
 use Rattle.std.proofs.Common.{arith, sym, ◌∙◌}
-use Rattle.tpm_journal_text.proofs.Tails.{fewer, not_fewer, whole_is_fewer}
+use Rattle.tpm_journal_text.proofs.Tails.{fewer, not_fewer}
 use Rattle.tpm_journal_text.proofs.torn.has_fewer.Goals as goal
 
 pub returns-clause-yes : goal.returns-clause-yes

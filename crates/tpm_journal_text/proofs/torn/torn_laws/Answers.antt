@@ -1,5 +1,4 @@
 use Rattle.std.proofs.Common.{refl}
-use Rattle.tpm_journal_text.specs.Entry.{entry_text}
 use Rattle.tpm_journal_text.proofs.Damage.{torn_is_no_entry}
 use Rattle.tpm_journal_text.proofs.Tails.{torn_again, torn_entry, torn_nothing}
 use Rattle.tpm_journal_text.proofs.torn.torn_laws.Goals as goal
