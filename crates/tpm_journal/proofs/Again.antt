@@ -2,31 +2,25 @@
 use Rattle.std.proofs.Common.{◌≡◌, ℕ, ◌+◌, false, List, [], ◌∷◌, ◌++◌, length, map, drop, Option, Some, None, Result, Ok, Err, refl, ap, sym, subst, ◌∙◌, append_assoc, append-nil}
 use Rattle.std.specs.List.{AllByRecursion}
 use Rattle.std.proofs.lemmas.List.{length-take-le, take-append-drop}
-use Rattle.tpm_record.specs.Cycle.{cycled}
-use Rattle.tpm_record.specs.IsRecord.{IsRecord}
 use Rattle.tpm_record.specs.Record.{Record}
-use Rattle.tpm_completion.specs.Completion.{new_completion}
 use Rattle.tpm_completion.specs.Execution.{Seen}
 use Rattle.tpm_completion.specs.declared.completion.Completion.{Completion}
 use Rattle.tpm_completion.proofs.Exactly.{exactly}
-use Rattle.tpm_image_text.specs.Image.{image_of, image_text}
-use Rattle.tpm_image_text.specs.NonVolatile.{NonVolatile, kept_of, powered_on}
-use Rattle.tpm_image_text.specs.declared.fault.ImageFault.{ImageFault}
-use Rattle.tpm_image_text.specs.declared.version.Version.TheVariants.{Two}
-use Rattle.tpm_image_text.proofs.RecordLaws.{record_again, record_image}
 use Rattle.tpm_bytes.proofs.Fields.{ok_is}
 use Rattle.tpm_journal_text.specs.Entry.{IsEntry, PlainEntry, entry_text, sum_after}
-use Rattle.tpm_journal_text.specs.Head.{head_sum, head_text}
+use Rattle.tpm_journal_text.specs.Head.{HasHead, head_text}
+use Rattle.tpm_journal_text.specs.declared.head.HeadKind.{HeadKind}
 use Rattle.tpm_journal_text.specs.Journal.{IsTorn, entries_text, sum_after_all}
 use Rattle.tpm_journal_text.specs.Sum.{sum_of}
-use Rattle.tpm_journal_text.proofs.HeadStanding.{same_head}
+use Rattle.tpm_journal_text.proofs.HeadStanding.{same_head, same_kind}
 use Rattle.tpm_journal_text.proofs.Damage.{torn_is_no_entry}
 use Rattle.tpm_journal_text.proofs.Parsing.{behind_front, others_are_more}
 use Rattle.tpm_journal.specs.Command.{IsPerformed, entry_of, event_of}
 use Rattle.tpm_journal.specs.Living.{Answers, IgnoresUndrawn, Lives}
-use Rattle.tpm_journal.specs.Opening.{BeginsWith, IsOpenedAgain, OpensJournal, Reads}
+use Rattle.tpm_journal.specs.Opening.{IsOpenedAgain, OpensJournal, Reads}
 use Rattle.tpm_journal.specs.Replay.{AnswersAre, EndsIn, IsFollowedWhole, LeadsBy, Performance, Replays, answer_said, entry_in, response_sum}
-use Rattle.tpm_journal.specs.State.{journal_after, journal_after_all, journal_begun}
+use Rattle.tpm_journal.specs.Starting.{BeginsWith, HoldsFault, Start, start_by}
+use Rattle.tpm_journal.specs.State.{journal_after, journal_after_all}
 use Rattle.tpm_journal.specs.declared.following.FollowFault.{FollowFault}
 use Rattle.tpm_journal.specs.declared.following.FollowFault.TheVariants.{Damaged, Otherwise}
 use Rattle.tpm_journal.specs.declared.following.Followed.{Followed}
@@ -143,47 +137,60 @@ followed_again before old layer final new entries rest text followed after repla
 
 -- ---- opened again
 
-module _ (clock : ℕ) (r : Record) (entries : List PlainEntry) (rest : List ℕ) (layer : Completion) (final : Record) (text : List ℕ) (is : IsRecord r)
-    (begins : BeginsWith text clock (image_text Two (kept_of r)) (entries_text (head_sum clock (image_text Two (kept_of r))) entries ++ rest))
-    (are : AllByRecursion IsEntry entries) (cut : IsTorn (sum_after_all (head_sum clock (image_text Two (kept_of r))) entries) rest)
-    (answers : Answers (new_completion (head_sum clock (image_text Two (kept_of r)))) (cycled r) entries layer final) where
-  heads_same : (other : ℕ) (bytes behind : List ℕ) → BeginsWith text other bytes behind → (clock ≡ other) × (image_text Two (kept_of r) ≡ bytes)
-  heads_same other bytes behind others =
-      same_head clock other (image_text Two (kept_of r)) bytes _ behind begins.has others.has (sym begins.is ∙ others.is)
+-- two heads at the front of one text are equal
+one_head : (text : List ℕ) (kind other : HeadKind) (clock time : ℕ) (content bytes rest behind : List ℕ) → BeginsWith text kind clock content rest
+    → BeginsWith text other time bytes behind → (kind ≡ other) × (clock ≡ time) × (content ≡ bytes)
+one_head text kind other clock time content bytes rest behind begins others =
+    let same = sym begins.is ∙ others.is in
+    let kinds : kind ≡ other = same_kind kind other clock time content bytes rest behind same in
+    let head = same_head kind clock time content bytes rest behind begins.has (subst (λ (k : HeadKind). HasHead k time bytes) (sym kinds) others.has)
+    (same ∙ ap (λ (k : HeadKind). head_text k time bytes ++ behind) (sym kinds)) in
+    (kinds, head.0, head.1)
 
-  told : image_of (image_text Two (kept_of r)) ≡ Ok (kept_of r)
-  told = record_again Two r is (record_image r is).0
+module _ (kind : HeadKind) (clock : ℕ) (content : List ℕ) (start : Start) (entries : List PlainEntry) (rest : List ℕ) (layer : Completion) (final : Record)
+    (text : List ℕ) (starts : start_by kind clock content ≡ Ok start)
+    (begins : BeginsWith text kind clock content (entries_text start.journal.sum entries ++ rest))
+    (are : AllByRecursion IsEntry entries) (cut : IsTorn (sum_after_all start.journal.sum entries) rest)
+    (answers : Answers start.journal.layer start.device entries layer final) where
+  -- what is said of the head of the text is said of this one
+  same_of : {X : Type 0} (f : HeadKind → ℕ → List ℕ → X) (other : HeadKind) (time : ℕ) (bytes behind : List ℕ) → BeginsWith text other time bytes behind
+      → f kind clock content ≡ f other time bytes
+  same_of f other time bytes behind others =
+      let same = one_head text kind other clock time content bytes _ behind begins others in
+      ap (λ (k : HeadKind). f k clock content) same.0 ∙ ap (λ (n : ℕ). f other n content) same.1 ∙ ap (f other time) same.2
 
   read_again : (followed : Followed) (journal : Journal) (new : Record) (reads : Reads text followed journal new)
-      → IsFollowedWhole (journal_begun clock (image_text Two (kept_of r))) entries layer final followed journal new
+      → IsFollowedWhole start.journal entries layer final followed journal new
   read_again followed journal new reads =
-      let same = heads_same reads.clock reads.image reads.rest reads.begins in
-      let kept : reads.kept ≡ kept_of r = ok_is {E = ImageFault} reads.kept (kept_of r) (sym reads.is_image ∙ ap image_of (sym same.1) ∙ told) in
-      let behind : reads.rest ≡ entries_text (head_sum clock (image_text Two (kept_of r))) entries ++ rest =
-      behind_front (head_text clock (image_text Two (kept_of r))) reads.rest _
-      (ap (λ (n : ℕ). head_text n (image_text Two (kept_of r)) ++ reads.rest) same.0
-      ∙ ap (λ (l : List ℕ). head_text reads.clock l ++ reads.rest) same.1 ∙ sym reads.begins.is ∙ begins.is) in
-      let replays : Replays false (journal_begun clock (image_text Two (kept_of r))) (cycled r) reads.rest followed journal new =
-      subst (λ (k : NonVolatile). Replays false (journal_begun clock (image_text Two (kept_of r))) (powered_on k) reads.rest followed journal new) kept
-      (subst (λ (l : List ℕ). Replays false (journal_begun clock l) (powered_on reads.kept) reads.rest followed journal new) (sym same.1)
-      (subst (λ (n : ℕ). Replays false (journal_begun n reads.image) (powered_on reads.kept) reads.rest followed journal new) (sym same.0) reads.replays)) in
-      followed_again (journal_begun clock (image_text Two (kept_of r))) (cycled r) layer final new entries rest reads.rest followed journal replays are behind cut answers
+      let s = reads.starts in
+      let one : reads.start ≡ start =
+      ok_is {E = OpenFault} reads.start start (sym s.is ∙ sym (same_of start_by s.kind s.clock s.content reads.rest s.begins) ∙ starts) in
+      let behind : reads.rest ≡ entries_text start.journal.sum entries ++ rest =
+      behind_front (head_text kind clock content) reads.rest _
+      (ap (λ (l : List ℕ). l ++ reads.rest) (same_of head_text s.kind s.clock s.content reads.rest s.begins) ∙ sym s.begins.is ∙ begins.is) in
+      let replays : Replays false start.journal start.device reads.rest followed journal new =
+      subst (λ (x : Start). Replays false x.journal x.device reads.rest followed journal new) one reads.replays in
+      followed_again start.journal start.device layer final new entries rest reads.rest followed journal replays are behind cut answers
 
-  pub opened_again : (result : Result Opened OpenFault) (new : Record) → OpensJournal text result new → IsOpenedAgain clock (image_text Two (kept_of r)) entries layer final result new
+  holds_none : (why : OpenFault) → HoldsFault text why → ⊥
+  holds_none why holds =
+      let no : Ok start ≡ Err why = sym starts ∙ same_of start_by holds.0 holds.1 holds.2 holds.3 holds.4 ∙ holds.5 in
+      absurd cc
+
+  pub opened_again : (result : Result Opened OpenFault) (new : Record) → OpensJournal text result new
+      → IsOpenedAgain (head_text kind clock content) start.journal entries layer final result new
   opened_again (Ok opened) new opens =
       let again = read_again opens.followed opened.journal new opens.reads in
-      let same = heads_same opens.reads.clock opens.reads.image opens.reads.rest opens.reads.begins in (
+      let s = opens.reads.starts in (
         again.leads,
-        opens.size ∙ ap (λ (n : ℕ). length (head_text n opens.reads.image) + opens.followed.taken) (sym same.0)
-            ∙ ap (λ (l : List ℕ). length (head_text clock l) + opens.followed.taken) (sym same.1)
-            ∙ ap (λ (n : ℕ). length (head_text clock (image_text Two (kept_of r))) + n) again.taken,
+        opens.size
+            ∙ ap (λ (l : List ℕ). length l + opens.followed.taken) (sym (same_of head_text s.kind s.clock s.content opens.reads.rest s.begins))
+            ∙ ap (λ (n : ℕ). length (head_text kind clock content) + n) again.taken,
         again.journal,
       )
-  opened_again (Err fault.NoJournal) new opens = absurd (opens _ _ _ begins)
-  opened_again (Err (fault.Image why)) new opens =
-      let same = heads_same opens.0 opens.1 opens.2 opens.3 in
-      let no = sym told ∙ ap image_of same.1 ∙ opens.4 in
-      absurd cc
+  opened_again (Err fault.NoJournal) new opens = absurd (opens _ _ _ _ begins)
+  opened_again (Err (fault.Image why)) new opens = absurd (holds_none (fault.Image why) opens)
+  opened_again (Err (fault.State why)) new opens = absurd (holds_none (fault.State why) opens)
   opened_again (Err (fault.Follow why)) new opens =
       let again = read_again opens.0 opens.1 new opens.2 in
       let no = sym opens.3 ∙ again.whole in

@@ -5,3 +5,4 @@ pub mod Histories
 pub mod Drawing
 pub mod Ignoring
 pub mod Commands
+pub mod Starts

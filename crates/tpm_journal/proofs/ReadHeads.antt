@@ -1,53 +1,100 @@
 -- What is read of a text as a journal.
-use Rattle.std.proofs.Common.{◌≡◌, ℕ, Bool, false, List, ◌++◌, length, drop, Ok, Err, ap, sym, subst, ◌∙◌}
-use Rattle.std.proofs.lemmas.Bool.{false≢true}
-use Rattle.std.proofs.lemmas.List.{length-take-le, take-append-drop}
+use Rattle.std.proofs.Common.{◌≡◌, ℕ, Bool, false, List, ◌++◌, length, drop, take, Result, Ok, Err, ap, sym, subst, ◌∙◌}
+use Rattle.std.proofs.lemmas.List.{drop_at, length-take-le, take_at, take-append-drop}
 use Rattle.tpm_record.specs.Record.{Record}
 use Rattle.tpm_image_text.specs.Image.{image_of}
-use Rattle.tpm_image_text.specs.NonVolatile.{NonVolatile, powered_on}
-use Rattle.tpm_image_text.specs.Opening.{Opens}
+use Rattle.tpm_image_text.specs.NonVolatile.{NonVolatile}
 use Rattle.tpm_image_text.specs.declared.fault.ImageFault.{ImageFault}
-use Rattle.tpm_image_text.specs.declared.fault.ImageFault.TheVariants as fault
-use Rattle.tpm_journal_text.specs.Head.{IsHeadOf, head_text}
+use Rattle.tpm_journal_text.specs.Head.{IsHeadOf}
 use Rattle.tpm_journal_text.specs.declared.head.Head.{Head}
-use Rattle.tpm_journal.specs.Opening.{BeginsWith, Reads}
+use Rattle.tpm_journal_text.specs.declared.head.HeadKind.{HeadKind}
+use Rattle.tpm_journal_text.specs.declared.head.HeadKind.TheVariants.{Image, State}
+use Rattle.tpm_state_text.specs.Body.{WholeState}
+use Rattle.tpm_state_text.specs.State.{state_of_text}
+use Rattle.tpm_state_text.specs.declared.fault.StateFault.{StateFault}
+use Rattle.tpm_journal.specs.Opening.{OpensJournal, Reads}
 use Rattle.tpm_journal.specs.Replay.{Replays}
-use Rattle.tpm_journal.specs.State.{journal_begun, journal_of}
+use Rattle.tpm_journal.specs.Starting.{BeginsWith, Start, Starts, StartsNot, start_by, start_by_image, start_by_state, starting_head}
+use Rattle.tpm_journal.specs.declared.following.FollowFault.{FollowFault}
 use Rattle.tpm_journal.specs.declared.following.Followed.{Followed}
 use Rattle.tpm_journal.specs.declared.journal.Journal.{Journal}
+use Rattle.tpm_journal.specs.declared.opening.OpenFault.{OpenFault}
+use Rattle.tpm_journal.specs.declared.opening.OpenFault.TheVariants as fault
 
-pub begins : (text : List ℕ) (head : Head) → IsHeadOf text head → BeginsWith text head.clock head.image.now (drop head.size text)
+begins : (text : List ℕ) (head : Head) → IsHeadOf text head → BeginsWith text head.kind head.clock head.content.now (drop head.size text)
 begins text head is = record {
   has = is.has;
   is = sym (take-append-drop head.size text) ∙ ap (λ (l : List ℕ). l ++ drop head.size text) is.is;
 }
 
-pub head_many : (text : List ℕ) (head : Head) → IsHeadOf text head → head.size ≡ length (head_text head.clock head.image.now)
-head_many text head is = sym (length-take-le head.size text is.whole) ∙ ap length is.is
+-- a head is opened as the start of its text
+pub started : (text : List ℕ) (head : Head) (start : Start) → IsHeadOf text head → start_by head.kind head.clock head.content.now ≡ Ok start
+    → (rest : List ℕ) × (starts : Starts text start rest) × (head.size ≡ length (starting_head starts))
+started text head start is opened = (
+  drop head.size text,
+  record { kind = head.kind; clock = head.clock; content = head.content.now; begins = begins text head is; is = opened },
+  sym (length-take-le head.size text is.whole) ∙ ap length is.is,
+)
 
-pub not_opened : {M : Type 0} (record_of : M → Record) (image : List ℕ) (why : ImageFault) → Opens record_of false image (Err why) → image_of image ≡ Err why
-not_opened record_of image fault.NoMemory e = absurd (false≢true e.0)
-not_opened record_of image fault.Short e = e
-not_opened record_of image fault.Magic e = e
-not_opened record_of image fault.Version e = e
-not_opened record_of image fault.Length e = e
-not_opened record_of image fault.Digest e = e
-not_opened record_of image fault.Body e = e
+-- ---- faults
 
-abbrev pub read_so : (can : Bool) (text : List ℕ) (head : Head) (kept : NonVolatile) (at : Record) (rest : List ℕ) (followed : Followed) (start journal : Journal) (new : Record)
-    → can ≡ false → IsHeadOf text head → image_of head.image.now ≡ Ok kept → at ≡ powered_on kept → rest ≡ drop head.size text
-    → start ≡ journal_of head.sum head.clock → Replays can start at rest followed journal new → Reads text followed journal new
-read_so can text head kept at rest followed start journal new cannot is image on behind started replays = record {
-  clock = head.clock;
-  image = head.image.now;
-  rest = drop head.size text;
-  begins = begins text head is;
-  kept = kept;
-  is_image = image;
+-- what a head holds has a fault of its own kind
+no_head_in_image : (clock : ℕ) (image : List ℕ) (found : Result NonVolatile ImageFault) → start_by_image clock image found ≡ Err fault.NoJournal → ⊥
+no_head_in_image clock image (Ok kept) e = absurd cc
+no_head_in_image clock image (Err why) e = absurd cc
+
+no_head_in_state : (clock : ℕ) (text : List ℕ) (found : Result WholeState StateFault) → start_by_state clock text found ≡ Err fault.NoJournal → ⊥
+no_head_in_state clock text (Ok state) e = absurd cc
+no_head_in_state clock text (Err why) e = absurd cc
+
+no_entry_in_image : (clock : ℕ) (image : List ℕ) (found : Result NonVolatile ImageFault) (why : FollowFault)
+    → start_by_image clock image found ≡ Err (fault.Follow why) → ⊥
+no_entry_in_image clock image (Ok kept) why e = absurd cc
+no_entry_in_image clock image (Err other) why e = absurd cc
+
+no_entry_in_state : (clock : ℕ) (text : List ℕ) (found : Result WholeState StateFault) (why : FollowFault)
+    → start_by_state clock text found ≡ Err (fault.Follow why) → ⊥
+no_entry_in_state clock text (Ok state) why e = absurd cc
+no_entry_in_state clock text (Err other) why e = absurd cc
+
+is_held : (kind : HeadKind) (clock : ℕ) (content : List ℕ) → start_by kind clock content ≡ Err fault.NoJournal → ⊥
+is_held Image clock content e = no_head_in_image clock content (image_of content) e
+is_held State clock content e = no_head_in_state clock content (state_of_text content) e
+
+is_no_entry : (kind : HeadKind) (clock : ℕ) (content : List ℕ) (why : FollowFault) → start_by kind clock content ≡ Err (fault.Follow why) → ⊥
+is_no_entry Image clock content why e = no_entry_in_image clock content (image_of content) why e
+is_no_entry State clock content why e = no_entry_in_state clock content (state_of_text content) why e
+
+pub not_started : (text : List ℕ) (head : Head) (why : OpenFault) → IsHeadOf text head → start_by head.kind head.clock head.content.now ≡ Err why → StartsNot text why
+not_started text head fault.NoJournal is e = absurd (is_held head.kind head.clock head.content.now e)
+not_started text head (fault.Image why) is e = (head.kind, head.clock, head.content.now, drop head.size text, begins text head is, e)
+not_started text head (fault.State why) is e = (head.kind, head.clock, head.content.now, drop head.size text, begins text head is, e)
+not_started text head (fault.Follow why) is e = absurd (is_no_entry head.kind head.clock head.content.now why e)
+
+pub not_opened : (text : List ℕ) (why : OpenFault) (new : Record) → StartsNot text why → OpensJournal text (Err why) new
+not_opened text fault.NoJournal new not = not
+not_opened text (fault.Image why) new not = not
+not_opened text (fault.State why) new not = not
+not_opened text (fault.Follow why) new not = absurd not
+
+-- ---- the rest
+
+-- a text is the head by which it starts, and the rest
+pub split_head : (text : List ℕ) (start : Start) (rest : List ℕ) (size : ℕ) (starts : Starts text start rest) → size ≡ length (starting_head starts)
+    → (take size text ≡ starting_head starts) × (drop size text ≡ rest)
+split_head text start rest size starts is = (
+  ap (take size) starts.begins.is ∙ take_at (starting_head starts) rest size (sym is),
+  ap (drop size) starts.begins.is ∙ drop_at (starting_head starts) rest size (sym is),
+)
+
+abbrev pub read_so : (can : Bool) (text : List ℕ) (start : Start) (rest left : List ℕ) (size : ℕ) (starts : Starts text start rest) (followed : Followed)
+    (journal : Journal) (new : Record) → can ≡ false → size ≡ length (starting_head starts) → left ≡ drop size text
+    → Replays can start.journal start.device left followed journal new → Reads text followed journal new
+read_so can text start rest left size starts followed journal new cannot is behind replays = record {
+  start = start;
+  rest = rest;
+  starts = starts;
   replays =
-      subst (λ (b : Bool). Replays b (journal_begun head.clock head.image.now) (powered_on kept) (drop head.size text) followed journal new) cannot
-      (subst (λ (s : ℕ). Replays can (journal_of s head.clock) (powered_on kept) (drop head.size text) followed journal new) is.after
-      (subst (λ (r : Record). Replays can (journal_of head.sum head.clock) r (drop head.size text) followed journal new) on
-      (subst (λ (l : List ℕ). Replays can (journal_of head.sum head.clock) at l followed journal new) behind
-      (subst (λ (j : Journal). Replays can j at rest followed journal new) started replays))));
+      subst (λ (b : Bool). Replays b start.journal start.device rest followed journal new) cannot
+      (subst (λ (l : List ℕ). Replays can start.journal start.device l followed journal new) (behind ∙ (split_head text start rest size starts is).1) replays);
 }

@@ -3,6 +3,8 @@ pub mod Command
 pub mod State
 pub mod Living
 pub mod Replay
+pub mod Starting
+pub mod Checkpoint
 pub mod Opening
 pub mod Retelling
 pub use Rattle.tpm_journal_text.specs.Sum

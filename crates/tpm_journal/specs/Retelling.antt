@@ -3,19 +3,14 @@ use Rattle.std.specs.Prelude.{◌≡◌, ℕ, ◌+◌, false, true, Bool, List, 
 use Rattle.std.specs.Prelude.{Option, Some, None, Result, Ok, Err}
 use Rattle.std.specs.Io.KnownBytes.{Appends, Keeps}
 use Rattle.tpm_bytes.specs.Tap.{Marks}
-use Rattle.tpm_image_text.specs.Image.{image_of}
-use Rattle.tpm_image_text.specs.NonVolatile.{NonVolatile, powered_on}
 use Rattle.tpm_journal.specs.Command.{event_of}
-use Rattle.tpm_journal.specs.Opening.{BeginsWith}
 use Rattle.tpm_journal.specs.Replay.{Performance, Repeats, Replays}
-use Rattle.tpm_journal.specs.State.{journal_begun}
+use Rattle.tpm_journal.specs.Starting.{Start, Starts, StartsNot, starting_head}
 use Rattle.tpm_journal.specs.declared.following.Followed.{Followed}
 use Rattle.tpm_journal.specs.declared.following.FollowFault.{FollowFault}
 use Rattle.tpm_journal.specs.declared.journal.Journal.{Journal}
-use Rattle.tpm_journal.specs.declared.opening.OpenFault.TheVariants as fault
 use Rattle.hex.specs.Hex.{encode_lower}
 use Rattle.tpm_journal_text.specs.Entry.{PlainEntry, executing_lines, mark_line_size, setting_lines}
-use Rattle.tpm_journal_text.specs.Head.{head_text}
 use Rattle.tpm_record.specs.Record.{Record}
 use Rattle.tpm_step.specs.Events.{PlainEvent}
 use Rattle.tpm_step.specs.declared.event.Row.{Row}
@@ -81,41 +76,35 @@ pub record RetellsEntries (form : Telling) (can : Bool) (before : Journal) (old 
     pub replays : Replays can before old text followed after new
     pub told : Appends held holds (flat_map (retold form) replays.repeats.performances)
 
--- A text begins with a head that has the image of a device. The head, and then each entry that was
+-- A text begins with a head by which a journal starts. The head, and then each entry that was
 -- executed, was told, with this result.
 pub record RetellsText (form : Telling) (text : List ℕ) (held : Option (List ℕ)) (holds : Option (List ℕ))
     (fault : Option FollowFault) : Type 0
   where
-    pub clock : ℕ
-    pub image : List ℕ
+    pub start : Start
     pub rest : List ℕ
-    pub begins : BeginsWith text clock image rest
-    pub kept : NonVolatile
-    pub is_image : image_of image ≡ Ok kept
+    pub starts : Starts text start rest
     pub followed : Followed
     pub ends_so : followed.fault ≡ fault
     pub after : Journal
     pub new : Record
-    pub replays : Replays false (journal_begun clock image) (powered_on kept) rest followed after new
+    pub replays : Replays false start.journal start.device rest followed after new
     pub told : Appends held holds
-        (retold_head form (head_text clock image)
+        (retold_head form (starting_head starts)
         ++ flat_map (retold form) replays.repeats.performances)
 
 -- how many bytes the head has, and the entries that were executed after it
 abbrev pub retold_size : {form : Telling} {text : List ℕ} {held holds : Option (List ℕ)}
     {fault : Option FollowFault} → RetellsText form text held holds fault → ℕ
-retold_size told = length (head_text told.clock told.image) + told.followed.taken
+retold_size told = length (starting_head told.starts) + told.followed.taken
 
--- A text was told to its end; or up to a fault; or the writer failed.
+-- A text was told to its end; or up to a fault; or no journal starts by it, and nothing was told; or
+-- the writer failed.
 abbrev pub RetellsJournal : Telling → List ℕ → (held : Option (List ℕ)) → (holds : Option (List ℕ))
     → Marks → Result (Unit {0}) RetellFault → Type 0
 RetellsJournal form text held holds marks (Ok done) = RetellsText form text held holds None
-RetellsJournal form text held holds marks (Err (Open fault.NoJournal)) =
-    ((clock : ℕ) (image rest : List ℕ) → BeginsWith text clock image rest → ⊥) × Keeps held holds
-RetellsJournal form text held holds marks (Err (Open (fault.Image why))) =
-    ((clock : ℕ) × (image : List ℕ) × (rest : List ℕ) × BeginsWith text clock image rest
-    × (image_of image ≡ Err why)) × Keeps held holds
-RetellsJournal form text held holds marks (Err (Open (fault.Follow why))) = ⊥
+RetellsJournal form text held holds marks (Err (Open why)) =
+    StartsNot text why × Keeps held holds
 RetellsJournal form text held holds marks (Err (Follow why taken)) =
     (told : RetellsText form text held holds (Some why)) × (taken ≡ retold_size told)
 RetellsJournal form text held holds marks (Err Write) = marks.failed ≡ true

@@ -1,11 +1,13 @@
 -- The state of a journal beside its device.
-use Rattle.std.specs.Prelude.{ℕ, ◌+◌, ◌-◌, ◌^◌, List, [], ◌∷◌, min}
+use Rattle.std.specs.Prelude.{ℕ, ◌+◌, ◌-◌, ◌^◌, List, [], ◌∷◌, min, Option, Some, None}
 use Rattle.tpm_completion.specs.Completion.{new_completion}
 use Rattle.tpm_completion.specs.declared.completion.Completion.{Completion}
 use Rattle.tpm_journal_text.specs.Entry.{PlainEntry, sum_after}
 use Rattle.tpm_journal_text.specs.Journal.{sum_after_all}
 use Rattle.tpm_journal_text.specs.Head.{head_sum}
 use Rattle.tpm_journal.specs.declared.journal.Journal.{Journal}
+use Rattle.tpm_snapshot.specs.Layer.{completion_of}
+use Rattle.tpm_state_text.specs.declared.layer.Layer.{Layer}
 
 -- the journal whose head has this sum and this clock: the completing layer begins anew, with the
 -- sum as the number of its start
@@ -15,6 +17,16 @@ journal_of sum clock = record { sum = sum; time = clock; layer = new_completion 
 -- the journal that begins with this clock and this image
 abbrev pub journal_begun : (clock : ℕ) → (image : List ℕ) → Journal
 journal_begun clock image = journal_of (head_sum clock image) clock
+
+-- the layer of a state: the one that it has, or a new one, with the sum of the head as the number of
+-- its start
+abbrev pub layer_in : (sum : ℕ) → Option Layer → Completion
+layer_in sum None = new_completion sum
+layer_in sum (Some layer) = completion_of (Some layer)
+
+-- the journal whose head has this sum and this clock, and holds a state with this layer
+abbrev pub journal_resumed : (sum clock : ℕ) → Option Layer → Journal
+journal_resumed sum clock layer = record { sum = sum; time = clock; layer = layer_in sum layer }
 
 -- the time after some milliseconds, at most 2^64 - 1
 abbrev pub time_after : (time elapsed : ℕ) → ℕ

@@ -1,29 +1,38 @@
 //! A journal begins, and grows with each command.
 
-ghost use Rattle.std.specs.Prelude.{◌≡◌, ◌≤◌, ◌<◌, false, length, take};
+ghost use Rattle.std.specs.Prelude.{◌≡◌, ◌≤◌, ◌<◌, ◌+◌, ◌++◌, [], Ok, Some, false, length, option_copied, take};
 ghost use Rattle.tpm_completion.specs.Execution.{seen_of};
 ghost use Rattle.tpm_machine.specs.Follows.{After, Follows};
 ghost use Rattle.tpm_image_text.specs.Image.{image_text};
 ghost use Rattle.tpm_image_text.specs.NonVolatile.{kept_of};
 ghost use Rattle.tpm_image_text.specs.Saving.{PutsFront};
 ghost use Rattle.tpm_image_text.specs.declared.version.Version.TheVariants.{Two};
+ghost use Rattle.tpm_journal.specs.Checkpoint.{checkpointed, state_beside};
 ghost use Rattle.tpm_journal.specs.Command.{Executed, command_at, elapsed_of, entry_of};
-ghost use Rattle.tpm_journal.specs.State.{journal_after, journal_begun, journal_of};
+ghost use Rattle.tpm_journal.specs.Starting.{start_by};
+ghost use Rattle.tpm_journal.specs.State.{journal_after, journal_begun, journal_of, journal_resumed, layer_in};
 ghost use Rattle.tpm_journal_text.specs.Entry.{IsEntry, entry_text};
-ghost use Rattle.tpm_journal_text.specs.Head.{head_text, image_limit};
+ghost use Rattle.tpm_journal_text.specs.Head.{content_limit, head_sum, head_text};
+ghost use Rattle.tpm_journal_text.specs.declared.head.HeadKind.TheVariants.{Image, State};
 ghost use Rattle.tpm_machine.specs.State.{state_of};
 ghost use Rattle.tpm_record.specs.Cycle.{cycled};
+ghost use Rattle.tpm_record.specs.IsRecord.{IsRecord};
+ghost use Rattle.tpm_state_text.specs.Filling.{state_of as whole_state};
+ghost use Rattle.tpm_state_text.specs.State.{state_text};
 ghost use Rattle.tpm_step.specs.Events.{Cycled};
 ghost use Rattle.tpm_step.specs.Execution.{Executes};
 ghost use Rattle.tpm_step.specs.Step.{outcome_step};
 ghost use Rattle.tpm_types.specs.Locality.{locality_number};
 
+use tpm_bytes::Sink;
 use tpm_completion::{Completion, execute as complete};
-use tpm_image::save_into;
 use tpm_image_text::laws::image_laws;
-use tpm_journal_text::{ENTRY_LIMIT, ENTRY_ROOM, Entry, IMAGE_ROOM, head_size, sum_of, write_head};
+use tpm_image_text::{Text, write_image as write_text};
+use tpm_journal_text::{ENTRY_LIMIT, ENTRY_ROOM, Entry, HeadKind, head_size, sum_of, write_head};
 use tpm_machine::Machine;
 use tpm_record::Keep;
+use tpm_snapshot::{completion_of, layer_of};
+use tpm_state_text::{Layer, StateBody, write_state};
 use tpm_step::{Event, Outcome};
 use tpm_types::Locality;
 
@@ -52,41 +61,79 @@ impl Journal {
         }
     }
 
+    /// The journal whose head has this sum and this clock, and holds a state with this layer.
+    pub(crate) fn resumed(sum: u64, clock_ms: u64, layer: Option<&Layer>) -> Journal
+        ensures { result ≡ journal_resumed sum clock_ms (option_copied layer.entry) }
+    {
+        Journal {
+            sum,
+            time: clock_ms,
+            layer: layer_in(sum, layer),
+        }
+    }
+
     /// Cycles the power of the device, and writes the head of its new journal to the front of a
-    /// room. Gives how many bytes the head has; where the room is smaller, nothing is done.
+    /// buffer. Returns how many bytes the head has; if the buffer is smaller, nothing is done.
     pub fn begin<K: Keep>(
         &mut self,
         machine: &mut Machine<K>,
         now_ms: u64,
         outcome: &mut Outcome,
-        room: &mut [u8],
+        buffer: &mut [u8],
     ) -> usize
-        ensures head { PutsFront (head_text now_ms
+        ensures head { PutsFront (head_text Image now_ms
             (image_text Two (kept_of (cycled (state_of K.record_of machine.old)))))
-            room.old result room.new }
-        ensures executes { result ≤ length room.old → Executes K.can_refuse
+            buffer.old result buffer.new }
+        ensures executes { result ≤ length buffer.old → Executes K.can_refuse
             (state_of K.record_of machine.old) Cycled
             (outcome_step (state_of K.record_of machine.new) outcome.new) }
-        ensures history { result ≤ length room.old → After Follows
+        ensures history { result ≤ length buffer.old → After Follows
             (state_of K.record_of machine.old) Cycled
             (outcome_step (state_of K.record_of machine.new) outcome.new) }
-        ensures journal { result ≤ length room.old → self.new ≡ journal_begun now_ms
+        ensures journal { result ≤ length buffer.old → self.new ≡ journal_begun now_ms
             (image_text Two (kept_of (cycled (state_of K.record_of machine.old)))) }
-        ensures no_room { length room.old < result
+        ensures no_room { length buffer.old < result
             → state_of K.record_of machine.new ≡ state_of K.record_of machine.old }
-        ensures no_journal { length room.old < result → self.new ≡ self.old }
+        ensures no_journal { length buffer.old < result → self.new ≡ self.old }
     {
-        let mut image = [0; IMAGE_ROOM];
-        let count = save(machine, &mut image);
-        let size = head_size(count);
-        if size > room.len() {
+        let mut sum = 0;
+        let size = put_image(machine, now_ms, &mut sum, buffer);
+        if size > buffer.len() {
             return size;
         }
         machine.execute_into(&Event::PowerCycle, outcome);
-        let (image, _) = image.split_at(count);
-        let (front, _) = room.split_at_mut(size);
-        let sum = write_head(now_ms, image, front);
         *self = Journal::begun(sum, now_ms);
+        size
+    }
+
+    /// Begins the text of the journal anew: writes a head that holds all that the device and the
+    /// completing layer are to the front of a buffer. Returns how many bytes the head has; if the
+    /// buffer is smaller, nothing is done. The device and the layer stay as they are. With the
+    /// journal's own time as the clock no time is lost.
+    pub fn checkpoint<K: Keep>(
+        &mut self,
+        machine: &Machine<K>,
+        clock_ms: u64,
+        buffer: &mut [u8],
+    ) -> usize
+        ensures head { PutsFront (head_text State clock_ms
+            (state_text (state_beside self.old (state_of K.record_of machine.now))))
+            buffer.old result buffer.new }
+        ensures journal { result ≤ length buffer.old
+            → self.new ≡ checkpointed self.old clock_ms (state_of K.record_of machine.now) }
+        ensures no_journal { length buffer.old < result → self.new ≡ self.old }
+        // The head starts the journal, and the device, with which this one goes on.
+        ensures starts { result ≤ length buffer.old → start_by State clock_ms
+            (state_text (state_beside self.old (state_of K.record_of machine.now)))
+            ≡ Ok (record { journal = self.new; device = state_of K.record_of machine.now }) }
+    {
+        let mut sum = 0;
+        let layer = layer_of(&self.layer);
+        let size = put_state(machine, &layer, clock_ms, &mut sum, buffer);
+        if size <= buffer.len() {
+            self.sum = sum;
+            self.time = clock_ms;
+        }
         size
     }
 
@@ -149,17 +196,103 @@ impl Journal {
     }
 }
 
-/// Writes the image of a device to the front of a room, and gives how many bytes it has.
-fn save<K: Keep>(machine: &Machine<K>, room: &mut [u8; IMAGE_ROOM]) -> usize
-    ensures size { result
-        ≡ length (image_text Two (kept_of (state_of K.record_of machine.now))) }
-    ensures small { result ≤ image_limit }
-    ensures image { take result room.new
+/// The layer of a state: the one that it has, or a new one, with the sum of the head as the number
+/// of its start.
+fn layer_in(sum: u64, layer: Option<&Layer>) -> Completion
+    ensures { result ≡ layer_in sum (option_copied layer.entry) }
+{
+    match layer {
+        Some(_) => completion_of(layer),
+        None => Completion::of_start(sum),
+    }
+}
+
+/// Writes a head whose content comes in two parts to the front of a buffer, if it fits. Returns how
+/// many bytes it has. `sum` becomes the sum of the head's mark.
+fn put_head(
+    kind: HeadKind,
+    clock_ms: u64,
+    front: &[u8],
+    back: &[u8],
+    sum: &mut u64,
+    buffer: &mut [u8],
+) -> usize
+    requires { length front.now + length back.now ≤ content_limit kind }
+    ensures head { PutsFront (head_text kind clock_ms (front.now ++ back.now)) buffer.old result
+        buffer.new }
+    ensures sum { result ≤ length buffer.old
+        → sum.new ≡ head_sum clock_ms (front.now ++ back.now) }
+{
+    let size = head_size(front.len() + back.len());
+    if size <= buffer.len() {
+        let (head, _) = buffer.split_at_mut(size);
+        *sum = write_head(kind, clock_ms, front, back, head);
+    }
+    size
+}
+
+/// Writes the image of a device: returns its head, and appends the rest to an empty text.
+fn write_image<K: Keep>(machine: &Machine<K>, text: &mut Text) -> Sink<10>
+    requires { text.old ≡ [] }
+    ensures image { result ++ text.new
         ≡ image_text Two (kept_of (state_of K.record_of machine.now)) }
+    ensures small { length result + length text.new ≤ content_limit Image }
 {
     image_laws();
-    machine.keep();
-    save_into(machine, room)
+    write_text(machine.keep(), text)
+}
+
+/// Writes a head that holds the image of a device to the front of a buffer, if it fits.
+fn put_image<K: Keep>(
+    machine: &Machine<K>,
+    clock_ms: u64,
+    sum: &mut u64,
+    buffer: &mut [u8],
+) -> usize
+    ensures head { PutsFront (head_text Image clock_ms
+        (image_text Two (kept_of (state_of K.record_of machine.now)))) buffer.old result
+        buffer.new }
+    ensures sum { result ≤ length buffer.old → sum.new ≡ head_sum clock_ms
+        (image_text Two (kept_of (state_of K.record_of machine.now))) }
+{
+    let mut text = Text::new();
+    let head = write_image(machine, &mut text);
+    put_head(
+        HeadKind::Image,
+        clock_ms,
+        head.as_slice(),
+        text.as_slice(),
+        sum,
+        buffer,
+    )
+}
+
+/// Writes a head that holds the state text of a device, with its layer, to the front of a buffer, if
+/// it fits.
+fn put_state<K: Keep>(
+    machine: &Machine<K>,
+    layer: &Layer,
+    clock_ms: u64,
+    sum: &mut u64,
+    buffer: &mut [u8],
+) -> usize
+    ensures head { PutsFront (head_text State clock_ms
+        (state_text (whole_state (state_of K.record_of machine.now) (Some layer.now))))
+        buffer.old result buffer.new }
+    ensures sum { result ≤ length buffer.old → sum.new ≡ head_sum clock_ms
+        (state_text (whole_state (state_of K.record_of machine.now) (Some layer.now))) }
+    ensures is_record { IsRecord (state_of K.record_of machine.now) }
+{
+    let mut text = StateBody::new();
+    let head = write_state(machine.keep(), Some(layer), &mut text);
+    put_head(
+        HeadKind::State,
+        clock_ms,
+        head.as_slice(),
+        text.as_slice(),
+        sum,
+        buffer,
+    )
 }
 
 /// The front of a buffer, at most as many bytes as an entry can have.

@@ -1,28 +1,34 @@
 //! The laws of journals: what is opened is the device that executed the answered commands.
 
-ghost use Rattle.std.specs.Prelude.{◌≡◌, ◌++◌, ℕ, Bool, List, Option, Result, false};
+ghost use Rattle.std.specs.Prelude.{◌≡◌, ◌++◌, ℕ, Bool, List, Ok, Option, Result, false};
 ghost use Rattle.std.specs.List.{AllByRecursion};
-ghost use Rattle.tpm_completion.specs.Completion.{new_completion};
 ghost use Rattle.tpm_completion.specs.declared.completion.Completion.{Completion};
 ghost use Rattle.tpm_machine.specs.Follows.{Follows, StretchFollows};
 ghost use Rattle.tpm_machine.specs.History.{History};
 ghost use Rattle.tpm_image_text.specs.Image.{image_text};
 ghost use Rattle.tpm_image_text.specs.NonVolatile.{kept_of};
 ghost use Rattle.tpm_image_text.specs.declared.version.Version.TheVariants.{Two};
+ghost use Rattle.tpm_journal.specs.Checkpoint.{checkpointed, state_beside};
 ghost use Rattle.tpm_journal.specs.Living.{Answers, Lives};
-ghost use Rattle.tpm_journal.specs.Opening.{BeginsWith, IsOpenedAgain, OpensJournal};
+ghost use Rattle.tpm_journal.specs.Opening.{IsOpenedAgain, OpensJournal};
 ghost use Rattle.tpm_journal.specs.Replay.{IsFollowedWhole, Repeats, Replays, run_of_all};
+ghost use Rattle.tpm_journal.specs.Starting.{BeginsWith, Start, start_by};
+ghost use Rattle.tpm_journal.specs.State.{journal_begun, journal_resumed};
 ghost use Rattle.tpm_journal.specs.declared.following.FollowFault.{FollowFault};
 ghost use Rattle.tpm_journal.specs.declared.following.Followed.{Followed};
 ghost use Rattle.tpm_journal.specs.declared.journal.Journal.{Journal};
 ghost use Rattle.tpm_journal.specs.declared.opening.OpenFault.{OpenFault};
 ghost use Rattle.tpm_journal.specs.declared.opening.Opened.{Opened};
 ghost use Rattle.tpm_journal_text.specs.Entry.{IsEntry, PlainEntry};
-ghost use Rattle.tpm_journal_text.specs.Head.{head_sum};
+ghost use Rattle.tpm_journal_text.specs.Head.{head_sum, head_text};
 ghost use Rattle.tpm_journal_text.specs.Journal.{IsTorn, entries_text, sum_after_all};
+ghost use Rattle.tpm_journal_text.specs.declared.head.HeadKind.{HeadKind};
+ghost use Rattle.tpm_journal_text.specs.declared.head.HeadKind.TheVariants.{Image, State};
 ghost use Rattle.tpm_record.specs.Cycle.{cycled};
 ghost use Rattle.tpm_record.specs.IsRecord.{IsRecord};
 ghost use Rattle.tpm_record.specs.Record.{Record};
+ghost use Rattle.tpm_state_text.specs.Body.{IsWholeState, WholeState};
+ghost use Rattle.tpm_state_text.specs.State.{state_text};
 
 /// The entries of a live device and its layer are answered again as they say, and lead to its layer
 /// and its record: random bytes that a command did not draw have no influence. The function does
@@ -47,21 +53,60 @@ pub fn following_laws()
         → IsFollowedWhole before entries layer final followed after new }
 {}
 
-/// A text of a device's head and entries, followed by what a crash leaves of another entry, is opened
-/// as the device and the layer to which the entries lead, if they answer as the entries say.
+/// Which journal starts by a head: by the image of a device a new one, after a power cycle of the
+/// device; by a state text one with the device and the layer as they were; and by a checkpoint the
+/// journal that was checkpointed, with its layer and its device. The function does nothing.
+#[inline(always)]
+#[tactic(auto, using(crate::proofs::Starts::image_starts, crate::proofs::Starts::state_starts, crate::proofs::Starts::checkpoint_starts))]
+pub fn starting_laws()
+    ensures image { (clock : ℕ) (r : Record) → IsRecord r
+        → start_by Image clock (image_text Two (kept_of r)) ≡ Ok (record {
+          journal = journal_begun clock (image_text Two (kept_of r));
+          device = cycled r;
+        }) }
+    ensures state { (clock : ℕ) (state : WholeState) → IsWholeState state
+        → start_by State clock (state_text state) ≡ Ok (record {
+          journal = journal_resumed (head_sum clock (state_text state)) clock state.layer;
+          device = state.device;
+        }) }
+    ensures checkpoint { (j : Journal) (clock : ℕ) (r : Record) → IsWholeState (state_beside j r)
+        → start_by State clock (state_text (state_beside j r))
+        ≡ Ok (record { journal = checkpointed j clock r; device = r }) }
+{}
+
+/// A text of a head by which a journal starts, and of entries, followed by what a crash leaves of
+/// another entry, is opened as the device and the layer to which the entries lead from the start, if
+/// they answer as the entries say.
 #[inline(always)]
 #[tactic(auto, using(crate::proofs::Again::opened_again))]
 pub fn opening_laws()
-    ensures { (clock : ℕ) (r : Record) (entries : List PlainEntry) (rest : List ℕ)
-        (layer : Completion) (final : Record) (text : List ℕ) → IsRecord r
-        → BeginsWith text clock (image_text Two (kept_of r))
-        (entries_text (head_sum clock (image_text Two (kept_of r))) entries ++ rest)
+    ensures { (kind : HeadKind) (clock : ℕ) (content : List ℕ) (start : Start)
+        (entries : List PlainEntry) (rest : List ℕ) (layer : Completion) (final : Record)
+        (text : List ℕ) → start_by kind clock content ≡ Ok start
+        → BeginsWith text kind clock content (entries_text start.journal.sum entries ++ rest)
         → AllByRecursion IsEntry entries
-        → IsTorn (sum_after_all (head_sum clock (image_text Two (kept_of r))) entries) rest
-        → Answers (new_completion (head_sum clock (image_text Two (kept_of r)))) (cycled r) entries
-        layer final
+        → IsTorn (sum_after_all start.journal.sum entries) rest
+        → Answers start.journal.layer start.device entries layer final
         → (result : Result Opened OpenFault) (new : Record) → OpensJournal text result new
-        → IsOpenedAgain clock (image_text Two (kept_of r)) entries layer final result new }
+        → IsOpenedAgain (head_text kind clock content) start.journal entries layer final result
+        new }
+{}
+
+/// A checkpoint of a live device, and the entries of what the device and its layer executed after
+/// it, are opened as this device and this layer.
+#[inline(always)]
+#[tactic(auto, using(crate::proofs::Starts::checkpoint_opened))]
+pub fn checkpoint_laws()
+    ensures { (j : Journal) (clock : ℕ) (r : Record) (entries : List PlainEntry) (rest : List ℕ)
+        (layer : Completion) (final : Record) (text : List ℕ) → IsWholeState (state_beside j r)
+        → BeginsWith text State clock (state_text (state_beside j r))
+        (entries_text (checkpointed j clock r).sum entries ++ rest)
+        → AllByRecursion IsEntry entries
+        → IsTorn (sum_after_all (checkpointed j clock r).sum entries) rest
+        → Lives j.layer r entries layer final
+        → (result : Result Opened OpenFault) (new : Record) → OpensJournal text result new
+        → IsOpenedAgain (head_text State clock (state_text (state_beside j r)))
+        (checkpointed j clock r) entries layer final result new }
 {}
 
 /// A device that follows a history and executes entries again follows the history with everything

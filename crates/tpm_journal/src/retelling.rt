@@ -17,12 +17,11 @@ mod lines;
 
 use crate::following::{Deed, FollowFault, Followed};
 use crate::journal::Journal;
-use crate::opening::OpenFault;
+use crate::opening::{OpenFault, start};
 use crate::retelling::lines::{put_entry, put_head};
 use std::io::Write;
 use tpm_bytes::{Failed, Tap};
-use tpm_image::open_into;
-use tpm_journal_text::{BYTES_ROOM, ENTRY_ROOM, IMAGE_ROOM, read_head};
+use tpm_journal_text::{BYTES_ROOM, ENTRY_ROOM};
 use tpm_machine::Machine;
 use tpm_record::Keep;
 use tpm_step::Outcome;
@@ -39,7 +38,7 @@ pub enum Telling {
 /// Why a journal was not told to its end.
 #[derive(Clone, Copy, PartialEq, Eq)]
 pub enum RetellFault {
-    /// The journal has no head, or no image in it. Nothing was told.
+    /// The journal has no head, or no device in it. Nothing was told.
     Open(OpenFault),
     /// The entries were told up to this fault: their head and they have `taken` bytes.
     Follow { fault: FollowFault, taken: usize },
@@ -61,15 +60,12 @@ pub fn retell<K: Keep, W: Write>(
     ensures { RetellsJournal form text.now (W.contents (device_of writer.old))
         (W.contents (device_of writer.new)) (marks_of writer.new) result }
 {
-    let mut image = [0; IMAGE_ROOM];
-    let Some(head) = read_head(text, &mut image) else {
-        return Err(RetellFault::Open(OpenFault::NoJournal));
+    let started = match start(machine, text) {
+        Ok(started) => started,
+        Err(fault) => return Err(RetellFault::Open(fault)),
     };
-    if let Err(fault) = open_into(machine, head.image) {
-        return Err(RetellFault::Open(OpenFault::Image(fault)));
-    }
-    let mut journal = Journal::begun(head.sum, head.clock);
-    let (front, rest) = text.split_at(head.size);
+    let mut journal = started.journal;
+    let (front, rest) = text.split_at(started.size);
     let Ok(()) = put_head(writer, form, front) else {
         return Err(RetellFault::Write);
     };
@@ -80,7 +76,7 @@ pub fn retell<K: Keep, W: Write>(
         None => Ok(()),
         Some(fault) => Err(RetellFault::Follow {
             fault,
-            taken: head.size + followed.taken,
+            taken: started.size + followed.taken,
         }),
     }
 }

@@ -7,11 +7,12 @@
 //! contracts say that a log's text holds exactly the commands that it was told, in their order
 //! ([`laws`]).
 
-ghost use Rattle.std.specs.Prelude.{◌≡◌, ◌≤◌, IfOk, length, take, true};
+ghost use Rattle.std.specs.Prelude.{◌≡◌, ◌≤◌, ◌+◌, ◌++◌, [], IfOk, length, true};
 ghost use Rattle.tpm_image_text.specs.Image.{image_text};
 ghost use Rattle.tpm_image_text.specs.NonVolatile.{kept_of};
 ghost use Rattle.tpm_image_text.specs.declared.version.Version.TheVariants.{Two};
-ghost use Rattle.tpm_journal_text.specs.Head.{image_limit};
+ghost use Rattle.tpm_journal_text.specs.Head.{content_limit};
+ghost use Rattle.tpm_journal_text.specs.declared.head.HeadKind.TheVariants.{Image};
 ghost use Rattle.tpm_machine.specs.State.{state_of};
 
 mod entry;
@@ -21,10 +22,10 @@ pub mod logged;
 use crate::log::entry::entry_of;
 pub use logged::Logged;
 use std::io::Write;
-use tpm_bytes::Tap;
-use tpm_image::save_into;
+use tpm_bytes::{Sink, Tap};
 use tpm_image_text::laws::image_laws;
-use tpm_journal_text::{ENTRY_ROOM, IMAGE_ROOM, head_size, write_head};
+use tpm_image_text::{Text, write_image as write_text};
+use tpm_journal_text::{ENTRY_ROOM, HeadKind, head_size, write_head};
 use tpm_machine::{Machine, Unsaved, Witness};
 use tpm_record::Keep;
 use tpm_step::{Event, Outcome};
@@ -53,12 +54,12 @@ impl<W: Write + Drop> Log<W> {
             (image_text Two (kept_of (state_of K.record_of machine.now)))
             (W.contents writer) (written_of W.contents log)) }
     {
-        let mut image = [0; IMAGE_ROOM];
-        let count = save(machine, &mut image);
-        let (image, _) = image.split_at(count);
+        let mut text = Text::new();
+        let image = write_image(machine, &mut text);
+        let (front, back) = (image.as_slice(), text.as_slice());
         let mut head = [0; HEAD_ROOM];
-        let (head, _) = head.split_at_mut(head_size(count));
-        let sum = write_head(now_ms, image, head);
+        let (head, _) = head.split_at_mut(head_size(front.len() + back.len()));
+        let sum = write_head(HeadKind::Image, now_ms, front, back, head);
         let mut writer = Tap::new(writer);
         let Ok(()) = writer.write_all(head) else {
             return Err(Unsaved);
@@ -73,17 +74,15 @@ impl<W: Write + Drop> Log<W> {
     }
 }
 
-/// Writes the image of a device to the front of a room, and gives how many bytes it has.
-fn save<K: Keep>(machine: &Machine<K>, room: &mut [u8; IMAGE_ROOM]) -> usize
-    ensures size { result
-        ≡ length (image_text Two (kept_of (state_of K.record_of machine.now))) }
-    ensures small { result ≤ image_limit }
-    ensures image { take result room.new
+/// Writes the image of a device: returns its head, and appends the rest to an empty text.
+fn write_image<K: Keep>(machine: &Machine<K>, text: &mut Text) -> Sink<10>
+    requires { text.old ≡ [] }
+    ensures image { result ++ text.new
         ≡ image_text Two (kept_of (state_of K.record_of machine.now)) }
+    ensures small { length result + length text.new ≤ content_limit Image }
 {
     image_laws();
-    machine.keep();
-    save_into(machine, room)
+    write_text(machine.keep(), text)
 }
 
 impl<W: Write> Witness for Log<W> {

@@ -6,6 +6,7 @@ use Rattle.tpm_bytes.specs.Tap.{device_of}
 use Rattle.tpm_machine.specs.Executions.{Execution}
 use Rattle.tpm_journal_text.specs.Entry.{IsEntry, PlainEntry, entry_text, sum_after}
 use Rattle.tpm_journal_text.specs.Head.{head_sum, head_text}
+use Rattle.tpm_journal_text.specs.declared.head.HeadKind.TheVariants.{Image}
 use Rattle.tpm_journal_text.specs.Journal.{entries_text, sum_after_all}
 use Rattle.tpmsim_image.specs.log.Executed.{entry_in}
 use Rattle.tpmsim_image.specs.declared.log.Log.{Log}
@@ -22,7 +23,7 @@ written_of contents log = record { text = contents (device_of log.writer); sum =
 -- The head of this clock and this image was appended to the text.
 pub record Begins (clock : ℕ) (image : List ℕ) (before : Option (List ℕ)) (now : Written) : Type 0
   where
-    pub text : Appends before now.text (head_text clock image)
+    pub text : Appends before now.text (head_text Image clock image)
     pub sum : now.sum ≡ head_sum clock image
 
 -- An entry was appended to a log.

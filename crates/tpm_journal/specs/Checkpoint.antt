@@ -1,0 +1,20 @@
+-- A checkpoint of a journal: a head that holds all that the device and the completing layer are.
+use Rattle.std.specs.Prelude.{ℕ, Some}
+use Rattle.tpm_journal_text.specs.Head.{head_sum}
+use Rattle.tpm_record.specs.Record.{Record}
+use Rattle.tpm_snapshot.specs.Layer.{layer_of}
+use Rattle.tpm_state_text.specs.Body.{WholeState}
+use Rattle.tpm_state_text.specs.State.{state_text}
+use Rattle.tpm_journal.specs.declared.journal.Journal.{Journal}
+
+-- the whole state of a journal's device, with its completing layer
+abbrev pub state_beside : Journal → Record → WholeState
+state_beside journal device = record { device = device; layer = Some (layer_of journal.layer) }
+
+-- the journal after a checkpoint whose head has this clock: its sum is that of the head, its time is
+-- the clock, and its layer is as it was
+abbrev pub checkpointed : Journal → (clock : ℕ) → Record → Journal
+checkpointed journal clock device = record journal {
+  sum = head_sum clock (state_text (state_beside journal device));
+  time = clock;
+}
