@@ -12,6 +12,13 @@ const char *told_words(uint8_t told) {
     case TPMSIM_IMAGE_LENGTH: return "holds no image: there are not as many bytes as it says";
     case TPMSIM_IMAGE_DIGEST: return "holds a damaged image: its digest is another";
     case TPMSIM_IMAGE_BODY: return "holds an image of no state that a device can be in";
+    case TPMSIM_STATE_SHORT: return "holds no state text: there are too few bytes";
+    case TPMSIM_STATE_MAGIC: return "holds no state text: the bytes do not begin as one";
+    case TPMSIM_STATE_VERSION:
+        return "holds a state text of a version that this library does not know";
+    case TPMSIM_STATE_LENGTH: return "holds no state text: there are not as many bytes as it says";
+    case TPMSIM_STATE_DIGEST: return "holds a damaged state text: its digest is another";
+    case TPMSIM_STATE_BODY: return "holds a state text of no state that a device can be in";
     case TPMSIM_NO_JOURNAL: return "is no journal of a device";
     case TPMSIM_DAMAGED: return "is damaged, and stays as it is";
     case TPMSIM_OTHERWISE:

@@ -1,5 +1,5 @@
-/* Begins a journal, executes two commands for it, and opens and follows it: what is told each time, and
- * whether each call takes no more stack than tpmsim.h says. */
+/* Begins a journal, executes two commands for it, opens and follows it, and begins it anew with a
+ * checkpoint: what is told each time, and whether each call takes no more stack than tpmsim.h says. */
 #define _GNU_SOURCE
 #include "common.h"
 #include "tpmsim.h"
@@ -9,9 +9,10 @@
 enum { STACK_BYTES = 512 * 1024, CLOCK = 1000, WAITED = 250 };
 
 static tpmsim device;
-static uint8_t text[64 * 1024], record[TPMSIM_RECORD_ROOM], random_bytes[256], response[4096];
+static uint8_t text[96 * 1024], record[TPMSIM_RECORD_ROOM], random_bytes[256], response[4096];
+static uint8_t state[TPMSIM_STATE_SIZE], other[TPMSIM_STATE_SIZE];
 static tpmsim_answered answered;
-static size_t text_size, record_size, size_taken, command_size;
+static size_t text_size, record_size, size_taken, command_size, state_size;
 static const uint8_t *command;
 static uint64_t now = CLOCK;
 static uint8_t completes, told;
@@ -20,6 +21,13 @@ static void *nothing(void *unused) { return unused; }
 
 static void *begin(void *unused) {
     text_size = tpmsim_journal_begin(&device, now, text, sizeof text);
+    return unused;
+}
+
+/* The time of the host is far from that of the journal. */
+static void *checkpoint(void *unused) {
+    text_size = tpmsim_journal_checkpoint(&device, now + 1000 * WAITED, text, sizeof text);
+    told = TPMSIM_DONE;
     return unused;
 }
 
@@ -76,6 +84,49 @@ static void add_record(void) {
     text_size += record_size;
 }
 
+static void remember(void) { state_size = tpmsim_snapshot(&device, state, sizeof state); }
+
+static void compare(const char *name) {
+    size_t size = tpmsim_snapshot(&device, other, sizeof other);
+    int is_same = size == state_size && memcmp(state, other, size) == 0;
+    printf("%s: %s\n", name, is_same ? "the same device" : "ANOTHER DEVICE");
+}
+
+/* The clock of the head, behind its word. */
+static void show_clock(const char *name, uint64_t wanted) {
+    char digits[17] = "";
+    memcpy(digits, text + strlen("# tpmsim journal 2 "), sizeof digits - 1);
+    printf("%s: %s\n", name, strtoull(digits, NULL, 16) == wanted ? "its clock" : digits);
+}
+
+static void check_small(void) {
+    size_t size = tpmsim_journal_checkpoint(&device, now, text, 100);
+    must(tpmsim_journal_checkpoint(&device, now, text, size - 1) == size && text[0] == FILLED,
+         "a head that does not fit is written");
+    compare("a checkpoint that does not fit");
+}
+
+/* What is opened from a checkpoint is the device, and goes on as it. */
+static void check_checkpoints(void) {
+    memset(text, FILLED, sizeof text);
+    remember();
+    check_small();
+    run("checkpoint", checkpoint, 64 * 1024);
+    show_clock("of a journal", now);
+    compare("after a checkpoint");
+    run_command("random bytes", GET_RANDOM, sizeof GET_RANDOM);
+    add_record();
+    remember();
+    run("open a checkpoint", open_journal, 64 * 1024);
+    printf("%s\n", size_taken == text_size ? "all is taken" : "NOT ALL IS TAKEN");
+    compare("what was opened");
+    must(tpmsim_restore(&device, state, state_size) == TPMSIM_DONE, "no state is restored");
+    run("checkpoint of what was restored", checkpoint, 64 * 1024);
+    show_clock("of what has no journal", now + 1000 * WAITED);
+    run("open it", open_journal, 64 * 1024);
+    compare("what was restored");
+}
+
 int main(void) {
     for (size_t i = 0; i < sizeof random_bytes; i++) random_bytes[i] = (uint8_t)i;
     must(tpmsim_manufacture(&device, random_bytes) == TPMSIM_DONE, "no device is made");
@@ -97,7 +148,9 @@ int main(void) {
     run("open, no head", open_journal, 64 * 1024);
     completes = 1;
     run_command("with the completing layer", GET_RANDOM, sizeof GET_RANDOM);
+    check_checkpoints();
     tpmsim_free(&device);
     run("follow, no device", follow, 64 * 1024);
+    printf("a checkpoint, no device: %zu bytes\n", tpmsim_journal_checkpoint(&device, now, text, 0));
     return 0;
 }

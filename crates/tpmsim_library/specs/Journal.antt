@@ -1,21 +1,26 @@
 -- What a device does with its journal.
-use Rattle.std.specs.Prelude.{◌≡◌, ◌≤◌, ◌<◌, ℕ, Bool, false, List, length, take, Option, Some, None, Result, Ok, Err}
+use Rattle.std.specs.Prelude.{◌≡◌, ◌==◌, ◌≤◌, ◌<◌, ℕ, Bool, false, if◌then◌else◌, List, length, take, Option, Some, None, Result, Ok, Err}
 use Rattle.tpm_journal.specs.Execution.{Seen}
 use Rattle.tpm_machine.specs.Follows.{After, Follows}
 use Rattle.tpm_image_text.specs.Image.{image_text}
 use Rattle.tpm_image_text.specs.NonVolatile.{kept_of}
 use Rattle.tpm_image_text.specs.declared.version.Version.TheVariants.{Two}
+use Rattle.tpm_journal.specs.Checkpoint.{checkpointed, state_beside}
 use Rattle.tpm_journal.specs.Command.{Command, Executed, command_at, elapsed_of, entry_of}
 use Rattle.tpm_journal.specs.Opening.{IsJournal, OpensJournal}
+use Rattle.tpm_journal.specs.Starting.{start_by}
 use Rattle.tpm_journal.specs.State.{journal_after, journal_begun}
 use Rattle.tpm_completion.specs.declared.completion.Completion.{Completion}
 use Rattle.tpm_journal.specs.declared.journal.Journal.{Journal}
 use Rattle.tpm_journal.specs.declared.opening.OpenFault.{OpenFault}
 use Rattle.tpm_journal_text.specs.Entry.{entry_text}
+use Rattle.tpm_journal_text.specs.Head.{head_text}
+use Rattle.tpm_journal_text.specs.declared.head.HeadKind.TheVariants.{State}
 use Rattle.tpm_record.specs.Cycle.{cycled}
 use Rattle.tpm_record.specs.Record.{Record}
 use Rattle.tpm_step.specs.Events.{Cycled}
 use Rattle.tpm_step.specs.Execution.{Executes}
+use Rattle.tpm_state_text.specs.State.{state_text}
 use Rattle.tpmsim_library.specs.State.{command_seen, cycle_seen, record_of}
 use Rattle.tpmsim_library.specs.declared.device.Answered.{Answered}
 use Rattle.tpmsim_library.specs.declared.device.Device.{Device}
@@ -39,6 +44,32 @@ IsAsBefore before after = (record_of after ≡ record_of before) × (after.journ
 abbrev pub BeginsIfRoom : (before : Device) → (now room size : ℕ) → (after : Device) → Type 0
 BeginsIfRoom before now room size after =
     (size ≤ room → BeginsJournal before now after) × (room < size → IsAsBefore before after)
+
+-- the clock of a checkpoint at this time: that of the journal, so that no time is lost, or the host's
+-- if no journal has begun yet, whose sum is 0 then
+abbrev pub checkpoint_clock : Device → (now : ℕ) → ℕ
+checkpoint_clock device now = if device.journal.sum == 0 then now else device.journal.time
+
+-- the head of a device's checkpoint
+abbrev pub checkpoint_head : Device → (now : ℕ) → List ℕ
+checkpoint_head device now =
+    head_text State (checkpoint_clock device now)
+    (state_text (state_beside device.journal (record_of device)))
+
+-- The journal of a device begins anew with a checkpoint, from which it starts, and its device with
+-- it. The device and its completing layer are as they were.
+pub record Checkpoints (before : Device) (now : ℕ) (after : Device) : Type 0 where
+  pub device : record_of after ≡ record_of before
+  pub journal : after.journal
+      ≡ checkpointed before.journal (checkpoint_clock before now) (record_of before)
+  pub starts : start_by State (checkpoint_clock before now)
+      (state_text (state_beside before.journal (record_of before)))
+      ≡ Ok (record { journal = after.journal; device = record_of after })
+
+-- The journal of a device begins anew if the head fits into the buffer, and else stays.
+abbrev pub CheckpointsIfFits : (before : Device) → (now space size : ℕ) → (after : Device) → Type 0
+CheckpointsIfFits before now space size after =
+    (size ≤ space → Checkpoints before now after) × (space < size → IsAsBefore before after)
 
 -- the command of a buffer that a device is given at this clock, with the completing layer or
 -- without it

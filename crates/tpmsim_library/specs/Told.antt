@@ -58,6 +58,7 @@ follow_number (Some follow.Otherwise) = 12
 abbrev pub open_number : OpenFault → ℕ
 open_number opening.NoJournal = 10
 open_number (opening.Image fault) = fault_number fault
+open_number (opening.State fault) = restore_number fault
 open_number (opening.Follow fault) = follow_number (Some fault)
 
 -- The number tells the result of opening, and the holder has the opened device, or what it had

@@ -19,7 +19,9 @@ ghost use Rattle.tpm_step.specs.Execution.{Executes};
 ghost use Rattle.tpm_completion.specs.Execution.{CompletesIf};
 ghost use Rattle.tpm_journal.specs.Replay.{Replays};
 ghost use Rattle.tpm_journal_text.specs.Head.{head_text};
+ghost use Rattle.tpm_journal_text.specs.declared.head.HeadKind.TheVariants.{Image};
 ghost use Rattle.tpm_types.specs.Locality.{locality_number};
+ghost use Rattle.tpmsim_library.specs.Journal.{CheckpointsIfFits, checkpoint_clock, checkpoint_head};
 ghost use Rattle.tpmsim_library.specs.Journal.{BeginsIfRoom, HasFault, IsOfJournal, OpensDevice};
 ghost use Rattle.tpmsim_library.specs.Journal.{Records, command_by, image_at_power};
 ghost use Rattle.tpmsim_library.specs.Journal.{journal_with, seen_in};
@@ -201,12 +203,35 @@ impl Device {
     /// Cycles the device's power, and writes the head of its new journal to the front of a room.
     /// Gives how many bytes the head has; where the room is smaller, nothing is done.
     pub fn begin_journal(&mut self, now_ms: u64, room: &mut [u8]) -> usize
-        ensures head { PutsFront (head_text now_ms (image_at_power self.old)) room.old result
+        ensures head { PutsFront (head_text Image now_ms (image_at_power self.old)) room.old result
             room.new }
         ensures begins { BeginsIfRoom self.old now_ms (length room.old) result self.new }
     {
         self.journal
             .begin(&mut self.machine, now_ms, &mut self.outcome, room)
+    }
+
+    /// The clock of a checkpoint at this time: that of the journal, or the host's if no journal has
+    /// begun yet.
+    fn checkpoint_clock(&self, now_ms: u64) -> u64
+        ensures { result ≡ checkpoint_clock self.now now_ms }
+    {
+        if self.journal.sum == 0 {
+            now_ms
+        } else {
+            self.journal.time
+        }
+    }
+
+    /// Begins the device's journal anew with a checkpoint, and writes its head to the front of a
+    /// buffer. Returns how many bytes the head has; if the buffer is smaller, nothing is done.
+    pub fn checkpoint(&mut self, now_ms: u64, buffer: &mut [u8]) -> usize
+        ensures head { PutsFront (checkpoint_head self.old now_ms) buffer.old result buffer.new }
+        ensures checkpoints { CheckpointsIfFits self.old now_ms (length buffer.old) result
+            self.new }
+    {
+        let clock_ms = self.checkpoint_clock(now_ms);
+        self.journal.checkpoint(&self.machine, clock_ms, buffer)
     }
 
     /// The device of a journal, and how many bytes of the text are its head and entries; or the

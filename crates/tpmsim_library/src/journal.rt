@@ -9,8 +9,9 @@ ghost use Rattle.tpm_journal.specs.Replay.{Replays};
 ghost use Rattle.tpm_journal.specs.declared.following.FollowFault.{FollowFault};
 ghost use Rattle.tpm_journal.specs.declared.opening.OpenFault.{OpenFault as Fault};
 ghost use Rattle.tpm_journal_text.specs.Head.{head_text};
+ghost use Rattle.tpm_journal_text.specs.declared.head.HeadKind.TheVariants.{Image};
 ghost use Rattle.tpmsim_library.specs.Journal.{BeginsIfRoom, HasFault, IsOfJournal, Records};
-ghost use Rattle.tpmsim_library.specs.Journal.{command_by, image_at_power};
+ghost use Rattle.tpmsim_library.specs.Journal.{CheckpointsIfFits, checkpoint_head, command_by, image_at_power};
 ghost use Rattle.tpmsim_library.specs.State.{record_of};
 ghost use Rattle.tpmsim_library.specs.Told.{done, follow_number, no_device, no_locality};
 ghost use Rattle.tpmsim_library.specs.Told.{no_memory, open_number};
@@ -33,7 +34,7 @@ pub extern "C" fn tpmsim_journal_begin(
     room: &mut [u8],
 ) -> usize
     ensures head { MatchOption holder.old.device ((result ≡ 0) × (room.new ≡ room.old))
-        (λ before. PutsFront (head_text now_ms (image_at_power before)) room.old result room.new) }
+        (λ before. PutsFront (head_text Image now_ms (image_at_power before)) room.old result room.new) }
     ensures begins { MatchOption holder.old.device (holder.new.device ≡ None) (λ before.
         (after : Device) × (holder.new.device ≡ Some after)
         × BeginsIfRoom before now_ms (length room.old) result after) }
@@ -42,6 +43,30 @@ pub extern "C" fn tpmsim_journal_begin(
         return 0;
     };
     let size = device.begin_journal(now_ms, room);
+    holder.put(device);
+    size
+}
+
+/// Begins the journal of the device anew with a checkpoint, and writes its head to the front of a
+/// buffer. Returns how many bytes the head has, or 0 without a device. Nothing is done if the buffer
+/// is smaller. The head has the journal's time as its clock, or `now_ms` if no journal has begun yet.
+#[unsafe(no_mangle)]
+pub extern "C" fn tpmsim_journal_checkpoint(
+    alloc: Global,
+    holder: &mut Holder,
+    now_ms: u64,
+    buffer: &mut [u8],
+) -> usize
+    ensures head { MatchOption holder.old.device ((result ≡ 0) × (buffer.new ≡ buffer.old))
+        (λ before. PutsFront (checkpoint_head before now_ms) buffer.old result buffer.new) }
+    ensures checkpoints { MatchOption holder.old.device (holder.new.device ≡ None) (λ before.
+        (after : Device) × (holder.new.device ≡ Some after)
+        × CheckpointsIfFits before now_ms (length buffer.old) result after) }
+{
+    let Some(mut device) = holder.take(alloc) else {
+        return 0;
+    };
+    let size = device.checkpoint(now_ms, buffer);
     holder.put(device);
     size
 }

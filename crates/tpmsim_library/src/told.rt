@@ -77,6 +77,7 @@ pub fn open_number(fault: OpenFault) -> u8
     match fault {
         OpenFault::NoJournal => 10,
         OpenFault::Image(fault) => fault_number(fault),
+        OpenFault::State(fault) => restore_number(fault),
         OpenFault::Follow(fault) => follow_number(Some(fault)),
     }
 }
