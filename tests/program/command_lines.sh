@@ -64,6 +64,11 @@ served --log log
 # A state, which stands in one folder.
 words power
 words power a b
+words snapshot
+words snapshot a b
+words restore
+words restore a
+words restore a b c
 words script
 words script a b
 words script --state a

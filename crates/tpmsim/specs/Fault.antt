@@ -6,13 +6,15 @@ use Rattle.std.specs.declared.io.Error.{Error}
 use Rattle.std.specs.declared.io.ErrorKind.{ErrorKind}
 use Rattle.std.specs.declared.io.ErrorKind.TheVariants.{OutOfMemory}
 use Rattle.tpmsim.specs.declared.fault.Fault.{Fault}
-use Rattle.tpmsim.specs.declared.fault.Fault.TheVariants.{Usage, ScriptLine, Asm, NoLine, Image, File, Socket, Entropy, Memory, Kept, Journal}
+use Rattle.tpmsim.specs.declared.fault.Fault.TheVariants.{Usage, ScriptLine, Asm, NoLine, Image, State, File, Socket, Entropy, Memory, Kept, Journal}
 use Rattle.tpmsim.specs.declared.fault.JournalFault.{JournalFault}
 use Rattle.tpmsim.specs.declared.fault.JournalFault.TheVariants as journal
 use Rattle.tpm_image_text.specs.declared.fault.ImageFault.{ImageFault}
 use Rattle.tpm_image_text.specs.declared.fault.ImageFault.TheVariants as image
 use Rattle.tpm_line.specs.declared.fault.SpellFault.{SpellFault}
 use Rattle.tpm_line.specs.declared.fault.SpellFault.TheVariants as spelling
+use Rattle.tpm_state_text.specs.declared.fault.StateFault.{StateFault}
+use Rattle.tpm_state_text.specs.declared.fault.StateFault.TheVariants as state
 use Rattle.tpm_text.specs.declared.fault.AsmFault.{AsmFault}
 use Rattle.tpm_text.specs.declared.fault.AsmFault.TheVariants as line
 use Rattle.tpmsim_arguments.specs.declared.fault.ArgumentFault.{ArgumentFault}
@@ -72,13 +74,14 @@ fault_of_play (play.Script fault) = fault_of fault
 fault_of_play (play.Kept fault) = Kept fault
 
 -- the exit status: 2 where what was asked for makes no sense, 3 where a file, a socket, a stream or
--- memory refused it, 4 where a file that should be an image or a journal is not
+-- memory refused it, 4 where a file that should be an image, a state text or a journal is not
 abbrev pub status_of : Fault → ℕ
 status_of Usage = 2
 status_of (ScriptLine number) = 2
 status_of (Asm fault) = 2
 status_of NoLine = 2
 status_of (Image fault) = 4
+status_of (State fault) = 4
 status_of File = 3
 status_of Socket = 3
 status_of Entropy = 3
@@ -105,10 +108,20 @@ image_text image.Digest = codes "Digest"
 image_text image.Body = codes "Body"
 image_text image.NoMemory = codes "NoMemory"
 
+-- the name of a state text's fault
+abbrev pub state_fault_text : StateFault → List ℕ
+state_fault_text state.Short = codes "Short"
+state_fault_text state.Magic = codes "Magic"
+state_fault_text state.Version = codes "Version"
+state_fault_text state.Length = codes "Length"
+state_fault_text state.Digest = codes "Digest"
+state_fault_text state.Body = codes "Body"
+
 -- what the fault of a journal says of it
 abbrev pub journal_fault_text : JournalFault → List ℕ
 journal_fault_text journal.IsNoJournal = codes "journal is no journal of a device"
 journal_fault_text journal.HoldsNoImage = codes "journal holds an image that this program does not open"
+journal_fault_text journal.HoldsNoState = codes "journal holds a state that this program does not open"
 journal_fault_text (journal.IsDamaged line) = codes "journal line " ++ decimal line ++ codes " is damaged"
 journal_fault_text (journal.WasAnsweredOtherwise line) =
     codes "journal line " ++ decimal line ++ codes " was answered otherwise"
@@ -120,6 +133,7 @@ fault_text (ScriptLine number) = codes "script line " ++ decimal number
 fault_text (Asm fault) = codes "asm " ++ asm_text fault
 fault_text NoLine = codes "line NoLine"
 fault_text (Image fault) = codes "image " ++ image_text fault
+fault_text (State fault) = codes "snapshot " ++ state_fault_text fault
 fault_text File = codes "file"
 fault_text Socket = codes "socket"
 fault_text Entropy = codes "entropy"

@@ -10,6 +10,7 @@ use std::{fmt, io};
 use tpm_bytes::NoMemory;
 use tpm_image_text::ImageFault;
 use tpm_line::SpellFault;
+use tpm_state_text::StateFault;
 use tpm_text::AsmFault;
 use tpmsim_arguments::ArgumentFault;
 use tpmsim_folder::KeptFault;
@@ -29,6 +30,8 @@ pub enum Fault {
     NoLine,
     /// The file of the image holds no image.
     Image(ImageFault),
+    /// The file of the state text holds no state text.
+    State(StateFault),
     /// A file, or standard input or output, could not be opened, read or written.
     File,
     /// The socket could not be made, or could not take a connection.
@@ -49,6 +52,8 @@ pub enum JournalFault {
     IsNoJournal,
     /// The head's image is not one of this version of the program.
     HoldsNoImage,
+    /// The head's state text is not one of this version of the program.
+    HoldsNoState,
     /// The entry that begins at this line is damaged.
     IsDamaged(u64),
     /// The entry that begins at this line was answered otherwise than it is now.
@@ -57,7 +62,7 @@ pub enum JournalFault {
 
 impl Fault {
     ghost use Rattle.std.specs.IoError.{error_kind};
-    ghost use Rattle.tpmsim.specs.Fault.{fault_or, given_or, image_text, status_of};
+    ghost use Rattle.tpmsim.specs.Fault.{fault_or, given_or, image_text, state_fault_text, status_of};
 
     /// What was given; where it is an error, `Memory` if memory ran out, and otherwise this fault.
     pub fn unless<T>(self, given: io::Result<T>) -> Result<T, Fault>
@@ -87,7 +92,7 @@ impl Fault {
         match self {
             Fault::Usage | Fault::ScriptLine(_) | Fault::Asm(_) | Fault::NoLine => 2,
             Fault::File | Fault::Socket | Fault::Entropy | Fault::Memory => 3,
-            Fault::Image(_) | Fault::Journal(_) => 4,
+            Fault::Image(_) | Fault::State(_) | Fault::Journal(_) => 4,
             Fault::Kept(fault) => kept_status(fault),
         }
     }
@@ -104,6 +109,20 @@ impl Fault {
             ImageFault::Digest => "Digest",
             ImageFault::Body => "Body",
             ImageFault::NoMemory => "NoMemory",
+        }
+    }
+
+    /// The name of a state text's fault.
+    fn state_name(fault: StateFault) -> &'static str
+        ensures { result.now ≡ state_fault_text fault }
+    {
+        match fault {
+            StateFault::Short => "Short",
+            StateFault::Magic => "Magic",
+            StateFault::Version => "Version",
+            StateFault::Length => "Length",
+            StateFault::Digest => "Digest",
+            StateFault::Body => "Body",
         }
     }
 }
@@ -129,6 +148,10 @@ impl fmt::Display for Fault {
                 let name = Fault::image_name(*fault);
                 write!(f, "image {name}")
             }
+            Fault::State(fault) => {
+                let name = Fault::state_name(*fault);
+                write!(f, "snapshot {name}")
+            }
             Fault::File => write!(f, "file"),
             Fault::Socket => write!(f, "socket"),
             Fault::Entropy => write!(f, "entropy"),
@@ -150,6 +173,9 @@ impl fmt::Display for JournalFault {
             JournalFault::IsNoJournal => write!(f, "journal is no journal of a device"),
             JournalFault::HoldsNoImage => {
                 write!(f, "journal holds an image that this program does not open")
+            }
+            JournalFault::HoldsNoState => {
+                write!(f, "journal holds a state that this program does not open")
             }
             JournalFault::IsDamaged(line) => write!(f, "journal line {line} is damaged"),
             JournalFault::WasAnsweredOtherwise(line) => {

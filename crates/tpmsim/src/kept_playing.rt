@@ -106,7 +106,7 @@ fn play_on<R: Read>(
 }
 
 /// The device in a folder, which has to be there.
-fn open_there<'a>(rt: &'a HostRuntime, folder: &str) -> Result<Kept<'a>, Fault> {
+pub fn open_there<'a>(rt: &'a HostRuntime, folder: &str) -> Result<Kept<'a>, Fault> {
     let kept = Kept::at(rt, folder, false, Force::Power)?;
     if kept.is_there()? {
         Ok(kept)

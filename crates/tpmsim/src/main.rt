@@ -4,8 +4,8 @@
 //! assembles commands from words, `asm`, and finds the words of a command, `line`; tells how
 //! commands are said in words, `lines`, and what a response code says, `code`; and serves a device
 //! on a socket, `serve`. A device is kept in an image, or in a folder with its state, whose power
-//! `power` cycles, and of which `script` tells what happened; `replay` executes what was recorded
-//! again.
+//! `power` cycles, of which `snapshot` and `restore` write and read the state text, and of which
+//! `script` tells what happened; `replay` executes what was recorded again.
 //!
 //! Standard output has what was asked for: for `run` each response in hex on a line of its own,
 //! with `--trace` after a line that traces the command; for `check` a line for each bad line. A run
@@ -25,6 +25,7 @@ mod kept;
 mod kept_playing;
 mod kept_serving;
 mod replaying;
+mod restoring;
 mod running;
 mod telling;
 
@@ -33,6 +34,7 @@ use fault::Fault;
 use kept_playing::{cycle_power, play_script, print_script};
 use kept_serving::serve_kept;
 use replaying::replay_journal;
+use restoring::{print_snapshot, restore_snapshot};
 use running::{run_alone, run_kept};
 use std::env;
 use std::process::ExitCode;
@@ -76,6 +78,8 @@ fn perform(rt: &HostRuntime, arguments: &Arguments<'_>) -> Result<(), Fault> {
         Arguments::Code { digits } => print_code(rt, digits),
         Arguments::Serve(service) => serve_in_place(rt, service),
         Arguments::Power { state, cuts } => cycle_power(rt, state, *cuts),
+        Arguments::Snapshot { state } => print_snapshot(rt, state),
+        Arguments::Restore { state, text } => restore_snapshot(rt, state, text),
         Arguments::Retell { state } => print_script(rt, state),
         Arguments::Replay { journal } => replay_journal(rt, journal),
         Arguments::Tell(text) => Fault::File.unless(print!(rt; "{text}")),

@@ -34,6 +34,7 @@ pub fn replay_journal(rt: &HostRuntime, path: &str) -> Result<(), Fault> {
 fn fault_of(fault: RetellFault, text: &[u8]) -> Fault {
     match fault {
         RetellFault::Open(OpenFault::Image(_)) => Fault::Journal(JournalFault::HoldsNoImage),
+        RetellFault::Open(OpenFault::State(_)) => Fault::Journal(JournalFault::HoldsNoState),
         RetellFault::Open(_) => Fault::Journal(JournalFault::IsNoJournal),
         RetellFault::Follow { fault, taken } => {
             let next = line_at(text, taken);

@@ -7,7 +7,7 @@ use Rattle.clap.specs.declared.error.kind.ErrorKind.TheVariants.{ArgumentConflic
 use Rattle.clap.proofs.OnLiterals.{clap_on_literals}
 use Rattle.tpm_bytes.specs.Reading.{Gives}
 use Rattle.tpmsim_arguments.specs.Answers.{Answers, AreTaken, IsTold}
-use Rattle.tpmsim_arguments.specs.Invocation.{Invocation, Served, Stored, asked, asked_by, asked_in, is_set, script_in, service_in, storage_in, run, check, assemble, spell, forms, name_code, serve, cycle_power, retell, tell, replay}
+use Rattle.tpmsim_arguments.specs.Invocation.{Invocation, Served, Stored, asked, asked_by, asked_in, is_set, script_in, service_in, storage_in, run, check, assemble, spell, forms, name_code, serve, cycle_power, snapshot, restore, retell, tell, replay}
 use Rattle.tpmsim_arguments.specs.CommandLine.{program}
 use Rattle.tpmsim_arguments.specs.Fault.{fault_of_words}
 use Rattle.tpmsim_arguments.specs.declared.arguments.Arguments.{Arguments}
@@ -72,6 +72,16 @@ no_power : (kind : ErrorKind) (cuts : Bool) (state : Option Text) → option_map
 no_power kind cuts None e = cc
 no_power kind cuts (Some text) e = cc
 
+no_snapshot : (kind : ErrorKind) (state : Option Text) → option_map snapshot state ≡ Some (tell kind) → ⊥
+no_snapshot kind None e = cc
+no_snapshot kind (Some text) e = cc
+
+no_restore : (kind : ErrorKind) (state text : Option Text)
+    → option_and_then (λ s. option_and_then (λ t. Some (restore s t)) text) state ≡ Some (tell kind) → ⊥
+no_restore kind None text e = cc
+no_restore kind (Some s) None e = cc
+no_restore kind (Some s) (Some t) e = cc
+
 no_script : (kind : ErrorKind) (state : Option Text) → option_map retell state ≡ Some (tell kind) → ⊥
 no_script kind None e = cc
 no_script kind (Some text) e = cc
@@ -95,8 +105,10 @@ none_tells kind (Some command) e =
     (otherwise (tell kind) (bytes_eq command.0 (codes "code")) _ _ (no_code kind (first_of (codes "number") rows))
     (otherwise (tell kind) (bytes_eq command.0 (codes "serve")) _ _ (no_service kind (service_in rows))
     (otherwise (tell kind) (bytes_eq command.0 (codes "power")) _ _ (no_power kind (is_set (codes "cut") rows) (first_of (codes "state") rows))
+    (otherwise (tell kind) (bytes_eq command.0 (codes "snapshot")) _ _ (no_snapshot kind (first_of (codes "state") rows))
+    (otherwise (tell kind) (bytes_eq command.0 (codes "restore")) _ _ (no_restore kind (first_of (codes "state") rows) (first_of (codes "snapshot") rows))
     (otherwise (tell kind) (bytes_eq command.0 (codes "script")) _ _ (no_script kind (first_of (codes "state") rows))
-    (otherwise (tell kind) (bytes_eq command.0 (codes "replay")) _ _ (no_replay kind (first_of (codes "journal") rows)) (unknown kind)))))))))) e
+    (otherwise (tell kind) (bytes_eq command.0 (codes "replay")) _ _ (no_replay kind (first_of (codes "journal") rows)) (unknown kind)))))))))))) e
 
 -- the answer where clap takes the words, and its matches are read
 pub taken : (words : List Text) (r : Result Arguments ArgumentFault) → AreTaken words
@@ -109,6 +121,8 @@ taken words (Ok (arguments.Forms name)) right e = (right, found_is _ _ e)
 taken words (Ok (arguments.Code digits)) right e = (right, found_is _ _ e)
 taken words (Ok (arguments.Serve service)) right e = (right, found_is _ _ e)
 taken words (Ok (arguments.Power state cuts)) right e = (right, found_is _ _ e)
+taken words (Ok (arguments.Snapshot state)) right e = (right, found_is _ _ e)
+taken words (Ok (arguments.Restore state text)) right e = (right, found_is _ _ e)
 taken words (Ok (arguments.Retell state)) right e = (right, found_is _ _ e)
 taken words (Ok (arguments.Replay journal)) right e = (right, found_is _ _ e)
 taken words (Ok (arguments.Tell error)) right e = absurd (none_tells _ (subcommand_of program words) (found_is _ _ e))

@@ -7,8 +7,8 @@ use Rattle.clap.specs.Words.{Text}
 use Rattle.clap.proofs.OnLiterals.{clap_on_literals}
 use Rattle.tpm_number.specs.Number.{decimal_of, locality_of}
 use Rattle.tpmsim_arguments.specs.Answers.{AreTaken}
-use Rattle.tpmsim_arguments.specs.Invocation.{Invocation, Kept, asked_by, assemble, check, cycle_power, forms, in_image, in_state, name_code, replay, retell, run, serve, spell}
-use Rattle.tpmsim_arguments.specs.Lines.{AskFor, AskForDevice, AskForSavedDevice, AskForService, IsScript, asm_line, begins_with_hyphen, check_line, code_line, cut_line, form_line, forms_line, line_line, logging_line, played_line, power_line, replay_line, joined_line, saving_line, script_line, state_line}
+use Rattle.tpmsim_arguments.specs.Invocation.{Invocation, Kept, asked_by, assemble, check, cycle_power, forms, in_image, in_state, name_code, replay, restore, retell, run, serve, snapshot, spell}
+use Rattle.tpmsim_arguments.specs.Lines.{AskFor, AskForDevice, AskForSavedDevice, AskForService, IsScript, asm_line, begins_with_hyphen, check_line, code_line, cut_line, form_line, forms_line, line_line, logging_line, played_line, power_line, replay_line, joined_line, restore_line, saving_line, script_line, snapshot_line, state_line}
 
 -- a word that begins with no hyphen is not the name of an argument
 no_hyphen : (word : Text) → begins_with_hyphen word ≡ false → strip_byte 45 word ≡ None
@@ -57,6 +57,16 @@ power_is_cycled name state e = rw (no_end state e, no_long state e, no_short sta
 pub damage_is_cut : (name state : Text) → begins_with_hyphen state ≡ false → AskFor (cut_line name state) (cycle_power state true)
 unfolding clap_on_literals
 damage_is_cut name state e = rw (no_end state e, no_long state e, no_short state e) (refl, refl)
+
+pub state_is_told : (name state : Text) → begins_with_hyphen state ≡ false → AskFor (snapshot_line name state) (snapshot state)
+unfolding clap_on_literals
+state_is_told name state e = rw (no_end state e, no_long state e, no_short state e) (refl, refl)
+
+pub state_is_restored : (name state text : Text) → begins_with_hyphen state ≡ false → begins_with_hyphen text ≡ false
+    → AskFor (restore_line name state text) (restore state text)
+unfolding clap_on_literals
+state_is_restored name state text e f =
+    rw (no_end state e, no_long state e, no_short state e, no_end text f, no_long text f, no_short text f) (refl, refl)
 
 pub script_is_retold : (name state : Text) → begins_with_hyphen state ≡ false → AskFor (script_line name state) (retell state)
 unfolding clap_on_literals

@@ -69,6 +69,15 @@ serve_command = with_arguments (codes "serve") (setting (codes "socket")
 abbrev pub power_command : Shape
 power_command = with_arguments (codes "power") (flag (codes "cut") ∷ operand (codes "state") ∷ [])
 
+-- the command snapshot DIR
+abbrev pub snapshot_command : Shape
+snapshot_command = with_arguments (codes "snapshot") (operand (codes "state") ∷ [])
+
+-- the command restore DIR FILE
+abbrev pub restore_command : Shape
+restore_command =
+    with_arguments (codes "restore") (operand (codes "state") ∷ operand (codes "snapshot") ∷ [])
+
 -- the command script DIR
 abbrev pub script_command : Shape
 script_command = with_arguments (codes "script") (operand (codes "state") ∷ [])
@@ -87,7 +96,8 @@ bare_program = record {
 -- the commands, in the order in which the help lists them
 abbrev pub commands : List Shape
 commands = run_command ∷ check_command ∷ asm_command ∷ line_command ∷ lines_command ∷ code_command
-    ∷ serve_command ∷ power_command ∷ script_command ∷ replay_command ∷ []
+    ∷ serve_command ∷ power_command ∷ snapshot_command ∷ restore_command ∷ script_command
+    ∷ replay_command ∷ []
 
 abbrev pub program : App
 program = fold with_subcommand bare_program commands

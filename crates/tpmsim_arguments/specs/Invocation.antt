@@ -40,8 +40,9 @@ pub record Stored : Type 0 where
 -- kept or on one that is not; to check the lines of a script; to print the buffer of a line; to
 -- print the line of a buffer; to print how the command of a name is said in words, or how each
 -- command is; to print what a response code says; to serve a device; to cycle the power of the
--- device in a folder, with what follows damage dropped or not; to print what happened to it as a
--- script; to execute what a journal recorded again; to tell a text of clap's, its help or the version
+-- device in a folder, with what follows damage dropped or not; to print its state text; to replace it
+-- by the device of a state text; to print what happened to it as a script; to execute what a journal
+-- recorded again; to tell a text of clap's, its help or the version
 pub data Invocation : Type 0 where
   run : Text → Bool → Option Stored → Invocation
   check : Text → Invocation
@@ -51,6 +52,8 @@ pub data Invocation : Type 0 where
   name_code : Text → Invocation
   serve : Served → Invocation
   cycle_power : Text → (cuts : Bool) → Invocation
+  snapshot : Text → Invocation
+  restore : (state text : Text) → Invocation
   retell : Text → Invocation
   replay : Text → Invocation
   tell : ErrorKind → Invocation
@@ -134,6 +137,12 @@ abbrev pub power_in : List Row → Option Invocation
 power_in rows =
     option_map (λ state. cycle_power state (is_set (codes "cut") rows)) (first_of (codes "state") rows)
 
+abbrev pub restore_in : List Row → Option Invocation
+restore_in rows = do
+  state ← first_of (codes "state") rows
+  text ← first_of (codes "snapshot") rows
+  Some (restore state text)
+
 -- what a command of this name asks for, with these matches of clap's
 abbrev pub asked_of : Text → List Row → Option Invocation
 asked_of name rows = if bytes_eq name (codes "run") then run_in rows
@@ -144,9 +153,11 @@ asked_of name rows = if bytes_eq name (codes "run") then run_in rows
     else (if bytes_eq name (codes "code") then option_map name_code (first_of (codes "number") rows)
     else (if bytes_eq name (codes "serve") then option_map serve (service_in rows)
     else (if bytes_eq name (codes "power") then power_in rows
+    else (if bytes_eq name (codes "snapshot") then option_map snapshot (first_of (codes "state") rows)
+    else (if bytes_eq name (codes "restore") then restore_in rows
     else (if bytes_eq name (codes "script") then option_map retell (first_of (codes "state") rows)
     else (if bytes_eq name (codes "replay")
-    then option_map replay (first_of (codes "journal") rows) else None)))))))))
+    then option_map replay (first_of (codes "journal") rows) else None)))))))))))
 
 abbrev pub asked_in : Option (Text × List Row) → Option Invocation
 asked_in = option_and_then (λ command. asked_of command.0 command.1)
@@ -187,6 +198,8 @@ asked (arguments.Forms name) = forms (option_map (λ name. name.now) name)
 asked (arguments.Code digits) = name_code digits.now
 asked (arguments.Serve service) = serve (served service)
 asked (arguments.Power state cuts) = cycle_power state.now cuts
+asked (arguments.Snapshot state) = snapshot state.now
+asked (arguments.Restore state text) = restore state.now text.now
 asked (arguments.Retell state) = retell state.now
 asked (arguments.Replay journal) = replay journal.now
 asked (arguments.Tell error) = tell (kind_of error)

@@ -52,6 +52,14 @@ replay_line name journal = name ∷ codes "replay" ∷ journal ∷ []
 abbrev pub cut_line : (name state : Text) → List Text
 cut_line name state = name ∷ codes "power" ∷ codes "--cut" ∷ state ∷ []
 
+-- the command line NAME snapshot DIR
+abbrev pub snapshot_line : (name state : Text) → List Text
+snapshot_line name state = name ∷ codes "snapshot" ∷ state ∷ []
+
+-- the command line NAME restore DIR FILE
+abbrev pub restore_line : (name state text : Text) → List Text
+restore_line name state text = name ∷ codes "restore" ∷ state ∷ text ∷ []
+
 -- the command line NAME script DIR
 abbrev pub script_line : (name state : Text) → List Text
 script_line name state = name ∷ codes "script" ∷ state ∷ []

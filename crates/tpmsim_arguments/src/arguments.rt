@@ -58,6 +58,16 @@ pub enum Arguments<'a> {
         state: &'a str,
         cuts: bool,
     },
+    /// To print the state text of the device whose state is in this folder.
+    Snapshot {
+        state: &'a str,
+    },
+    /// To replace the device whose state is in this folder, or to begin one there: by the device of
+    /// the state text in this file.
+    Restore {
+        state: &'a str,
+        text: &'a str,
+    },
     /// To print what happened to the device whose state is in this folder, as a script.
     Retell {
         state: &'a str,
@@ -117,6 +127,13 @@ impl<'a> Arguments<'a> {
             "power" => Some(Arguments::Power {
                 state: value(options, "state")?,
                 cuts: is_set(options, "cut"),
+            }),
+            "snapshot" => Some(Arguments::Snapshot {
+                state: value(options, "state")?,
+            }),
+            "restore" => Some(Arguments::Restore {
+                state: value(options, "state")?,
+                text: value(options, "snapshot")?,
             }),
             "script" => Some(Arguments::Retell {
                 state: value(options, "state")?,

@@ -6,8 +6,8 @@ ghost use Rattle.tpmsim_arguments.specs.CommandLine.{asm_command, bare_program, 
 ghost use Rattle.tpmsim_arguments.specs.CommandLine.{choice, code_command, flag, line_command};
 ghost use Rattle.tpmsim_arguments.specs.CommandLine.{lines_command, operand, optional_operand};
 ghost use Rattle.tpmsim_arguments.specs.CommandLine.{power_command, program, replay_command};
-ghost use Rattle.tpmsim_arguments.specs.CommandLine.{run_command};
-ghost use Rattle.tpmsim_arguments.specs.CommandLine.{script_command, serve_command, setting};
+ghost use Rattle.tpmsim_arguments.specs.CommandLine.{restore_command, run_command, script_command};
+ghost use Rattle.tpmsim_arguments.specs.CommandLine.{serve_command, setting, snapshot_command};
 ghost use Rattle.tpmsim_arguments.specs.CommandLine.{with_arguments};
 
 use clap::{Arg, ArgAction, Command};
@@ -35,6 +35,8 @@ pub fn command<'a>(alloc: Global) -> Result<Command<'a>, AllocError>
     let program = with_command(program, code_command(alloc));
     let program = with_command(program, serve_command(alloc));
     let program = with_command(program, power_command(alloc));
+    let program = with_command(program, snapshot_command(alloc));
+    let program = with_command(program, restore_command(alloc));
     let program = with_command(program, script_command(alloc));
     with_command(program, replay_command(alloc))
 }
@@ -313,6 +315,39 @@ fn power_command<'a>(alloc: Global) -> Result<Command<'a>, AllocError>
             "Drops what follows the last whole record before damage, and says how much that is",
         ))?
         .arg(operand(alloc, "state", "DIR", "The folder of the device's state"))
+}
+
+fn snapshot_command<'a>(alloc: Global) -> Result<Command<'a>, AllocError>
+    ensures { IfOk result (λ command. shape_of command ≡ snapshot_command) }
+{
+    let argument = operand(alloc, "state", "DIR", "The folder of the device's state");
+    one_argument_command(
+        alloc,
+        "snapshot",
+        "Writes all that a device is to standard output, as a state text",
+        "Example: tpmsim snapshot tpm >tpm.state",
+        argument,
+    )
+}
+
+fn restore_command<'a>(alloc: Global) -> Result<Command<'a>, AllocError>
+    ensures { IfOk result (λ command. shape_of command ≡ restore_command) }
+{
+    Command::new(alloc, "restore")
+        .about("Replaces a device whose state is in a folder by the one of a state text")
+        .after_help("Example: tpmsim restore tpm tpm.state")
+        .arg(operand(
+            alloc,
+            "state",
+            "DIR",
+            "The folder of the device's state; made if there is no such folder",
+        ))?
+        .arg(operand(
+            alloc,
+            "snapshot",
+            "FILE",
+            "The state text, as snapshot wrote it",
+        ))
 }
 
 fn script_command<'a>(alloc: Global) -> Result<Command<'a>, AllocError>

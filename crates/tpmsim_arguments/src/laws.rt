@@ -2,14 +2,16 @@
 
 ghost use Rattle.std.specs.Prelude.{◌≡◌, ◌∷◌, List, [], None, Some, ℕ, codes, false, true};
 ghost use Rattle.tpmsim_arguments.specs.Invocation.{assemble, check, cycle_power, forms, in_image};
-ghost use Rattle.tpmsim_arguments.specs.Invocation.{in_state, name_code, replay, retell, run, spell};
+ghost use Rattle.tpmsim_arguments.specs.Invocation.{in_state, name_code, replay, restore, retell};
+ghost use Rattle.tpmsim_arguments.specs.Invocation.{run, snapshot, spell};
 ghost use Rattle.tpmsim_arguments.specs.Lines.{AskFor, AskForDevice, AskForSavedDevice};
 ghost use Rattle.tpmsim_arguments.specs.Lines.{AskForService, IsScript, NoneBeginsWithHyphen};
 ghost use Rattle.tpmsim_arguments.specs.Lines.{asm_line, begins_with_hyphen, check_line, code_line};
 ghost use Rattle.tpmsim_arguments.specs.Lines.{cut_line, form_line, forms_line, joined_line, kept_line};
 ghost use Rattle.tpmsim_arguments.specs.Lines.{line_line, logging_line, played_line, power_line};
-ghost use Rattle.tpmsim_arguments.specs.Lines.{replay_line, run_line, saving_line, script_line};
-ghost use Rattle.tpmsim_arguments.specs.Lines.{serve_line, state_line, trace_line};
+ghost use Rattle.tpmsim_arguments.specs.Lines.{replay_line, restore_line, run_line, saving_line};
+ghost use Rattle.tpmsim_arguments.specs.Lines.{script_line, serve_line, snapshot_line, state_line};
+ghost use Rattle.tpmsim_arguments.specs.Lines.{trace_line};
 
 /// Usual command lines ask for what they say, where no word but the names of settings begins with a
 /// hyphen; a script may be one hyphen. A value that is joined to its name may be any text.
@@ -34,6 +36,11 @@ pub fn usual_line_laws()
         → AskFor (power_line name state) (cycle_power state false) }
     ensures cut { (name state : List ℕ) → begins_with_hyphen state ≡ false
         → AskFor (cut_line name state) (cycle_power state true) }
+    ensures snapshot { (name state : List ℕ) → begins_with_hyphen state ≡ false
+        → AskFor (snapshot_line name state) (snapshot state) }
+    ensures restore { (name state text : List ℕ) → begins_with_hyphen state ≡ false
+        → begins_with_hyphen text ≡ false
+        → AskFor (restore_line name state text) (restore state text) }
     ensures script { (name state : List ℕ) → begins_with_hyphen state ≡ false
         → AskFor (script_line name state) (retell state) }
     ensures replay { (name journal : List ℕ) → begins_with_hyphen journal ≡ false

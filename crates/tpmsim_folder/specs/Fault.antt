@@ -36,6 +36,7 @@ said_text said.WantsClock = codes "needs the host's clock, which cannot be read 
 said_text said.WantsMemory = codes "wants memory that is not there"
 said_text said.IsNoJournal = codes "is no journal of a device"
 said_text said.HoldsNoImage = codes "holds an image that this program does not open"
+said_text said.HoldsNoState = codes "holds a state that this program does not open"
 said_text said.IsDamaged = codes "is damaged, and stays as it is"
 said_text said.WasAnsweredOtherwise =
     codes "was written by a program that answers otherwise than this one, and stays as it is"
@@ -47,6 +48,7 @@ kept_fault_text fault = place_text fault.place ++ codes " " ++ said_text fault.s
 abbrev pub is_of_contents : Said → Bool
 is_of_contents said.IsNoJournal = true
 is_of_contents said.HoldsNoImage = true
+is_of_contents said.HoldsNoState = true
 is_of_contents said.IsDamaged = true
 is_of_contents said.WasAnsweredOtherwise = true
 is_of_contents _ = false

@@ -43,6 +43,8 @@ pub enum Said {
     IsNoJournal,
     /// The head's image is not one of this version of the program.
     HoldsNoImage,
+    /// The head's state text is not one of this version of the program.
+    HoldsNoState,
     IsDamaged,
     WasAnsweredOtherwise,
 }
@@ -104,6 +106,7 @@ impl Said {
             Said::WantsMemory => "wants memory that is not there",
             Said::IsNoJournal => "is no journal of a device",
             Said::HoldsNoImage => "holds an image that this program does not open",
+            Said::HoldsNoState => "holds a state that this program does not open",
             Said::IsDamaged => "is damaged, and stays as it is",
             Said::WasAnsweredOtherwise => {
                 "was written by a program that answers otherwise than this one, and stays as it is"
@@ -117,7 +120,11 @@ impl Said {
     {
         matches!(
             self,
-            Said::IsNoJournal | Said::HoldsNoImage | Said::IsDamaged | Said::WasAnsweredOtherwise
+            Said::IsNoJournal
+                | Said::HoldsNoImage
+                | Said::HoldsNoState
+                | Said::IsDamaged
+                | Said::WasAnsweredOtherwise
         )
     }
 }

@@ -7,6 +7,7 @@ use Rattle.tpm_image_text.specs.NonVolatile.{kept_of}
 use Rattle.tpm_image_text.specs.declared.version.Version.TheVariants.{Two}
 use Rattle.tpm_journal.specs.State.{journal_begun}
 use Rattle.tpm_journal_text.specs.Head.{head_text}
+use Rattle.tpm_journal_text.specs.declared.head.HeadKind.TheVariants.{Image}
 use Rattle.tpm_journal_text.specs.Marked.{marked_line}
 use Rattle.tpm_record.specs.Cycle.{cycled}
 use Rattle.tpm_record.specs.Record.{Record}
@@ -20,15 +21,15 @@ use Rattle.tpmsim.specs.declared.kept.device.Device.{Device}
 one_more : (byte : ℕ) (rest : List ℕ) → 0 < length (byte ∷ rest)
 one_more byte rest = omega arith
 
-pub head_has_bytes : (clock : ℕ) (image : List ℕ) → 0 < length (head_text clock image)
+pub head_has_bytes : (clock : ℕ) (image : List ℕ) → 0 < length (head_text Image clock image)
 unfolding head_text marked_line
-head_has_bytes clock image = one_more 35 (drop 1 (head_text clock image))
+head_has_bytes clock image = one_more 35 (drop 1 (head_text Image clock image))
 
 -- Devices of the same record have the same head.
 pub head_size_same : (before at : Device) (now : ℕ) → record_of at ≡ record_of before
-    → length (head_text now (image_at_power at)) ≡ length (head_text now (image_at_power before))
+    → length (head_text Image now (image_at_power at)) ≡ length (head_text Image now (image_at_power before))
 head_size_same before at now same =
-    ap (λ (r : Record). length (head_text now (image_text Two (kept_of (cycled r))))) same
+    ap (λ (r : Record). length (head_text Image now (image_text Two (kept_of (cycled r))))) same
 
 pub begins_of_same : (before at : Device) (now : ℕ) (outcome : Outcome) (after : Device) → record_of at ≡ record_of before
     → BeginsJournal at now outcome after → BeginsJournal before now outcome after

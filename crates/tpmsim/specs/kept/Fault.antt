@@ -14,4 +14,5 @@ said_of_following following.Otherwise = said.WasAnsweredOtherwise
 abbrev pub said_of_opening : OpenFault → Said
 said_of_opening opening.NoJournal = said.IsNoJournal
 said_of_opening (opening.Image fault) = said.HoldsNoImage
+said_of_opening (opening.State fault) = said.HoldsNoState
 said_of_opening (opening.Follow fault) = said_of_following fault

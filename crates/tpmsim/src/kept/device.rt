@@ -2,10 +2,13 @@
 
 ghost use Rattle.std.specs.Prelude.{◌≡◌, ◌≤◌, ◌<◌, IfErr, IfOk, OnErr, OnOk, false, length, replicate, take};
 ghost use Rattle.tpm_image_text.specs.Saving.{PutsFront};
-ghost use Rattle.tpm_journal_text.specs.Head.{head_text};
+ghost use Rattle.tpm_journal_text.specs.Head.{content_limit, head_text};
+ghost use Rattle.tpm_journal_text.specs.declared.head.HeadKind.TheVariants.{Image, State};
 ghost use Rattle.tpm_record.specs.Record.{manufactured};
 ghost use Rattle.tpm_types.specs.Locality.{locality_number};
+ghost use Rattle.tpm_journal.specs.Checkpoint.{state_beside};
 ghost use Rattle.tpm_journal.specs.Replay.{Replays};
+ghost use Rattle.tpm_state_text.specs.State.{state_text};
 ghost use Rattle.tpmsim.specs.kept.Device.{BeginsJournal, HasFault, IsOfJournal, IsSaidOf, Records};
 ghost use Rattle.tpmsim.specs.kept.Device.{command_by, image_at_power, record_of};
 
@@ -14,12 +17,25 @@ use std::alloc::Global;
 use tpm_bytes::NoMemory;
 use tpm_journal::opening::open;
 use tpm_journal::{Followed, Journal, OpenFault};
-use tpm_journal_text::ENTRY_ROOM;
+use tpm_journal_text::{ENTRY_ROOM, HeadKind, head_size, write_head};
 use tpm_machine::Machine;
 use tpm_slots::SlotKeep;
+use tpm_snapshot::{layer_of, snapshot_into};
 use tpm_step::Outcome;
 use tpm_types::Locality;
 use tpmsim_folder::Said;
+
+/// The head of a journal that begins at this time with the device of a state text.
+pub fn head_of_state(alloc: Global, now_ms: u64, text: &[u8]) -> Result<Vec<u8>, NoMemory>
+    requires { length text.now ≤ content_limit State }
+    ensures { IfOk result (λ head. head.items ≡ head_text State now_ms text.now) }
+{
+    let Ok(mut head) = vec![in alloc; 0u8; head_size(text.len())] else {
+        return Err(NoMemory);
+    };
+    write_head(HeadKind::State, now_ms, text, &[], &mut head);
+    Ok(head)
+}
 
 /// A device, and the state of its journal. The outcome of an event is written over one that the
 /// caller lends.
@@ -92,7 +108,7 @@ impl Device {
         outcome: &mut Outcome,
     ) -> Result<Vec<u8>, NoMemory>
         ensures head { IfOk result
-            (λ head. head.items ≡ head_text now_ms (image_at_power self.old)) }
+            (λ head. head.items ≡ head_text Image now_ms (image_at_power self.old)) }
         ensures begins { OnOk result (BeginsJournal self.old now_ms outcome.new self.new) }
         ensures nothing { OnErr result ((record_of self.new ≡ record_of self.old)
             × (self.new.journal ≡ self.old.journal)) }
@@ -108,7 +124,7 @@ impl Device {
     /// Cycles the power, and writes the head of the new journal to the front of a room, if the head
     /// fits. Gives how many bytes it has.
     fn put_head(&mut self, now_ms: u64, outcome: &mut Outcome, room: &mut [u8]) -> usize
-        ensures head { PutsFront (head_text now_ms (image_at_power self.old))
+        ensures head { PutsFront (head_text Image now_ms (image_at_power self.old))
             room.old result room.new }
         ensures begins { result ≤ length room.old
             → BeginsJournal self.old now_ms outcome.new self.new }
@@ -116,6 +132,20 @@ impl Device {
             × (self.new.journal ≡ self.old.journal) }
     {
         self.journal.begin(&mut self.machine, now_ms, outcome, room)
+    }
+
+    /// The state text of the device, with its completing layer.
+    pub fn snapshot(&self, alloc: Global) -> Result<Vec<u8>, NoMemory>
+        ensures { IfOk result (λ text. text.items
+            ≡ state_text (state_beside self.now.journal (record_of self.now))) }
+    {
+        let layer = layer_of(&self.journal.layer);
+        let size = snapshot_into(&self.machine, Some(&layer), &mut []);
+        let Ok(mut text) = vec![in alloc; 0u8; size] else {
+            return Err(NoMemory);
+        };
+        snapshot_into(&self.machine, Some(&layer), &mut text);
+        Ok(text)
     }
 
     /// Executes a command, and writes its entry to the front of a room. Gives how many bytes the

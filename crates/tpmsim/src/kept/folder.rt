@@ -1,9 +1,11 @@
 //! A device that is kept in a folder.
 
-ghost use Rattle.std.specs.Prelude.{OnOk};
+ghost use Rattle.std.specs.Prelude.{◌≤◌, OnOk, length};
+ghost use Rattle.tpm_journal_text.specs.Head.{content_limit};
+ghost use Rattle.tpm_journal_text.specs.declared.head.HeadKind.TheVariants.{State};
 ghost use Rattle.tpmsim.specs.kept.Device.{IsAnswer};
 
-use crate::kept::beginning::begin;
+use crate::kept::beginning::{begin, begin_restored};
 use crate::kept::device::Device;
 use crate::kept::journal_file::JournalFile;
 use tpm_step::Outcome;
@@ -129,6 +131,43 @@ impl<'a> Kept<'a> {
         let tail = journal.tail();
         self.begin(journal.into_device())?;
         tail.tell(self.rt);
+        Ok(())
+    }
+
+    /// The state text of the device. The journal stays as it is.
+    pub fn snapshot(&mut self) -> Result<Vec<u8>, KeptFault> {
+        self.lock.take(self.rt, &self.folder)?;
+        let text = self.snapshot_locked();
+        self.lock.give();
+        text
+    }
+
+    fn snapshot_locked(&mut self) -> Result<Vec<u8>, KeptFault> {
+        let journal = self.caught_up(false, &mut Outcome::empty())?;
+        let text = journal.snapshot(self.rt)?;
+        self.journal = Some(journal);
+        Ok(text)
+    }
+
+    /// Replaces the device, or begins one where there is none, for all processes that use it: the
+    /// new one is that of a state text.
+    pub fn restore(&mut self, text: &[u8]) -> Result<(), KeptFault>
+        requires { length text.now ≤ content_limit State }
+    {
+        self.lock.take(self.rt, &self.folder)?;
+        let done = self.restore_locked(text);
+        self.lock.give();
+        done
+    }
+
+    fn restore_locked(&mut self, text: &[u8]) -> Result<(), KeptFault>
+        requires { length text.now ≤ content_limit State }
+    {
+        self.journal = None;
+        self.folder.look(self.rt, Place::Journal)?;
+        let now_ms = clock_of(self.rt)?;
+        let begun = begin_restored(self.rt, &mut self.folder, text, now_ms, self.force)?;
+        self.journal = Some(begun);
         Ok(())
     }
 

@@ -8,7 +8,7 @@ use crate::kept::tail::Tail;
 use std::fs::File;
 use std::os::unix::fs::FileExt;
 use tpm_journal::Followed;
-use tpm_journal_text::{ENTRY_ROOM, IMAGE_ROOM, read_head};
+use tpm_journal_text::{CONTENT_LIMIT, ENTRY_ROOM, read_head};
 use tpm_step::Outcome;
 use tpm_types::Locality;
 use tpmsim_folder::folder::{Folder, Identity, OpenedFile, fault_of};
@@ -34,6 +34,14 @@ pub struct JournalFile {
 }
 
 impl JournalFile {
+    /// The state text of the device.
+    pub fn snapshot(&self, rt: &HostRuntime) -> Result<Vec<u8>, KeptFault> {
+        match self.device.snapshot(rt.alloc()) {
+            Ok(text) => Ok(text),
+            Err(_) => Err(Place::Journal.that(Said::WantsMemory)),
+        }
+    }
+
     /// The journal that a device has begun, whose file holds the head alone.
     pub fn begun(device: Box<Device>, opened: OpenedFile, size: u64) -> JournalFile {
         JournalFile {
@@ -233,8 +241,8 @@ impl JournalFile {
 
 /// The head at the front of a text; all of the text if it begins with none.
 fn head_of(text: &[u8]) -> &[u8] {
-    let mut image = [0; IMAGE_ROOM];
-    match read_head(text, &mut image) {
+    let mut content = [0; CONTENT_LIMIT];
+    match read_head(text, &mut content) {
         Some(head) => {
             let (front, _) = text.split_at(head.size);
             front

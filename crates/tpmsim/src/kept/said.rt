@@ -13,6 +13,7 @@ pub fn said_of_opening(fault: OpenFault) -> Said
     match fault {
         OpenFault::NoJournal => Said::IsNoJournal,
         OpenFault::Image(_) => Said::HoldsNoImage,
+        OpenFault::State(_) => Said::HoldsNoState,
         OpenFault::Follow(fault) => said_of_following(fault),
     }
 }

@@ -21,7 +21,11 @@ returns c =
     c.with_command-program-7.ensures c.serve_command.ensures refl sixth in
     let eighth = command_added _ _ c.with_command-program-7.result c.power_command.result c.with_command-program-8.result
     c.with_command-program-8.ensures c.power_command.ensures refl seventh in
-    let ninth = command_added _ _ c.with_command-program-8.result c.script_command.result c.with_command-program-9.result
-    c.with_command-program-9.ensures c.script_command.ensures refl eighth in
-    command_added _ _ c.with_command-program-9.result c.replay_command.result c.with_command.result c.with_command.ensures
-    c.replay_command.ensures refl ninth
+    let ninth = command_added _ _ c.with_command-program-8.result c.snapshot_command.result c.with_command-program-9.result
+    c.with_command-program-9.ensures c.snapshot_command.ensures refl eighth in
+    let tenth = command_added _ _ c.with_command-program-9.result c.restore_command.result c.with_command-program-10.result
+    c.with_command-program-10.ensures c.restore_command.ensures refl ninth in
+    let eleventh = command_added _ _ c.with_command-program-10.result c.script_command.result c.with_command-program-11.result
+    c.with_command-program-11.ensures c.script_command.ensures refl tenth in
+    command_added _ _ c.with_command-program-11.result c.replay_command.result c.with_command.result c.with_command.ensures
+    c.replay_command.ensures refl eleventh

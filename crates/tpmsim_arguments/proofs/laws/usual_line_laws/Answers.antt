@@ -1,4 +1,4 @@
-use Rattle.tpmsim_arguments.proofs.Lines.{code_is_named, damage_is_cut, digits_are_spelled, form_is_told, forms_are_told, joined_is_served, journal_is_replayed, line_is_assembled, logging_is_served, power_is_cycled, saving_is_served, script_is_checked, script_is_retold, state_is_played, state_is_served}
+use Rattle.tpmsim_arguments.proofs.Lines.{code_is_named, damage_is_cut, digits_are_spelled, form_is_told, forms_are_told, joined_is_served, journal_is_replayed, line_is_assembled, logging_is_served, power_is_cycled, saving_is_served, script_is_checked, script_is_retold, state_is_played, state_is_restored, state_is_served, state_is_told}
 use Rattle.tpmsim_arguments.proofs.Running.{device_is_kept, script_is_run, script_is_traced}
 use Rattle.tpmsim_arguments.proofs.Settings.{device_is_served}
 use Rattle.tpmsim_arguments.proofs.laws.usual_line_laws.Goals as goal
@@ -15,6 +15,8 @@ returns c = record {
   check = script_is_checked;
   power = power_is_cycled;
   cut = damage_is_cut;
+  snapshot = state_is_told;
+  restore = state_is_restored;
   script = script_is_retold;
   replay = journal_is_replayed;
   kept = device_is_kept;

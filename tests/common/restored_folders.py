@@ -1,0 +1,121 @@
+"""Runs of `tpmsim restore` that are killed before each of their calls, or of which each call fails:
+
+    python3 restored_folders.py PROGRAM
+
+The folder then has the device that it had, or the one of the state text, and never another one or
+none. After a run that ended well it has that of the text; after one that failed it has that of the
+text only where the call came after the rename. The shim tear.c notes the calls.
+"""
+
+import errno
+import pathlib
+import shutil
+import sys
+import time
+
+from tests.common.shims import CALLS, Ending, Tears, ended, fail, ran
+
+FOLDER, KEPT, TEXT, NEVER = (
+    pathlib.Path(name) for name in ("state", "kept", "other.text", "never")
+)
+WORDS = ["restore", str(FOLDER), str(TEXT)]
+AT_MOST_SECONDS = 30
+
+
+def device(program: str, folder: pathlib.Path, script: bytes) -> bytes:
+    """The state text of a device that a script was played on."""
+    play = ran(program, "run", "--state", str(folder), "-", stdin=script)
+    if play.status != 0:
+        fail(f"{folder} was not played on: {play}")
+    return snapshot(program, folder)
+
+
+def snapshot(program: str, folder: pathlib.Path) -> bytes:
+    """The state text of the device that is in a folder."""
+    told = ran(program, "snapshot", str(folder))
+    if told.status != 0:
+        fail(f"there is no device: {told}")
+    return bytes(told.output)
+
+
+def fresh(there: bool) -> None:
+    """The folder as it was, or none."""
+    shutil.rmtree(FOLDER, ignore_errors=True)
+    if there:
+        shutil.copytree(KEPT, FOLDER)
+
+
+def is_renamed(at: int) -> bool:
+    """Whether the new journal had its name before the call of a number."""
+    return any(call.startswith("rename") for call in Tears.noted()[: at - 1])
+
+
+def killed(program: Tears, at: int) -> bool:
+    """Kills a run before the call of a number; false if it makes fewer."""
+    run = program.begun(WORDS, at=at, WAIT_FOR=NEVER)
+    ending = time.monotonic() + AT_MOST_SECONDS
+    while run.poll() is None and time.monotonic() < ending:
+        if CALLS.exists() and len(Tears.noted()) >= at:
+            run.kill()
+            run.communicate()
+            return True
+        time.sleep(0.001)
+    run.communicate()
+    return False
+
+
+def failed(program: Tears, at: int) -> Ending:
+    """How a run ends of which the call of a number fails."""
+    return ended(program.begun(WORDS, at=at, error=errno.EIO))
+
+
+def kills(program: Tears, old: bytes, new: bytes) -> None:
+    """Kills a run before each call, over a device and where there is none."""
+    for there in (True, False):
+        at = 0
+        fresh(there)
+        while killed(program, at + 1):
+            at += 1
+            if not there and not (FOLDER / "journal").exists():
+                fresh(there)
+                continue
+            wanted = new if is_renamed(at) or not there else old
+            if snapshot(program.program, FOLDER) != wanted:
+                fail(f"killed before call {at}, {Tears.noted()[at - 1]}: another device")
+            fresh(there)
+        print(
+            f"killed before each call, {'over a device' if there else 'in a new folder'}:",
+            "no device is lost" if at > 10 else f"only {at} calls",
+        )
+
+
+def failures(program: Tears, old: bytes, new: bytes) -> None:
+    """Makes each call of a run over a device fail."""
+    at, told = 0, set()
+    while True:
+        at += 1
+        fresh(True)
+        ending = failed(program, at)
+        if len(Tears.noted()) < at:
+            break
+        found = snapshot(program.program, FOLDER)
+        wanted = new if ending.status == 0 or is_renamed(at) else old
+        if found != wanted:
+            fail(f"call {at}, {Tears.noted()[at - 1]}, failed: another device, {ending}")
+        told.add((ending.status, ending.error.decode()))
+    for status, error in sorted(told):
+        print(f"a call that fails: status {status}, {error.strip() or 'nothing is said'}")
+
+
+def main() -> None:
+    """Tries all of it in the working folder."""
+    (path,) = sys.argv[1:]
+    program = Tears(path)
+    old = device(path, KEPT, b"do Startup 0\ndo GetRandom 4\n")
+    new = device(path, pathlib.Path("other"), b"do Startup 0\nwait 5000\ndo GetRandom 8\n")
+    TEXT.write_bytes(new)
+    kills(program, old, new)
+    failures(program, old, new)
+
+
+main()
