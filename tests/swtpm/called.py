@@ -1,0 +1,84 @@
+"""A device behind the caller in swtpm's place (caller.c), which is told lines and answers them. Its
+states are files in the folder that the caller runs in.
+"""
+
+import pathlib
+import subprocess
+from typing import NamedTuple
+
+SECONDS = 60
+
+
+class Answered(NamedTuple):
+    response: bytes
+    check: None = None
+
+
+class Called:
+    """A caller with a library, in a folder; its environment has these variables alone."""
+
+    def __init__(
+        self, caller: str, library: str, folder: str | pathlib.Path, **variables: str
+    ) -> None:
+        self.words, self.variables = [caller, library], variables
+        self.folder = pathlib.Path(folder)
+        self.begin()
+
+    def begin(self) -> None:
+        piped, joined = subprocess.PIPE, subprocess.STDOUT
+        self.process = subprocess.Popen(
+            self.words,
+            cwd=self.folder,
+            env=self.variables,
+            stdin=piped,
+            stdout=piped,
+            stderr=joined,
+        )
+
+    def say(self, line: str) -> None:
+        assert self.process.stdin
+        self.process.stdin.write(f"{line}\n".encode())
+        self.process.stdin.flush()
+
+    def told(self, line: str, last: str | tuple[str, ...]) -> list[str]:
+        """What comes of a line, up to the line that begins so."""
+        assert self.process.stdout
+        self.say(line)
+        said: list[str] = []
+        while not said or not said[-1].startswith(last):
+            text = self.process.stdout.readline().decode()
+            if not text:
+                raise EOFError(f"the caller ended behind {line}: {said}")
+            said.append(text.rstrip("\n"))
+        return said
+
+    def number(self, line: str, name: str) -> int:
+        """The number that a call answers."""
+        return int(self.told(line, f"{name}: ")[-1].split(": ")[1].split(",")[-1])
+
+    def done(self, line: str, name: str) -> None:
+        if self.number(line, name):
+            raise ValueError(f"{line} is refused")
+
+    def on(self) -> None:
+        self.done("on", "MainInit")
+
+    def execute(self, buffer: bytes) -> Answered:
+        said = self.told(f"cmd {buffer.hex()}", ("80", "00c4"))
+        return Answered(bytes.fromhex(said[-1]))
+
+    def end(self) -> None:
+        assert self.process.stdin and self.process.stdout
+        self.process.stdin.close()
+        self.process.wait(SECONDS)
+        self.process.stdout.close()
+
+    def resume(self) -> None:
+        """Saves the device, ends its process, and goes on in another one."""
+        self.done("save volatile", "VolatileAll_Store")
+        self.done("get permanent permanent", "GetState")
+        self.end()
+        self.begin()
+        self.done("set permanent permanent", "SetState")
+        self.done("set volatile volatile", "SetState")
+        self.on()

@@ -1,0 +1,45 @@
+"""Writes tests/swtpm/journal_state: the states of a device that was left as it ran, by a library
+whose volatile state was its journal, and the commands that the device has to accept then:
+
+    tools/python.sh tests/swtpm/make_journal_state.py CALLER LIBRARY SHIM
+
+CALLER is caller.c's program, LIBRARY a libtpms.so.0 of that kind, and SHIM what common/clock.c makes.
+Power came on when the clock stood at 1,000 seconds, and the last command came at 1,009. The files are
+never written anew.
+"""
+
+import pathlib
+import sys
+import tempfile
+
+from tests.swtpm.called import Called
+from tests.swtpm.left_device import LeftDevice
+
+FOLDER = pathlib.Path(__file__).with_name("journal_state")
+BYTES_OF_LINE = 48
+
+
+def wrapped(text: bytes) -> str:
+    pieces = (text[at : at + BYTES_OF_LINE] for at in range(0, len(text), BYTES_OF_LINE))
+    return "".join(f"{it.hex()}\n" for it in pieces)
+
+
+caller, library, shim = (str(pathlib.Path(it).resolve()) for it in sys.argv[1:])
+FOLDER.mkdir()
+with tempfile.TemporaryDirectory() as room:
+    clock = pathlib.Path(room, "clock")
+    clock.write_text("1000 0\n", "ascii")
+    told = {"LD_PRELOAD": shim, "CLOCK": str(clock)}
+    device = Called(caller, library, room, TPMSIM_COMPLETE="1", **told)
+    device.on()
+    left = LeftDevice(device)
+    clock.write_text("1009 0\n", "ascii")
+    left.write(b"to begin")
+    buffers = left.buffers()
+    device.done("save volatile", "VolatileAll_Store")
+    device.done("get permanent permanent", "GetState")
+    device.end()
+    volatile, permanent = (pathlib.Path(room, it).read_bytes() for it in ("volatile", "permanent"))
+(FOLDER / "volatile").write_bytes(volatile)
+(FOLDER / "permanent.hex").write_text(wrapped(permanent), "ascii")
+(FOLDER / "commands").write_text("".join(f"{it.hex()}\n" for it in buffers), "ascii")
