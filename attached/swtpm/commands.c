@@ -14,8 +14,7 @@ enum { LOCALITIES = 5 };
 /* TPM_RC_FAILURE, where a command is not executed. */
 static const uint8_t FAILURE[] = {0x80, 0x01, 0, 0, 0, 10, 0, 0, 0x01, 0x01};
 
-/* Executes a command at swtpm's locality. One of no bytes does nothing at any locality, and is executed at
-   locality 0, since at others it would tell of a launch. */
+/* Executes a command at swtpm's locality. */
 static bool execute_here(const uint8_t *command, size_t size, struct response *response) {
     uint32_t locality = locality_now();
     if (!device_is_on()) return false;
@@ -23,7 +22,7 @@ static bool execute_here(const uint8_t *command, size_t size, struct response *r
         report("a command comes from no locality");
         return false;
     }
-    return execute(command, size, size == 0 ? 0 : (uint8_t)locality, response);
+    return execute(command, size, (uint8_t)locality, response);
 }
 
 TPM_RESULT TPMLIB_Process(unsigned char **respbuffer, uint32_t *resp_size, uint32_t *respbufsize,

@@ -1,8 +1,7 @@
-/* The device, and what is to be told of each command before it is answered. */
+/* The device, and what is written of each command before it is answered. */
 #include "device.h"
 
 #include "host_clock.h"
-#include "journal.h"
 #include "permanent.h"
 #include "randomness.h"
 #include "record.h"
@@ -10,10 +9,17 @@
 
 #include <string.h>
 
+/* The head of a journal has at most 56,802 bytes. */
+enum { HEAD_MOST = 57 * 1024 };
+
 static tpmsim device;
 static uint8_t completing;
-/* Whether each command is in the journal. */
-static bool is_recorded;
+static uint64_t latest;
+/* The record of the last command, until it is written. */
+static uint8_t record[TPMSIM_RECORD_ROOM];
+static size_t record_size;
+/* Whether the record or the permanent state was not written when it had to be. */
+static bool is_behind;
 
 tpmsim *the_device(void) { return &device; }
 
@@ -21,94 +27,66 @@ bool device_is_on(void) { return device.private_ != NULL; }
 
 void let_device_complete(bool completes) { completing = completes; }
 
-bool journal_is_whole(void) { return is_recorded; }
+uint64_t time_of_device(void) { return latest; }
 
-bool begin_journal(void) {
+bool begin_device(void) {
+    static uint8_t head[HEAD_MOST];
+    latest = time_of_day();
+    size_t size = tpmsim_journal_begin(&device, latest, head, sizeof head);
+    begin_host_clock(latest);
+    bool is_begun = begin_record(head, size);
+    explicit_bzero(head, size);
+    return is_begun;
+}
+
+void resume_device(uint64_t time) {
     uint64_t now = time_of_day();
-    forget_journal();
-    size_t size = tpmsim_journal_begin(&device, now, (uint8_t[1]){0}, 0);
-    uint8_t *room = size == 0 ? NULL : journal_room(size);
-    if (room == NULL || tpmsim_journal_begin(&device, now, room, size) != size) {
-        report("there is no memory for a journal");
-        return false;
-    }
-    journal_grew(size);
-    begin_host_clock(now);
-    is_recorded = true;
-    return begin_record(journal_text(), size);
+    begin_host_clock(now > time ? now : time);
+    latest = time;
+    leave_out_record();
 }
 
-bool take_up_journal(const uint8_t *text, size_t size) {
-    size_t taken = 0;
-    forget_journal();
-    uint8_t *room = journal_room(size);
-    uint8_t told = room == NULL ? TPMSIM_NO_MEMORY : tpmsim_journal_open(&device, text, size, &taken);
-    if (told != TPMSIM_DONE || taken != size) {
-        report("the volatile state is refused: %s",
-               told == TPMSIM_DONE ? "its last record is cut off" : words_of_told(told));
-        return false;
-    }
-    memcpy(room, text, size);
-    journal_grew(size);
-    is_recorded = true;
-    return begin_record(text, size);
+/* Writes what is to be written of the last command. */
+static bool is_written(void) {
+    is_behind = true;
+    if (!write_record(record, record_size)) return false;
+    record_size = 0;
+    is_behind = !keep_permanent(&device);
+    return !is_behind;
 }
 
-/* Opens the device again as it was before a command whose record is not in the journal. */
-static void undo(void) {
-    size_t taken = 0;
-    uint8_t told = is_recorded ? tpmsim_journal_open(&device, journal_text(), journal_size(), &taken)
-                               : TPMSIM_NO_JOURNAL;
-    if (told == TPMSIM_DONE && taken == journal_size()) return;
-    report("the device cannot be as it was before the command, and is off");
-    free_device();
-}
-
-/* Has the record written, and the permanent state where that changed; both or none. */
-static bool is_written(const uint8_t *record, size_t size) {
-    if (!write_record(record, size)) return false;
-    if (is_permanent(&device) || store_permanent(&device)) return true;
-    take_record_back();
-    return false;
-}
-
-/* Where the next record goes. A journal that has no more room is given up, and the device goes on. */
-static uint8_t *record_room(void) {
-    static uint8_t no_record[TPMSIM_RECORD_ROOM];
-    uint8_t *room = is_recorded ? journal_room(TPMSIM_RECORD_ROOM) : NULL;
-    if (room != NULL) return room;
-    if (is_recorded) report("the journal has no more room: until power comes on again no state can be saved");
-    is_recorded = false;
-    forget_journal();
-    return no_record;
+/* Executes a command: with its record, with the completing layer, or the device alone. */
+static uint8_t run(const uint8_t *buffer, size_t size, uint8_t locality, uint32_t elapsed,
+                   const uint8_t *random, uint8_t *response, tpmsim_answered *answered) {
+    if (is_recorded())
+        return tpmsim_journal_execute(&device, buffer, size, locality, latest + elapsed, completing, random,
+                                      response, answered, record, &record_size);
+    if (completing)
+        return tpmsim_complete(&device, buffer, size, locality, elapsed, random, response, answered);
+    return tpmsim_execute(&device, buffer, size, locality, elapsed, random, response, answered);
 }
 
 bool execute(const uint8_t *buffer, size_t size, uint8_t locality, struct response *response) {
     const uint8_t *random = random_bytes();
-    if (random == NULL) return false;
+    if (random == NULL || (is_behind && !is_written())) return false;
     tpmsim_answered answered;
-    uint8_t *record = record_room();
-    size_t record_size = 0;
-    uint8_t told =
-        tpmsim_journal_execute(&device, buffer, size, locality, host_clock(), completing, random,
-                               response->bytes, &answered, record, &record_size);
+    uint64_t waited = host_clock() - latest;
+    uint32_t elapsed = waited < UINT32_MAX ? (uint32_t)waited : UINT32_MAX;
+    uint8_t told = run(buffer, size, locality, elapsed, random, response->bytes, &answered);
     if (told != TPMSIM_DONE) {
         report("a command is not executed: %s", words_of_told(told));
         return false;
     }
+    latest += elapsed;
     random_bytes_were_drawn(answered.drawn);
-    if (!is_written(record, record_size)) {
-        undo();
-        return false;
-    }
-    if (is_recorded) journal_grew(record_size);
     response->size = answered.size;
-    return true;
+    return is_written();
 }
 
 void free_device(void) {
     tpmsim_free(&device);
     end_record();
-    forget_journal();
-    is_recorded = false;
+    explicit_bzero(record, sizeof record);
+    record_size = 0;
+    is_behind = false;
 }

@@ -1,4 +1,4 @@
-/* The device of this process: there is one, and its journal. */
+/* The device of this process: there is one. */
 #ifndef DEVICE_H
 #define DEVICE_H
 
@@ -14,7 +14,7 @@ struct response {
     uint8_t bytes[RESPONSE_BYTES];
 };
 
-/* The device, for calls that leave its journal as it is. */
+/* The device, for calls that do not execute a command. */
 tpmsim *the_device(void);
 
 /* Whether there is one. */
@@ -23,18 +23,18 @@ bool device_is_on(void);
 /* Whether the completing layer is on, from now on. */
 void let_device_complete(bool completes);
 
-/* Begins a new journal of the device, as its power comes on. */
-bool begin_journal(void);
+/* The device's power comes on: its completing layer, its clock and its record begin. */
+bool begin_device(void);
 
-/* Takes a journal up, with the device that it opens. */
-bool take_up_journal(const uint8_t *text, size_t size);
+/* The device goes on whose last command was executed at this time of a host's clock. */
+void resume_device(uint64_t time);
 
-/* Whether the journal has all that the device executed since its power came on. */
-bool journal_is_whole(void);
+/* The time of the host's clock at the last command. */
+uint64_t time_of_device(void);
 
-/* Executes a command from a locality of 0 to 4, adds its record to the journal, and has the permanent
-   state written where that changed. Where it is not done the device is as it was, or is lost where that
-   cannot be; the reason is reported. */
+/* Executes a command from a locality of 0 to 4, writes its record where one is asked for, and has the
+   permanent state written where that changed. If one is not written, the reason is reported, there is no
+   response, and no other command is executed until both are. */
 bool execute(const uint8_t *buffer, size_t size, uint8_t locality, struct response *response);
 
 /* Takes the power away. */

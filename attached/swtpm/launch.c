@@ -1,6 +1,5 @@
 /* A dynamic launch, by commands from locality 4: PCRs 17 to 22 are reset, and PCR 17 is extended by the
-   digests of what was hashed. A command of no bytes, which does nothing, stands in the journal where one
-   begins (from locality 4), and where one is taken back (from locality 3). */
+   digests of what was hashed. */
 #include "launch.h"
 
 #include "callbacks.h"
@@ -24,33 +23,15 @@ static const uint8_t EXTEND[] = {0x80, 0x02, 0, 0, 0, 87, 0, 0, 0x01, 0x82, 0, 0
                                  0,    9,    0x40, 0, 0, 9, 0, 0, 0,  0,    0, 0, 0, 0,         2};
 static const uint8_t SHA1_ALGORITHM[] = {0, 0x04}, SHA256_ALGORITHM[] = {0, 0x0b};
 
-static bool was_launched, is_hashing;
+static bool is_told, is_hashing;
 static struct digests digests;
 
-void forget_launch(void) {
-    was_launched = false;
+void tell_launch(bool was_launched) {
+    is_told = was_launched;
     is_hashing = false;
 }
 
-void find_launch(const uint8_t *journal, size_t size) {
-    const uint8_t *end = journal + size;
-    uint8_t locality = 0;
-    was_launched = false;
-    while (journal < end) {
-        const uint8_t *line = journal, *newline = memchr(line, '\n', (size_t)(end - line));
-        size_t length = (size_t)((newline == NULL ? end : newline) - line);
-        if (length == 5 && memcmp(line, "loc ", 4) == 0) locality = (uint8_t)(line[4] - '0');
-        bool is_empty = length == 4 && memcmp(line, "cmd ", 4) == 0;
-        if (is_empty && locality == HARDWARE) was_launched = true;
-        if (is_empty && locality == TRUSTED_SYSTEM) was_launched = false;
-        journal = line + length + 1;
-    }
-}
-
-static bool mark(uint8_t locality) {
-    static struct response response;
-    return execute(RESET, 0, locality, &response);
-}
+bool was_launched(void) { return is_told; }
 
 /* Executes a command from locality 4 that has to succeed. */
 static bool is_done(const uint8_t *command, size_t size, const char *name) {
@@ -73,9 +54,8 @@ TPM_RESULT TPM_IO_Hash_Start(void) {
         command[PCR_AT] = pcr;
         if (!is_done(command, sizeof command, "TPM2_PCR_Reset")) return TPM_FAIL;
     }
-    if (!mark(HARDWARE)) return TPM_FAIL;
     begin_digests(&digests);
-    was_launched = true;
+    is_told = true;
     is_hashing = true;
     return TPM_SUCCESS;
 }
@@ -104,7 +84,7 @@ TPM_RESULT TPM_IO_Hash_End(void) {
 }
 
 TPM_RESULT TPM_IO_TpmEstablished_Get(TPM_BOOL *tpmEstablished) {
-    *tpmEstablished = was_launched ? 1 : 0;
+    *tpmEstablished = is_told ? 1 : 0;
     return TPM_SUCCESS;
 }
 
@@ -112,7 +92,6 @@ TPM_RESULT TPM_IO_TpmEstablished_Reset(void) {
     uint32_t locality = locality_now();
     if (!device_is_on()) return TPM_FAIL;
     if (locality != TRUSTED_SYSTEM && locality != HARDWARE) return TPM_BAD_LOCALITY;
-    if (was_launched && !mark(TRUSTED_SYSTEM)) return TPM_FAIL;
-    was_launched = false;
+    is_told = false;
     return TPM_SUCCESS;
 }

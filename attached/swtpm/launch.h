@@ -2,13 +2,12 @@
 #ifndef LAUNCH_H
 #define LAUNCH_H
 
-#include <stddef.h>
-#include <stdint.h>
+#include <stdbool.h>
 
-/* Finds in a journal whether there was a launch that nothing has taken back. */
-void find_launch(const uint8_t *journal, size_t size);
+/* Whether there was a launch that nothing has taken back. */
+bool was_launched(void);
 
-/* There was none. */
-void forget_launch(void);
+/* Says so from now on. */
+void tell_launch(bool was_launched);
 
 #endif

@@ -5,6 +5,7 @@
 #include "report.h"
 
 #include <libtpms/tpm_nvfilename.h>
+#include <stdlib.h>
 #include <string.h>
 
 /* An image has at most 28,361 bytes, and what is kept without Clock has fewer. */
@@ -15,9 +16,27 @@ struct text {
     uint8_t bytes[IMAGE_MOST];
 };
 
-static struct text kept, present;
+static struct text kept, present, image;
 
-static void take(tpmsim *device, struct text *text) { text->size = tpmsim_kept(device, text->bytes, IMAGE_MOST); }
+bool make_permanent_state(tpmsim *device, struct state *state) {
+    *state = (struct state){.bytes = malloc(IMAGE_MOST)};
+    if (state->bytes == NULL) {
+        report("there is no memory for a permanent state");
+        return false;
+    }
+    state->size = tpmsim_save(device, state->bytes, IMAGE_MOST);
+    return true;
+}
+
+bool open_permanent_state(tpmsim *device, const struct state *state) {
+    uint8_t told = tpmsim_open(device, state->bytes, state->size);
+    if (told != TPMSIM_DONE) report("the permanent state is refused: %s", words_of_told(told));
+    return told == TPMSIM_DONE;
+}
+
+static void take(tpmsim *device, struct text *text) {
+    text->size = tpmsim_kept(device, text->bytes, IMAGE_MOST);
+}
 
 void take_as_permanent(tpmsim *device) { take(device, &kept); }
 
@@ -27,13 +46,20 @@ bool is_permanent(tpmsim *device) {
 }
 
 bool store_permanent(tpmsim *device) {
-    present.size = tpmsim_save(device, present.bytes, IMAGE_MOST);
-    if (!store_state(TPM_PERMANENT_ALL_NAME, present.bytes, present.size)) return false;
-    take(device, &kept);
+    image.size = tpmsim_save(device, image.bytes, IMAGE_MOST);
+    return store_state(TPM_PERMANENT_ALL_NAME, image.bytes, image.size);
+}
+
+bool keep_permanent(tpmsim *device) {
+    if (is_permanent(device)) return true;
+    if (!store_permanent(device)) return false;
+    memcpy(kept.bytes, present.bytes, present.size);
+    kept.size = present.size;
     return true;
 }
 
 void forget_permanent(void) {
     explicit_bzero(&kept, sizeof kept);
     explicit_bzero(&present, sizeof present);
+    explicit_bzero(&image, sizeof image);
 }

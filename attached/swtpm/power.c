@@ -5,8 +5,8 @@
 #include "permanent.h"
 #include "randomness.h"
 #include "report.h"
-#include "resume.h"
 #include "states.h"
+#include "volatile.h"
 
 #include <libtpms/tpm_error.h>
 #include <libtpms/tpm_library.h>
@@ -38,28 +38,36 @@ static bool manufacture(void) {
     return was_manufactured;
 }
 
-static bool open_image(const struct state *state) {
-    uint8_t told = tpmsim_open(the_device(), state->bytes, state->size);
-    if (told != TPMSIM_DONE) report("the permanent state is refused: %s", words_of_told(told));
-    return told == TPMSIM_DONE;
-}
-
 /* Opens the device of the permanent state, or makes a new one where there is none. */
 static bool open_permanent(bool *is_to_be_stored) {
     struct state state;
     enum kept kept = find_state(TPMLIB_STATE_PERMANENT, &state);
-    bool is_open = (kept == KEPT && open_image(&state)) || (kept == NOT_KEPT && manufacture());
+    bool is_open = (kept == KEPT && open_permanent_state(the_device(), &state)) ||
+                   (kept == NOT_KEPT && manufacture());
     *is_to_be_stored = kept == NOT_KEPT || state.is_set;
     free_state(&state);
     if (is_open) take_as_permanent(the_device());
     return is_open;
 }
 
-/* Goes on from the volatile state, or begins a journal where there is none. */
+/* Has the device go on where it was left. What it keeps without power has to be what is kept. */
+static bool resume(const struct state *state) {
+    struct moment moment;
+    if (!open_volatile_state(the_device(), state, &moment)) return false;
+    if (!is_permanent(the_device())) {
+        report("the volatile state is refused: it is of another permanent state");
+        return false;
+    }
+    tell_launch(moment.was_launched);
+    resume_device(moment.time);
+    return true;
+}
+
+/* Goes on from the volatile state, or begins as power comes on where there is none. */
 static bool open_volatile(void) {
     struct state state;
     enum kept kept = find_state(TPMLIB_STATE_VOLATILE, &state);
-    bool is_open = (kept == KEPT && resume(&state)) || (kept == NOT_KEPT && begin_journal());
+    bool is_open = (kept == KEPT && resume(&state)) || (kept == NOT_KEPT && begin_device());
     free_state(&state);
     return is_open;
 }
@@ -74,7 +82,7 @@ void TPMLIB_Terminate(void) {
     free_device();
     forget_permanent();
     forget_random_bytes();
-    forget_launch();
+    tell_launch(false);
 }
 
 TPM_RESULT TPMLIB_MainInit(void) {

@@ -13,12 +13,20 @@
 enum { PATH_BYTES = 4096, MOST_FILES = 1000 * 1000 };
 
 static int descriptor = -1;
-/* How many bytes the file has, and how many it had before the last ones. */
+/* How many bytes the file has, and how many it had before the last text. */
 static off_t present, before;
 
 void end_record(void) {
     if (descriptor >= 0 && close(descriptor) != 0) report("a record is not closed: %s", strerror(errno));
     descriptor = -1;
+}
+
+bool is_recorded(void) { return descriptor >= 0; }
+
+/* The folder of the records; NULL where none are asked for. */
+static const char *folder_of_records(void) {
+    const char *folder = getenv("TPMSIM_RECORD");
+    return folder == NULL || *folder == 0 ? NULL : folder;
 }
 
 static int open_free_name(const char *folder) {
@@ -36,14 +44,28 @@ static int open_free_name(const char *folder) {
 }
 
 bool begin_record(const uint8_t *text, size_t size) {
-    const char *folder = getenv("TPMSIM_RECORD");
+    const char *folder = folder_of_records();
     end_record();
-    if (folder == NULL || *folder == 0) return true;
+    if (folder == NULL) return true;
     descriptor = open_free_name(folder);
     present = 0;
     if (descriptor >= 0) return write_record(text, size);
     report("no record is begun in %s: %s", folder, strerror(errno));
     return false;
+}
+
+void leave_out_record(void) {
+    if (folder_of_records() != NULL)
+        report("there is no record until power comes on: the device goes on from a volatile state");
+}
+
+/* Takes back what was written of the last text. Where that fails nothing is written behind it. */
+static void take_back(void) {
+    if (present == before) return;
+    present = before;
+    if (ftruncate(descriptor, before) == 0 && lseek(descriptor, before, SEEK_SET) == before) return;
+    report("the record ends with part of a command: %s", strerror(errno));
+    end_record();
 }
 
 bool write_record(const uint8_t *text, size_t size) {
@@ -54,7 +76,7 @@ bool write_record(const uint8_t *text, size_t size) {
         if (written < 0 && errno == EINTR) continue;
         if (written <= 0) {
             report("the record is not written: %s", strerror(written == 0 ? EIO : errno));
-            take_record_back();
+            take_back();
             return false;
         }
         text += written;
@@ -62,13 +84,4 @@ bool write_record(const uint8_t *text, size_t size) {
         present += written;
     }
     return true;
-}
-
-/* Where that fails what is left is a command that was not answered, and nothing is written behind it. */
-void take_record_back(void) {
-    if (descriptor < 0 || present == before) return;
-    present = before;
-    if (ftruncate(descriptor, before) == 0 && lseek(descriptor, before, SEEK_SET) == before) return;
-    report("the record has a command that was not executed, and ends: %s", strerror(errno));
-    end_record();
 }

@@ -1,5 +1,5 @@
-/* What is asked for by TPMSIM_RECORD: the journal of each time of power, in a file of the folder that it
-   names. */
+/* What is asked for by TPMSIM_RECORD: the journal of each time of power that begins as power comes on, in a
+   file of the folder that it names. */
 #ifndef RECORD_H
 #define RECORD_H
 
@@ -10,11 +10,14 @@
 /* Begins a file with a text, where it is asked for: FOLDER/boot-N.tpm, with the first N that is free. */
 bool begin_record(const uint8_t *text, size_t size);
 
+/* Reports that there is none, where one is asked for. */
+void leave_out_record(void);
+
 /* Writes more of it, whole or not at all. */
 bool write_record(const uint8_t *text, size_t size);
 
-/* Takes back what was written last. */
-void take_record_back(void);
+/* Whether there is one. */
+bool is_recorded(void);
 
 void end_record(void);
 

@@ -53,6 +53,12 @@ const char *words_of_told(uint8_t told) {
     case TPMSIM_IMAGE_LENGTH: return "its image is not as long as it says";
     case TPMSIM_IMAGE_DIGEST: return "its image has another digest than it says";
     case TPMSIM_IMAGE_BODY: return "its image spells no device";
+    case TPMSIM_STATE_SHORT: return "it is too short";
+    case TPMSIM_STATE_MAGIC: return "it does not begin with TPMS";
+    case TPMSIM_STATE_VERSION: return "it is of a version that is not known";
+    case TPMSIM_STATE_LENGTH: return "it is not as long as it says";
+    case TPMSIM_STATE_DIGEST: return "it has another digest than it says";
+    case TPMSIM_STATE_BODY: return "it spells no device";
     case TPMSIM_NO_JOURNAL: return "it is no journal";
     case TPMSIM_DAMAGED: return "its journal is damaged";
     case TPMSIM_OTHERWISE: return "another version of the device wrote it, which answered otherwise";

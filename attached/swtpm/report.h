@@ -7,7 +7,7 @@
 /* Writes a line, as printf would, without a line break at its end. */
 void report(const char *format, ...) __attribute__((format(printf, 1, 2)));
 
-/* What a number of the library, tpmsim_told, says of an image or a journal. */
+/* What a number of the library, tpmsim_told, says of a state. */
 const char *words_of_told(uint8_t told);
 
 #endif

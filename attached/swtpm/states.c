@@ -2,17 +2,17 @@
 #include "states.h"
 
 #include "device.h"
-#include "journal.h"
+#include "launch.h"
+#include "permanent.h"
 #include "report.h"
+#include "volatile.h"
 
 #include <libtpms/tpm_error.h>
 #include <libtpms/tpm_nvfilename.h>
 #include <stdlib.h>
 #include <string.h>
 
-/* What stands behind the journal of a volatile state, as its last line. */
-static const char THE_END[] = "# the end\n";
-enum { THE_END_BYTES = sizeof THE_END - 1, TYPES = 3 };
+enum { TYPES = 3 };
 
 static const enum TPMLIB_StateType types[TYPES] = {TPMLIB_STATE_PERMANENT, TPMLIB_STATE_VOLATILE,
                                                    TPMLIB_STATE_SAVE_STATE};
@@ -57,45 +57,14 @@ enum kept find_state(enum TPMLIB_StateType type, struct state *state) {
     return copy(set[place].bytes, set[place].size, &state->bytes) ? KEPT : NOT_READ;
 }
 
-bool make_volatile_state(uint8_t **bytes, size_t *size) {
-    if (!device_is_on() || !journal_is_whole()) {
-        report("there is no volatile state: %s",
-               device_is_on() ? "the journal had no more room" : "the power is off");
-        return false;
-    }
-    *size = journal_size() + THE_END_BYTES;
-    *bytes = malloc(*size);
-    if (*bytes == NULL) {
-        report("there is no memory for a volatile state");
-        return false;
-    }
-    memcpy(*bytes, journal_text(), journal_size());
-    memcpy(*bytes + journal_size(), THE_END, THE_END_BYTES);
-    return true;
-}
-
-bool journal_of_volatile_state(const struct state *state, size_t *size) {
-    bool is_whole = state->size >= THE_END_BYTES &&
-                    memcmp(state->bytes + state->size - THE_END_BYTES, THE_END, THE_END_BYTES) == 0;
-    if (!is_whole) report("the volatile state is refused: its end is missing");
-    *size = is_whole ? state->size - THE_END_BYTES : 0;
-    return is_whole;
-}
-
 /* Whether a device can be opened of a state. */
 static bool is_state(enum TPMLIB_StateType type, const struct state *state) {
     tpmsim scratch = {0};
-    size_t size = state->size, taken = state->size;
-    if (type == TPMLIB_STATE_VOLATILE && !journal_of_volatile_state(state, &size)) return false;
-    uint8_t told = type == TPMLIB_STATE_PERMANENT
-                       ? tpmsim_open(&scratch, state->bytes, size)
-                       : tpmsim_journal_open(&scratch, state->bytes, size, &taken);
+    struct moment moment;
+    bool is = type == TPMLIB_STATE_PERMANENT ? open_permanent_state(&scratch, state)
+                                             : open_volatile_state(&scratch, state, &moment);
     tpmsim_free(&scratch);
-    bool is_cut = type == TPMLIB_STATE_VOLATILE && told == TPMSIM_DONE && taken != size;
-    if (told == TPMSIM_DONE && !is_cut) return true;
-    report("the %s state is refused: %s", type == TPMLIB_STATE_PERMANENT ? "permanent" : "volatile",
-           is_cut ? "its last record is cut off" : words_of_told(told));
-    return false;
+    return is;
 }
 
 /* A device of TPM 2.0 has no state of the third type. */
@@ -128,20 +97,19 @@ TPM_RESULT TPMLIB_SetState(enum TPMLIB_StateType st, const unsigned char *buffer
     return result;
 }
 
-/* The image of the device that is on. */
-static bool make_permanent_state(uint8_t **bytes, size_t *size) {
-    *size = tpmsim_save(the_device(), (uint8_t[1]){0}, 0);
-    *bytes = malloc(*size);
-    if (*bytes != NULL) return tpmsim_save(the_device(), *bytes, *size) == *size;
-    report("there is no memory for a permanent state");
+/* The volatile state of the device that is on. */
+static bool make_present_volatile_state(struct state *state) {
+    struct moment moment = {.time = time_of_device(), .was_launched = was_launched()};
+    if (device_is_on()) return make_volatile_state(the_device(), &moment, state);
+    report("there is no volatile state: the power is off");
     return false;
 }
 
 /* The state of a device that is on. */
 static TPM_RESULT present_state(enum TPMLIB_StateType type, struct state *state) {
     bool is_made = true;
-    if (type == TPMLIB_STATE_PERMANENT) is_made = make_permanent_state(&state->bytes, &state->size);
-    if (type == TPMLIB_STATE_VOLATILE) is_made = make_volatile_state(&state->bytes, &state->size);
+    if (type == TPMLIB_STATE_PERMANENT) is_made = make_permanent_state(the_device(), state);
+    if (type == TPMLIB_STATE_VOLATILE) is_made = make_present_volatile_state(state);
     return is_made ? TPM_SUCCESS : TPM_FAIL;
 }
 
@@ -176,10 +144,9 @@ TPM_RESULT TPMLIB_ValidateState(enum TPMLIB_StateType st, unsigned int flags) {
 }
 
 TPM_RESULT TPMLIB_VolatileAll_Store(unsigned char **buffer, uint32_t *buflen) {
-    size_t size = 0;
-    *buffer = NULL;
-    *buflen = 0;
-    if (!make_volatile_state(buffer, &size)) return TPM_FAIL;
-    *buflen = (uint32_t)size;
-    return TPM_SUCCESS;
+    struct state state = {0};
+    bool is_made = make_present_volatile_state(&state);
+    *buffer = state.bytes;
+    *buflen = (uint32_t)state.size;
+    return is_made ? TPM_SUCCESS : TPM_FAIL;
 }

@@ -26,10 +26,4 @@ void free_state(struct state *state);
 /* Forgets all that was set. */
 void forget_states(void);
 
-/* The volatile state of the device that is on, a text of the caller's to free. */
-bool make_volatile_state(uint8_t **bytes, size_t *size);
-
-/* The journal of a volatile state: all but its last line, which tells that nothing is missing. */
-bool journal_of_volatile_state(const struct state *state, size_t *size);
-
 #endif

@@ -1,5 +1,6 @@
 # The time of a device under swtpm, as the host's clock stands: in one process, and in another one whose
-# host's clock is ahead, behind, or so far behind that the state is refused. common/clock.c is the clock.
+# host's clock is ahead, so far ahead that a command takes no more than 2^32 - 1 milliseconds of it, or
+# behind. common/clock.c is the clock.
 tests=$(cd "$(dirname "$0")/.." && pwd -P)
 . "$tests/common/cases.sh"
 . "$tests/common/swtpm.sh"
@@ -27,7 +28,7 @@ save volatile
 END
 cp permall permanent
 
-for clock in 2000 1008 10 1; do
+for clock in 2000 1008 10 1 10000000000; do
     label "another process, by a host whose clock stands at $clock, and 7 seconds later"
     clocked <<END
 clock $clock
@@ -40,7 +41,7 @@ do ReadClock
 END
 done
 
-label 'a journal of 31 years later'
+label 'a device of 31 years later'
 rm permall
 clocked <<END
 clock 1000000000
@@ -57,7 +58,7 @@ clock 12
 do ReadClock
 END
 
-label 'a journal of 317,000 years later'
+label 'a device of 317,000 years later'
 rm permall
 clocked <<END
 clock 10000000000000
@@ -68,5 +69,7 @@ off
 clock 10
 set volatile volatile
 on
+do ReadClock
+clock 17
 do ReadClock
 END

@@ -60,20 +60,27 @@ do Startup 0
 do NV_Read 01000002 01000002 pw:61 8 0
 END
 
-label 'a store that fails'
+label 'a store that fails: the command is done, and none that follows, until it is stored'
 play <<END
 on
 do Startup 0
 do PCR_Extend 00000010 pw:- sha256:$one
 store fails
-do NV_Write 01000002 01000002 pw:61 4141414141414141 0
 do PCR_Read sha256:16
-do NV_Read 01000002 01000002 pw:61 8 0
+do NV_Write 01000002 01000002 pw:61 4141414141414141 0
+do PCR_Extend 00000010 pw:- sha256:$one
+do NV_Write 01000002 01000002 pw:61 4343434343434343 0
 do Shutdown 0
 store works
 do NV_Read 01000002 01000002 pw:61 8 0
 do PCR_Read sha256:16
 do NV_Write 01000002 01000002 pw:61 4242424242424242 0
+store fails
+do NV_Write 01000002 01000002 pw:61 4444444444444444 0
+off
+store works
+on
+do Startup 0
 do NV_Read 01000002 01000002 pw:61 8 0
 END
 

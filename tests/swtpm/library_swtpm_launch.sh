@@ -62,6 +62,18 @@ on
 established
 END
 
+label 'it is told no more once the power was off'
+play <<END
+set permanent permanent
+set volatile launched
+on
+established
+off
+established
+on
+established
+END
+
 label 'a command of no bytes from locality 4 is no launch'
 play <<END
 on

@@ -1,5 +1,6 @@
 # What libtpms.so.0 records where TPMSIM_RECORD asks for it: a journal of each time of power, which the
-# program plays; and a record that cannot be begun or written. swtpm/caller.c is the caller.
+# program plays, and none of a device that goes on; and a record that cannot be begun or written.
+# swtpm/caller.c is the caller.
 tests=$(cd "$(dirname "$0")/.." && pwd -P)
 . "$tests/common/cases.sh"
 . "$tests/common/swtpm.sh"
@@ -41,7 +42,22 @@ for record in boot-*; do
     power_on_of "$record" >image
     "$assemble" run --image image "$record"
 done
-cmp boot-3.tpm volatile 2>&1 | sed 's/:.*//'
+
+label 'a store that fails: the record has the command once'
+mkdir stores && cd stores || exit 1
+play <<END
+on
+do Startup 0
+do NV_DefineSpace OWNER pw:- 61 01000002000b0004000400000008
+store fails
+do NV_Write 01000002 01000002 pw:61 4141414141414141 0
+do PCR_Read sha256:20
+store works
+do NV_Read 01000002 01000002 pw:61 8 0
+END
+power_on_of boot-1.tpm >image
+"$assemble" run --image image boot-1.tpm
+cd .. || exit 1
 
 label 'no folder'
 TPMSIM_RECORD=nowhere
@@ -62,7 +78,7 @@ find . -name 'boot-*' -printf '%y %P\n' | sort
 [ -e "$room/elsewhere" ] || echo 'nothing is made behind the link'
 cd .. || exit 1
 
-label 'a file that has no more room: what is not recorded is not done'
+label 'a file that has no more room: what is not recorded is not answered'
 mkdir full && cd full || exit 1
 TPMSIM_RECORD=.
 {
@@ -75,8 +91,8 @@ TPMSIM_RECORD=.
 (trap '' XFSZ && ulimit -f 8 && "$room/caller" "$room/swtpm/libtpms.so.0" <"$room/lines" 2>&1) |
     sed -n '/^80/p' >"$room/given"
 done_count=$(grep -vc '^80010000000a00000101$' "$room/given")
-[ "$done_count" -gt 2 ] && [ "$done_count" -lt 41 ] && echo 'some are done, and some are not'
-[ "$(grep -c '^cmd' boot-1.tpm)" -eq "$done_count" ] && echo 'the record has those that are done'
+[ "$done_count" -gt 2 ] && [ "$done_count" -lt 41 ] && echo 'some are answered, and some are not'
+[ "$(grep -c '^cmd' boot-1.tpm)" -eq "$done_count" ] && echo 'the record has those that are answered'
 power_on_of boot-1.tpm >image
 "$assemble" run --image image boot-1.tpm >played && head -n "$done_count" "$room/given" | cmp - played &&
     echo 'played by the program they are answered so'

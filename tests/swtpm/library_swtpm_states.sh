@@ -1,6 +1,6 @@
 # The states of libtpms.so.0 in the hands of a caller in swtpm's place: a device that goes on in another
-# process, the journal in its volatile state, states of other devices, and states with each byte turned,
-# cut, or set at the wrong time. swtpm/caller.c is the caller.
+# process, what is in its volatile state, states of other devices and libraries, and states with each byte
+# turned, cut, or set at the wrong time. swtpm/caller.c is the caller.
 tests=$(cd "$(dirname "$0")/.." && pwd -P)
 . "$tests/common/cases.sh"
 . "$tests/common/swtpm.sh"
@@ -54,13 +54,9 @@ on
 do PolicyGetDigest 03000000
 END
 
-label 'the journal in it'
-sed -n '/^wait\|^loc\|^cmd/p' volatile | sed 's/^wait [0-9]*$/wait/' | uniq -c
-sed '$!d' volatile
-printf 'cmd 8001000000140000017e00000001000b03000011\n' | cat volatile - >journal
-sed -n '2s/^# //p' volatile | python3 -c \
-    'import sys; sys.stdout.buffer.write(bytes.fromhex(sys.stdin.read()))' >power_on
-"$assemble" run --image power_on journal | tail -n 1
+label 'the state text in it, and what follows it'
+python3 "$tests/swtpm/volatile_states.py" read volatile
+python3 "$tests/swtpm/volatile_states.py" time volatile
 
 label 'another permanent state'
 mkdir other
@@ -107,14 +103,15 @@ printf 'on\n' | play
 cp before permall
 head -c 1000 volatile >volatilestate
 printf 'on\nvalidate 1\nvalidate 2\n' | play
-sed '$d' volatile >volatilestate
-printf 'on\n' | play
-{ sed '$d' volatile | head -c -30 && echo '# the end'; } >volatilestate
-printf 'on\nvalidate 2\n' | play
-sed '/^wait/s/[0-9]*$/7/' volatile >volatilestate
-printf 'on\n' | play
 cmp permall before && echo 'what was kept is as it was'
 rm volatilestate
+
+label 'what is no volatile state'
+mkdir bent
+for name in $(python3 "$tests/swtpm/volatile_states.py" bend volatile bent); do
+    echo "$name"
+    printf 'set volatile bent/%s\n' "$name" | play
+done
 
 label 'a bad state takes the others with it'
 play <<END

@@ -170,6 +170,8 @@ moves() {
     tool createprimary -C o -G aes128cfb -g sha256 -c primary.context
     tool startauthsession --policy-session -S session.context
     tool policypcr -S session.context -l sha256:10 -L policy
+    tool startauthsession --hmac-session -S hmac.context
+    tool nvdefine 0x1500017 -C o -s 8 -P session:hmac.context
     run_tool pcrread sha256:10 && cp output pcrs
     succeeds 'the permanent state is saved' ioctl --save permanent permanent
     succeeds 'the volatile state is saved' ioctl --save volatile volatile
@@ -182,6 +184,8 @@ moves() {
     same pcrs
     tool policypcr -S session.context -l sha256:10 -L policy
     tool flushcontext session.context
+    tool nvundefine 0x1500017 -C o -P session:hmac.context
+    tool flushcontext hmac.context
     tool readpublic -c primary.context
     tool nvread 0x1500016 -C o -s 8
     same data
@@ -210,8 +214,22 @@ bent() {
     { head -c "$size" "$1"; printf '\377'; tail -c "+$((size + 2))" "$1"; } >bent_file
 }
 
-# States that are damaged are refused, and what is kept stays.
+# own_state FILE: saves the volatile state of a swtpm with its own libtpms.
+own_state() {
+    mkdir own
+    swtpm socket --tpm2 --tpmstate "dir=$folder/own" --ctrl "type=unixio,path=$folder/own/ctrl" \
+        --server "type=unixio,path=$folder/own/data" --flags not-need-init,startup-clear &
+    tpm=$!
+    until swtpm_ioctl --unix "$folder/own/ctrl" --save volatile "$1" >output 2>error; do
+        kill -0 "$tpm" 2>/dev/null || { fail 'swtpm with its own libtpms does not start'; break; }
+        sleep 0.05
+    done
+    end_tpm
+}
+
+# States that are damaged are refused, and those of swtpm's own libtpms, and what is kept stays.
 damage() {
+    own_state own_volatile
     mkdir damaged
     cp from/tpm2-00.permall damaged
     begin_tpm "$folder/damaged" || return
@@ -219,6 +237,8 @@ damage() {
         bent "$kind"
         refused "a bent $kind state is refused" ioctl --load "$kind" bent_file
     done
+    refused "swtpm's own volatile state is refused" ioctl --load volatile own_volatile
+    grep 'tpmsim: the volatile state' log | tail -n 2
     end_tpm
     cmp -s from/tpm2-00.permall damaged/tpm2-00.permall || fail 'what was kept is not as it was'
     bent from/tpm2-00.permall
@@ -248,7 +268,8 @@ kills() {
     if [ "$lost" -eq 0 ]; then ok '20 kills, nothing lost'; else fail "$lost of 20 kills lost a write"; fi
 }
 
-# A disk with no room: the command fails, the device is as it was, and goes on when there is room again.
+# A disk with no room: the command fails, and each that follows; when there is room again all goes on, and what
+# was written is there.
 full_disk() {
     mkdir full
     if ! mount -t tmpfs -o size=16k tmpfs full 2>error; then
@@ -261,10 +282,10 @@ full_disk() {
     cat /dev/zero >full/filler 2>error
     printf 12345670 >other
     refused 'no write where the disk has no room' run_tool nvwrite 0x1500016 -C o -i other
-    tool nvread 0x1500016 -C o -s 8
-    same data
+    refused 'nothing else until there is room' run_tool nvread 0x1500016 -C o -s 8
     rm full/filler
-    tool nvwrite 0x1500016 -C o -i other
+    tool nvread 0x1500016 -C o -s 8
+    same other
     end_tpm
     begin_tpm "$folder/full" --flags not-need-init,startup-clear || return
     tool nvread 0x1500016 -C o -s 8

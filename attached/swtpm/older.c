@@ -1,0 +1,57 @@
+/* A journal's lines tell when its last command was executed, and whether there was a launch that nothing has
+   taken back: a command of no bytes stood where one began (from locality 4), and where one was taken back
+   (from locality 3). */
+#include "older.h"
+
+#include "report.h"
+
+#include <inttypes.h>
+#include <stdio.h>
+#include <stdlib.h>
+#include <string.h>
+
+static const char HEAD[] = "# tpmsim journal 1 ", THE_END[] = "# the end\n";
+enum { HEAD_BYTES = sizeof HEAD - 1, THE_END_BYTES = sizeof THE_END - 1 };
+
+bool is_older_state(const uint8_t *text, size_t size) {
+    return size >= HEAD_BYTES && memcmp(text, HEAD, HEAD_BYTES) == 0;
+}
+
+/* What follows a word at the begin of a line; NULL where it does not stand there. */
+static const char *behind(const char *word, const char *line) {
+    size_t size = strlen(word);
+    return strncmp(line, word, size) == 0 ? line + size : NULL;
+}
+
+static void read_line(const char *line, char *locality, struct moment *moment) {
+    const char *rest;
+    if ((rest = behind("wait ", line)) != NULL) moment->time += strtoull(rest, NULL, 10);
+    if ((rest = behind("loc ", line)) != NULL) *locality = *rest;
+    if (strcmp(line, "cmd ") != 0) return;
+    if (*locality == '4') moment->was_launched = true;
+    if (*locality == '3') moment->was_launched = false;
+}
+
+/* The moment of a journal that was opened; its lines are taken apart. */
+static void read_moment(char *journal, struct moment *moment) {
+    char *left = NULL, locality = '0';
+    *moment = (struct moment){0};
+    (void)sscanf(journal + HEAD_BYTES, "%16" SCNx64, &moment->time);
+    for (char *line = strtok_r(journal, "\n", &left); line != NULL; line = strtok_r(NULL, "\n", &left))
+        read_line(line, &locality, moment);
+}
+
+const char *open_older_state(tpmsim *device, const uint8_t *text, size_t size, struct moment *moment) {
+    size_t taken = 0, length = size - THE_END_BYTES;
+    if (size < THE_END_BYTES || memcmp(text + length, THE_END, THE_END_BYTES) != 0)
+        return "its end is missing";
+    uint8_t told = tpmsim_journal_open(device, text, length, &taken);
+    if (told != TPMSIM_DONE) return words_of_told(told);
+    if (taken != length) return "its last record is cut off";
+    char *journal = strndup((const char *)text, length);
+    if (journal == NULL) return words_of_told(TPMSIM_NO_MEMORY);
+    read_moment(journal, moment);
+    explicit_bzero(journal, length);
+    free(journal);
+    return NULL;
+}

@@ -1,0 +1,17 @@
+/* A volatile state of a library before this one: the journal of the device, and a last line. */
+#ifndef OLDER_H
+#define OLDER_H
+
+#include "volatile.h"
+
+#include <stdbool.h>
+#include <stddef.h>
+#include <stdint.h>
+#include <tpmsim.h>
+
+bool is_older_state(const uint8_t *text, size_t size);
+
+/* Opens its device, by executing the journal again. NULL, or why it is refused. */
+const char *open_older_state(tpmsim *device, const uint8_t *text, size_t size, struct moment *moment);
+
+#endif

@@ -1,0 +1,25 @@
+/* The volatile state: the state text of the device with its completing layer, and after it what is not the
+   device's. */
+#ifndef VOLATILE_H
+#define VOLATILE_H
+
+#include "states.h"
+
+#include <stdbool.h>
+#include <stdint.h>
+#include <tpmsim.h>
+
+/* When the device was left, and what swtpm is told of it. */
+struct moment {
+    /* The host's clock at the last command, in milliseconds. */
+    uint64_t time;
+    bool was_launched;
+};
+
+/* Makes the volatile state of a device, whose bytes are the caller's to free. */
+bool make_volatile_state(tpmsim *device, const struct moment *moment, struct state *state);
+
+/* Opens the device of a volatile state, also of one by an older library. */
+bool open_volatile_state(tpmsim *device, const struct state *state, struct moment *moment);
+
+#endif
