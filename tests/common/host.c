@@ -1,0 +1,44 @@
+/* Stands before the C library's clock_gettime and getrandom. The file HOST, a variable of the environment, has
+ * what each clock tells, seconds and nanoseconds as two numbers of 64 bits, and 256 bytes. Those are what is
+ * given at random, and as often as a clock is asked, they are put again where the first ones were put: so
+ * each command of libtpms.so.0 may draw just these. */
+#include <fcntl.h>
+#include <stdint.h>
+#include <stdlib.h>
+#include <string.h>
+#include <sys/random.h>
+#include <time.h>
+#include <unistd.h>
+
+struct host {
+    int64_t seconds, nanoseconds;
+    uint8_t bytes[256];
+};
+
+static uint8_t *place;
+
+static struct host now(void) {
+    struct host host;
+    int file = open(getenv("HOST"), O_RDONLY | O_CLOEXEC);
+    if (file < 0 || read(file, &host, sizeof host) != sizeof host) abort();
+    close(file);
+    return host;
+}
+
+ssize_t getrandom(void *bytes, size_t size, unsigned flags) {
+    struct host host = now();
+    (void)flags;
+    if (size > sizeof host.bytes) abort();
+    if (place == NULL) place = bytes;
+    memcpy(bytes, host.bytes, size);
+    return (ssize_t)size;
+}
+
+int clock_gettime(clockid_t clock, struct timespec *told) {
+    struct host host = now();
+    (void)clock;
+    if (place != NULL) memcpy(place, host.bytes, sizeof host.bytes);
+    told->tv_sec = host.seconds;
+    told->tv_nsec = host.nanoseconds;
+    return 0;
+}

@@ -1,0 +1,18 @@
+# A device under swtpm that is suspended and goes on in another process: with sessions that are used before
+# and after, objects, and contexts of the completing layer; and commands at random beside a device that is
+# never suspended (tools/soak/suspended.sh plays more).
+tests=$(cd "$(dirname "$0")/.." && pwd -P)
+. "$tests/common/cases.sh"
+. "$tests/common/swtpm.sh"
+PYTHONPATH=$PYTHONPATH:$tests/../python/tests
+cc -O1 -shared -fPIC -Wall -Wextra -Werror -o "$room/host.so" "$tests/common/host.c" || exit 1
+
+for kind in '' sanitized; do
+    label "in the middle of sessions${kind:+, $kind}"
+    mkdir "left$kind"
+    python3 "$tests/swtpm/resumed.py" "$room/caller${kind:+.$kind}" \
+        "$room/${kind:-swtpm}/libtpms.so.0" "left$kind"
+done
+
+label 'commands at random'
+python3 "$tests/swtpm/suspended.py" "$room/caller" "$room/swtpm/libtpms.so.0" "$room/host.so" 1 4 250

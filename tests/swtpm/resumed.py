@@ -1,0 +1,32 @@
+"""Leaves a device as it runs, and has it go on in other processes: each of its sessions is used
+before and after, objects stay, and contexts are loaded:
+
+    resumed.py CALLER LIBRARY FOLDER
+"""
+
+import sys
+
+from tests.swtpm.called import Called
+from tests.swtpm.left_device import LeftDevice, succeeded
+
+caller, library, folder = sys.argv[1:]
+device = Called(caller, library, folder, TPMSIM_COMPLETE="1")
+device.on()
+left = LeftDevice(device)
+for turn in range(3):
+    device.resume()
+    left.write(b"turn %3d" % turn)
+    print("the bound session authorizes, and its answer has the right HMAC")
+    if turn < 2:
+        succeeded(device, left.loads[turn])
+        print("a context is loaded")
+    print(left.tpm.send(left.tpm.reading(0x01000001, 8, left.free))["data"])
+print(left.tpm.send(left.tpm.unsealing(left.data, left.judged))["outData"])
+for line in ("established", "hash data 61"):
+    print(*device.told(line, ("TpmEstablished", "Hash_Data")))
+device.say("off")
+device.on()
+left.tpm.start_up()
+code = device.execute(left.loads[0]).response[6:10].hex()
+print(f"a context from before the power was off: {code}")
+device.end()

@@ -1,0 +1,18 @@
+#!/bin/sh
+# Plays commands at random on devices under swtpm that are suspended and resumed, beside devices that never are:
+# the scripts of these seeds, 1,000 commands each. Needs python3, cc and libtpms-dev. Not part of the gate.
+#
+#   tools/soak/suspended.sh            the seeds 1 to 50
+#   tools/soak/suspended.sh 7          the seed 7
+#   tools/soak/suspended.sh 1 100 500  the seeds 1 to 100, 500 commands each
+set -eu
+
+top=$(CDPATH='' cd "$(dirname "$0")/../.." && pwd -P)
+. "$top/tools/lib/memory.sh"
+folder=$(folder_in_memory 1) || folder=$(mktemp -d)
+trap 'rm -rf "$folder"' EXIT
+"$top/tools/interop/attached_swtpm.sh" "$folder/swtpm"
+cc -std=c11 -D_GNU_SOURCE -O1 -o "$folder/caller" "$top"/tests/swtpm/*.c
+cc -O1 -shared -fPIC -o "$folder/host.so" "$top/tests/common/host.c"
+TMPDIR=$folder "$top/tools/python.sh" "$top/tests/swtpm/suspended.py" "$folder/caller" \
+    "$folder/swtpm/libtpms.so.0" "$folder/host.so" "${1:-1}" "${2:-${1:-50}}" "${3:-1000}"
