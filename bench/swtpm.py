@@ -1,10 +1,12 @@
 """Measures commands over the socket of a swtpm, in turn with its own libtpms, as a tpmsim, and as one
 that is recorded:
 
-    python3 swtpm.py ATTACHED
+    python3 swtpm.py ATTACHED..
 
-ATTACHED is the folder of tools/interop/attached_swtpm.sh, and the states are kept below the folder that it
-runs in. Each number is the median of seven rounds in microseconds, and in brackets the least.
+ATTACHED is the folder of tools/interop/attached_swtpm.sh; where there are more, each is measured. The states
+are kept below the folder that it runs in. All run on one processor, so that none has to wake, and other work
+on the machine changes little. Each number is the median of seven rounds in microseconds, and in brackets the
+least.
 """
 
 import itertools
@@ -80,13 +82,13 @@ def microseconds(tpm: Tpm, buffer: bytes) -> float:
 
 
 def main() -> None:
-    ours = str(pathlib.Path(sys.argv[1]) / "tpmsim-swtpm")
+    os.sched_setaffinity(0, {max(os.sched_getaffinity(0))})
+    ours = [str(pathlib.Path(it) / "tpmsim-swtpm") for it in sys.argv[1:]]
+    names = ["tpmsim", *(pathlib.Path(it).name for it in sys.argv[2:])]
     pathlib.Path("record").mkdir()
-    tpms = [
-        Tpm("libtpms", "swtpm", {}),
-        Tpm("tpmsim", ours, {}),
-        Tpm("recorded", ours, {"TPMSIM_RECORD": str(pathlib.Path("record").resolve())}),
-    ]
+    tpms = [Tpm("libtpms", "swtpm", {})]
+    tpms += [Tpm(name, program, {}) for name, program in zip(names, ours)]
+    tpms += [Tpm("recorded", ours[0], {"TPMSIM_RECORD": str(pathlib.Path("record").resolve())})]
     print("| us, median (least) | " + " | ".join(tpm.state.name for tpm in tpms) + " |")
     for name, buffers in COMMANDS.items():
         took: list[list[float]] = [[] for _ in tpms]

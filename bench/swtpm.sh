@@ -4,7 +4,10 @@
 #
 #   bench/swtpm.sh [STATES]    STATES is where the states are kept; else /dev/shm
 #
-# The folder of tools/interop/attached_swtpm.sh is that of $ATTACHED, or it is made.
+# All of it runs on one processor. Beside other work, `chrt -f 10 bench/swtpm.sh` keeps that processor.
+#
+# The folder of tools/interop/attached_swtpm.sh is that of $ATTACHED, or it is made. $BESIDE may name more such
+# folders, of other libraries, which are measured in the same run.
 set -eu
 
 top=$(CDPATH='' cd "$(dirname "$0")/.." && pwd -P)
@@ -13,4 +16,5 @@ trap 'rm -rf "$work"' EXIT
 attached=${ATTACHED:-$work/attached}
 [ -n "${ATTACHED:-}" ] || "$top/tools/interop/attached_swtpm.sh" "$attached"
 cd "$work"
-PYTHONDONTWRITEBYTECODE=1 python3 "$top/bench/swtpm.py" "$attached"
+# shellcheck disable=SC2086 # they are words
+PYTHONDONTWRITEBYTECODE=1 python3 "$top/bench/swtpm.py" "$attached" ${BESIDE:-}
