@@ -9,8 +9,8 @@
 
 #include <string.h>
 
-/* The head of a journal has at most 56,802 bytes. */
-enum { HEAD_MOST = 57 * 1024 };
+/* The head of a journal has at most 72,726 bytes. */
+enum { HEAD_MOST = 72 * 1024 };
 
 static tpmsim device;
 static uint8_t completing;
@@ -29,21 +29,26 @@ void let_device_complete(bool completes) { completing = completes; }
 
 uint64_t time_of_device(void) { return latest; }
 
-bool begin_device(void) {
-    static uint8_t head[HEAD_MOST];
-    latest = time_of_day();
-    size_t size = tpmsim_journal_begin(&device, latest, head, sizeof head);
-    begin_host_clock(latest);
+/* The head that a journal of the device begins with, and with it a record. */
+static uint8_t head[HEAD_MOST];
+
+static bool begin_with_head(size_t size) {
     bool is_begun = begin_record(head, size);
     explicit_bzero(head, size);
     return is_begun;
 }
 
-void resume_device(uint64_t time) {
+bool begin_device(void) {
+    latest = time_of_day();
+    begin_host_clock(latest);
+    return begin_with_head(tpmsim_journal_begin(&device, latest, head, sizeof head));
+}
+
+bool resume_device(uint64_t time) {
     uint64_t now = time_of_day();
     begin_host_clock(now > time ? now : time);
     latest = time;
-    leave_out_record();
+    return begin_with_head(tpmsim_journal_checkpoint(&device, latest, head, sizeof head));
 }
 
 /* Writes what is to be written of the last command. */

@@ -26,8 +26,8 @@ void let_device_complete(bool completes);
 /* The device's power comes on: its completing layer, its clock and its record begin. */
 bool begin_device(void);
 
-/* The device goes on whose last command was executed at this time of a host's clock. */
-void resume_device(uint64_t time);
+/* The device goes on whose last command was executed at this time of a host's clock; its record begins. */
+bool resume_device(uint64_t time);
 
 /* The time of the host's clock at the last command. */
 uint64_t time_of_device(void);

@@ -59,8 +59,7 @@ static bool resume(const struct state *state) {
         return false;
     }
     tell_launch(moment.was_launched);
-    resume_device(moment.time);
-    return true;
+    return resume_device(moment.time);
 }
 
 /* Goes on from the volatile state, or begins as power comes on where there is none. */

@@ -23,12 +23,6 @@ void end_record(void) {
 
 bool is_recorded(void) { return descriptor >= 0; }
 
-/* The folder of the records; NULL where none are asked for. */
-static const char *folder_of_records(void) {
-    const char *folder = getenv("TPMSIM_RECORD");
-    return folder == NULL || *folder == 0 ? NULL : folder;
-}
-
 static int open_free_name(const char *folder) {
     char path[PATH_BYTES];
     for (int number = 1; number <= MOST_FILES; number++) {
@@ -44,19 +38,14 @@ static int open_free_name(const char *folder) {
 }
 
 bool begin_record(const uint8_t *text, size_t size) {
-    const char *folder = folder_of_records();
+    const char *folder = getenv("TPMSIM_RECORD");
     end_record();
-    if (folder == NULL) return true;
+    if (folder == NULL || *folder == 0) return true;
     descriptor = open_free_name(folder);
     present = 0;
     if (descriptor >= 0) return write_record(text, size);
     report("no record is begun in %s: %s", folder, strerror(errno));
     return false;
-}
-
-void leave_out_record(void) {
-    if (folder_of_records() != NULL)
-        report("there is no record until power comes on: the device goes on from a volatile state");
 }
 
 /* Takes back what was written of the last text. Where that fails nothing is written behind it. */

@@ -1,5 +1,5 @@
-/* What is asked for by TPMSIM_RECORD: the journal of each time of power that begins as power comes on, in a
-   file of the folder that it names. */
+/* What is asked for by TPMSIM_RECORD: a journal since power came on, or since the device went on from a volatile
+   state, in a file of the folder that it names. */
 #ifndef RECORD_H
 #define RECORD_H
 
@@ -9,9 +9,6 @@
 
 /* Begins a file with a text, where it is asked for: FOLDER/boot-N.tpm, with the first N that is free. */
 bool begin_record(const uint8_t *text, size_t size);
-
-/* Reports that there is none, where one is asked for. */
-void leave_out_record(void);
 
 /* Writes more of it, whole or not at all. */
 bool write_record(const uint8_t *text, size_t size);

@@ -1,5 +1,5 @@
 # What libtpms.so.0 records where TPMSIM_RECORD asks for it: a journal of each time of power, which the
-# program plays, and none of a device that goes on; and a record that cannot be begun or written.
+# program plays, and of each device that goes on; and a record that cannot be begun or written.
 # swtpm/caller.c is the caller.
 tests=$(cd "$(dirname "$0")/.." && pwd -P)
 . "$tests/common/cases.sh"
@@ -37,11 +37,14 @@ loc 0
 do PCR_Read sha256:20
 END
 stat -c '%a %n' boot-*
-for record in boot-*; do
+for record in boot-1.tpm boot-2.tpm; do
     echo "$record, played by the program:"
     power_on_of "$record" >image
     "$assemble" run --image image "$record"
 done
+cc -I"$(dirname "$TPMSIM_ARCHIVE")" -o "$room/opened" "$tests/common/opened.c" "$TPMSIM_ARCHIVE" || exit 1
+"$room/opened" boot-*
+sed -n '/^cmd/p' boot-3.tpm
 
 label 'a store that fails: the record has the command once'
 mkdir stores && cd stores || exit 1

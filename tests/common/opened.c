@@ -1,0 +1,21 @@
+/* Opens each journal that its arguments name, which executes it again, and says how that ended: a number of
+ * tpmsim.h, and whether all of it was executed. */
+#include "tpmsim.h"
+
+#include <stdio.h>
+
+int main(int count, char **paths) {
+    static uint8_t text[1 << 20];
+    for (int i = 1; i < count; i++) {
+        tpmsim device = {0};
+        size_t taken = 0;
+        FILE *file = fopen(paths[i], "rb");
+        if (file == NULL) return 1;
+        size_t size = fread(text, 1, sizeof text, file);
+        fclose(file);
+        unsigned told = tpmsim_journal_open(&device, text, size, &taken);
+        printf("%s is opened: %u, %s\n", paths[i], told, taken == size ? "all of it" : "not all of it");
+        tpmsim_free(&device);
+    }
+    return 0;
+}
