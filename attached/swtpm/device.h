@@ -32,9 +32,9 @@ bool resume_device(uint64_t time);
 /* The time of the host's clock at the last command. */
 uint64_t time_of_device(void);
 
-/* Executes a command from a locality of 0 to 4, writes its record where one is asked for, and has the
-   permanent state written where that changed. If one is not written, the reason is reported, there is no
-   response, and no other command is executed until both are. */
+/* Executes a command from a locality of 0 to 4, writes its record if one is asked for, and has the permanent
+   state written if that changed. If one is not written, the reason is reported, there is no response, and no
+   other command is executed until both are. */
 bool execute(const uint8_t *buffer, size_t size, uint8_t locality, struct response *response);
 
 /* Takes the power away. */

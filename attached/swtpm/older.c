@@ -1,6 +1,6 @@
-/* A journal's lines tell when its last command was executed, and whether there was a launch that nothing has
-   taken back: a command of no bytes stood where one began (from locality 4), and where one was taken back
-   (from locality 3). */
+/* The lines of a journal say when its last command was executed, and whether there was a launch that nothing
+   has taken back: a command of no bytes marks where one began (from locality 4), and where one was taken
+   back (from locality 3). */
 #include "older.h"
 
 #include "report.h"
@@ -17,16 +17,16 @@ bool is_older_state(const uint8_t *text, size_t size) {
     return size >= HEAD_BYTES && memcmp(text, HEAD, HEAD_BYTES) == 0;
 }
 
-/* What follows a word at the begin of a line; NULL where it does not stand there. */
-static const char *behind(const char *word, const char *line) {
+/* What follows a word at the start of a line; NULL if the line does not start with it. */
+static const char *after(const char *word, const char *line) {
     size_t size = strlen(word);
     return strncmp(line, word, size) == 0 ? line + size : NULL;
 }
 
 static void read_line(const char *line, char *locality, struct moment *moment) {
     const char *rest;
-    if ((rest = behind("wait ", line)) != NULL) moment->time += strtoull(rest, NULL, 10);
-    if ((rest = behind("loc ", line)) != NULL) *locality = *rest;
+    if ((rest = after("wait ", line)) != NULL) moment->time += strtoull(rest, NULL, 10);
+    if ((rest = after("loc ", line)) != NULL) *locality = *rest;
     if (strcmp(line, "cmd ") != 0) return;
     if (*locality == '4') moment->was_launched = true;
     if (*locality == '3') moment->was_launched = false;

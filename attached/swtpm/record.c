@@ -48,7 +48,7 @@ bool begin_record(const uint8_t *text, size_t size) {
     return false;
 }
 
-/* Takes back what was written of the last text. Where that fails nothing is written behind it. */
+/* Takes back what was written of the last text. If that fails nothing is written after it. */
 static void take_back(void) {
     if (present == before) return;
     present = before;

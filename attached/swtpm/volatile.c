@@ -11,7 +11,7 @@
 
 enum { TIME_BYTES = 8, LAUNCH_AT = TIME_BYTES, DIGEST_AT, TAIL_BYTES = DIGEST_AT + SHA256_BYTES };
 
-/* Writes the tail behind a text of at least 32 bytes. */
+/* Writes the tail after a text of at least 32 bytes. */
 static void write_tail(uint8_t *tail, const struct moment *moment) {
     struct digests digests;
     uint8_t sha1[SHA1_BYTES];
@@ -22,7 +22,7 @@ static void write_tail(uint8_t *tail, const struct moment *moment) {
     end_digests(&digests, sha1, tail + DIGEST_AT);
 }
 
-/* Reads the tail behind a text of at least 32 bytes. What would be written otherwise is none. */
+/* Reads the tail after a text of at least 32 bytes. Bytes that would not be written so are none. */
 static bool read_tail(const uint8_t *tail, struct moment *moment) {
     uint8_t written[SHA256_BYTES + TAIL_BYTES];
     *moment = (struct moment){.was_launched = tail[LAUNCH_AT] != 0};

@@ -9,7 +9,7 @@
 #include <stdint.h>
 #include <tpmsim.h>
 
-/* When the device was left, and what swtpm is told of it. */
+/* When the device was left, and what swtpm asks about it. */
 struct moment {
     /* The host's clock at the last command, in milliseconds. */
     uint64_t time;

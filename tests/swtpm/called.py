@@ -1,5 +1,5 @@
-"""A device behind the caller in swtpm's place (caller.c), which is told lines and answers them. Its
-states are files in the folder that the caller runs in.
+"""A device of the caller in swtpm's place (caller.c), which reads lines and answers them. Its states
+are files in the folder that the caller runs in.
 """
 
 import pathlib
@@ -48,7 +48,7 @@ class Called:
         while not said or not said[-1].startswith(last):
             text = self.process.stdout.readline().decode()
             if not text:
-                raise EOFError(f"the caller ended behind {line}: {said}")
+                raise EOFError(f"the caller ended after {line}: {said}")
             said.append(text.rstrip("\n"))
         return said
 

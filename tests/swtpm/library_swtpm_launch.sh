@@ -62,7 +62,7 @@ on
 established
 END
 
-label 'it is told no more once the power was off'
+label 'there is none any more once the power was off'
 play <<END
 set permanent permanent
 set volatile launched

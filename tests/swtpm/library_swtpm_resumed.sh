@@ -4,7 +4,6 @@
 tests=$(cd "$(dirname "$0")/.." && pwd -P)
 . "$tests/common/cases.sh"
 . "$tests/common/swtpm.sh"
-PYTHONPATH=$PYTHONPATH:$tests/../python/tests
 cc -O1 -shared -fPIC -Wall -Wextra -Werror -o "$room/host.so" "$tests/common/host.c" || exit 1
 
 for kind in '' sanitized; do

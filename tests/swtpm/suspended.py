@@ -31,7 +31,7 @@ HEAD_BYTES = 10
 
 
 class Host:
-    """What the shim tells of the host: a clock and random bytes."""
+    """The host, as the shim has it: a clock and random bytes."""
 
     def __init__(self, folder: pathlib.Path) -> None:
         self.path, self.milliseconds, self.random = folder / "host", 10**9, MANUFACTURED
