@@ -62,7 +62,6 @@ class Told(TwentyTests):
                 self.tpm.device.locality = number
         self.tpm.device.wait(2**32 - 1)
         self.assertRaises(ValueError, self.tpm.device.wait, 1)
-        self.assertRaises(TypeError, self.tpm.device.restore, b"")
 
 
 class OverModel(Told, unittest.TestCase):
@@ -240,6 +239,15 @@ class Devices(unittest.TestCase):
                 exec(code.removeprefix("python"), {})
         random, other, refused = printed.getvalue().splitlines()
         self.assertEqual((len(random), len(other), refused), (8, 8, "POLICY_FAIL s1 G9"))
+
+    @NEEDS_LIBRARY
+    def test_readme_of_snapshots(self):
+        code = (PACKAGE / "README.md").read_text("utf-8").split("```")[5]
+        with contextlib.chdir(self.folder):
+            exec(code.removeprefix("python"), {})
+            text = pathlib.Path("before.state").read_bytes()
+            with KeptDevice("tpm") as device:
+                self.assertEqual(device.snapshot(), text)
 
 
 class Documented(unittest.TestCase):

@@ -16,12 +16,12 @@ from unittest import mock
 
 from tests.library.kept import extend, extended, started, value_of, Waits, within
 from tpmsim.caller import Caller
-from tpmsim.device import BadImage, DeviceEnded, KeptDevice, library
+from tpmsim.device import BadImage, BadState, DeviceEnded, KeptDevice, library
 
 SECONDS = 5
 STATE, MADE = pathlib.Path("state"), pathlib.Path("made")
 JOURNAL, LOCK, NEW = (STATE / it for it in ("journal", "lock", "journal.new"))
-FAULTS = BadImage, DeviceEnded, MemoryError, OSError, ValueError, Waits
+FAULTS = BadImage, BadState, DeviceEnded, MemoryError, OSError, ValueError, Waits
 
 
 def told(act):
@@ -119,7 +119,7 @@ def damaged_journals():
         print(f"{name}: {told(asks)}")
         assert JOURNAL.read_bytes() == text
     JOURNAL.write_bytes(whole)
-    for number in range(1, 14):
+    for number in range(1, 20):
         with over(Other(tpmsim_journal_open=lambda *_, number=number: number)):
             print(f"{number}: {told(asks)}")
 

@@ -3,7 +3,7 @@
     tools/python.sh kept_interrupts.py LIBRARY
 
 It prints a line for each call. After each interrupt the device has what its journal has, and no file is
-locked or left open.
+locked or left open; `restore` leaves the device of the snapshot, or the one before.
 """
 
 import contextlib
@@ -72,8 +72,9 @@ class Lines:
     def __init__(self, folder):
         self.folder, self.faults = folder, []
         self.device, self.other = started(folder), KeptDevice(folder)
-        self.snapshot = self.device.snapshot()
-        self.begun = 0
+        extend(self.device)
+        self.snapshot, self.value = self.device.snapshot(), value_of(self.device)
+        self.begun, self.known = 0, ()
         self.acts = {
             "begin": self.begin,
             "open": lambda: KeptDevice(folder).close(),
@@ -99,6 +100,7 @@ class Lines:
         with contextlib.suppress(Exception):
             Caller(self.other).start_up()
         before = value_of(self.other)
+        assert not self.known or before in self.known, "another device"
         if self.begun:
             started(self.new).close()
         extend(self.other)
@@ -108,6 +110,8 @@ class Lines:
     def play(self, name):
         number, before = 1, files_open()
         while True:
+            if name == "restore":
+                self.known = value_of(self.other), self.value
             try:
                 if not is_interrupted(self.acts[name], number, self.then):
                     break

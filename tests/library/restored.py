@@ -17,7 +17,7 @@ from tpmsim.caller import area, Caller, Refused
 from tpmsim.device import ChildDevice, DeviceEnded, LibraryDevice, ModelDevice
 from tpmsim.standard import CC, frames, SHA1, SHA256
 
-PACKAGE, PCR, LEAST_LINES = str(pathlib.Path(tpmsim.__file__).parent), 16, 20
+PACKAGE, PCR, LEAST_LINES = str(pathlib.Path(tpmsim.__file__).parent), 16, 15
 EXTEND = frames.on_handle(
     CC.PCR_Extend, PCR, frames.digests((SHA1, bytes(20)), (SHA256, bytes(32)))
 )

@@ -1,7 +1,8 @@
 """Where commands go: each device is spoken to by the same words, those of `Transport`."""
 
 from tpmsim.device import library
-from tpmsim.device.base import Answered, BadImage, DeviceEnded, Transport, Unsupported
+from tpmsim.device.base import Answered, BadImage, BadState, DeviceEnded, Snapshot
+from tpmsim.device.base import Transport, Unsupported
 from tpmsim.device.child import ChildDevice
 from tpmsim.device.kept import KeptDevice
 from tpmsim.device.library import LibraryDevice
@@ -16,8 +17,8 @@ Device.preferred = kind
 
 # fmt: off
 __all__ = [
-    "Answered", "BadImage", "ChildDevice", "Device", "DeviceEnded", "FileDevice", "KeptDevice",
-    "LibraryDevice", "ModelDevice", "ServedDevice", "SimulatorDevice", "StartedSwtpm",
-    "SwtpmDevice", "Transport", "Unsupported"
+    "Answered", "BadImage", "BadState", "ChildDevice", "Device", "DeviceEnded", "FileDevice",
+    "KeptDevice", "LibraryDevice", "ModelDevice", "ServedDevice", "SimulatorDevice", "Snapshot",
+    "StartedSwtpm", "SwtpmDevice", "Transport", "Unsupported"
 ]
 # fmt: on

@@ -3,7 +3,7 @@
 from abc import ABC, abstractmethod
 from dataclasses import dataclass
 from types import TracebackType
-from typing import Self
+from typing import Self, Sequence
 
 from tpmsim.standard import lines, NUMBERED
 
@@ -18,6 +18,10 @@ class DeviceEnded(Exception):
 
 class BadImage(Exception):
     """Bytes that are no image, with their first fault, as docs/table/image.md names it."""
+
+
+class BadState(Exception):
+    """Bytes that are no state text, with their first fault, as docs/table/state_text.md names it."""
 
 
 @dataclass(frozen=True)
@@ -68,6 +72,43 @@ def lines_told(event: str | Executed) -> list[str]:
     return [*entropy, line(event.buffer), f"# {event.traced}"]
 
 
+class Snapshot(bytes):
+    """A device's state text (docs/table/state_text.md). It may be kept, compared and restored anywhere.
+    With it goes what the text has not: the locality of the next commands, the milliseconds that pass
+    before them, and what was told until then. `begun` is the image or the state text of the device that
+    was told the events, none of a script's device, and None where that is not known.
+    """
+
+    locality: int
+    elapsed: int
+    begun: bytes | None
+    events: tuple[str | Executed, ...]
+
+    def __new__(
+        cls,
+        text: bytes,
+        locality: int = 0,
+        elapsed: int = 0,
+        begun: bytes | None = None,
+        events: Sequence[str | Executed] = (),
+    ) -> Self:
+        made = super().__new__(cls, text)
+        made.locality, made.elapsed = locality, elapsed
+        made.begun, made.events = begun, tuple(events)
+        return made
+
+    @classmethod
+    def of(cls, given: object) -> Self:
+        """A snapshot as it was taken, or one of a text alone, with which the events begin; TypeError of
+        anything else.
+        """
+        if isinstance(given, cls):
+            return given
+        if not isinstance(given, bytes):
+            raise TypeError("a snapshot is bytes, those of a state text")
+        return cls(given, begun=given)
+
+
 class Transport(ABC):
     """A device, or a way to one. What a way cannot do is Unsupported."""
 
@@ -116,11 +157,13 @@ class Transport(ABC):
         raise Unsupported("there is no image")
 
     def snapshot(self) -> object:
-        """All that the device is, sessions and objects too, for `restore` of this device."""
+        """All that the device is, sessions and objects too, for `restore`: a Snapshot, where its state
+        text can be had.
+        """
         raise Unsupported("there are no snapshots")
 
     def restore(self, snapshot: object) -> None:
-        """Makes the device what it was at a snapshot of its own, however often."""
+        """Makes the device what it was at a snapshot, however often."""
         raise Unsupported("there are no snapshots")
 
     def close(self) -> None:

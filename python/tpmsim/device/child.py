@@ -5,11 +5,16 @@ import pathlib
 import shutil
 import subprocess
 import tempfile
+import time
+import weakref
 
-from tpmsim.device.base import DeviceEnded, Executed, line_in_bytes, Unsupported
+from tpmsim.device.base import BadState, DeviceEnded, Executed, line_in_bytes, Unsupported
 from tpmsim.device.in_step import CLOSED, InStep, NOT_ENDED
-from tpmsim.device.told import Device, Path, Snapshot
+from tpmsim.device.told import Device, Path
 from tpmsim.standard import CC
+
+# How the program names the fault of a file that is no state text.
+NO_STATE_TEXT = "tpmsim: snapshot "
 
 
 def program_found() -> str:
@@ -24,10 +29,16 @@ def program_found() -> str:
     return found
 
 
+def remove(folder: str, process: int) -> None:
+    """A forked child does not remove the folder of its parent."""
+    if os.getpid() == process:
+        shutil.rmtree(folder)
+
+
 class ChildDevice(InStep, Device):
     """A device that a child process has. Without an image it is manufactured with the bytes 00 to
-    ff; with one it is the device of that file, or a new one with random seeds, and what it changes
-    is in the file before it is answered.
+    ff, and its state is in a folder of its own until it is closed. With an image it is the device of
+    that file, or a new one with random seeds, and what it changes is in the file before it is answered.
 
     >>> with ChildDevice() as device:
     ...     device.execute(b"").check
@@ -39,29 +50,35 @@ class ChildDevice(InStep, Device):
     ) -> None:
         super().__init__(image, seed)
         self.program, self.told_locality = program or program_found(), 0
-        self.folder: tempfile.TemporaryDirectory[str] | None = None
+        self.folder = tempfile.mkdtemp(prefix="tpmsim-")
+        self.removal = weakref.finalize(self, remove, self.folder, os.getpid())
         if self.image is not None and self.image.is_file() and os.access(self.image, os.R_OK):
             self.begun = self.image.read_bytes()
-        self.process = self.started(self.image)
+        self.process = self.started()
 
-    def started(self, image: pathlib.Path | None) -> subprocess.Popen[bytes]:
+    def started(self) -> subprocess.Popen[bytes]:
         words = [self.program, "run", "--trace"]
-        if image is not None:
-            words += ["--image", os.fspath(image), "--entropy", "/dev/urandom"]
+        if self.image is None:
+            words += ["--state", self.within("state")]
+        else:
+            words += ["--image", os.fspath(self.image), "--entropy", "/dev/urandom"]
         pipes = subprocess.PIPE
         return subprocess.Popen([*words, "-"], stdin=pipes, stdout=pipes, stderr=pipes)
 
-    def begin(self, base: bytes) -> None:
+    def within(self, name: str) -> str:
+        """A path in the device's own folder."""
+        return os.path.join(self.folder, name)
+
+    def begin(self, image: bytes) -> None:
         """BadImage is told by the first command, as DeviceEnded."""
+        self.image = pathlib.Path(self.within("image"))
+        self.image.write_bytes(image)
+        self.start_anew()
+
+    def start_anew(self) -> None:
         self.why_closed = NOT_ENDED
         self.end()
-        self.told_locality, image = 0, self.image
-        if base:
-            self.folder = self.folder or tempfile.TemporaryDirectory()
-            image = image or pathlib.Path(self.folder.name, "image")
-            image.write_bytes(base)
-            self.image = image
-        self.process, self.base, self.since = self.started(image), base, len(self.events)
+        self.told_locality, self.process = 0, self.started()
         self.why_closed = ""
 
     def say(self, *lines: str) -> None:
@@ -110,11 +127,44 @@ class ChildDevice(InStep, Device):
             raise Unsupported("a device is saved that was given an image")
         return self.image.read_bytes()
 
-    def snapshot(self) -> Snapshot:
-        """Unsupported of a device with an image, which draws seeds that nobody is told."""
+    def check_folder(self) -> None:
+        """A device with an image draws seeds that nobody is told."""
         if self.image is not None:
             raise Unsupported("a child's device with an image has no snapshots")
-        return super().snapshot()
+
+    def state(self) -> bytes:
+        self.check_folder()
+        if self.why_closed:
+            raise DeviceEnded(self.why_closed)
+        self.await_journal()
+        return self.asked("snapshot", self.within("state"))
+
+    def await_journal(self) -> None:
+        """The process begins it before it reads a command."""
+        while not os.path.exists(self.within("state/journal")):
+            if self.process.poll() is not None:
+                raise self.ended()
+            time.sleep(0.001)
+
+    def resume(self, text: bytes) -> None:
+        """A process that goes on where the text is takes the place of this one."""
+        self.check_folder()
+        if not self.removal.alive:
+            raise DeviceEnded(CLOSED)
+        file = pathlib.Path(self.within("text"))
+        file.write_bytes(text)
+        self.asked("restore", self.within("state"), os.fspath(file))
+        self.start_anew()
+
+    def asked(self, *words: str) -> bytes:
+        """What the program prints at these words."""
+        done = subprocess.run([self.program, *words], capture_output=True, check=False)
+        if not done.returncode:
+            return done.stdout
+        said = done.stderr.decode("utf-8", "replace").strip()
+        if said.startswith(NO_STATE_TEXT):
+            raise BadState(said.removeprefix(NO_STATE_TEXT))
+        raise DeviceEnded(f"status {done.returncode}: {said}")
 
     def end(self) -> None:
         for pipe in (self.process.stdin, self.process.stdout, self.process.stderr):
@@ -134,5 +184,4 @@ class ChildDevice(InStep, Device):
         """Ends the process, and waits for it; its image is then whole, with the clock."""
         self.why_closed = self.why_closed or CLOSED
         self.end()
-        if self.folder:
-            self.folder.cleanup()
+        self.removal()

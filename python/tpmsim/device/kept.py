@@ -8,10 +8,10 @@ import warnings
 from dataclasses import replace
 from typing import Callable, TypeVar
 
-from tpmsim.device.base import Answered, BadImage, DeviceEnded
+from tpmsim.device.base import Answered, BadImage, BadState, DeviceEnded, Snapshot
 from tpmsim.device.folder import Folder, telling, write
 from tpmsim.device.library import AnsweredInC, CHECKS, IMAGE_FAULTS, library, NO_MEMORY
-from tpmsim.device.library import RESPONSE_BYTES, saved
+from tpmsim.device.library import RESPONSE_BYTES, STATE_FAULTS, written
 from tpmsim.device.served import LocatedDevice
 from tpmsim.device.told import Path, RANDOM_BYTES
 
@@ -26,13 +26,19 @@ FAULTS = {
     11: "is damaged, and stays as it is",
     12: "was written by a library that answers otherwise than this one, and stays as it is",
 }
-OF_IMAGES = {
-    "Version": "holds an image of a version that this library does not know",
-    "Digest": "holds a damaged image",
-    "Body": "holds an image of no state that a device can be in",
+OF_TEXTS = {
+    "Version": "holds {} of a version that this library does not know",
+    "Digest": "holds a damaged {}",
+    "Body": "holds {} of no state that a device can be in",
 }
 
 Done = TypeVar("Done")
+
+
+def holding(article: str, word: str, fault: str) -> str:
+    """What the head of a journal holds, in a sentence of docs/ATTACHED.md."""
+    held = word if fault == "Digest" else f"{article} {word}"
+    return f"{OF_TEXTS.get(fault, f'holds no {word}').format(held)}: {fault}"
 
 
 class KeptDevice(LocatedDevice):
@@ -41,7 +47,8 @@ class KeptDevice(LocatedDevice):
     command. What was answered is in the journal; with `forces` a journal that begins is forced to
     the disk, and so is the name of one that is opened. With `completes` the completing layer of the
     library stands above the device, where it has one. DeviceEnded says in a sentence of
-    docs/ATTACHED.md why a file cannot be used, or is no journal, and BadImage why its image is none.
+    docs/ATTACHED.md why a file cannot be used, or is no journal, and BadImage or BadState why the image
+    or the state text in it is none.
     A record that a killed process did not write whole is cut off, and a RuntimeWarning says so.
 
     >>> import tempfile
@@ -98,9 +105,10 @@ class KeptDevice(LocatedDevice):
     def check(self, told: int) -> None:
         if told == NO_MEMORY:
             raise MemoryError(f"{self.path} wants memory that is not there")
-        if NO_MEMORY < told <= NO_MEMORY + len(IMAGE_FAULTS):
-            fault = IMAGE_FAULTS[told - NO_MEMORY - 1]
-            raise BadImage(f"{self.path} {OF_IMAGES.get(fault, 'holds no image')}: {fault}")
+        if told in IMAGE_FAULTS:
+            raise BadImage(f"{self.path} {holding('an', 'image', IMAGE_FAULTS[told])}")
+        if told in STATE_FAULTS:
+            raise BadState(f"{self.path} {holding('a', 'state text', STATE_FAULTS[told])}")
         if told:
             sentence = FAULTS.get(told, "is refused by the library for a reason without a name")
             raise DeviceEnded(f"{self.path} {sentence}")
@@ -155,7 +163,12 @@ class KeptDevice(LocatedDevice):
         return clock
 
     def begin(self) -> None:
-        clock, call = self.now(), self.library.tpmsim_journal_begin
+        """A journal whose head has the image of the device, whose power is cycled for it."""
+        self.begin_with(self.library.tpmsim_journal_begin)
+
+    def begin_with(self, call: Callable[..., int]) -> None:
+        """A journal with the head that a call writes."""
+        clock = self.now()
         head = ctypes.create_string_buffer(call(self.handle, clock, b"", 0))
         if not head or call(self.handle, clock, head, len(head)) != len(head):
             raise DeviceEnded(f"{self.path} has no device")
@@ -212,25 +225,41 @@ class KeptDevice(LocatedDevice):
 
     def image(self) -> bytes:
         self.catch_up()
-        return saved(self.library, self.handle)
+        return written(self.library.tpmsim_save, self.handle)
 
-    def snapshot(self) -> object:
-        """The journal, and what was told here."""
-        return self.held(self.journal), tuple(self.events), self.at
+    def snapshot(self) -> Snapshot:
+        """The state text of the device, with its completing layer.
+
+        >>> import tempfile
+        >>> with tempfile.TemporaryDirectory() as folder, KeptDevice(folder) as device:
+        ...     before = device.snapshot()
+        ...     Caller(device).start_up()
+        ...     device.restore(before)
+        ...     device.snapshot() == before
+        True
+        """
+        return Snapshot(self.held(self.state), self.at, events=self.events)
+
+    def state(self) -> bytes:
+        self.catch_up()
+        return written(self.library.tpmsim_snapshot, self.handle)
+
+    def restore(self, snapshot: object) -> None:
+        """For every process that holds the device: the journal begins anew, with the state text."""
+        told = Snapshot.of(snapshot)
+        self.held(lambda: self.put_back(told))
+        self.events = list(told.events) if told.begun is None else []
+        self.at = told.locality
+
+    def put_back(self, text: bytes) -> None:
+        told = self.library.tpmsim_restore(self.handle, text, len(text))
+        if told in STATE_FAULTS:
+            raise BadState(STATE_FAULTS[told])
+        self.check(told)
+        self.begin_with(self.library.tpmsim_journal_checkpoint)
 
     def journal(self) -> bytes:
         return self.read(self.catch_up(), 0, self.executed)
-
-    def restore(self, snapshot: object) -> None:
-        assert isinstance(snapshot, tuple)
-        text, events, place = snapshot
-        self.held(lambda: self.put_back(text))
-        self.events, self.at = list(events), place
-
-    def put_back(self, text: bytes) -> None:
-        self.replace(text)
-        self.drop()
-        self.catch_up()
 
     def drop(self) -> None:
         self.executed = 0

@@ -7,9 +7,10 @@ import hashlib
 import os
 import pathlib
 import weakref
+from typing import Callable
 
 import tpmsim
-from tpmsim.device.base import BadImage, DeviceEnded, Executed
+from tpmsim.device.base import BadImage, BadState, DeviceEnded, Executed
 from tpmsim.device.folder import opened, OWNER_ALONE
 from tpmsim.device.told import Device, Path, RANDOM_BYTES
 from tpmsim.model.image import BODY_AT, DIGEST_AT_END, HIERARCHIES
@@ -121,8 +122,14 @@ os.register_at_fork(after_in_child=give_up_all)
 NAME = "libtpmsim.so.0"
 RESPONSE_BYTES = 4096
 
-# What a call tells (library/tpmsim.h): these, and from 4 on the faults of an image.
-NO_MEMORY, IMAGE_FAULTS = 3, ("Short", "Magic", "Version", "Length", "Digest", "Body")
+# Enough for each image and each state text.
+TEXT_BYTES = 36_323
+
+# What a call tells (library/tpmsim.h): these, and from 4 on the faults of an image, and further on
+# those of a state text.
+NO_MEMORY, FAULTS = 3, ("Short", "Magic", "Version", "Length", "Digest", "Body")
+IMAGE_FAULTS = dict(enumerate(FAULTS, 4))
+STATE_FAULTS = dict(enumerate(FAULTS, 13))
 
 CHECKS = {0: "ok", **{it: f"G{it}" for it in range(1, 12)}}
 CHECKS |= {20 + it: f"A{it}" for it in range(1, 8)}
@@ -164,8 +171,11 @@ def library() -> ctypes.CDLL:
         ("power_cycle", byte, [handle]),
         ("save", size, [handle, text, size]),
         ("open", byte, [handle, text, size]),
+        ("snapshot", size, [handle, text, size]),
+        ("restore", byte, [handle, text, size]),
         ("free", None, [handle]),
         ("journal_begin", size, [handle, clock, text, size]),
+        ("journal_checkpoint", size, [handle, clock, text, size]),
         ("journal_open", byte, [handle, text, size, handle]),
         ("journal_follow", byte, [handle, text, size, handle]),
         (
@@ -174,7 +184,9 @@ def library() -> ctypes.CDLL:
             [handle, text, size, byte, clock, byte, text, text, *[handle] * 3],
         ),
     ):
-        call = getattr(found, f"tpmsim_{name}")
+        call = getattr(found, f"tpmsim_{name}", None)
+        if call is None:
+            raise OSError(f"{places()[0]} has no tpmsim_{name}")
         call.restype, call.argtypes = result, arguments
     return found
 
@@ -189,11 +201,20 @@ def is_there() -> bool:
     return True
 
 
-def saved(found: ctypes.CDLL, handle: int) -> bytes:
-    size = found.tpmsim_save(handle, b"", 0)
-    room = ctypes.create_string_buffer(size)
-    found.tpmsim_save(handle, room, size)
-    return room.raw
+Write = Callable[[int, ctypes.Array[ctypes.c_char], int], int]
+
+
+def written(call: Write, handle: int) -> bytes:
+    """The text that a call writes of a device, if its buffer has room for all of it; no bytes of no
+    device.
+    """
+    size = TEXT_BYTES
+    while True:
+        buffer = ctypes.create_string_buffer(size)
+        needed = call(handle, buffer, size)
+        if needed <= size:
+            return ctypes.string_at(buffer, needed)
+        size = needed
 
 
 class LibraryDevice(Device):
@@ -229,7 +250,7 @@ class LibraryDevice(Device):
         finally:
             if self.file and not is_open:
                 self.file.leave()
-        self.begun = self.base
+        self.begun = kept or self.save()
 
     def manufacture(self, given: bytes | None) -> None:
         if given is None and self.seed is not None:
@@ -239,7 +260,6 @@ class LibraryDevice(Device):
             raise ValueError(f"a device is manufactured with {RANDOM_BYTES} bytes")
         if self.library.tpmsim_manufacture(self.handle, random):
             raise MemoryError
-        self.base = self.save()
         self.keep()
 
     def look(self) -> None:
@@ -247,16 +267,31 @@ class LibraryDevice(Device):
         if self.file and not self.file.is_here:
             raise DeviceEnded("the image is the one of the process that forked this one")
 
-    def begin(self, base: bytes) -> None:
+    def begin(self, image: bytes) -> None:
         self.look()
-        told = self.library.tpmsim_open(self.handle, base, len(base))
-        if told == NO_MEMORY:
-            raise MemoryError
+        told = self.library.tpmsim_open(self.handle, image, len(image))
+        if told in IMAGE_FAULTS:
+            raise BadImage(IMAGE_FAULTS[told])
         if told:
-            raise BadImage(IMAGE_FAULTS[told - NO_MEMORY - 1])
-        self.base, self.since = base, len(self.events)
-        if not self.events:
-            self.begun = base
+            raise MemoryError
+        self.keep()
+
+    def state(self) -> bytes:
+        text = written(self.library.tpmsim_snapshot, self.handle)
+        if not text:
+            raise ValueError("the device is closed")
+        return text
+
+    def restore(self, snapshot: object) -> None:
+        self.look()
+        super().restore(snapshot)
+
+    def resume(self, text: bytes) -> None:
+        told = self.library.tpmsim_restore(self.handle, text, len(text))
+        if told in STATE_FAULTS:
+            raise BadState(STATE_FAULTS[told])
+        if told:
+            raise MemoryError
         self.keep()
 
     def answer(self, buffer: bytes, locality: int, elapsed: int, random: bytes) -> Executed:
@@ -284,11 +319,10 @@ class LibraryDevice(Device):
         self.look()
         if self.library.tpmsim_power_cycle(self.handle):
             raise ValueError("the device is closed")
-        self.base, self.since = self.save(), len(self.events) + 1
         self.keep()
 
     def save(self) -> bytes:
-        return saved(self.library, self.handle)
+        return written(self.library.tpmsim_save, self.handle)
 
     def close(self) -> None:
         if self.file:

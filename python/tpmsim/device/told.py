@@ -5,13 +5,13 @@ from __future__ import annotations
 import hashlib
 import os
 import pathlib
-from dataclasses import dataclass
 from typing import Callable, cast, ClassVar, Self, TypeVar
 
-from tpmsim.device.base import Answered, BadImage, checked_locality, DeviceEnded, Executed
-from tpmsim.device.base import Transport
-from tpmsim.model import image as images
+from tpmsim.device.base import Answered, BadImage, BadState, checked_locality, DeviceEnded
+from tpmsim.device.base import Executed, Snapshot, Transport, Unsupported
+from tpmsim.model import image as images, state_text
 from tpmsim.model.machine import MANUFACTURED, Model
+from tpmsim.model.state_text import Layer
 from tpmsim.standard.aes_tables import encrypt_block
 
 RANDOM_BYTES = 256
@@ -19,17 +19,6 @@ MOST_MILLISECONDS = 2**32 - 1
 
 Path = str | os.PathLike[str]
 Done = TypeVar("Done")
-
-
-@dataclass(frozen=True)
-class Snapshot:
-    """What a device was begun from, where that stands among its events, and what was told since."""
-
-    base: bytes
-    since: int
-    events: tuple[str | Executed, ...]
-    locality: int
-    elapsed: int
 
 
 class Device(Transport):
@@ -48,10 +37,7 @@ class Device(Transport):
     # What `Device` itself makes; the package sets it.
     preferred: ClassVar[type[Device]]
 
-    # An image of the device as its power came on last, and where that stands among the events.
-    base, since = b"", 0
-
-    # The image that the events begin with, if they do with another device than a script's.
+    # The image or the state text that the events begin with, if not with a script's device.
     begun = b""
 
     # False while a call has changed a part of the device, and after it if it did not end.
@@ -84,8 +70,11 @@ class Device(Transport):
 
     @property
     def trace(self) -> list[str]:
-        """As ever, and first a comment with the image of the start, if that is no script's device."""
-        begun = [f"# image {self.begun.hex()}"] if self.begun else []
+        """As ever, and first a comment with the image or the state text of the start, if that is no
+        script's device.
+        """
+        word = "state" if self.begun.startswith(state_text.MAGIC) else "image"
+        begun = [f"# {word} {self.begun.hex()}"] if self.begun else []
         return begun + super().trace
 
     def look_whole(self) -> None:
@@ -99,8 +88,18 @@ class Device(Transport):
         self.is_whole = was_whole
         return done
 
-    def begin(self, base: bytes) -> None:
-        """Puts the device of an image in place of this one, or of no bytes a new one."""
+    def begin(self, image: bytes) -> None:
+        """Puts the device of an image in place of this one."""
+        raise NotImplementedError
+
+    def state(self) -> bytes:
+        """The state text of the device."""
+        raise NotImplementedError
+
+    def resume(self, text: bytes) -> None:
+        """Puts the device of a state text in place of this one; BadState of another text, and then
+        the device is as it was.
+        """
         raise NotImplementedError
 
     def answer(self, buffer: bytes, locality: int, elapsed: int, random: bytes) -> Executed:
@@ -175,42 +174,48 @@ class Device(Transport):
         self.events.append("power")
 
     def snapshot(self) -> Snapshot:
-        """All that the device is, sessions and objects too. What it was told since its power came on
-        is told again by `restore`, which takes as long as it took.
+        """All that the device is, sessions and objects too, as its state text: bytes, which may be kept
+        in a file, and restored by another process.
 
-        >>> with Device() as device:
+        >>> with Device() as device, Device() as other:
         ...     tpm = Caller(device)
         ...     tpm.start_up()
         ...     before = device.snapshot()
         ...     session = tpm.session()
         ...     device.restore(before)
-        ...     tpm.session().handle == session.handle
+        ...     other.restore(bytes(before))
+        ...     device.snapshot() == other.snapshot() == before
         True
         """
         self.look_whole()
-        return Snapshot(self.base, self.since, tuple(self.events), self.at, self.elapsed)
+        return Snapshot(self.state(), self.at, self.elapsed, self.begun, self.events)
 
     def restore(self, snapshot: object) -> None:
-        """Makes the device what it was at a snapshot; TypeError of anything else.
+        """Makes the device what it was at a snapshot of any device, or what a state text says. Then the
+        events are those of the snapshot, and none of a text alone or of a kept device. BadState of other
+        bytes, which change nothing, and TypeError of anything else.
 
         >>> with Device() as device:
         ...     before = device.snapshot()
         ...     Caller(device).start_up()
         ...     device.restore(before)
         ...     Caller(device).start_up()
+        ...     device.restore(before[:-1])
+        Traceback (most recent call last):
+            ...
+        tpmsim.device.base.BadState: Length
         """
-        if not isinstance(snapshot, Snapshot):
-            raise TypeError("a snapshot is what `snapshot` answered")
-        self.is_whole = False
-        self.begin(snapshot.base)
-        for event in snapshot.events[snapshot.since :]:
-            if isinstance(event, Executed):
-                random = (event.random or b"").ljust(RANDOM_BYTES, b"\0")
-                self.answer(event.buffer, event.locality or 0, event.elapsed or 0, random)
-            elif event == "power":
-                self.cycle()
-        self.base, self.since, self.events = snapshot.base, snapshot.since, list(snapshot.events)
-        self.at, self.elapsed = snapshot.locality, snapshot.elapsed
+        told = Snapshot.of(snapshot)
+        was_whole, self.is_whole = self.is_whole, False
+        try:
+            self.resume(told)
+        except (BadState, MemoryError, Unsupported):
+            self.is_whole = was_whole
+            raise
+        self.begun, self.events = bytes(told), []
+        if told.begun is not None:
+            self.begun, self.events = told.begun, list(told.events)
+        self.at, self.elapsed = told.locality, told.elapsed
         self.is_whole = True
 
     def write(self, path: Path) -> None:
@@ -239,15 +244,24 @@ class ModelDevice(Device):
     def __init__(self, model: Model | None = None, seed: bytes | None = None) -> None:
         super().__init__(seed=seed)
         self.model = model or Model(MANUFACTURED, encrypt_block)
-        self.base = self.save()
-        self.begun = b"" if model is None else self.base
+        self.layer = Layer()  # which no command here changes
+        self.begun = b"" if model is None else self.save()
 
-    def begin(self, base: bytes) -> None:
+    def begin(self, image: bytes) -> None:
         try:
-            self.model = images.open_image(base, encrypt_block)
+            self.model, self.layer = images.open_image(image, encrypt_block), Layer()
         except images.Fault as fault:
             raise BadImage(str(fault)) from None
-        self.base, self.since = base, len(self.events)
+
+    def state(self) -> bytes:
+        return state_text.state_text(self.model, self.layer)
+
+    def resume(self, text: bytes) -> None:
+        try:
+            self.model, layer = state_text.open_state(text)
+        except images.Fault as fault:
+            raise BadState(str(fault)) from None
+        self.layer = layer or Layer()
 
     def answer(self, buffer: bytes, locality: int, elapsed: int, random: bytes) -> Executed:
         outcome = self.to_its_end(lambda: self.model.execute(buffer, locality, random, elapsed))
@@ -256,7 +270,6 @@ class ModelDevice(Device):
 
     def cycle(self) -> None:
         self.to_its_end(self.model.power_cycle)
-        self.base, self.since = self.save(), len(self.events) + 1
 
     def save(self) -> bytes:
         return images.image(self.model)

@@ -5,10 +5,11 @@
 from __future__ import annotations
 
 from dataclasses import dataclass, replace
-from typing import Callable
+from typing import Callable, Self
 
 from tpmsim.model import capability, object_commands
 from tpmsim.model.machine import Model, Outcome, PLACE_BITS, SESSIONS
+from tpmsim.model.state_text import Layer
 from tpmsim.standard import CC, command, Fields, frames, is_session, number, RH_NULL
 from tpmsim.standard import Short, sized, TRANSIENT
 from tpmsim.standard.handle_kinds import first_byte
@@ -109,6 +110,20 @@ class Completion:
         self.start, self.count = start, 0
         self.objects = [Held()] * OBJECTS
         self.sessions = [0] * SESSIONS
+
+    @classmethod
+    def of(cls, numbers: Layer) -> Self:
+        """The layer whose numbers a state text has."""
+        made = cls(numbers.start)
+        made.count, made.sessions = numbers.count, list(numbers.sessions)
+        made.objects = [Held(*it) for it in numbers.objects]
+        return made
+
+    @property
+    def numbers(self) -> Layer:
+        """Those that a state text has."""
+        objects = [(it.context, it.waits) for it in self.objects]
+        return Layer(self.start, self.count, objects, list(self.sessions))
 
     def execute(
         self,

@@ -1,0 +1,342 @@
+"""Snapshots, which are state texts: of one device the same from the library and from the model."""
+
+import functools
+import pathlib
+import pickle
+import random
+import subprocess
+import sys
+import tempfile
+import unittest
+
+import completed_scripts
+from tpmsim.caller import area, BY_VALUE, Caller, Refused
+from tpmsim.device import BadState, ChildDevice, Device, KeptDevice, library, LibraryDevice
+from tpmsim.device import ModelDevice, Snapshot, Transport, Unsupported
+from tpmsim.explain.of_device import log_of, why_refused
+from tpmsim.explain.play import Play
+from tpmsim.model import state_text
+from tpmsim.model.completion import Completion
+from tpmsim.standard import AES, RH_OWNER
+from twenty import TwentyTests
+
+SEED, MANUFACTURED = b"seed", bytes(range(256))
+SEEDS, COMMANDS = 6, 200
+NEEDS_LIBRARY = unittest.skipUnless(library.is_there(), "there is no libtpmsim.so.0")
+OF_ANOTHER_PROCESS = """
+import pathlib, sys
+from tpmsim.caller import Caller
+from tpmsim.device import Device
+with Device() as device:
+    device.restore(pathlib.Path(sys.argv[1]).read_bytes())
+    print(Caller(device).call("ReadClock")["currentTime"].clock)
+"""
+
+
+def in_library():
+    return LibraryDevice(seed=SEED, manufactured=MANUFACTURED)
+
+
+class Pair(Transport):
+    """The library's device and the model's, which are told alike, and have to answer alike. Behind each
+    command each goes on from the other's state text.
+    """
+
+    def __init__(self):
+        super().__init__()
+        self.both = in_library(), ModelDevice(seed=SEED)
+
+    def alike(self, act):
+        first, second = map(act, self.both)
+        assert first == second, (first, second)
+        return first
+
+    def execute(self, buffer):
+        answered = self.alike(lambda it: it.execute(buffer))
+        self.alike(lambda it: it.save())
+        taken = [it.snapshot() for it in self.both]
+        assert taken[0] == taken[1], [it.hex() for it in taken]
+        for device, snapshot in zip(self.both, reversed(taken)):
+            device.restore(snapshot)
+        return answered
+
+    def wait(self, milliseconds):
+        self.alike(lambda it: it.wait(milliseconds))
+
+    @property
+    def locality(self):
+        return self.alike(lambda it: it.locality)
+
+    @locality.setter
+    def locality(self, number):
+        for device in self.both:
+            device.locality = number
+
+    def power_cycle(self):
+        self.alike(lambda it: it.power_cycle())
+
+    def snapshot(self):
+        return self.alike(lambda it: it.snapshot())
+
+    def restore(self, snapshot):
+        self.alike(lambda it: it.restore(snapshot))
+
+    def close(self):
+        self.alike(lambda it: it.close())
+
+
+@NEEDS_LIBRARY
+class OverPair(TwentyTests, unittest.TestCase):
+    device = Pair
+
+
+class Snapshots:
+    """What holds of each device that has its state text."""
+
+    def device(self):
+        raise NotImplementedError
+
+    def setUp(self):
+        self.tpm = Caller(self.enterContext(self.device()))
+        self.tpm.start_up()
+
+    def worked(self):
+        """A snapshot with a session and an object in it."""
+        self.tpm.create_primary(completed_scripts.storage_key())
+        self.tpm.session(RH_OWNER, cipher=AES)
+        return self.tpm.device.snapshot()
+
+    def test_bytes(self):
+        """It may be kept as bytes alone; equal devices have equal ones."""
+        taken, device = self.worked(), self.tpm.device
+        self.assertIsInstance(taken, bytes)
+        self.assertEqual(state_text.state_text(*state_text.open_state(taken)), taken)
+        for it in bytes(taken), pickle.loads(pickle.dumps(taken)):
+            self.tpm.call("PCR_Reset", 16)
+            self.assertNotEqual(device.snapshot(), taken)
+            device.restore(it)
+            self.assertEqual(device.snapshot(), taken)
+
+    def test_other_devices(self):
+        """Any other device goes on from it."""
+        taken = self.worked()
+        with ModelDevice(seed=SEED) as other:
+            other.restore(bytes(taken))
+            tpm = Caller(other)
+            tpm.call("PCR_Reset", 16)
+            self.tpm.device.restore(other.snapshot())
+            self.assertEqual(self.tpm.device.snapshot(), other.snapshot())
+
+    def test_no_state_text(self):
+        """Nothing is changed then."""
+        taken, device = self.worked(), self.tpm.device
+        before = list(device.events)
+        bent = bytes([taken[300] ^ 1])
+        for text, fault in {
+            b"": "Short",
+            device_image(): "Magic",
+            b"TPMS\0\2" + taken[6:]: "Version",
+            taken[:-1]: "Length",
+            taken + b"\0": "Length",
+            taken[:300] + bent + taken[301:]: "Digest",
+            state_text.framed(taken[10:-33]): "Body",
+        }.items():
+            self.assertRaisesRegex(BadState, f"^{fault}$", device.restore, text)
+            self.assertEqual((device.snapshot(), device.events), (taken, before))
+        for it in 5, "TPMS", None, (taken,):
+            self.assertRaises(TypeError, device.restore, it)
+
+
+def device_image():
+    with ModelDevice() as device:
+        return device.save() + bytes(60)
+
+
+class Told(Snapshots):
+    """Of devices of which everything is told."""
+
+    def test_what_was_told(self):
+        """That is there again from a snapshot; a text alone has none of it, and begins the trace."""
+        device = self.tpm.device
+        device.locality = 3
+        device.wait(70_000)
+        trace, taken = device.trace, device.snapshot()
+        device.execute(b"")
+        device.restore(taken)
+        self.assertEqual((device.trace, device.locality), (trace, 3))
+        device.wait(7)
+        self.tpm.call("GetRandom", bytesRequested=1)
+        self.assertEqual(device.events[-1].elapsed, 70_007)
+        device.restore(bytes(taken))
+        self.assertEqual((device.trace, device.locality), ([f"# state {taken.hex()}"], 0))
+
+    def test_after_power(self):
+        """The power goes, and comes back in another device, which is the one of the snapshot."""
+        taken, device = self.worked(), self.tpm.device
+        device.power_cycle()
+        off = device.snapshot()
+        with self.device() as other:
+            for it in off, taken, off:
+                other.restore(it)
+                self.assertEqual(other.snapshot(), it)
+            self.tpm.device = other
+            self.tpm.start_up()
+
+
+class OverModel(Told, unittest.TestCase):
+    device = functools.partial(ModelDevice, seed=SEED)
+
+
+class OverChild(Told, unittest.TestCase):
+    device = functools.partial(ChildDevice, seed=SEED)
+
+    def test_at_once(self):
+        """Before the process has begun."""
+        with self.device() as first, self.device() as other:
+            taken = first.snapshot()
+            other.restore(taken)
+            self.assertEqual(other.snapshot(), taken)
+
+    def test_image(self):
+        folder = self.enterContext(tempfile.TemporaryDirectory())
+        device = self.enterContext(ChildDevice(image=f"{folder}/image"))
+        words = "a child's device with an image has no snapshots"
+        self.assertRaisesRegex(Unsupported, words, device.snapshot)
+        self.assertRaisesRegex(Unsupported, words, device.restore, self.tpm.device.snapshot())
+        device.execute(b"")
+
+
+@NEEDS_LIBRARY
+class InProcess(Told, unittest.TestCase):
+    device = staticmethod(in_library)
+
+    def test_image(self):
+        """The file has the image of what was restored."""
+        file = pathlib.Path(self.enterContext(tempfile.TemporaryDirectory()), "image")
+        taken = self.worked()
+        with LibraryDevice(image=file) as device:
+            device.restore(taken)
+            kept = file.read_bytes()
+            self.assertEqual((kept, device.snapshot()), (device.save(), taken))
+        with LibraryDevice(image=file) as device:
+            self.assertEqual(device.save(), kept)
+
+
+@NEEDS_LIBRARY
+class OverKeptState(Snapshots, unittest.TestCase):
+    def device(self):
+        self.folder = self.enterContext(tempfile.TemporaryDirectory())
+        return KeptDevice(self.folder, forces=False)
+
+    def test_other_holders(self):
+        """Each goes on from the snapshot, and whoever opens the folder does."""
+        taken = self.worked()
+        with KeptDevice(self.folder) as other:
+            self.tpm.call("PCR_Reset", 16)
+            self.assertNotEqual(other.snapshot(), taken)
+            self.tpm.device.restore(taken)
+            self.assertEqual(other.snapshot(), taken)
+            Caller(other).call("PCR_Reset", 16)
+            self.assertEqual(other.snapshot(), self.tpm.device.snapshot())
+        with KeptDevice(self.folder) as other:
+            self.assertEqual(other.snapshot(), self.tpm.device.snapshot())
+            other.restore(taken)
+            other.power_cycle()
+            self.assertNotEqual(other.snapshot(), taken)
+
+
+@NEEDS_LIBRARY
+class Completed(unittest.TestCase):
+    """Commands at random with the completing layer, which is in the text."""
+
+    def test_commands_at_random(self):
+        for seed in range(SEEDS):
+            with self.subTest(seed=seed), tempfile.TemporaryDirectory() as folder:
+                with KeptDevice(folder, forces=False, completes=True) as device:
+                    self.play(device, pathlib.Path(folder, "journal"), random.Random(seed))
+
+    def play(self, device, journal, chance):
+        completed_scripts.play(device, chance, COMMANDS)
+        taken, play = device.snapshot(), Play()
+        for _ in play.events(journal.read_bytes()):
+            pass
+        self.assertEqual(state_text.state_text(play.model, play.layer.numbers), taken)
+        model, numbers = state_text.open_state(taken)
+        self.assertEqual(Completion.of(numbers).numbers, play.layer.numbers)
+        self.assertEqual(state_text.state_text(model, numbers), taken)
+        self.goes_on(device, taken, chance)
+
+    def goes_on(self, device, taken, chance):
+        """Another device, which is restored, answers what this one does."""
+        rest = chance.randrange(2**32)
+        with tempfile.TemporaryDirectory() as folder:
+            with KeptDevice(folder, forces=False, completes=True) as other:
+                other.restore(bytes(taken))
+                self.assertEqual(other.snapshot(), taken)
+                answered = [
+                    [(it.response[6:10]) for it in self.executed(each, rest)]
+                    for each in (device, other)
+                ]
+        self.assertEqual(*answered)
+
+    @staticmethod
+    def executed(device, seed):
+        """What a device is told at random from here on."""
+        first = len(device.events)
+        completed_scripts.play(device, random.Random(seed), COMMANDS)
+        return [it for it in device.events[first:] if not isinstance(it, str)]
+
+
+class Explained(unittest.TestCase):
+    """A log that begins with a state text is explained as any other."""
+
+    def test_wrong_password(self):
+        """The index, which is there from before, and its authValue are in the text."""
+        with ModelDevice() as device:
+            tpm = Caller(device)
+            tpm.start_up()
+            index = tpm.define(area(attributes=BY_VALUE), auth=b"right")
+            device.restore(bytes(device.snapshot()))
+            with self.assertRaises(Refused):
+                tpm.send(tpm.writing(index, b"8 bytes.", b"wrong"))
+            log = log_of(device)
+        self.assertTrue(log.startswith(b"# state 54504d53"))
+        self.assertIn('authValue wanted  7269676874 "right"', why_refused(log))
+
+
+class Stored(unittest.TestCase):
+    def test_another_process(self):
+        folder = self.enterContext(tempfile.TemporaryDirectory())
+        file = pathlib.Path(folder, "state")
+        with Device() as device:
+            Caller(device).start_up()
+            device.wait(1234)
+            Caller(device).call("ReadClock")
+            file.write_bytes(device.snapshot())
+        words = sys.executable, "-c", OF_ANOTHER_PROCESS, file
+        done = subprocess.run(words, capture_output=True, text=True, check=True, timeout=60)
+        self.assertEqual(done.stdout, "1234\n")
+
+    @NEEDS_LIBRARY
+    def test_between_kinds(self):
+        """What was told to a device of a folder begins no script of another one, nor the other way."""
+        folder = self.enterContext(tempfile.TemporaryDirectory())
+        with KeptDevice(folder) as kept, Device() as device:
+            Caller(kept).start_up()
+            taken = kept.snapshot()
+            device.restore(taken)
+            self.assertEqual(device.trace, [f"# state {taken.hex()}"])
+            Caller(device).call("PCR_Reset", 16)
+            kept.restore(device.snapshot())
+            self.assertEqual(kept.trace, [])
+            kept.restore(taken)
+            self.assertEqual(kept.trace[0], "do Startup 0")
+
+    def test_of(self):
+        taken = Snapshot.of(b"TPMS")
+        self.assertIs(Snapshot.of(taken), taken)
+        self.assertEqual((taken.begun, taken.events, taken.locality), (b"TPMS", (), 0))
+
+
+if __name__ == "__main__":
+    unittest.main()

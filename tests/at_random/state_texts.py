@@ -1,0 +1,128 @@
+"""Plays at random on three devices that are told alike: one of the library that is never taken apart, a
+second one that goes on in another device from the first one's state text, and the device in Python, which
+goes on from it too:
+
+    state_texts.py EVENTS [SEED]
+
+TPMSIM_LIBRARY names the shared object. Each answer and the state text behind each event have to be the
+same, byte for byte. An event is a command, refused ones too, or a power cycle; a new device is begun every
+thousand events, with the next seed. It prints how many events were compared and how often a text was
+restored; the first difference ends it, with status 1.
+"""
+
+import sys
+
+from tpmsim.device import LibraryDevice
+from tpmsim.model import state_text
+from tpmsim.model.machine import MANUFACTURED
+from tpmsim.model.state_text import Layer
+from tests.at_random.random_script import Writer
+from tests.common.outputs import repeated
+
+EVENTS_OF_ONE = 1000
+
+# A text is restored so often: behind each event, or seldom, so that what is wrong can grow.
+CHANCES = 1, 0.2, 0.01
+
+
+class Differs(Exception):
+    """The devices do, in words."""
+
+
+class Devices:
+    """The three of one seed."""
+
+    def __init__(self, seed):
+        self.writer, self.chance = Writer(seed), CHANCES[seed % len(CHANCES)]
+        self.whole, self.restored = (LibraryDevice(manufactured=MANUFACTURED) for _ in range(2))
+        self.locality = self.elapsed = self.count = 0
+        self.random = b""
+
+    @property
+    def both(self):
+        return self.whole, self.restored
+
+    def step(self):
+        first, played = len(self.writer.events), len(self.writer.played)
+        self.writer.step()
+        answers = iter(self.writer.played[played:])
+        for event in self.writer.events[first:]:
+            self.tell(event, answers)
+        self.compare()
+        if self.writer.happens(self.chance):
+            self.go_on()
+
+    def tell(self, event, answers):
+        """An event of the writer's, by which the device in Python has gone already."""
+        if isinstance(event, bytes):
+            self.execute(event, next(answers).outcome.response)
+        elif event == "power":
+            next(answers)
+            for device in self.both:
+                device.cycle()
+        else:
+            word, value = event.split(" ")
+            self.take(word, value)
+
+    def take(self, word, value):
+        if word == "entropy":
+            self.random = repeated(bytes.fromhex(value))
+        else:
+            name = {"loc": "locality", "wait": "elapsed"}[word]
+            setattr(self, name, int(value))
+
+    def execute(self, buffer, response):
+        told = buffer, self.locality, self.elapsed, self.random
+        for device in self.both:
+            answered = device.answer(*told).response
+            if answered != response:
+                raise Differs(f"{answered.hex()} is answered, and not {response.hex()}")
+        self.elapsed = 0
+
+    def compare(self):
+        texts = [device.state() for device in self.both]
+        if texts != [state_text.state_text(self.writer.device, Layer())] * 2:
+            raise Differs("the state texts differ")
+
+    def go_on(self):
+        """In other devices, from the text of the one that is never taken apart."""
+        text = self.whole.state()
+        self.restored.close()
+        self.restored = LibraryDevice()
+        self.restored.resume(text)
+        self.writer.device, _ = state_text.open_state(text)
+        self.count += 1
+
+    def close(self):
+        for device in self.both:
+            device.close()
+
+
+def play(events, seed):
+    """Plays so many events of one seed; how often a text was restored, and the difference, if any."""
+    devices = Devices(seed)
+    try:
+        for number in range(1, events + 1):
+            devices.step()
+    except Differs as fault:
+        return devices.count, f"seed {seed}, event {number}: {fault}"
+    finally:
+        devices.close()
+    return devices.count, None
+
+
+def main(events, seed="1"):
+    left, seed, restored = int(events), int(seed), 0
+    while left > 0:
+        more, difference = play(min(left, EVENTS_OF_ONE), seed)
+        restored += more
+        if difference:
+            print(difference)
+            return 1
+        left, seed = left - EVENTS_OF_ONE, seed + 1
+    print(f"{int(events):,} events, and {restored:,} texts that were restored: nothing differs")
+    return 0
+
+
+if __name__ == "__main__":
+    sys.exit(main(*sys.argv[1:]))
