@@ -2,12 +2,13 @@
 #
 #   make check                      what a change is looked at by, and all tests that are scripts
 #   make dist                       proves and builds what dist/ has; half an hour to an hour
+#   make dist-arm64                 what dist/aarch64 has, after make dist
 #   make install PREFIX=/usr/local  installs what dist/ has; DESTDIR stands before PREFIX
-#   make deb                        makes the package for Debian in out/
+#   make deb                        makes the package for Debian in out/; deb-arm64 the one for ARM64
 PREFIX = /usr/local
 DESTDIR =
 
-.PHONY: check dist install deb
+.PHONY: check dist dist-arm64 install deb deb-arm64
 
 check:
 	tools/before_commit.sh
@@ -18,8 +19,14 @@ dist:
 	tools/dist.sh
 	tools/library.sh
 
+dist-arm64:
+	tools/aarch64.sh
+
 install:
 	DESTDIR='$(DESTDIR)' PREFIX='$(PREFIX)' tools/install.sh
 
 deb:
 	tools/deb.sh
+
+deb-arm64:
+	tools/deb.sh --machine aarch64

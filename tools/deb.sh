@@ -2,14 +2,23 @@
 # Makes the package for Debian and its like, tpmsim_VERSION_amd64.deb, and prints its path. The same
 # commit makes the same bytes by the same tools.
 #
-#   tools/deb.sh [FOLDER]   in FOLDER; else in out/
+#   tools/deb.sh [--machine aarch64] [FOLDER]   in FOLDER; else in out/
 #
+# With --machine aarch64 it is tpmsim_VERSION_arm64.deb, of what dist/aarch64 has, and needs Debian's
+# gcc-aarch64-linux-gnu.
 # TPMSIM_MAINTAINER is whom the package names, else who wrote the last commit; TPMSIM_PACKING is how
 # dpkg-deb packs, else xz. tools/install.sh says what is in the package. Needs dpkg-deb and python3;
 # no proof is run.
 set -u
 umask 022
+unset TPMSIM_MACHINE
+if [ "${1:-}" = --machine ]; then
+    TPMSIM_MACHINE=${2:-}
+    export TPMSIM_MACHINE
+    shift 2
+fi
 folder=$(realpath -m "${1:-$(dirname "$0")/../out}") && cd "$(dirname "$0")/.." || exit 1
+. tools/lib/proved.sh
 
 # fail REASON: ends the script.
 fail() {
@@ -25,7 +34,7 @@ size() {
 # Prints packaging/control with the facts of this package in the places of their names.
 control() {
     sed -e "s|@VERSION@|$version|" -e "s|@MAINTAINER@|$maintainer|" -e "s|@SIZE@|$(size)|" \
-        -e "s|@PURPOSE@|$purpose|" packaging/control
+        -e "s|@PURPOSE@|$purpose|" -e "s|@ARCHITECTURE@|$architecture|" packaging/control
 }
 
 # Puts what Debian wants of each package beside what is installed.
@@ -39,12 +48,26 @@ describe() {
     control >"$root/DEBIAN/control" || return 1
     echo 'activate-noawait ldconfig' >"$root/DEBIAN/triggers"
     for library in libtpmsim libtss2-tcti-tpmsim; do
-        [ ! -e "$root/usr/lib/x86_64-linux-gnu/$library.so.0" ] ||
+        [ ! -e "$root/usr/lib/$multiarch/$library.so.0" ] ||
             echo "$library 0 tpmsim (>= $version)" >>"$root/DEBIAN/shlibs"
     done
     install -D -m 644 packaging/lintian "$root/usr/share/lintian/overrides/tpmsim"
     (cd "$root" && find usr -type f -print0 | LC_ALL=C sort -z | xargs -0 md5sum) \
         >"$root/DEBIAN/md5sums"
+}
+
+# for_aarch64: sets the tools for ARM64. Their compiler does not look where Debian has headers for all
+# machines.
+for_aarch64() {
+    architecture=arm64
+    multiarch=aarch64-linux-gnu
+    CC=$multiarch-gcc AR=$multiarch-ar NM=$multiarch-nm STRIP=$multiarch-strip
+    CPATH=$work/headers
+    export CC AR NM STRIP CPATH
+    mkdir "$CPATH" || return 1
+    for headers in tss2 libtpms; do
+        [ ! -d "/usr/include/$headers" ] || ln -s "/usr/include/$headers" "$CPATH/" || return 1
+    done
 }
 
 for tool in dpkg-deb python3; do
@@ -53,17 +76,26 @@ done
 work=$(mktemp -d) || exit 1
 trap 'rm -rf "$work"' EXIT
 root=$work/root
+architecture=amd64
+multiarch=x86_64-linux-gnu
+case $machine in
+aarch64) for_aarch64 || fail 'there is no folder for the headers' ;;
+x86_64) ;;
+*) fail 'usage: tools/deb.sh [--machine aarch64] [FOLDER]' ;;
+esac
 told=$(git log -1 --format='%ct %an <%ae>' 2>/dev/null) || told='0 tpmsim <tpmsim@localhost>'
 SOURCE_DATE_EPOCH=${SOURCE_DATE_EPOCH:-${told%% *}}
 export SOURCE_DATE_EPOCH
 maintainer=${TPMSIM_MAINTAINER:-${told#* }}
-version=$(dist/tpmsim --version) || fail 'dist/tpmsim does not run here'
+running=dist/tpmsim
+[ "$system" != 'Linux aarch64' ] || running=dist/aarch64/tpmsim
+version=$("$running" --version) || fail "$running does not run here"
 version=${version##* }
-purpose=$(dist/tpmsim --help | sed -n '1s/^A //p')
-DESTDIR=$root PREFIX=/usr LIBRARIES=lib/x86_64-linux-gnu PACKAGES=lib/python3/dist-packages \
+purpose=$("$running" --help | sed -n '1s/^A //p')
+DESTDIR=$root PREFIX=/usr LIBRARIES=lib/$multiarch PACKAGES=lib/python3/dist-packages \
     FUNCTIONS=share/zsh/vendor-completions tools/install.sh || exit 1
 describe || fail 'the package is not described'
-package=$folder/tpmsim_${version}_amd64.deb
+package=$folder/tpmsim_${version}_$architecture.deb
 mkdir -p "$folder" || fail "$folder is no folder"
 dpkg-deb --root-owner-group -Z"${TPMSIM_PACKING:-xz}" -b "$root" "$package" >"$work/said" ||
     fail "$package is not made"

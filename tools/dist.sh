@@ -16,6 +16,7 @@ cd "$(dirname "$0")/.." || exit 1
 faults() {
     faults_of_program
     faults_of_library
+    faults_of_aarch64
 }
 
 faults_of_program() {
@@ -48,6 +49,21 @@ faults_of_library() {
         cmp -s "library/$file" "dist/$file" || echo "dist/$file has other bytes than library/$file"
     done
 }
+
+# What is for ARM64, if it is there, is not built again either: it has the bytes that its own PROVED names,
+# of these sources.
+faults_of_aarch64() (
+    ship aarch64
+    [ -d "$distribution" ] || return 0
+    if ! { is_proved sources "$(sources_checksum)" &&
+        is_proved 'library sources' "$(sources_checksum tpmsim_library)"; }; then
+        echo "$distribution was proved of other sources than these"
+    fi
+    is_proved program "$(checksum <"$shipped")" || echo "$shipped is not what $proved names"
+    is_proved 'library archive' "$(checksum <"$archive")" || echo "$archive is not what $proved names"
+    is_proved 'library shared object' "$(checksum <"$shared")" ||
+        echo "$shared is not what $proved names"
+)
 
 kit=$(rt version) || exit 1
 case $* in

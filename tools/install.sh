@@ -8,6 +8,7 @@
 #     LIBRARIES  the folder of libraries in PREFIX; lib
 #     PACKAGES   the folder of Python packages in PREFIX; the one where python3 looks, if it is in
 #                PREFIX, else lib/tpmsim/python
+#     TPMSIM_MACHINE  the machine that all is for, x86_64 or aarch64; this one
 #     FUNCTIONS  the folder of zsh's functions in PREFIX; share/zsh/site-functions
 #
 # The modules for libtss2 and for swtpm are made where the headers are there that they need, and are
@@ -51,7 +52,7 @@ link() {
 
 # has_header HEADER: whether the compiler finds it.
 has_header() {
-    echo "#include <$1>" | cc -E - >"$work/header" 2>&1
+    echo "#include <$1>" | "${CC:-cc}" -E - >"$work/header" 2>&1
 }
 
 put_program() {
@@ -75,6 +76,8 @@ put_library() {
 }
 
 put_modules() {
+    TPMSIM_ARCHIVE=$PWD/$archive
+    export TPMSIM_ARCHIVE
     if has_header tss2/tss2_tcti.h; then
         tools/interop/attached.sh "$work/libtss2" || exit 1
         for file in "$work"/libtss2/*; do

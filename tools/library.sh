@@ -9,6 +9,7 @@ set -u
 cd "$(dirname "$0")/.." && top=$(pwd -P) || exit 1
 . tools/lib/proved.sh
 . tools/lib/proving.sh
+. tools/lib/compiling.sh
 exports=tpmsim_library
 below=$(crates_below "$exports") || exit 1
 work=$(mktemp -d) || exit 1
@@ -29,24 +30,6 @@ prove() {
     total=$(echo "$crates" | wc -w)
     (copy_crates "$work/copy" && cd "$work/copy" && prove_all)
     tail -n 1 "$log" | grep -q ' 0 failed' || fail 'not everything is proved'
-}
-
-# compile REPOSITORY: proves the exports over the crates that are built there, and compiles them, by
-# the words that `rt` uses for a static library.
-compile() {
-    set -- "$1/crates" --crate-name "$exports" src/lib.rt --crate-type staticlib \
-        --extern "std=$kit/rlibs/std.rlib" -L "dependency=$kit/rlibs"
-    folder=$1
-    shift
-    for crate in $(uses "$exports"); do
-        set -- "$@" --extern "$crate=$folder/$crate/out/rlib/$crate.rlib"
-    done
-    for crate in $below; do
-        set -- "$@" -L "dependency=$folder/$crate/out/rlib"
-    done
-    (cd "$folder/$exports" && rattle build "$@" --links "$exports=" --backend llvm \
-        --antt-project "$kit/rattle/logic/antt-project.json" --logic-built "$kit/logic_built" \
-        --toolchain "$kit/toolchain" -o "$work/exports.a") >>"$log" 2>&1
 }
 
 # Puts the archive together, of what was compiled and of the kit's way to the C library's allocator;
@@ -81,12 +64,13 @@ deliver() {
 for tool in rt rattle git cc ar strip; do
     command -v "$tool" >/dev/null || fail "$tool is missing"
 done
-kit=$(readlink -f "$(command -v rattle)") && kit=${kit%/bin/*} || exit 1
+kit=$(kit_folder) || exit 1
 made_of=$(sources_checksum "$exports") || exit 1
 repository=$top
 # shellcheck disable=SC2086 # no name of a crate has a space
 are_built $below || { repository=$work/copy && prove; }
-compile "$repository" || fail 'the exports are not compiled'
+compile "$repository" "$exports" "$work/exports.a" >>"$log" 2>&1 ||
+    fail 'the exports are not compiled'
 link || fail 'the library is not put together'
 [ "$made_of" = "$(sources_checksum "$exports")" ] || fail 'a source changed meanwhile'
 deliver || fail 'dist/ is not written'

@@ -8,6 +8,7 @@ package_of() {
     cc) echo gcc, libc6-dev ;;
     dpkg-deb) echo dpkg ;;
     go) echo golang-go ;;
+    qemu-aarch64) echo qemu-user ;;
     libtpms/tpm_library.h) echo libtpms-dev ;;
     man) echo man-db ;;
     nm | objdump | strip) echo binutils ;;

@@ -27,7 +27,7 @@ ci)
 esac
 END
 printf '#!/bin/sh\necho another kit\n' >"$room/failing/rt"
-printf '#!/bin/sh\necho Linux aarch64\n' >"$room/other_machine/uname"
+printf '#!/bin/sh\necho Linux riscv64\n' >"$room/other_machine/uname"
 printf '#!/bin/sh\nexit 1\n' >"$room/no_checksum/sha256sum"
 chmod +x "$room"/*/rt "$room/other_machine/uname" "$room/no_checksum/sha256sum"
 

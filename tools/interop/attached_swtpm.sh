@@ -7,8 +7,8 @@
 # FOLDER has libtpms.so.0 then, tpmsim-swtpm, which starts swtpm with it, and for libvirt's path swtpm,
 # which is tpmsim-swtpm under another name, and a swtpm_setup that does nothing.
 #
-# The library is that of dist/, or the archive that $TPMSIM_ARCHIVE names, with tpmsim.h beside it. $CC
-# is the compiler, and $CFLAGS are further words for it: with sanitizers nothing is stripped. Needs a C
+# The library is that of dist/, or the archive that $TPMSIM_ARCHIVE names, with tpmsim.h beside it. $CC,
+# $NM and $STRIP are the tools, as those for another machine, and $CFLAGS are further words for it: with sanitizers nothing is stripped. Needs a C
 # compiler, Debian's binutils and libtpms-dev, whose headers say what swtpm expects.
 set -u
 
@@ -29,7 +29,9 @@ case $folder/ in
 esac
 mkdir -p "$folder" || fail "$1 is no folder"
 compiler=${CC:-cc}
-for tool in "$compiler" nm strip; do
+nm=${NM:-nm}
+strip=${STRIP:-strip}
+for tool in "$compiler" "$nm" "$strip"; do
     command -v "$tool" >/dev/null || fail "$tool is missing"
 done
 echo '#include <libtpms/tpm_library.h>' | "$compiler" -E - >/dev/null 2>&1 ||
@@ -56,7 +58,7 @@ wanted_names() {
 
 # The names with their versions that the shared object shows.
 given_names() {
-    nm -D --defined-only --with-symbol-versions "$made" | awk '$2 != "A" { print $3 }' | sort
+    "$nm" -D --defined-only --with-symbol-versions "$made" | awk '$2 != "A" { print $3 }' | sort
 }
 
 if [ -n "${CFLAGS:-}" ]; then
@@ -64,7 +66,7 @@ if [ -n "${CFLAGS:-}" ]; then
     compile $CFLAGS || fail 'it is not compiled'
 else
     compile -Wl,-z,defs || fail 'it is not compiled'
-    strip --strip-unneeded "$made" || fail 'it is not stripped'
+    "$strip" --strip-unneeded "$made" || fail 'it is not stripped'
     wanted_names >"$work/wanted"
     given_names >"$work/given"
     diff "$work/wanted" "$work/given" >&2 || fail 'it shows other names than libtpms.map has'

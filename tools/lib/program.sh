@@ -6,10 +6,18 @@
 . tools/lib/proved.sh
 stamp=crates/tpmsim/out/verified
 
+# Whether dist/ has a program for this machine.
+is_served() {
+    case $system in
+    'Linux x86_64' | 'Linux aarch64') true ;;
+    *) false ;;
+    esac
+}
+
 # Whether the program of dist/ was verified, and nothing in the repository that it depends on has
 # changed since, not even by a move. Who can write the stamp can write this file too.
 is_verified() {
-    [ -f "$stamp" ] && [ "$(uname -sm)" = 'Linux x86_64' ] && changed=$(
+    [ -f "$stamp" ] && is_served && changed=$(
         find crates.txt HANDLES dist crates -regex 'crates/[^/]*/out' -prune -o \
             -cnewer "$stamp" -print -quit 2>/dev/null
     ) && [ -z "$changed" ]
@@ -17,8 +25,8 @@ is_verified() {
 
 # Whether the program of dist/ is proved and runs here; else `fault` says why it does not.
 is_good() {
-    fault="$shipped is for Linux on x86-64 alone"
-    [ "$(uname -sm)" = 'Linux x86_64' ] || return 1
+    fault='dist/ has programs for Linux on x86-64 and on ARM64 alone'
+    is_served || return 1
     fault="$shipped was proved of other sources than these"
     # shellcheck disable=SC2119 # those of tpmsim
     is_proved sources "$(sources_checksum)" || return 1

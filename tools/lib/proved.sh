@@ -2,10 +2,21 @@
 # repository's folder.
 # shellcheck shell=sh disable=SC2034 # other scripts use the names
 built=crates/tpmsim/out/tpmsim
-shipped=dist/tpmsim
-archive=dist/libtpmsim.a
-shared=dist/libtpmsim.so.0
-proved=dist/PROVED
+
+# ship MACHINE: names what is shipped for a machine: dist/aarch64 has it for ARM64, and dist/ for x86-64.
+ship() {
+    distribution=dist
+    [ "$1" != aarch64 ] || distribution=dist/aarch64
+    shipped=$distribution/tpmsim
+    archive=$distribution/libtpmsim.a
+    shared=$distribution/libtpmsim.so.0
+    proved=$distribution/PROVED
+}
+
+# It is for this machine, or for the one that TPMSIM_MACHINE names, as a package for another is made.
+system=$(uname -sm)
+machine=${TPMSIM_MACHINE:-${system#Linux }}
+ship "$machine"
 
 # uses CRATE: prints the libraries that the line of a crate names.
 uses() {

@@ -1,0 +1,29 @@
+# The glue: six functions in C that proved code calls. The kit has them compiled for x86-64, and ours are for
+# other machines. Both do the same by the same calls, here and, by ours, on ARM64.
+tests=$(cd "$(dirname "$0")/.." && pwd -P)
+. "$tests/common/cases.sh"
+needs cc
+rattle=$(readlink -f "$(command -v rattle)") || skip "there is no rattle, whose glue ours is compared with"
+kit=${rattle%/bin/*}
+glue=${tests%/*}/glue
+flags='-std=c11 -O2 -Wall -Wextra -Werror -Wconversion'
+
+# play NAME RUNNER COMPILER SOURCES..: compiles the calls with one glue, and keeps what they print.
+play() {
+    name=$1
+    runner=$2
+    compiler=$3
+    shift 3
+    # shellcheck disable=SC2086 # they are words
+    "$compiler" $flags -I"$glue" -o "$name" "$tests/glue/glue_calls.c" "$@" &&
+        $runner "./$name" '' four eightish >"$name.said" || echo "$name: status $?"
+}
+
+play kit '' cc "$kit/c/liblibc_c.a" "$kit/c/libos_c.a"
+play ours '' cc "$glue"/*.c
+cat kit.said
+cmp kit.said ours.said && echo 'ours does the same'
+if has_tool aarch64-linux-gnu-gcc && has_tool qemu-aarch64; then
+    play arm 'qemu-aarch64 -L /usr/aarch64-linux-gnu' aarch64-linux-gnu-gcc "$glue"/*.c
+    cmp kit.said arm.said
+fi

@@ -1,0 +1,74 @@
+/* Calls each function of the glue, and prints what it does: the same over the kit's functions and ours. */
+#define _GNU_SOURCE
+#include "glue.h"
+#include <errno.h>
+#include <stdbool.h>
+#include <stdio.h>
+#include <string.h>
+#include <sys/resource.h>
+
+static const size_t HUGE_SIZE = (size_t)1 << 40;
+
+static bool is_aligned(const void *block) {
+    return (uintptr_t)block % 16 == 0;
+}
+
+static void print_tried(const char *name, struct tried tried) {
+    printf("%s: ok %d, null %d, aligned %d\n", name, (int)(tried.ok & 0xff), tried.block == NULL,
+           tried.ok == 0 || is_aligned(tried.block));
+}
+
+static void try_sizes(void) {
+    static const size_t sizes[] = {0, 1, 15, 16, 4096, 45808, 1 << 20};
+    for (size_t i = 0; i < sizeof sizes / sizeof *sizes; i++) {
+        struct tried tried = rattle_alloc(sizes[i], 16);
+        print_tried("alloc", tried);
+        memset(tried.block, 0xa5, sizes[i]);
+        rattle_dealloc(tried.block);
+    }
+}
+
+/* A block that grows, shrinks and cannot grow keeps its front. */
+static void try_growing(void) {
+    struct tried block = rattle_alloc(5, 1);
+    memcpy(block.block, "front", 5);
+    static const size_t sizes[] = {5000, 0, 7, 3};
+    for (size_t i = 0; i < sizeof sizes / sizeof *sizes; i++) {
+        block = rattle_realloc(block.block, sizes[i] < 5 ? sizes[i] : 5, sizes[i], 1);
+        print_tried("realloc", block);
+        memcpy(block.block, "front", sizes[i] < 5 ? sizes[i] : 5);
+    }
+    struct tried none = rattle_realloc(block.block, 3, HUGE_SIZE, 1);
+    print_tried("realloc without memory", none);
+    printf("the block is as it was: %d\n", memcmp(block.block, "fro", 3) == 0);
+    rattle_dealloc(block.block);
+}
+
+static void try_errors(void) {
+    static const int errors[] = {0, EINTR, ENOSPC, -1};
+    for (size_t i = 0; i < sizeof errors / sizeof *errors; i++) {
+        rattle_set_errno(errors[i]);
+        printf("errno %d, %d\n", errno == errors[i], rattle_errno() == errors[i]);
+    }
+}
+
+static void try_arguments(void) {
+    unsigned char buffer[8];
+    for (size_t number = 0; number < 5; number++)
+        for (size_t size = 0; size <= sizeof buffer; size += 4) {
+            memset(buffer, '.', sizeof buffer);
+            ssize_t length = number == 0 ? 0 : rattle_arg(number, buffer, size);
+            printf("argument %zu, %zu bytes: %zd %.8s\n", number, size, length, (char *)buffer);
+        }
+}
+
+int main(void) {
+    struct rlimit limit = {.rlim_cur = (rlim_t)1 << 34, .rlim_max = (rlim_t)1 << 34};
+    if (setrlimit(RLIMIT_AS, &limit) != 0)
+        return 1;
+    try_sizes();
+    try_growing();
+    print_tried("alloc without memory", rattle_alloc(HUGE_SIZE, 16));
+    try_errors();
+    try_arguments();
+}

@@ -1,0 +1,52 @@
+# The program for ARM64, in qemu: every third script of tests/ answers and traces as its files say. A device in a
+# folder and an image are read by both machines.
+tests=$(cd "$(dirname "$0")/.." && pwd -P)
+. "$tests/common/cases.sh"
+needs qemu-aarch64
+top=${tests%/*}
+arm=$top/dist/aarch64/tpmsim
+(cd "$top" && . tools/lib/proved.sh && ship aarch64 && is_proved sources "$(sources_checksum)") ||
+    skip 'there is no program for ARM64 that was made of these sources'
+[ -f /usr/aarch64-linux-gnu/lib/libc.so.6 ] ||
+    skip 'there is no C library for ARM64 (Debian: libc6-arm64-cross)'
+
+arm() {
+    qemu-aarch64 -L /usr/aarch64-linux-gnu "$arm" "$@"
+}
+
+# compare NAME: whether a script answers, traces and ends as its files say.
+compare() {
+    base=${1%.tpm}
+    wanted=0
+    [ ! -f "$base.status" ] || read -r wanted <"$base.status"
+    given=0
+    arm run "$1" >output 2>error || given=$?
+    [ "$given" = "$wanted" ] && cmp -s output "$base.out" || echo "$1 answers otherwise"
+    if [ -f "$base.trace" ]; then
+        arm run --trace "$1" 2>error | cmp -s - "$base.trace" || echo "$1 is traced otherwise"
+    fi
+}
+
+number=0
+played=0
+for script in "$tests"/*/*.tpm; do
+    number=$((number + 1))
+    if [ $((number % 3)) -eq 0 ] && [ -f "${script%.tpm}.out" ]; then
+        compare "$script"
+        played=$((played + 1))
+    fi
+done
+[ "$played" -gt 30 ] && echo 'every third script was played'
+
+echo '== what a machine writes the other one reads'
+printf '%s\n' 'do Startup 0' 'do PCR_Extend 00000008 pw:- sha256:MEASURED' |
+    sed "s/MEASURED/$(printf %064d 7)/" >measure
+echo 'do PCR_Read sha256:8' >read
+arm run --state from-arm measure >said && "$program" run --state from-arm read >first &&
+    arm run --state from-arm read | cmp - first && echo 'a device in a folder'
+"$program" run --state from-x86 measure >said && arm run --state from-x86 read | cmp - first && echo 'and back'
+arm run --image image measure >said && "$program" run --image image measure | cmp - said && echo 'an image'
+
+echo '== faults'
+arm run nothing-here; echo "status $?"
+arm --version | sed 's/[0-9.]*$/VERSION/'

@@ -1,0 +1,91 @@
+#!/bin/sh
+# Makes what dist/aarch64 has for Linux on ARM64: the program, libtpmsim.a, libtpmsim.so.0, and PROVED, which
+# names the kit, and the checksums of the sources and of these three. Each is proved for that machine:
+# the prover's verdict names it.
+#
+# The crates below both stand built here, as `rt ci` leaves them, with no newer source: tools/build.sh and
+# tools/library.sh make the same for x86-64 first. Needs `rt`, and Debian's gcc-aarch64-linux-gnu.
+set -u
+cd "$(dirname "$0")/.." && top=$(pwd -P) || exit 1
+. tools/lib/proved.sh
+. tools/lib/compiling.sh
+target=aarch64-unknown-linux-gnu
+prefix=aarch64-linux-gnu-
+folder=dist/aarch64
+flags='-O2 -fPIC -std=c11 -Wall -Wextra -Werror -Wconversion'
+work=$(mktemp -d) || exit 1
+trap 'rm -rf "$work"' EXIT
+log=$work/log
+
+# fail REASON: ends the script, and shows what was logged last.
+fail() {
+    [ ! -s "$log" ] || tail -n 20 "$log" >&2
+    echo "$0: $1" >&2
+    exit 1
+}
+
+# compile_here CRATE FILE: compiles a crate for the other machine, and prints the prover's verdict.
+compile_here() {
+    compile "$top" "$1" "$work/$2" --target "$target" --cpu generic >"$log" 2>&1 &&
+        verdict=$(grep -x 'logic=proved .*' "$log") && echo "$1: $verdict"
+}
+
+# Compiles the six functions that the kit has for x86-64 alone.
+compile_glue() {
+    for source in glue/*.c; do
+        # shellcheck disable=SC2086 # they are words
+        "${prefix}gcc" $flags -c "$source" -o "$work/$(basename "$source" .c).o" >>"$log" 2>&1 ||
+            return 1
+    done
+}
+
+link_program() (
+    cd "$work" && "${prefix}gcc" -pie -Wl,--build-id=none -Wl,-z,relro -Wl,-z,now -o tpmsim \
+        program.o heap.o arguments.o errors.o && "${prefix}strip" --strip-unneeded tpmsim
+) >>"$log" 2>&1
+
+# Puts the archive and the shared object together, as tools/library.sh does.
+link_library() (
+    mkdir "$work/objects" && cd "$work/objects" && "${prefix}ar" x ../exports.a && cp ../heap.o . &&
+        "${prefix}ar" rcsD ../libtpmsim.a ./*.o &&
+        "${prefix}gcc" -shared -nostartfiles -Wl,-soname,libtpmsim.so.0 -Wl,--build-id=none \
+            -Wl,-z,defs -Wl,-z,relro -Wl,-z,now "-Wl,--version-script=$top/library/tpmsim.map" \
+            -o ../libtpmsim.so.0 ./*.o && "${prefix}strip" --strip-unneeded ../libtpmsim.so.0 &&
+        chmod 644 ../libtpmsim.*
+) >>"$log" 2>&1
+
+# Prints the lines of PROVED.
+tell_proved() {
+    echo "kit: $kit_version"
+    echo "target: $target"
+    echo "sources: $program_sources"
+    echo "program: $(checksum <"$folder/tpmsim")"
+    echo "library sources: $library_sources"
+    echo "library archive: $(checksum <"$folder/libtpmsim.a")"
+    echo "library shared object: $(checksum <"$folder/libtpmsim.so.0")"
+}
+
+# Puts everything in its place.
+deliver() {
+    mkdir -p "$folder" && mv "$work/tpmsim" "$work/libtpmsim.a" "$work/libtpmsim.so.0" "$folder/" &&
+        cp library/tpmsim.h library/tpmsim.pc "$folder/" && tell_proved >"$folder/PROVED"
+}
+
+for tool in rt rattle "${prefix}gcc" "${prefix}ar" "${prefix}strip"; do
+    command -v "$tool" >/dev/null || fail "there is no $tool"
+done
+kit_version=$(rt version) && program_sources=$(sources_checksum) &&
+    library_sources=$(sources_checksum tpmsim_library) || exit 1
+# shellcheck disable=SC2046 # no name of a crate has a space
+are_built $(crates_below tpmsim tpmsim_library) ||
+    fail 'a crate is not built here, or a source is newer: tools/build.sh builds them'
+compile_here tpmsim program.o || fail 'the program is not compiled'
+compile_here tpmsim_library exports.a || fail 'the exports are not compiled'
+compile_glue || fail 'the glue is not compiled'
+link_program || fail 'the program is not linked'
+link_library || fail 'the library is not put together'
+if ! { [ "$program_sources" = "$(sources_checksum)" ] &&
+    [ "$library_sources" = "$(sources_checksum tpmsim_library)" ]; }; then
+    fail 'a source changed meanwhile'
+fi
+deliver || fail "$folder is not written"

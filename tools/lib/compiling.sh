@@ -1,0 +1,33 @@
+# What the scripts share that compile a crate over the libraries below it, by the words that `rt` uses.
+# They read it by `.` in the repository's folder, after tools/lib/proved.sh.
+# shellcheck shell=sh
+
+# kit_folder: prints the folder of Rattle's toolchain.
+kit_folder() {
+    found=$(readlink -f "$(command -v rattle)") && echo "${found%/bin/*}"
+}
+
+# compile REPOSITORY CRATE FILE [WORDS..]: proves a crate over the libraries that are built in a repository,
+# and compiles it to a file: a static library to an archive, a program to an object file.
+compile() (
+    crates=$1/crates
+    crate=$2
+    file=$3
+    shift 3
+    toolchain=$(kit_folder) || return 1
+    root=src/lib.rt
+    [ ! -e "$crates/$crate/src/main.rt" ] || root=src/main.rt
+    ! grep -q "^$crate staticlib" crates.txt || set -- --crate-type staticlib "$@"
+    for library in std $(uses "$crate"); do
+        folder=$crates/$library/out/rlib
+        [ -d "$crates/$library" ] || folder=$toolchain/rlibs
+        set -- "$@" --extern "$library=$folder/$library.rlib"
+    done
+    for library in $(crates_below "$crate"); do
+        set -- "$@" -L "dependency=$crates/$library/out/rlib"
+    done
+    cd "$crates/$crate" && rattle build --crate-name "$crate" "$root" "$@" \
+        -L "dependency=$toolchain/rlibs" --links "$crate=" --backend llvm \
+        --antt-project "$toolchain/rattle/logic/antt-project.json" --logic-built "$toolchain/logic_built" \
+        --toolchain "$toolchain/toolchain" -o "$file"
+)
