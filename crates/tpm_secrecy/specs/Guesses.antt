@@ -1,0 +1,127 @@
+-- Which entries of a command use a secret authorization value, and when all guesses of one fail.
+-- TPM 2.0 Library, Part 1, sections 19.4 (passwords), 19.6 (HMAC sessions, bound sessions), 19.7
+-- (policies) and 21 (session-based encryption).
+use Rattle.std.specs.Option.{option_map_or}
+use Rattle.std.specs.Prelude.{Bool, Err, IfSome, List, None, Ok, Option, Result, Some, [], false, is_ok, option_map, slice_get, true, ℕ, ◌&&◌, ◌+◌, ◌||◌, ◌∷◌, ◌≡◌}
+use Rattle.tpm_auth.specs.Entries.{decrypts, encrypts, session_of}
+use Rattle.tpm_auth.specs.Grant.{authorized, grant, undemanding}
+use Rattle.tpm_auth.specs.SessionGrant.{demanded}
+use Rattle.tpm_auth.specs.declared.session_grant.Grant.{Grant}
+use Rattle.tpm_policy.specs.declared.state.Demand.{Demand}
+use Rattle.tpm_record.specs.Entity.{name_of, protection_of}
+use Rattle.tpm_record.specs.Record.{Record}
+use Rattle.tpm_session.specs.Sessions.{session_at}
+use Rattle.tpm_session.specs.declared.session.Session.{Session}
+use Rattle.tpm_step.specs.Granted.{Granted}
+use Rattle.tpm_step.specs.Sessions.{used}
+use Rattle.tpm_types.specs.Handle.{session_kind}
+use Rattle.tpm_types.specs.declared.handle.Handle.{Handle}
+use Rattle.tpm_types.specs.declared.handle.SessionKind.{SessionKind}
+use Rattle.tpm_types.specs.declared.refused.Refused.{Refused}
+use Rattle.tpm_types.specs.declared.session_type.SessionType.{SessionType}
+use Rattle.tpm_types_command.specs.AuthEntry.{Entry}
+use Rattle.tpm_types_command.specs.Command.{Whole}
+use Rattle.tpm_secrecy.specs.Secrecy.{Secrecy, has_secret_key, has_secret_value}
+use Rattle.tpm_policy.specs.declared.state.Demand.TheVariants as demand
+use Rattle.tpm_types.specs.declared.handle.SessionKind.TheVariants as kind
+use Rattle.tpm_types.specs.declared.session_type.SessionType.TheVariants as type
+
+-- ---- what an entry uses
+
+-- whether an entry authorizes something whose authorization value is secret
+abbrev pub authorizes_secret : Secrecy → Record → Option Grant → Bool
+authorizes_secret s r granted =
+    option_map_or (λ (g : Grant). has_secret_value s r g.handle) granted false
+
+-- whether a policy demands the authorization value, in the key of the HMAC or as a password
+abbrev pub is_demanding : Demand → Bool
+is_demanding demand.None = false
+is_demanding demand.AuthValue = true
+is_demanding demand.Password = true
+
+abbrev pub demands_value : Option Grant → Bool
+demands_value granted = option_map_or (λ (g : Grant). is_demanding g.demand) granted false
+
+abbrev pub is_hmac_session : SessionType → Bool
+is_hmac_session type.Hmac = true
+is_hmac_session type.Policy = false
+is_hmac_session type.Trial = false
+
+-- whether an entry's session decrypts the command's first parameter, or encrypts the answer's
+abbrev pub uses_encryption : Entry → Bool
+uses_encryption e = decrypts e || encrypts e
+
+-- Whether an entry of this session uses something secret. The session's key is secret, because of
+-- what the session was bound to; or the entry authorizes something with a secret value, and this is
+-- in the key of its HMAC, or is demanded by its policy, or is in the key by which a parameter is
+-- encrypted. Encryption uses the value even where the policy does not demand it, and compares
+-- nothing.
+abbrev pub session_uses : Secrecy → Record → Session → Entry → Option Grant → Bool
+session_uses s r x e granted =
+    has_secret_key s x.binding
+    || authorizes_secret s r granted
+    && (is_hmac_session x.kind || demands_value granted || uses_encryption e)
+
+-- whether an entry that is granted this uses something secret: a password uses the value of what it
+-- authorizes
+abbrev pub uses_by : SessionKind → Secrecy → Record → Entry → Option Grant → Bool
+uses_by kind.Password s r e granted = authorizes_secret s r granted
+uses_by kind.Session s r e granted =
+    option_map_or (λ (x : Session). session_uses s r x e granted) (session_of r e) false
+uses_by kind.Other s r e granted = false
+
+abbrev pub uses_secret : Secrecy → Record → Entry → Option Grant → Bool
+uses_secret s r e granted = uses_by (session_kind e.session) s r e granted
+
+-- No entry of these uses something secret.
+abbrev pub NoneUses : Secrecy → Record → List Granted → Type 0
+NoneUses s r [] = Unit {0}
+NoneUses s r (g ∷ granted) = (uses_secret s r g.0 g.1 ≡ false) × NoneUses s r granted
+
+-- ---- guesses
+
+-- whether the session of an entry uses something secret, if it is granted the handle with what its
+-- policy demands; where the policy refuses the handle, nothing is compared
+abbrev pub demand_uses : Secrecy → Record → Handle → Session → Entry → Result Demand Refused → Bool
+demand_uses s r handle x e (Ok d) =
+    session_uses s r x e (Some (record { handle = handle; demand = d }))
+demand_uses s r handle x e (Err refused) = false
+
+-- whether entry n of a command, which names this session and is to authorize this handle or none,
+-- is compared with something secret
+abbrev pub session_guesses : Secrecy → Record → Whole → (locality n : ℕ) → Option Handle → Entry
+    → Session → Bool
+session_guesses s r c locality n None e x = session_uses s r x e None
+session_guesses s r c locality n (Some handle) e x =
+    demand_uses s r handle x e (demanded r c locality n handle x)
+
+abbrev pub guesses_by : SessionKind → Secrecy → Record → Whole → (locality n : ℕ) → Option Handle
+    → Entry → Bool
+guesses_by kind.Password s r c locality n used e =
+    authorizes_secret s r (option_map undemanding used)
+guesses_by kind.Session s r c locality n used e =
+    option_map_or (session_guesses s r c locality n used e) (session_of r e) false
+guesses_by kind.Other s r c locality n used e = false
+
+-- whether the entry in a place of a command, from 0, is a guess: its password, or its HMAC, is
+-- compared with what is made of something secret
+abbrev pub is_guess : Secrecy → Record → Whole → (locality place : ℕ) → Entry → Bool
+is_guess s r c locality place e =
+    guesses_by (session_kind e.session) s r c locality (place + 1)
+    (slice_get (authorized c) place) e
+
+-- Each entry of a command that is a guess is refused.
+abbrev pub GuessesFail : Secrecy → Record → Whole → (locality : ℕ) → Type 0
+GuessesFail s r c locality =
+    (place : ℕ) (e : Entry) → slice_get c.entries place ≡ Some e
+    → is_guess s r c locality place e ≡ true
+    → is_ok (grant r c locality (place + 1) (slice_get (authorized c) place) e) ≡ false
+
+-- What has the Name of what a session was bound to, with a secret key, is protected against
+-- dictionary attacks as that was. It is, where no two entities have one Name: then an object or an
+-- index with the Name has the same noDA, and a handle is the same handle.
+abbrev pub BindingsHold : Secrecy → Record → Type 0
+BindingsHold s r =
+    (session handle : Handle)
+    → IfSome (session_at r.sessions session) (λ x. IfSome x.binding (λ b.
+    s.bound_names b.name ≡ true → b.name ≡ name_of r handle → protection_of r handle ≡ b.protection))

@@ -1,0 +1,4 @@
+pub mod Secrecy
+pub mod Reads
+pub mod Guesses
+pub mod Tells

@@ -1,0 +1,67 @@
+-- Which commands read secret data. TPM 2.0 Library, Part 3, sections 12.7 (TPM2_Unseal), 15.5
+-- (TPM2_HMAC), 23.9 (TPM2_PolicyNV), 31.8 (TPM2_NV_Increment) and 31.13 (TPM2_NV_Read).
+use Rattle.std.specs.Option.{option_map_or}
+use Rattle.std.specs.Prelude.{Bool, Err, Ok, Result, false, is_ok, not, ◌&&◌}
+use Rattle.tpm_actions_object.specs.Hmac.{hmac_row}
+use Rattle.tpm_actions_object.specs.Unseal.{unseal_row}
+use Rattle.tpm_commands.specs.declared.command_code.CommandCode.{CommandCode}
+use Rattle.tpm_nv.specs.Index.{NvIndex, index_at}
+use Rattle.tpm_nvactions.specs.NvRead.{nv_read_row}
+use Rattle.tpm_record.specs.Entity.{object_of}
+use Rattle.tpm_record.specs.Record.{Record}
+use Rattle.tpm_record.specs.rows.Request.{Request, first_handle, second_handle, third_handle}
+use Rattle.tpm_session.specs.Sessions.{session_at}
+use Rattle.tpm_session.specs.declared.session.Session.{Session}
+use Rattle.tpm_types.specs.SessionType.{is_trial}
+use Rattle.tpm_types.specs.declared.handle.Handle.{Handle}
+use Rattle.tpm_types.specs.declared.refused.Refused.{Refused}
+use Rattle.tpm_types_nv.specs.NvAttributes.{is_of}
+use Rattle.tpm_secrecy.specs.Secrecy.{Secrecy, has_secret_data}
+use Rattle.tpm_commands.specs.declared.command_code.CommandCode.TheVariants as command
+use Rattle.tpm_types_nv.specs.declared.nv_type.NvType.TheVariants as type
+
+-- whether a command has this handle, and it passes a test
+abbrev pub handle_passes : (Handle → Bool) → Result Handle Refused → Bool
+handle_passes test (Ok handle) = test handle
+handle_passes test (Err e) = false
+
+-- whether a handle names an object that seals secret data, or has a secret key
+abbrev pub names_secret_object : Secrecy → Record → Handle → Bool
+names_secret_object s r handle = option_map_or (has_secret_data s) (object_of r handle) false
+
+-- whether an NV index has secret data, and is a counter with a secret value
+abbrev pub is_secret_index : Secrecy → NvIndex → Bool
+is_secret_index s i = s.index_data i.public.nv_index.number
+
+abbrev pub is_secret_counter : Secrecy → NvIndex → Bool
+is_secret_counter s i = is_secret_index s i && is_of i.public.attributes type.Counter
+
+-- whether a handle names an NV index that passes a test
+abbrev pub names_index : (NvIndex → Bool) → Record → Handle → Bool
+names_index test r handle = option_map_or test (index_at r.nv handle) false
+
+-- whether a handle names a policy session, which is no trial session
+abbrev pub names_policy_session : Record → Handle → Bool
+names_policy_session r handle =
+    option_map_or (λ (x : Session). not (is_trial x.kind)) (session_at r.sessions handle) false
+
+-- Whether a command that is authorized reads secret data. TPM2_Unseal and TPM2_HMAC of an object,
+-- and TPM2_NV_Read of an NV index, read them where they are accepted, and tell nothing where they
+-- are refused. TPM2_PolicyNV on a policy session compares the data of its index: that the
+-- comparison fails tells of them too. TPM2_NV_Increment of a counter is refused at the largest
+-- number, and raises the largest value that any counter ever had, which is not secret. No other
+-- command reads them.
+abbrev pub reads_secret : Secrecy → Record → CommandCode → Request → Bool
+reads_secret s r command.Unseal q =
+    handle_passes (names_secret_object s r) (first_handle q.handles) && is_ok (unseal_row r q)
+reads_secret s r command.Hmac q =
+    handle_passes (names_secret_object s r) (first_handle q.handles) && is_ok (hmac_row r q)
+reads_secret s r command.NvRead q =
+    handle_passes (names_index (is_secret_index s) r) (second_handle q.handles)
+    && is_ok (nv_read_row r q)
+reads_secret s r command.PolicyNv q =
+    handle_passes (names_index (is_secret_index s) r) (second_handle q.handles)
+    && handle_passes (names_policy_session r) (third_handle q.handles)
+reads_secret s r command.NvIncrement q =
+    handle_passes (names_index (is_secret_counter s) r) (second_handle q.handles)
+reads_secret s r _ q = false

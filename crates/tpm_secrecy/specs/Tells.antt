@@ -1,0 +1,145 @@
+-- What the answers of a device tell of its secrets: nothing, until something reads them.
+use Rattle.std.specs.Prelude.{Bool, Err, IfOk, List, Ok, Option, Result, [], false, ℕ, ◌∷◌, ◌≡◌}
+use Rattle.tpm_auth.specs.Grant.{authorize}
+use Rattle.tpm_auth.specs.declared.session_grant.Grant.{Grant}
+use Rattle.tpm_record.specs.Record.{Record}
+use Rattle.tpm_record.specs.Tick.{ticked}
+use Rattle.tpm_step.specs.Events.{Cycled, Given, PlainEvent}
+use Rattle.tpm_step.specs.General.{general}
+use Rattle.tpm_step.specs.Step.{Stepped, request_in, step_where}
+use Rattle.tpm_step.specs.declared.event.Row.{Row}
+use Rattle.tpm_step.specs.declared.refused_command.RefusedCommand.{RefusedCommand}
+use Rattle.tpm_types.specs.declared.refused.Refused.{Refused}
+use Rattle.tpm_types_command.specs.Command.{Whole}
+use Rattle.tpm_types_object.specs.declared.public.Public.{Public}
+use Rattle.tpm_secrecy.specs.Guesses.{BindingsHold, GuessesFail}
+use Rattle.tpm_secrecy.specs.Reads.{reads_secret}
+use Rattle.tpm_secrecy.specs.Secrecy.{CoversKeys, DifferInSecrets, Secrecy, of_data}
+
+-- ---- an event
+
+-- whether a command with these grants, or one whose authorization is refused, reads secret data
+abbrev pub granted_reads : Secrecy → Record → Whole → (locality : ℕ) → (random : List ℕ)
+    → Result (List (Option Grant)) Refused → Bool
+granted_reads s r c locality random (Ok grants) =
+    reads_secret s r c.code (request_in r c grants locality random)
+granted_reads s r c locality random (Err e) = false
+
+-- whether a command reads secret data, if it is authorized
+abbrev pub command_reads : Secrecy → Record → (locality : ℕ) → (random : List ℕ) → Whole → Bool
+command_reads s r locality random c =
+    granted_reads s r c locality random (authorize r c locality)
+
+-- whether a buffer is a command that passes the general checks, is authorized, and reads secret data
+abbrev pub decoded_reads : Secrecy → Record → (locality : ℕ) → (random : List ℕ)
+    → Result Whole RefusedCommand → Bool
+decoded_reads s r locality random (Ok c) = command_reads s r locality random c
+decoded_reads s r locality random (Err e) = false
+
+-- whether an event reads secret data: a power cycle does not
+abbrev pub is_reading : Secrecy → Record → PlainEvent → Bool
+is_reading s r (Given buffer locality elapsed random) =
+    decoded_reads s (ticked r elapsed) locality random (general (ticked r elapsed) buffer)
+is_reading s r Cycled = false
+
+-- Two steps give the same response and report the same row, and leave two devices that differ in
+-- what is secret, and in nothing else.
+pub record TellsNothing (s : Secrecy) (x y : Stepped) : Type 0 where
+  pub response : x.response ≡ y.response
+  pub row : x.row ≡ y.row
+  pub after : DifferInSecrets s x.after y.after
+
+-- Where data alone are secret, and two devices differ in them and in nothing else: an event that
+-- does not read them on one device tells nothing of them, whether memory is refused to it on both
+-- devices or on none.
+abbrev pub EventTellsNothing : Type 0
+EventTellsNothing =
+    (indices : ℕ → Bool) (objects : Public → Bool) (one other : Record) (refused : Bool)
+    (event : PlainEvent)
+    → let s : Secrecy = of_data indices objects in
+    DifferInSecrets s one other → is_reading s one event ≡ false
+    → TellsNothing s (step_where refused one event) (step_where refused other event)
+
+-- An event reads secret data on both of two such devices, or on none.
+abbrev pub ReadOnBoth : Type 0
+ReadOnBoth =
+    (indices : ℕ → Bool) (objects : Public → Bool) (one other : Record) (event : PlainEvent)
+    → let s : Secrecy = of_data indices objects in
+    DifferInSecrets s one other → is_reading s one event ≡ is_reading s other event
+
+-- ---- a list of events
+
+-- events in order, each with whether memory is refused to it
+abbrev pub Attempts : Type 0
+Attempts = List (Bool × PlainEvent)
+
+-- what a device answers to them, with the rows that it reports
+abbrev pub answers_to : Record → Attempts → List (List ℕ × Row)
+answers_to r [] = []
+answers_to r (e ∷ es) =
+    let x : Stepped = step_where e.0 r e.1 in
+    (x.response, x.row) ∷ answers_to x.after es
+
+-- the record after them
+abbrev pub after_all : Record → Attempts → Record
+after_all r [] = r
+after_all r (e ∷ es) = after_all (step_where e.0 r e.1).after es
+
+-- None of these events reads secret data when it comes.
+abbrev pub NoneReads : Secrecy → Record → Attempts → Type 0
+NoneReads s r [] = Unit {0}
+NoneReads s r (e ∷ es) =
+    (is_reading s r e.1 ≡ false) × NoneReads s (step_where e.0 r e.1).after es
+
+-- Two devices give the same answers and rows to events, and differ after them in what is secret and
+-- in nothing else.
+pub record RunsAlike (s : Secrecy) (one other : Record) (events : Attempts) : Type 0 where
+  pub answers : answers_to one events ≡ answers_to other events
+  pub after : DifferInSecrets s (after_all one events) (after_all other events)
+
+-- Two devices that differ in secret data alone answer alike all events before the first that reads
+-- them.
+abbrev pub RunTellsNothing : Type 0
+RunTellsNothing =
+    (indices : ℕ → Bool) (objects : Public → Bool) (one other : Record) (events : Attempts)
+    → let s : Secrecy = of_data indices objects in
+    DifferInSecrets s one other → NoneReads s one events → RunsAlike s one other events
+
+-- ---- wrong guesses
+
+-- In a command that passed the general checks all guesses fail, and it reads no secret data.
+pub record KeepsSecrets (s : Secrecy) (r : Record) (c : Whole) (locality : ℕ) (random : List ℕ)
+    : Type 0
+  where
+    pub reads : command_reads s r locality random c ≡ false
+    pub guesses : GuessesFail s r c locality
+    pub bindings : BindingsHold s r
+
+abbrev pub EventKeepsSecrets : Secrecy → Record → PlainEvent → Type 0
+EventKeepsSecrets s r (Given buffer locality elapsed random) =
+    IfOk (general (ticked r elapsed) buffer) (λ c.
+    KeepsSecrets s (ticked r elapsed) c locality random)
+EventKeepsSecrets s r Cycled = Unit {0}
+
+-- Two devices differ in what is secret alone: an event in which, on both, all guesses of an
+-- authorization value fail, and no secret data are read, tells nothing of them. The premise is on
+-- both, since a guess that is wrong on one device may be right on the other.
+abbrev pub WrongGuessesTellNothing : Type 0
+WrongGuessesTellNothing =
+    (s : Secrecy) → CoversKeys s → (one other : Record) (refused : Bool) (event : PlainEvent)
+    → DifferInSecrets s one other → EventKeepsSecrets s one event → EventKeepsSecrets s other event
+    → TellsNothing s (step_where refused one event) (step_where refused other event)
+
+-- All these events keep the secrets when they come.
+abbrev pub AllKeepSecrets : Secrecy → Record → Attempts → Type 0
+AllKeepSecrets s r [] = Unit {0}
+AllKeepSecrets s r (e ∷ es) =
+    EventKeepsSecrets s r e.1 × AllKeepSecrets s (step_where e.0 r e.1).after es
+
+-- Two devices that differ in what is secret alone answer alike all events, as long as every guess
+-- fails on both, and none reads secret data.
+abbrev pub RunOfWrongGuessesTellsNothing : Type 0
+RunOfWrongGuessesTellsNothing =
+    (s : Secrecy) → CoversKeys s → (one other : Record) (events : Attempts)
+    → DifferInSecrets s one other → AllKeepSecrets s one events → AllKeepSecrets s other events
+    → RunsAlike s one other events

@@ -1,0 +1,3 @@
+#![tactic(auto)]
+
+//! What the answers of a device tell of what it keeps secret.
