@@ -11,3 +11,5 @@ pub mod ObjectRows
 pub mod IndexRows
 pub mod CapabilityRows
 pub mod Table
+pub mod Authorizing
+pub mod Guessing

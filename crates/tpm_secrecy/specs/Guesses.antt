@@ -120,8 +120,11 @@ GuessesFail s r c locality =
 -- What has the Name of what a session was bound to, with a secret key, is protected against
 -- dictionary attacks as that was. It is, where no two entities have one Name: then an object or an
 -- index with the Name has the same noDA, and a handle is the same handle.
+abbrev pub BindingHolds : Secrecy → Record → Session → Type 0
+BindingHolds s r x =
+    IfSome x.binding (λ b.
+    (handle : Handle) → s.bound_names b.name ≡ true → b.name ≡ name_of r handle
+    → protection_of r handle ≡ b.protection)
+
 abbrev pub BindingsHold : Secrecy → Record → Type 0
-BindingsHold s r =
-    (session handle : Handle)
-    → IfSome (session_at r.sessions session) (λ x. IfSome x.binding (λ b.
-    s.bound_names b.name ≡ true → b.name ≡ name_of r handle → protection_of r handle ≡ b.protection))
+BindingsHold s r = (session : Handle) → IfSome (session_at r.sessions session) (BindingHolds s r)
