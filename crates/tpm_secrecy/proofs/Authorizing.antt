@@ -116,7 +116,7 @@ module _ (s : Secrecy) (covers : CoversKeys s) (r : Record) where
 
   -- ---- what both have
 
-  seen_session : {X : Type 0} (see : Option Session → X) → ((found : Option Session) → see (option_map (bare_session s) found) ≡ see found) → (h : Handle) → see (session_at bare.sessions h) ≡ see (session_at r.sessions h)
+  pub seen_session : {X : Type 0} (see : Option Session → X) → ((found : Option Session) → see (option_map (bare_session s) found) ≡ see found) → (h : Handle) → see (session_at bare.sessions h) ≡ see (session_at r.sessions h)
   seen_session see same h = ap see (session_at_bare s r.sessions h) ∙ same (session_at r.sessions h)
 
   none_seen : (found : Option Session) → is_none (option_map (bare_session s) found) ≡ is_none found

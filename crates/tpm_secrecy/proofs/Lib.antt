@@ -13,3 +13,6 @@ pub mod CapabilityRows
 pub mod Table
 pub mod Authorizing
 pub mod Guessing
+pub mod Granted
+pub mod Answering
+pub mod Stepping
