@@ -16,3 +16,7 @@ pub mod Guessing
 pub mod Granted
 pub mod Answering
 pub mod Stepping
+pub mod Data
+pub mod Reading
+pub mod SealedData
+pub mod DiskKey

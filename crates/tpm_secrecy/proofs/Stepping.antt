@@ -91,19 +91,19 @@ in_command_alike s code x y alike = record { is = through x ∙ ap (in_command c
 
 module _ (s : Secrecy) (covers : CoversKeys s) where
   module _ (r t : Record) (differ : DifferInSecrets s r t) where
-    authorized_same : (c : Whole) (locality : ℕ) → GuessesFail s r c locality → BindingsHold s r → GuessesFail s t c locality → BindingsHold s t → authorize r c locality ≡ authorize t c locality
+    pub authorized_same : (c : Whole) (locality : ℕ) → GuessesFail s r c locality → BindingsHold s r → GuessesFail s t c locality → BindingsHold s t → authorize r c locality ≡ authorize t c locality
     authorized_same c locality one bound other also =
         sym (doubted_is s covers r c locality bound one)
         ∙ ap (doubted_authorization s c locality) differ
         ∙ doubted_is s covers t c locality also other
 
-    requests_same : (c : Whole) (grants : List (Option Grant)) (locality : ℕ) (random : List ℕ) → NoneUses s r (granted_entries c grants) → NoneUses s t (granted_entries c grants) → request_in r c grants locality random ≡ request_in t c grants locality random
+    pub requests_same : (c : Whole) (grants : List (Option Grant)) (locality : ℕ) (random : List ℕ) → NoneUses s r (granted_entries c grants) → NoneUses s t (granted_entries c grants) → request_in r c grants locality random ≡ request_in t c grants locality random
     requests_same c grants locality random one other =
         sym (request_same s covers r c grants locality random one)
         ∙ ap (λ (x : Record). request_in x c grants locality random) differ
         ∙ request_same s covers t c grants locality random other
 
-    reads_both : (c : CommandCode) (q : Request) → reads_secret s r c q ≡ reads_secret s t c q
+    pub reads_both : (c : CommandCode) (q : Request) → reads_secret s r c q ≡ reads_secret s t c q
     reads_both c q = sym (reads_same s r q c) ∙ ap (λ (x : Record). reads_secret s x c q) differ ∙ reads_same s t q c
 
     rows_alike : (c : CommandCode) (q : Request) → reads_secret s r c q ≡ false → Same s (row_of r c q) (row_of t c q)

@@ -2,3 +2,4 @@ pub mod Secrecy
 pub mod Reads
 pub mod Guesses
 pub mod Tells
+pub mod SealedData

@@ -1,0 +1,151 @@
+-- What leaves a device of the data that objects seal, and of HMAC keys: nothing but by TPM2_Unseal,
+-- or TPM2_HMAC, each of which met the object's policy. TPM 2.0 Library, Part 1, sections 19.7
+-- (enhanced authorization) and 23 (protected storage), and Part 3, sections 12.7 and 15.5.
+use Rattle.std.specs.Prelude.{Bool, List, Some, [], false, if◌then◌else◌, slice_get, true, ℕ, ◌∷◌, ◌≡◌, ◌⊎◌}
+use Rattle.tpm_mac.specs.Hasher.{Holds}
+use Rattle.tpm_mac.specs.declared.algorithm.HashAlg.{HashAlg}
+use Rattle.tpm_object.specs.Object.{is_keyed_hash}
+use Rattle.tpm_policy_meaning.specs.Expression.{Branch, NoBranch, Nothing, PolicyAuthValue, PolicyExpression, PolicyOr, PolicySecret, Then}
+use Rattle.tpm_policy_meaning.specs.Meaning.{IsMet, IsPolicyExpression}
+use Rattle.tpm_policy_meaning.specs.PolicyDigest.{policy_digest}
+use Rattle.tpm_record.specs.Record.{Record, manufactured}
+use Rattle.tpm_step.specs.AssertedBy.{ShowsSecret}
+use Rattle.tpm_step.specs.Events.{PlainEvent}
+use Rattle.tpm_step.specs.Execution.{Executes}
+use Rattle.tpm_step.specs.Executions.{Execution, Leads, history_after, with_execution}
+use Rattle.tpm_step.specs.History.{AcceptedCommand, Done, History, recorded}
+use Rattle.tpm_step.specs.PolicyReviews.{HavePcrValues, IsUsedBySession, by_pcrs}
+use Rattle.tpm_step.specs.PolicyUses.{IsMetBy, ShowsAuthValue}
+use Rattle.tpm_step.specs.Step.{Stepped, Steps}
+use Rattle.tpm_step.specs.View.{OfObject}
+use Rattle.tpm_types.specs.declared.pcr_selection.BankSelection.{BankSelection}
+use Rattle.tpm_types_object.specs.ObjectAttributes.{has}
+use Rattle.tpm_types_object.specs.declared.public.Public.{Public}
+use Rattle.tpm_secrecy.specs.Secrecy.{DifferInSecrets, Secrecy, of_data}
+use Rattle.tpm_secrecy.specs.Tells.{TellsNothing}
+use Rattle.tpm_types_object.specs.declared.object_attributes.ObjectAttribute.TheVariants as attribute
+use Rattle.tpm_commands.specs.declared.command_code.CommandCode.TheVariants as command
+
+-- the secrecy of what objects with these public areas seal, or of their keys, alone
+abbrev pub sealed : (Public → Bool) → Secrecy
+sealed objects = of_data (λ number. false) objects
+
+-- ---- an accepted command that reads sealed data
+
+-- An accepted command reads what an object holds that has one of these public areas: it is
+-- TPM2_HMAC, where the object signs, and otherwise TPM2_Unseal. Where the object has no
+-- userWithAuth, and its authPolicy is the digest of a policy, a policy session authorized the
+-- command and met the policy; or the hash is broken.
+pub record ReadsSealed (objects : Public → Bool) (history : History) (c : AcceptedCommand) : Type 0
+  where
+    pub public : Public
+    pub viewed : slice_get c.views 0 ≡ Some (OfObject public)
+    pub keyed_hash : is_keyed_hash public ≡ true
+    pub secret : objects public ≡ true
+    pub code : c.command.code
+        ≡ (if has public.attributes attribute.Sign then command.Hmac else command.Unseal)
+    pub policy : (policy : PolicyExpression)
+        → has public.attributes attribute.UserWithAuth ≡ false
+        → public.auth_policy ≡ policy_digest public.name_alg policy
+        → IsPolicyExpression public.name_alg policy
+        → IsUsedBySession history c 0 public.name_alg policy (λ u. IsMet (IsMetBy u) policy)
+
+-- An execution tells nothing of what is sealed: any device that differs in this alone can execute
+-- the event with the same response and row, and differs in this alone after it.
+abbrev pub TellsNothingSealed : (Public → Bool) → Bool → Record → PlainEvent → Stepped → Type 0
+TellsNothingSealed objects can old event x =
+    (other : Record) → DifferInSecrets (sealed objects) old other
+    → (y : Stepped) × Steps can other event y × TellsNothing (sealed objects) x y
+
+-- Whatever was executed on a device since it was manufactured: each execution tells nothing of what
+-- is sealed, or is recorded as an accepted command that reads it.
+abbrev pub SealedDataNeedPolicy : Type 0
+SealedDataNeedPolicy =
+    (objects : Public → Bool) (can : Bool) (random : List ℕ) (executions : List Execution)
+    (old : Record)
+    → Leads can (manufactured random) executions old
+    → (event : PlainEvent) (x : Stepped) → Executes can old event x
+    → let history : History = history_after [] executions in
+    TellsNothingSealed objects can old event x
+    ⊎ (c : AcceptedCommand) × (recorded old event x.row.check history ≡ Done c ∷ history)
+    × ReadsSealed objects history c
+
+-- ---- until one reads them
+
+-- No command is accepted in these executions, after this history, of which something holds.
+abbrev pub NoneIs : (History → AcceptedCommand → Type 0) → History → List Execution → Type 0
+NoneIs Holds history [] = Unit {0}
+NoneIs Holds history (one ∷ executions) =
+    ((c : AcceptedCommand) → with_execution one history ≡ Done c ∷ history → Holds history c → ⊥)
+    × NoneIs Holds (with_execution one history) executions
+
+-- From another device the same events lead, with the same responses and rows, to a device that
+-- differs from this one in what is sealed alone.
+abbrev pub LeadsAlike : (Public → Bool) → Bool → Record → List Execution → Record → Type 0
+LeadsAlike objects can other [] new = DifferInSecrets (sealed objects) new other
+LeadsAlike objects can other (one ∷ executions) new =
+    (y : Stepped) × Steps can other one.event y × (y.response ≡ one.seen.response)
+    × (y.row ≡ one.seen.row) × LeadsAlike objects can y.after executions new
+
+-- Executions on this device tell nothing of what is sealed: every device that differs in this alone
+-- can give the same responses and rows to all of the events.
+abbrev pub StaySealed : (Public → Bool) → Bool → Record → List Execution → Record → Type 0
+StaySealed objects can old executions new =
+    (other : Record) → DifferInSecrets (sealed objects) old other
+    → LeadsAlike objects can other executions new
+
+-- Of a device as it was manufactured, whatever was executed on it before: until a command is
+-- accepted that reads what is sealed, executions tell nothing of it.
+abbrev pub SealedDataStayUntilRead : Type 0
+SealedDataStayUntilRead =
+    (objects : Public → Bool) (can : Bool) (random : List ℕ) (before : List Execution) (old : Record)
+    → Leads can (manufactured random) before old
+    → (executions : List Execution) (new : Record) → Leads can old executions new
+    → NoneIs (ReadsSealed objects) (history_after [] before) executions
+    → StaySealed objects can old executions new
+
+-- ---- a disk's key
+
+-- the policy of a disk's key: that PCRs have these values, and the PIN, which is the key's
+-- authorization value, is given; or that the authorization of an entity, a recovery secret, is given
+abbrev pub disk_policy : HashAlg → List BankSelection → (values name reference : List ℕ)
+    → PolicyExpression
+disk_policy hash selection values name reference =
+    PolicyOr (Branch (Then (by_pcrs hash selection values) PolicyAuthValue)
+    (Branch (Then Nothing (PolicySecret name reference)) NoBranch))
+
+-- An accepted command uses an object for which a session showed that the PCRs had the values and
+-- that the PIN was given, or the recovery secret; or the hash is broken.
+abbrev pub OpensDiskKey : Public → List BankSelection → (values name reference : List ℕ)
+    → History → AcceptedCommand → Type 0
+OpensDiskKey public selection values name reference history c =
+    IsUsedBySession history c 0 public.name_alg
+    (disk_policy public.name_alg selection values name reference)
+    (λ u. HavePcrValues history public.name_alg selection values × ShowsAuthValue u
+    ⊎ ShowsSecret history u.entry.session name reference)
+
+-- An object has no userWithAuth, and the policy of a disk's key; and the objects are those that have
+-- its public area.
+pub record IsDiskKey (public : Public) (objects : Public → Bool) (selection : List BankSelection)
+    (values name reference : List ℕ) : Type 0
+  where
+    pub no_user_with_auth : has public.attributes attribute.UserWithAuth ≡ false
+    pub auth_policy : public.auth_policy
+        ≡ policy_digest public.name_alg
+        (disk_policy public.name_alg selection values name reference)
+    pub one : (other : Public) → objects other ≡ true → other ≡ public
+
+-- Whatever was executed on a device since it was manufactured: until a command is accepted for which
+-- the PCRs have their values and the PIN is given, or the recovery secret is, or the hash is broken,
+-- nothing tells the disk's key.
+abbrev pub DiskKeyStaysSecret : Type 0
+DiskKeyStaysSecret =
+    (public : Public) (objects : Public → Bool) (selection : List BankSelection)
+    (values name reference : List ℕ)
+    → IsDiskKey public objects selection values name reference
+    → (can : Bool) (random : List ℕ) (before : List Execution) (old : Record)
+    → Leads can (manufactured random) before old
+    → (executions : List Execution) (new : Record) → Leads can old executions new
+    → NoneIs (OpensDiskKey public selection values name reference) (history_after [] before)
+    executions
+    → StaySealed objects can old executions new
