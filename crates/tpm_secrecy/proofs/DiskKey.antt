@@ -16,7 +16,6 @@ use Rattle.tpm_step.specs.History.{AcceptedCommand, History}
 use Rattle.tpm_step.specs.Pcrs.{digest_in, values_in}
 use Rattle.tpm_step.specs.PolicyReviews.{HavePcrValues, IsUsedBySession}
 use Rattle.tpm_step.specs.PolicyUses.{HasPcrsNow, IsMetBy, PolicyUse, ShowsAuthValue}
-use Rattle.tpm_step.specs.Sessions.{used}
 use Rattle.tpm_types.proofs.Named.{none}
 use Rattle.tpm_types.specs.declared.pcr_selection.BankSelection.{BankSelection}
 use Rattle.tpm_types_object.specs.declared.public.Public.{Public}

@@ -20,3 +20,4 @@ pub mod Data
 pub mod Reading
 pub mod SealedData
 pub mod DiskKey
+pub mod FewGuesses

@@ -31,7 +31,6 @@ use Rattle.tpm_types.proofs.Spelled.{first}
 use Rattle.tpm_types.specs.declared.refused.Refused.{Refused}
 use Rattle.tpm_types_command.specs.Command.{Whole}
 use Rattle.tpm_types_object.specs.declared.public.Public.{Public}
-use Rattle.tpm_secrecy.proofs.Alike.{success}
 use Rattle.tpm_secrecy.proofs.Data.{data_told_nothing}
 use Rattle.tpm_secrecy.proofs.Reading.{ReadsObject, first_used, first_viewed, never_grows, object_handle_fits, object_viewed, reading_code, reads_object}
 use Rattle.tpm_secrecy.specs.Reads.{reads_secret}
@@ -39,7 +38,6 @@ use Rattle.tpm_secrecy.specs.SealedData.{NoneIs, ReadsSealed, SealedDataNeedPoli
 use Rattle.tpm_secrecy.specs.Secrecy.{DifferInSecrets}
 use Rattle.tpm_secrecy.specs.Tells.{TellsNothing, decoded_reads, granted_reads, is_reading}
 use Rattle.tpm_types_object.specs.declared.object_attributes.ObjectAttribute.TheVariants as attribute
-use Rattle.tpm_commands.specs.declared.command_code.CommandCode.TheVariants as command
 
 -- ---- what tells nothing
 

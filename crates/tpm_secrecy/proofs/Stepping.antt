@@ -43,7 +43,6 @@ use Rattle.tpm_secrecy.specs.Guesses.{BindingsHold, GuessesFail, NoneUses}
 use Rattle.tpm_secrecy.specs.Reads.{reads_secret}
 use Rattle.tpm_secrecy.specs.Secrecy.{CoversKeys, DifferInSecrets, Secrecy, without_secrets}
 use Rattle.tpm_secrecy.specs.Tells.{Attempts, EventKeepsSecrets, KeepsSecrets, RunOfWrongGuessesTellsNothing, RunsAlike, TellsNothing, WrongGuessesTellNothing, answering, answers_to, granted_reads}
-use Rattle.tpm_step.specs.declared.direction.Direction.TheVariants as direction
 
 -- the texts of a command are read alike, if each of them is
 each_read_same : {X A E : Type 0} (f g : ℕ → X → List ℕ → Result (A × List ℕ) E) → ((n : ℕ) (x : X) (text : List ℕ) → f n x text ≡ g n x text) → (n : ℕ) (xs : List X) (text : List ℕ) → each_at f n xs text ≡ each_at g n xs text

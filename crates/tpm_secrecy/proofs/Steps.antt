@@ -17,7 +17,6 @@ use Rattle.tpm_record.specs.rows.Rows.{Success, unchanged}
 use Rattle.tpm_record.specs.rows.Target.{attributes_of, index_or_refusal, target_of}
 use Rattle.tpm_session.specs.Sessions.{session_at}
 use Rattle.tpm_session.specs.declared.session.Session.{Session}
-use Rattle.tpm_step.proofs.AuthParts.{auth_handle}
 use Rattle.tpm_types.specs.declared.handle.Handle.{Handle}
 use Rattle.tpm_types.specs.declared.refused.Refused.{Refused}
 use Rattle.tpm_types_nv.specs.declared.nv_attributes.NvAttributes.{NvAttributes}

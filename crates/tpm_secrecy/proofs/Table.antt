@@ -22,7 +22,6 @@ use Rattle.tpm_secrecy.proofs.Steps.{Same}
 use Rattle.tpm_secrecy.specs.Reads.{handle_passes, is_secret_counter, is_secret_index, names_index, names_policy_session, names_secret_object, reads_secret}
 use Rattle.tpm_secrecy.specs.Secrecy.{CoversKeys, Secrecy, bare_index, bare_object, bare_session, has_secret_data, without_secrets}
 use Rattle.tpm_commands.specs.declared.command_code.CommandCode.TheVariants as command
-use Rattle.tpm_types_nv.specs.declared.nv_type.NvType.TheVariants as type
 use Rattle.tpm_secrecy.proofs.CapabilityRows as capability
 use Rattle.tpm_secrecy.proofs.DeviceRows as device
 use Rattle.tpm_secrecy.proofs.IndexRows as index

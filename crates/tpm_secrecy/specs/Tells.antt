@@ -1,14 +1,17 @@
 -- What the answers of a device tell of its secrets: nothing, until something reads them.
-use Rattle.std.specs.Prelude.{Bool, Err, IfOk, List, Ok, Option, Result, [], drop, false, ℕ, ◌∷◌, ◌≡◌}
+use Rattle.std.specs.Prelude.{Bool, Err, IfOk, List, Ok, Option, Result, [], drop, false, true, ℕ, ◌∷◌, ◌≡◌, ◌≢◌, ◌≤◌}
 use Rattle.tpm_auth.specs.Grant.{authorize}
 use Rattle.tpm_auth.specs.declared.session_grant.Grant.{Grant}
 use Rattle.tpm_record.specs.Record.{Record}
 use Rattle.tpm_record.specs.Tick.{ticked}
 use Rattle.tpm_step.specs.Entries.{entries_rolled}
 use Rattle.tpm_step.specs.Events.{Cycled, Given, PlainEvent}
+use Rattle.tpm_step.specs.Executions.{Execution, Leads, history_after}
 use Rattle.tpm_step.specs.General.{general}
 use Rattle.tpm_step.specs.Granted.{granted_entries}
+use Rattle.tpm_step.specs.Potential.{IsForgiving}
 use Rattle.tpm_step.specs.Step.{Accepted, Stepped, acceptance, request_in, step_where}
+use Rattle.tpm_step.specs.Tries.{HasNoReset, failures_in, tries_within}
 use Rattle.tpm_step.specs.declared.event.Row.{Row}
 use Rattle.tpm_step.specs.declared.refused_command.RefusedCommand.{RefusedCommand}
 use Rattle.tpm_types.specs.declared.refused.Refused.{Refused}
@@ -154,3 +157,25 @@ RunOfWrongGuessesTellsNothing =
     (s : Secrecy) → CoversKeys s → (one other : Record) (events : Attempts)
     → DifferInSecrets s one other → AllKeepSecrets s one events → AllKeepSecrets s other events
     → RunsAlike s one other events
+
+-- ---- guesses, and failed tries
+
+-- what a device executes of these events
+abbrev pub executions_of : Record → Attempts → List Execution
+executions_of r [] = []
+executions_of r (e ∷ es) =
+    let x : Stepped = step_where e.0 r e.1 in
+    record { before = r; event = e.1; seen = x } ∷ executions_of x.after es
+
+-- Two devices that differ in what is secret alone, say in a PIN, answer events alike as long as every
+-- guess fails on both; and where protected values are concerned, few of these guesses are compared
+-- with them: in events that were executed without a reset, no more tries fail than maxTries and one
+-- for each recoveryTime that passes.
+abbrev pub WrongGuessesAreFew : Type 0
+WrongGuessesAreFew =
+    (s : Secrecy) → CoversKeys s → (one other : Record) (events : Attempts)
+    → DifferInSecrets s one other → AllKeepSecrets s one events → AllKeepSecrets s other events
+    → IsForgiving one.fixed.lockout → one.fixed.lockout.fields.recovery_time ≢ 0
+    → let executions : List Execution = executions_of one events in
+    Leads true one executions (after_all one events) → HasNoReset (history_after [] executions)
+    → RunsAlike s one other events × (failures_in executions ≤ tries_within one executions)
