@@ -1,9 +1,9 @@
 #![tactic(auto)]
 
-//! What the answers of a device tell of what it keeps secret: of the data of NV indices, of the data
-//! that objects seal, of HMAC keys, and of authorization values.
+//! What the answers of a device tell of what it keeps secret.
 //!
-//! The secrets are taken away from a record, and not varied: two devices are compared that are the
+//! Secret are data of NV indices, the data that objects seal, HMAC keys, and authorization values.
+//! These are taken away from a record, and not varied: two devices are compared that are the
 //! same without them. The laws are of the definitions of tpm_step, over any record: each is the
 //! contract of a function that does nothing. They hold of what tpm_machine executes, since each call
 //! executes an event as the step defines it.
