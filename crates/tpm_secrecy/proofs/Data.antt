@@ -18,7 +18,7 @@ use Rattle.tpm_session.specs.declared.session.Session.{Session}
 use Rattle.tpm_step.specs.Events.{Cycled, Given, PlainEvent}
 use Rattle.tpm_step.specs.General.{general}
 use Rattle.tpm_step.specs.Granted.{Granted, granted_entries}
-use Rattle.tpm_step.specs.Step.{Accepted, acceptance, request_in, step_where}
+use Rattle.tpm_step.specs.Step.{request_in, step_where}
 use Rattle.tpm_step.specs.declared.refused_command.RefusedCommand.{RefusedCommand}
 use Rattle.tpm_types.proofs.Named.{none}
 use Rattle.tpm_types.specs.Handle.{hierarchy_auth_of, session_kind}
@@ -33,7 +33,7 @@ use Rattle.tpm_secrecy.proofs.Stepping.{authorized_same, general_same, reads_bot
 use Rattle.tpm_secrecy.specs.Guesses.{BindingHolds, BindingsHold, GuessesFail, NoneUses, authorizes_secret, demand_uses, demands_value, guesses_by, is_hmac_session, session_guesses, session_uses, uses_by, uses_encryption}
 use Rattle.tpm_secrecy.specs.Reads.{reads_secret}
 use Rattle.tpm_secrecy.specs.Secrecy.{CoversKeys, DifferInSecrets, Secrecy, entity_has_secret_value, has_secret_key, of_data}
-use Rattle.tpm_secrecy.specs.Tells.{EventKeepsSecrets, EventTellsNothing, KeepsSecrets, ReadOnBoth, RunTellsNothing, TellsNothing, answering, command_reads, decoded_reads, granted_reads, is_reading}
+use Rattle.tpm_secrecy.specs.Tells.{EventKeepsSecrets, EventTellsNothing, KeepsSecrets, ReadOnBoth, RunTellsNothing, TellsNothing, command_reads, decoded_reads, granted_reads, is_reading}
 use Rattle.tpm_types.specs.declared.handle.SessionKind.TheVariants as kind
 
 module _ (indices : ℕ → Bool) (objects : Public → Bool) where
@@ -119,12 +119,7 @@ module _ (indices : ℕ → Bool) (objects : Public → Bool) where
     reads = free;
     guesses = guesses_fail r c locality;
     bindings = bindings_hold r;
-    answers = any_answer (acceptance r c locality random);
   }
-    where
-      any_answer : (x : Result Accepted Refused) → IfOk x (λ a. NoneUses data_alone (answering a random) (granted_entries a.command a.grants))
-      any_answer (Ok a) = none_use (answering a random) (granted_entries a.command a.grants)
-      any_answer (Err e) = tt
 
   pub event_keeps : (r : Record) (event : PlainEvent) → is_reading data_alone r event ≡ false → EventKeepsSecrets data_alone r event
   event_keeps r (Given buffer locality elapsed random) free = by (general (ticked r elapsed) buffer) free

@@ -75,14 +75,14 @@ session_unused s r e g x free found = by (session_kind e.session) refl free
 
 -- ---- what is granted is what was compared
 
-comparison_gives : (r : Record) (c : Whole) (n : ℕ) (g : Option Grant) (e : Entry) (x : Session) → IfOk (comparison r c n g e x) (λ granted. granted ≡ g)
+pub comparison_gives : (r : Record) (c : Whole) (n : ℕ) (g : Option Grant) (e : Entry) (x : Session) → IfOk (comparison r c n g e x) (λ granted. granted ≡ g)
 comparison_gives r c n g e x = search (rules, ok_bind)
 
-password_gives : (r : Record) (c : Whole) (n : ℕ) (used : Option Handle) (e : Entry) → IfOk (password_grant r c.code n used e) (λ granted. granted ≡ option_map undemanding used)
+pub password_gives : (r : Record) (c : Whole) (n : ℕ) (used : Option Handle) (e : Entry) → IfOk (password_grant r c.code n used e) (λ granted. granted ≡ option_map undemanding used)
 unfolding password_grant
 password_gives r c n used e = search (rules, ok_bind)
 
-weaker : {X : Type 0} (P Q : X → Type 0) (x : Result X Refused) → ((a : X) → P a → Q a) → IfOk x P → IfOk x Q
+pub weaker : {X : Type 0} (P Q : X → Type 0) (x : Result X Refused) → ((a : X) → P a → Q a) → IfOk x P → IfOk x Q
 weaker P Q (Ok a) so holds = so a holds
 weaker P Q (Err e) so holds = tt
 

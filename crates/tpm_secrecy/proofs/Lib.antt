@@ -21,3 +21,6 @@ pub mod Reading
 pub mod SealedData
 pub mod DiskKey
 pub mod FewGuesses
+pub mod KeptValues
+pub mod KeptSessions
+pub mod AnsweringFree

@@ -18,6 +18,8 @@ use Rattle.tpm_record.specs.Tick.{ticked}
 use Rattle.tpm_record.specs.rows.Refusals.{memory_refusal}
 use Rattle.tpm_record.specs.rows.Request.{Request}
 use Rattle.tpm_record.specs.rows.Rows.{Success}
+use Rattle.tpm_step.proofs.Binding.{ok_bind}
+use Rattle.tpm_step.proofs.rows.Acceptance.{accepted_is}
 use Rattle.tpm_step.specs.Answer.{Answered, answer_to, written_of}
 use Rattle.tpm_step.specs.Events.{Cycled, Given, PlainEvent}
 use Rattle.tpm_step.specs.General.{body_of, general, in_command, in_header, present_handle_at}
@@ -26,12 +28,14 @@ use Rattle.tpm_step.specs.Step.{Accepted, Stepped, acceptance, accepted, answer_
 use Rattle.tpm_step.specs.Table.{row_of}
 use Rattle.tpm_step.specs.declared.event.Row.{Row}
 use Rattle.tpm_step.specs.declared.refused_command.RefusedCommand.{RefusedCommand}
+use Rattle.tpm_step.specs.rows.Acceptance.{IsAcceptance}
 use Rattle.tpm_types.specs.declared.refused.Refused.{Refused}
 use Rattle.tpm_types_command.specs.Command.{Whole}
 use Rattle.tpm_types_command.specs.Header.{header_at}
 use Rattle.tpm_types_command.specs.declared.header.Header.{Header}
 use Rattle.tpm_secrecy.proofs.Alike.{Alike, alike_after, alike_end, alike_err, alike_step_is, outcome}
 use Rattle.tpm_secrecy.proofs.Answering.{answer_same, request_same}
+use Rattle.tpm_secrecy.proofs.AnsweringFree.{answer_free, answering}
 use Rattle.tpm_secrecy.proofs.Authorizing.{then_same}
 use Rattle.tpm_secrecy.proofs.Bare.{cycled_bare, record_again}
 use Rattle.tpm_secrecy.proofs.Entities.{present_bare}
@@ -42,7 +46,7 @@ use Rattle.tpm_secrecy.proofs.Table.{reads_same, row_tells}
 use Rattle.tpm_secrecy.specs.Guesses.{BindingsHold, GuessesFail, NoneUses}
 use Rattle.tpm_secrecy.specs.Reads.{reads_secret}
 use Rattle.tpm_secrecy.specs.Secrecy.{CoversKeys, DifferInSecrets, Secrecy, without_secrets}
-use Rattle.tpm_secrecy.specs.Tells.{Attempts, EventKeepsSecrets, KeepsSecrets, RunOfWrongGuessesTellsNothing, RunsAlike, TellsNothing, WrongGuessesTellNothing, answering, answers_to, granted_reads}
+use Rattle.tpm_secrecy.specs.Tells.{Attempts, EventKeepsSecrets, KeepsSecrets, RunOfWrongGuessesTellsNothing, RunsAlike, TellsNothing, WrongGuessesTellNothing, answers_to, granted_reads}
 
 -- the texts of a command are read alike, if each of them is
 each_read_same : {X A E : Type 0} (f g : ℕ → X → List ℕ → Result (A × List ℕ) E) → ((n : ℕ) (x : X) (text : List ℕ) → f n x text ≡ g n x text) → (n : ℕ) (xs : List X) (text : List ℕ) → each_at f n xs text ≡ each_at g n xs text
@@ -156,17 +160,37 @@ module _ (s : Secrecy) (covers : CoversKeys s) where
   abbrev Quiet : List ℕ → Accepted → Type 0
   Quiet random a = NoneUses s (answering a random) (granted_entries a.command a.grants)
 
-  quiet_in : (r : Record) (locality : ℕ) (random : List ℕ) (x : Result Whole RefusedCommand) → IfOk x (λ c. KeepsSecrets s r c locality random) → IfOk (x >>= λ c. in_command c.code (acceptance r c locality random)) (Quiet random)
-  quiet_in r locality random (Ok c) keeps = by (acceptance r c locality random) keeps.answers
-    where
-      by : (x : Result Accepted Refused) → IfOk x (Quiet random) → IfOk (in_command c.code x) (Quiet random)
-      by (Ok a) quiet = quiet
-      by (Err e) quiet = tt
-  quiet_in r locality random (Err e) keeps = tt
+  quiet_if : (r : Record) (locality : ℕ) (random : List ℕ) (a : Accepted) → IsAcceptance r locality random a → KeepsSecrets s r a.command locality random → Quiet random a
+  quiet_if r locality random a accepts keeps = answer_free s r locality random a accepts (granted_free s r a.command locality a.grants keeps.guesses accepts.granted)
+
+  of_command : (r : Record) (c : Whole) (locality : ℕ) (random : List ℕ) → IfOk (acceptance r c locality random) (λ a. a.command ≡ c)
+  unfolding acceptance
+  of_command r c locality random =
+      ok_bind _ (authorize r c locality) _ (λ grants.
+      ok_bind _ (row_of r c.code (request_in r c grants locality random)) _ (λ success. refl))
+
+  -- the command of a buffer keeps the secrets, where it is accepted
+  abbrev KeepsIts : Record → (locality : ℕ) → (random : List ℕ) → Accepted → Type 0
+  KeepsIts r locality random a = KeepsSecrets s r a.command locality random
+
+  command_keeps : (r : Record) (c : Whole) (locality : ℕ) (random : List ℕ) → KeepsSecrets s r c locality random → (x : Result Accepted Refused) → IfOk x (λ a. a.command ≡ c) → IfOk (in_command c.code x) (KeepsIts r locality random)
+  command_keeps r c locality random keeps (Ok a) is = subst (λ (d : Whole). KeepsSecrets s r d locality random) (sym is) keeps
+  command_keeps r c locality random keeps (Err e) is = tt
+
+  decoded_keeps : (r : Record) (locality : ℕ) (random : List ℕ) (x : Result Whole RefusedCommand) → IfOk x (λ c. KeepsSecrets s r c locality random) → IfOk (x >>= λ c. in_command c.code (acceptance r c locality random)) (KeepsIts r locality random)
+  decoded_keeps r locality random (Ok c) keeps = command_keeps r c locality random keeps (acceptance r c locality random) (of_command r c locality random)
+  decoded_keeps r locality random (Err e) keeps = tt
+
+  accepted_keeps : (r : Record) (buffer : List ℕ) (locality : ℕ) (random : List ℕ) → IfOk (general r buffer) (λ c. KeepsSecrets s r c locality random) → IfOk (accepted r buffer locality random) (KeepsIts r locality random)
+  unfolding accepted
+  accepted_keeps r buffer locality random keeps = decoded_keeps r locality random (general r buffer) keeps
 
   quiet_accepted : (r : Record) (buffer : List ℕ) (locality : ℕ) (random : List ℕ) → IfOk (general r buffer) (λ c. KeepsSecrets s r c locality random) → IfOk (accepted r buffer locality random) (Quiet random)
-  unfolding accepted
-  quiet_accepted r buffer locality random keeps = quiet_in r locality random (general r buffer) keeps
+  quiet_accepted r buffer locality random keeps = by (accepted r buffer locality random) (accepted_is r buffer locality random) (accepted_keeps r buffer locality random keeps)
+    where
+      by : (x : Result Accepted RefusedCommand) → IfOk x (IsAcceptance r locality random) → IfOk x (KeepsIts r locality random) → IfOk x (Quiet random)
+      by (Ok a) accepts keeps = quiet_if r locality random a accepts keeps
+      by (Err e) accepts keeps = tt
 
   abbrev bare_step : Stepped → Stepped
   bare_step x = record x { after = without_secrets s x.after }

@@ -1,23 +1,21 @@
 -- What the answers of a device tell of its secrets: nothing, until something reads them.
-use Rattle.std.specs.Prelude.{Bool, Err, IfOk, List, Ok, Option, Result, [], drop, false, true, ℕ, ◌∷◌, ◌≡◌, ◌≢◌, ◌≤◌}
+use Rattle.std.specs.Prelude.{Bool, Err, IfOk, List, Ok, Option, Result, [], false, true, ℕ, ◌∷◌, ◌≡◌, ◌≢◌, ◌≤◌}
 use Rattle.tpm_auth.specs.Grant.{authorize}
 use Rattle.tpm_auth.specs.declared.session_grant.Grant.{Grant}
 use Rattle.tpm_record.specs.Record.{Record}
 use Rattle.tpm_record.specs.Tick.{ticked}
-use Rattle.tpm_step.specs.Entries.{entries_rolled}
 use Rattle.tpm_step.specs.Events.{Cycled, Given, PlainEvent}
 use Rattle.tpm_step.specs.Executions.{Execution, Leads, history_after}
 use Rattle.tpm_step.specs.General.{general}
-use Rattle.tpm_step.specs.Granted.{granted_entries}
 use Rattle.tpm_step.specs.Potential.{IsForgiving}
-use Rattle.tpm_step.specs.Step.{Accepted, Stepped, acceptance, request_in, step_where}
+use Rattle.tpm_step.specs.Step.{Stepped, request_in, step_where}
 use Rattle.tpm_step.specs.Tries.{HasNoReset, failures_in, tries_within}
 use Rattle.tpm_step.specs.declared.event.Row.{Row}
 use Rattle.tpm_step.specs.declared.refused_command.RefusedCommand.{RefusedCommand}
 use Rattle.tpm_types.specs.declared.refused.Refused.{Refused}
 use Rattle.tpm_types_command.specs.Command.{Whole}
 use Rattle.tpm_types_object.specs.declared.public.Public.{Public}
-use Rattle.tpm_secrecy.specs.Guesses.{BindingsHold, GuessesFail, NoneUses}
+use Rattle.tpm_secrecy.specs.Guesses.{BindingsHold, GuessesFail}
 use Rattle.tpm_secrecy.specs.Reads.{reads_secret}
 use Rattle.tpm_secrecy.specs.Secrecy.{CoversKeys, DifferInSecrets, Secrecy, of_data}
 
@@ -112,22 +110,13 @@ RunTellsNothing =
 
 -- ---- wrong guesses
 
--- the record of which the answer to an accepted command is made: after its effect, and with the new
--- nonces of its sessions
-abbrev pub answering : Accepted → (random : List ℕ) → Record
-answering a random =
-    (entries_rolled a.success.after a.command.entries (drop a.success.answer.drawn random)).after
-
--- In a command that passed the general checks all guesses fail, and it reads no secret data; and if
--- it is accepted, its answer uses nothing secret.
+-- In a command that passed the general checks all guesses fail, and it reads no secret data.
 pub record KeepsSecrets (s : Secrecy) (r : Record) (c : Whole) (locality : ℕ) (random : List ℕ)
     : Type 0
   where
     pub reads : command_reads s r locality random c ≡ false
     pub guesses : GuessesFail s r c locality
     pub bindings : BindingsHold s r
-    pub answers : IfOk (acceptance r c locality random) (λ a.
-        NoneUses s (answering a random) (granted_entries a.command a.grants))
 
 abbrev pub EventKeepsSecrets : Secrecy → Record → PlainEvent → Type 0
 EventKeepsSecrets s r (Given buffer locality elapsed random) =
