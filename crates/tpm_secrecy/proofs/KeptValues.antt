@@ -63,8 +63,6 @@ use Rattle.tpm_commands.specs.declared.shape.HandleKind.TheVariants as handle_ki
 use Rattle.tpm_commands.specs.Part as part
 use Rattle.tpm_types.specs.declared.action_check.ActionCheck.TheVariants as action
 use Rattle.tpm_types.specs.declared.rc.ResponseCode.TheVariants as code
-use Rattle.tpm_nv.specs.declared.fault.WriteFault.TheVariants as write_fault
-use Rattle.tpm_nv.specs.declared.fault.LockFault.TheVariants as lock_fault
 use Rattle.tpm_nvactions.specs.NvWrite as writing
 use Rattle.tpm_actions_object.specs.Load as loading
 use Rattle.tpm_types.specs.declared.handle.HierarchyHandle.TheVariants as hierarchy
