@@ -98,7 +98,8 @@ StaySealed objects can old executions new =
 -- accepted that reads what is sealed, executions tell nothing of it.
 abbrev pub SealedDataStayUntilRead : Type 0
 SealedDataStayUntilRead =
-    (objects : Public → Bool) (can : Bool) (random : List ℕ) (before : List Execution) (old : Record)
+    (objects : Public → Bool) (can : Bool) (random : List ℕ) (before : List Execution)
+    (old : Record)
     → Leads can (manufactured random) before old
     → (executions : List Execution) (new : Record) → Leads can old executions new
     → NoneIs (ReadsSealed objects) (history_after [] before) executions
@@ -107,7 +108,8 @@ SealedDataStayUntilRead =
 -- ---- a disk's key
 
 -- the policy of a disk's key: that PCRs have these values, and the PIN, which is the key's
--- authorization value, is given; or that the authorization of an entity, a recovery secret, is given
+-- authorization value, is given; or that the authorization of an entity, a recovery secret, is
+-- given
 abbrev pub disk_policy : HashAlg → List BankSelection → (values name reference : List ℕ)
     → PolicyExpression
 disk_policy hash selection values name reference =
@@ -124,8 +126,8 @@ OpensDiskKey public selection values name reference history c =
     (λ u. HavePcrValues history public.name_alg selection values × ShowsAuthValue u
     ⊎ ShowsSecret history u.entry.session name reference)
 
--- An object has no userWithAuth, and the policy of a disk's key; and the objects are those that have
--- its public area.
+-- An object has no userWithAuth, and the policy of a disk's key; and the objects are those that
+-- have its public area.
 pub record IsDiskKey (public : Public) (objects : Public → Bool) (selection : List BankSelection)
     (values name reference : List ℕ) : Type 0
   where
@@ -135,9 +137,9 @@ pub record IsDiskKey (public : Public) (objects : Public → Bool) (selection : 
         (disk_policy public.name_alg selection values name reference)
     pub one : (other : Public) → objects other ≡ true → other ≡ public
 
--- Whatever was executed on a device since it was manufactured: until a command is accepted for which
--- the PCRs have their values and the PIN is given, or the recovery secret is, or the hash is broken,
--- nothing tells the disk's key.
+-- Whatever was executed on a device since it was manufactured: until a command is accepted for
+-- which the PCRs have their values and the PIN is given, or the recovery secret is, or the hash is
+-- broken, nothing tells the disk's key.
 abbrev pub DiskKeyStaysSecret : Type 0
 DiskKeyStaysSecret =
     (public : Public) (objects : Public → Bool) (selection : List BankSelection)

@@ -127,7 +127,8 @@ entity_has_secret_value s handle Permanent =
 abbrev pub has_secret_value : Secrecy → Record → Handle → Bool
 has_secret_value s r handle = entity_has_secret_value s handle (entity_at r handle)
 
--- Where an authorization value is secret, so are the keys of sessions that were bound to its entity.
+-- Where an authorization value is secret, so are the keys of sessions that were bound to its
+-- entity.
 pub record CoversKeys (s : Secrecy) : Type 0 where
   pub indices : (public : NvPublic)
       → s.index_values public.nv_index.number ≡ true → s.bound_names (nv_name public) ≡ true

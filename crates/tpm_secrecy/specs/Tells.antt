@@ -33,7 +33,8 @@ abbrev pub command_reads : Secrecy → Record → (locality : ℕ) → (random :
 command_reads s r locality random c =
     granted_reads s r c locality random (authorize r c locality)
 
--- whether a buffer is a command that passes the general checks, is authorized, and reads secret data
+-- whether a buffer is a command that passes the general checks, is authorized, and reads secret
+-- data
 abbrev pub decoded_reads : Secrecy → Record → (locality : ℕ) → (random : List ℕ)
     → Result Whole RefusedCommand → Bool
 decoded_reads s r locality random (Ok c) = command_reads s r locality random c
@@ -156,10 +157,10 @@ executions_of r (e ∷ es) =
     let x : Stepped = step_where e.0 r e.1 in
     record { before = r; event = e.1; seen = x } ∷ executions_of x.after es
 
--- Two devices that differ in what is secret alone, say in a PIN, answer events alike as long as every
--- guess fails on both; and where protected values are concerned, few of these guesses are compared
--- with them: in events that were executed without a reset, no more tries fail than maxTries and one
--- for each recoveryTime that passes.
+-- Two devices that differ in what is secret alone, say in a PIN, answer events alike as long as
+-- every guess fails on both; and where protected values are concerned, few of these guesses are
+-- compared with them: in events that were executed without a reset, no more tries fail than
+-- maxTries and one for each recoveryTime that passes.
 abbrev pub WrongGuessesAreFew : Type 0
 WrongGuessesAreFew =
     (s : Secrecy) → CoversKeys s → (one other : Record) (events : Attempts)

@@ -3,9 +3,9 @@
 //! What the answers of a device tell of what it keeps secret.
 //!
 //! Secret are data of NV indices, the data that objects seal, HMAC keys, and authorization values.
-//! These are taken away from a record, and not varied: two devices are compared that are the
-//! same without them. The laws are of the definitions of tpm_step, over any record: each is the
-//! contract of a function that does nothing. They hold of what tpm_machine executes, since each call
+//! These are taken away from a record, and not varied: two devices are compared that are the same
+//! without them. The laws are of the definitions of tpm_step, over any record: each is the contract
+//! of a function that does nothing. They hold of what tpm_machine executes, since each call
 //! executes an event as the step defines it.
 
 ghost use Rattle.tpm_secrecy.specs.SealedData.{DiskKeyStaysSecret, SealedDataNeedPolicy};
@@ -16,8 +16,8 @@ ghost use Rattle.tpm_secrecy.specs.Tells.{WrongGuessesTellNothing};
 
 /// Where two devices differ in secret data alone, an event that does not read them on one device
 /// tells nothing of them: both answer and report the same, and then differ in these data alone. So
-/// does a list of events up to the first that reads them. An event reads them on both devices, or on
-/// none. Whether memory is refused to an event makes no difference.
+/// does a list of events up to the first that reads them. An event reads them on both devices, or
+/// on none. Whether memory is refused to an event makes no difference.
 #[inline(always)]
 pub fn secrecy_laws()
     ensures event { EventTellsNothing }
@@ -27,9 +27,9 @@ pub fn secrecy_laws()
 
 /// Whatever was executed on a device since it was manufactured, an execution tells nothing of what
 /// objects seal, or of their keys, or it is an accepted TPM2_Unseal or TPM2_HMAC of such an object;
-/// where the object has no userWithAuth and a policy, the policy was met, or the hash is broken. Of a
-/// disk's key nothing is told until the PCRs had their values and the PIN was given, or the recovery
-/// secret was.
+/// where the object has no userWithAuth and a policy, the policy was met, or the hash is broken. Of
+/// a disk's key nothing is told until the PCRs had their values and the PIN was given, or the
+/// recovery secret was.
 #[inline(always)]
 pub fn sealed_data_laws()
     ensures each { SealedDataNeedPolicy }
@@ -38,9 +38,10 @@ pub fn sealed_data_laws()
 {}
 
 /// Where two devices differ in authorization values and other secrets alone, an event tells nothing
-/// of them if it reads no secret data and, on both devices, each guess of such a value fails; so does
-/// a list of events. In such a list no more tries fail than maxTries and one for each recoveryTime
-/// that passes. An entry that encrypts by such a value counts as a guess, though nothing is compared.
+/// of them if it reads no secret data and, on both devices, each guess of such a value fails; so
+/// does a list of events. In such a list no more tries fail than maxTries and one for each
+/// recoveryTime that passes. An entry that encrypts by such a value counts as a guess, though
+/// nothing is compared.
 #[inline(always)]
 pub fn guess_laws()
     ensures event { WrongGuessesTellNothing }
