@@ -2,7 +2,9 @@
 use Rattle.tpm_types_object.specs.ObjectAttributes.{has}
 use Rattle.std.proofs.Common.{ap, inl, inr, refl, subst, sym, ◌∙◌}
 use Rattle.std.specs.List.{concat, flat_map}
-use Rattle.std.specs.Prelude.{Bool, List, [], false, ℕ, ◌≡◌, ◌⊎◌}
+use Rattle.std.specs.Prelude.{Bool, List, [], Some, false, if◌then◌else◌, slice_get, ℕ, ◌≡◌, ◌⊎◌}
+use Rattle.tpm_commands.specs.declared.command_code.CommandCode.TheVariants as command
+use Rattle.tpm_step.specs.View.{OfObject}
 use Rattle.tpm_mac.proofs.DigestSize.{length-hash_of}
 use Rattle.tpm_mac.specs.Digest.{hash_of}
 use Rattle.tpm_mac.specs.declared.algorithm.HashAlg.{HashAlg}
@@ -52,7 +54,10 @@ module _ (public : Public) (selection : List BankSelection) (values name referen
   met_opens history u now same (inr (inl met)) = inr (subst (λ (h : History). ShowsSecret h u.entry.session name reference) now met.1)
   met_opens history u now same (inr (inr met)) = absurd met
 
-  pub opens : (history : History) (c : AcceptedCommand) → IsUsedBySession history c 0 public.name_alg policy (λ u. IsMet (IsMetBy u) policy) → OpensDiskKey public selection values name reference history c
+  abbrev Shown : History → AcceptedCommand → Type 0
+  Shown history c = IsUsedBySession history c 0 public.name_alg policy (Opens history)
+
+  opens : (history : History) (c : AcceptedCommand) → IsUsedBySession history c 0 public.name_alg policy (λ u. IsMet (IsMetBy u) policy) → Shown history c
   opens history c by = record {
     handle = by.handle;
     used = by.used;
@@ -72,14 +77,18 @@ module _ (public : Public) (selection : List BankSelection) (values name referen
       either (inl met) = inl (met_opens history u refl by.session_hash met)
       either (inr broken) = inr broken
 
+  -- a command that reads what an object with this public area seals opens the disk's key
+  reads_public : (p : Public) → p ≡ public → has public.attributes attribute.Sign ≡ false → has public.attributes attribute.UserWithAuth ≡ false → public.auth_policy ≡ policy_digest public.name_alg policy → (history : History) (c : AcceptedCommand) → slice_get c.views 0 ≡ Some (OfObject p) → c.command.code ≡ (if has p.attributes attribute.Sign then command.Hmac else command.Unseal) → ((policy : PolicyExpression) → has p.attributes attribute.UserWithAuth ≡ false → p.auth_policy ≡ policy_digest p.name_alg policy → IsPolicyExpression p.name_alg policy → IsUsedBySession history c 0 p.name_alg policy (λ u. IsMet (IsMetBy u) policy)) → OpensDiskKey public selection values name reference history c
+  reads_public p is no_sign no_user_with_auth auth_policy history c viewed code needs = record {
+    code = subst (λ (p : Public). c.command.code ≡ (if has p.attributes attribute.Sign then command.Hmac else command.Unseal)) is code ∙ ap (λ (sign : Bool). if sign then command.Hmac else command.Unseal) no_sign;
+    viewed = viewed ∙ ap (λ (p : Public). Some (OfObject p)) is;
+    by = opens history c (subst (λ (p : Public). (policy : PolicyExpression) → has p.attributes attribute.UserWithAuth ≡ false → p.auth_policy ≡ policy_digest p.name_alg policy → IsPolicyExpression p.name_alg policy → IsUsedBySession history c 0 p.name_alg policy (λ u. IsMet (IsMetBy u) policy)) is needs policy no_user_with_auth auth_policy policy_text);
+  }
+
   pub reading_opens : (objects : Public → Bool) → IsDiskKey public objects selection values name reference → (history : History) (c : AcceptedCommand) → ReadsSealed objects history c → OpensDiskKey public selection values name reference history c
-  reading_opens objects key history c reads = of_public reads.public (key.one reads.public reads.secret) reads.policy
-    where
-      of_public : (p : Public) → p ≡ public → ((policy : PolicyExpression) → has p.attributes attribute.UserWithAuth ≡ false → p.auth_policy ≡ policy_digest p.name_alg policy → IsPolicyExpression p.name_alg policy → IsUsedBySession history c 0 p.name_alg policy (λ u. IsMet (IsMetBy u) policy)) → OpensDiskKey public selection values name reference history c
-      of_public p is needs =
-          opens history c
-          (subst (λ (p : Public). (policy : PolicyExpression) → has p.attributes attribute.UserWithAuth ≡ false → p.auth_policy ≡ policy_digest p.name_alg policy → IsPolicyExpression p.name_alg policy → IsUsedBySession history c 0 p.name_alg policy (λ u. IsMet (IsMetBy u) policy)) is needs
-          policy key.no_user_with_auth key.auth_policy policy_text)
+  reading_opens objects key history c reads =
+      reads_public reads.public (key.one reads.public reads.secret) key.no_sign key.no_user_with_auth key.auth_policy
+      history c reads.viewed reads.code reads.policy
 
 pub disk_key_stays_secret : DiskKeyStaysSecret
 disk_key_stays_secret public objects selection values name reference key can random before old leads executions new led none =

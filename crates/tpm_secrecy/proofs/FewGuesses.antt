@@ -3,9 +3,9 @@ use Rattle.std.specs.Prelude.{true}
 use Rattle.tpm_step.proofs.FewTries.{fails_within}
 use Rattle.tpm_secrecy.proofs.Data.{covers}
 use Rattle.tpm_secrecy.proofs.Stepping.{run_of_wrong_guesses_tells_nothing}
-use Rattle.tpm_secrecy.specs.Tells.{WrongGuessesAreFew, after_all, executions_of}
+use Rattle.tpm_secrecy.specs.Tells.{WrongTriesAreFew, after_all, executions_of}
 
-pub wrong_guesses_are_few : WrongGuessesAreFew
+pub wrong_guesses_are_few : WrongTriesAreFew
 wrong_guesses_are_few s covers one other events differ keeps also forgiving counts leads quiet = (
   run_of_wrong_guesses_tells_nothing s covers one other events differ keeps also,
   fails_within true one (executions_of one events) (after_all one events) forgiving leads quiet counts,

@@ -104,22 +104,24 @@ guesses_by kind.Session s r c locality n used e =
 guesses_by kind.Other s r c locality n used e = false
 
 -- whether the entry in a place of a command, from 0, is a guess: its password, or its HMAC, is
--- compared with what is made of something secret
+-- compared with what is made of something secret; or it encrypts or decrypts a parameter by a key
+-- that is made of it, and nothing is compared
 abbrev pub is_guess : Secrecy → Record → Whole → (locality place : ℕ) → Entry → Bool
 is_guess s r c locality place e =
     guesses_by (session_kind e.session) s r c locality (place + 1)
     (slice_get (authorized c) place) e
 
--- Each entry of a command that is a guess is refused.
+-- Each entry of a command that is a guess is refused, also one after the first refused entry, at
+-- which the device does not look.
 abbrev pub GuessesFail : Secrecy → Record → Whole → (locality : ℕ) → Type 0
 GuessesFail s r c locality =
     (place : ℕ) (e : Entry) → slice_get c.entries place ≡ Some e
     → is_guess s r c locality place e ≡ true
     → is_ok (grant r c locality (place + 1) (slice_get (authorized c) place) e) ≡ false
 
--- What has the Name of what a session was bound to, with a secret key, is protected against
--- dictionary attacks as that was. It is, where no two entities have one Name: then an object or an
--- index with the Name has the same noDA, and a handle is the same handle.
+-- An entity with the Name to which a session with a secret key is bound has the protection that the
+-- bound entity had. This can fail only if two entities share a Name: an object or an index with the
+-- Name has the same noDA, and a handle is the same handle.
 abbrev pub BindingHolds : Secrecy → Record → Session → Type 0
 BindingHolds s r x =
     IfSome x.binding (λ b.

@@ -72,7 +72,7 @@ SealedDataNeedPolicy =
 
 -- ---- until one reads them
 
--- No command is accepted in these executions, after this history, of which something holds.
+-- No command that these executions accept, after this history, has this property.
 abbrev pub NoneIs : (History → AcceptedCommand → Type 0) → History → List Execution → Type 0
 NoneIs Holds history [] = Unit {0}
 NoneIs Holds history (one ∷ executions) =
@@ -94,8 +94,8 @@ StaySealed objects can old executions new =
     (other : Record) → DifferInSecrets (sealed objects) old other
     → LeadsAlike objects can other executions new
 
--- Of a device as it was manufactured, whatever was executed on it before: until a command is
--- accepted that reads what is sealed, executions tell nothing of it.
+-- On a device with any history since it was manufactured: until a command is accepted that reads
+-- what is sealed, executions tell nothing of it.
 abbrev pub SealedDataStayUntilRead : Type 0
 SealedDataStayUntilRead =
     (objects : Public → Bool) (can : Bool) (random : List ℕ) (before : List Execution)
@@ -116,21 +116,25 @@ disk_policy hash selection values name reference =
     PolicyOr (Branch (Then (by_pcrs hash selection values) PolicyAuthValue)
     (Branch (Then Nothing (PolicySecret name reference)) NoBranch))
 
--- An accepted command uses an object for which a session showed that the PCRs had the values and
--- that the PIN was given, or the recovery secret; or the hash is broken.
-abbrev pub OpensDiskKey : Public → List BankSelection → (values name reference : List ℕ)
-    → History → AcceptedCommand → Type 0
-OpensDiskKey public selection values name reference history c =
-    IsUsedBySession history c 0 public.name_alg
-    (disk_policy public.name_alg selection values name reference)
-    (λ u. HavePcrValues history public.name_alg selection values × ShowsAuthValue u
-    ⊎ ShowsSecret history u.entry.session name reference)
+-- An accepted TPM2_Unseal of the disk's key, for which a session showed that the PCRs had the values
+-- and that the PIN was given, which is the key's authorization value, or the recovery secret; or the
+-- hash is broken.
+pub record OpensDiskKey (public : Public) (selection : List BankSelection)
+    (values name reference : List ℕ) (history : History) (c : AcceptedCommand) : Type 0
+  where
+    pub code : c.command.code ≡ command.Unseal
+    pub viewed : slice_get c.views 0 ≡ Some (OfObject public)
+    pub by : IsUsedBySession history c 0 public.name_alg
+        (disk_policy public.name_alg selection values name reference)
+        (λ u. HavePcrValues history public.name_alg selection values × ShowsAuthValue u
+        ⊎ ShowsSecret history u.entry.session name reference)
 
--- An object has no userWithAuth, and the policy of a disk's key; and the objects are those that
--- have its public area.
+-- An object seals data and has no userWithAuth, and its authPolicy is the policy of a disk's key; and
+-- the objects are none but those that have its public area.
 pub record IsDiskKey (public : Public) (objects : Public → Bool) (selection : List BankSelection)
     (values name reference : List ℕ) : Type 0
   where
+    pub no_sign : has public.attributes attribute.Sign ≡ false
     pub no_user_with_auth : has public.attributes attribute.UserWithAuth ≡ false
     pub auth_policy : public.auth_policy
         ≡ policy_digest public.name_alg

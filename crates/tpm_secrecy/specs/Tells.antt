@@ -158,11 +158,11 @@ executions_of r (e ∷ es) =
     record { before = r; event = e.1; seen = x } ∷ executions_of x.after es
 
 -- Two devices that differ in what is secret alone, say in a PIN, answer events alike as long as
--- every guess fails on both; and where protected values are concerned, few of these guesses are
--- compared with them: in events that were executed without a reset, no more tries fail than
--- maxTries and one for each recoveryTime that passes.
-abbrev pub WrongGuessesAreFew : Type 0
-WrongGuessesAreFew =
+-- every guess fails on both. And in events that were executed without a reset, no more tries fail
+-- than maxTries and one for each recoveryTime that passes. A guess that is no try, as an entry that
+-- encrypts, is not bounded.
+abbrev pub WrongTriesAreFew : Type 0
+WrongTriesAreFew =
     (s : Secrecy) → CoversKeys s → (one other : Record) (events : Attempts)
     → DifferInSecrets s one other → AllKeepSecrets s one events → AllKeepSecrets s other events
     → IsForgiving one.fixed.lockout → one.fixed.lockout.fields.recovery_time ≢ 0

@@ -3,15 +3,14 @@
 //! What the answers of a device tell of what it keeps secret.
 //!
 //! Secret are data of NV indices, the data that objects seal, HMAC keys, and authorization values.
-//! These are taken away from a record, and not varied: two devices are compared that are the same
-//! without them. The laws are of the definitions of tpm_step, over any record: each is the contract
+//! The laws compare two devices that are equal once their secrets are erased. The laws are of the definitions of tpm_step, over any record: each is the contract
 //! of a function that does nothing. They hold of what tpm_machine executes, since each call
 //! executes an event as the step defines it.
 
 ghost use Rattle.tpm_secrecy.specs.SealedData.{DiskKeyStaysSecret, SealedDataNeedPolicy};
 ghost use Rattle.tpm_secrecy.specs.SealedData.{SealedDataStayUntilRead};
 ghost use Rattle.tpm_secrecy.specs.Tells.{EventTellsNothing, ReadOnBoth, RunTellsNothing};
-ghost use Rattle.tpm_secrecy.specs.Tells.{RunOfWrongGuessesTellsNothing, WrongGuessesAreFew};
+ghost use Rattle.tpm_secrecy.specs.Tells.{RunOfWrongGuessesTellsNothing, WrongTriesAreFew};
 ghost use Rattle.tpm_secrecy.specs.Tells.{WrongGuessesTellNothing};
 
 /// Where two devices differ in secret data alone, an event that does not read them on one device
@@ -28,8 +27,8 @@ pub fn secrecy_laws()
 /// Whatever was executed on a device since it was manufactured, an execution tells nothing of what
 /// objects seal, or of their keys, or it is an accepted TPM2_Unseal or TPM2_HMAC of such an object;
 /// where the object has no userWithAuth and a policy, the policy was met, or the hash is broken. Of
-/// a disk's key nothing is told until the PCRs had their values and the PIN was given, or the
-/// recovery secret was.
+/// a disk's key nothing is told until a TPM2_Unseal of it is accepted, for which the PCRs had their
+/// values and the PIN was given, or the recovery secret was; or the hash is broken.
 #[inline(always)]
 pub fn sealed_data_laws()
     ensures each { SealedDataNeedPolicy }
@@ -41,10 +40,10 @@ pub fn sealed_data_laws()
 /// of them if it reads no secret data and, on both devices, each guess of such a value fails; so
 /// does a list of events. In such a list no more tries fail than maxTries and one for each
 /// recoveryTime that passes. An entry that encrypts by such a value counts as a guess, though
-/// nothing is compared.
+/// nothing is compared; guesses that are no tries are not bounded.
 #[inline(always)]
 pub fn guess_laws()
     ensures event { WrongGuessesTellNothing }
     ensures run { RunOfWrongGuessesTellsNothing }
-    ensures few { WrongGuessesAreFew }
+    ensures few { WrongTriesAreFew }
 {}
