@@ -1,0 +1,240 @@
+-- What is so at each moment of the folder and of each holder.
+use Rattle.std.proofs.Common.{◌≡◌, ◌⊎◌, ℕ, ◌+◌, ◌<◌, ◌≤◌, Bool, true, false, List, [], ◌∷◌, ◌++◌, length, take, drop, Some, None, Option}
+use Rattle.std.specs.List.{AllByRecursion}
+use Rattle.tpm_keeping.specs.Journal.{Journal, entries, run}
+use Rattle.tpm_keeping.specs.Holder.{Holder, is_always, is_never}
+use Rattle.tpm_keeping.specs.World.{Answer, Content, File, Shared, World, adds, leads}
+use Rattle.tpm_keeping.specs.Kept.{Ascend, IsTrue}
+use Rattle.tpm_keeping.proofs.Entries.{whole}
+use Rattle.tpm_keeping.specs.declared.holder.Force.{Force}
+use Rattle.tpm_keeping.specs.declared.holder.Force.TheVariants.{Power, Always}
+use Rattle.tpm_keeping.specs.declared.holder.Job.{Job}
+use Rattle.tpm_keeping.specs.declared.holder.Job.TheVariants.{Execute, Leap, Renew, Show, Begin}
+use Rattle.tpm_keeping.specs.declared.holder.End.TheVariants as ending
+use Rattle.tpm_keeping.specs.declared.holder.Phase.{Phase}
+use Rattle.tpm_keeping.specs.declared.holder.Phase.TheVariants.{Ended, Locking, Looking, Reading, Putting, Forcing, Making, Naming, Settling, Leaving}
+
+-- ---- the folder
+
+abbrev pub base_of : Journal → List ℕ → File → List ℕ
+base_of j origin f = run j origin f.before
+
+-- the bytes of all whole entries of a file
+abbrev pub body : Journal → List ℕ → File → List ℕ
+body j origin f = whole j (base_of j origin f) f.now.commands
+
+-- the state after them
+abbrev pub state_of : Journal → List ℕ → File → List ℕ
+state_of j origin f = run j (base_of j origin f) f.now.commands
+
+pub record IsText (j : Journal) (base : List ℕ) (c : Content) : Type 0 where
+  pub tail : List ℕ
+  pub is : c.text ≡ whole j base c.commands ++ tail
+  pub torn : j.is_torn (run j base c.commands) tail ≡ true
+
+-- one content of a file, of whose commands the first are surely on the disk
+pub record IsContent (j : Journal) (base : List ℕ) (number : ℕ) (history before surely : List (List ℕ)) (c : Content) : Type 0 where
+  pub rest : List (List ℕ)
+  pub has : c.commands ≡ surely ++ rest
+  pub more : List (List ℕ)
+  pub of : history ≡ before ++ (c.commands ++ more)
+  pub text : 0 < number → IsText j base c
+  pub empty : number ≡ 0 → c.commands ≡ []
+
+-- Whatever a crash leaves of the file: it is a journal that has all that was promised.
+pub record IsFile (j : Journal) (origin : List ℕ) (history : List (List ℕ)) (promised : ℕ) (lasting : Bool) (next : ℕ) (f : File) : Type 0 where
+  pub surely : List (List ℕ)
+  pub enough : 0 < f.number → length (whole j (base_of j origin f) surely) ≤ f.forced
+  pub kept : promised ≤ length f.before + length surely
+  pub lasts : lasting ≡ true → 0 < f.number
+  pub below : f.number < next
+  pub unnamed : f.number ≡ 0 → f.before ≡ []
+  pub now : IsContent j (base_of j origin f) f.number history f.before surely f.now
+  pub past : AllByRecursion (IsContent j (base_of j origin f) f.number history f.before surely) f.past
+
+abbrev pub Each : Journal → List ℕ → List (List ℕ) → List Answer → Type 0
+Each j origin history answers = AllByRecursion (λ a. a.is_gone ≡ false → IsTrue j origin history a) answers
+
+abbrev pub Safe : ℕ → List Answer → Type 0
+Safe promised answers =
+    AllByRecursion (λ a. is_always a.force ≡ true → (a.is_gone ≡ false) × (a.place ≤ promised)) answers
+
+pub record Still (j : Journal) (s : Shared) : Type 0 where
+  pub told : s.history ≡ s.file.before ++ s.file.now.commands
+  pub file : IsFile j s.origin s.history s.promised s.lasting s.next s.file
+  pub older : AllByRecursion (IsFile j s.origin s.history s.promised s.lasting s.next) s.older
+  pub alone : s.file.number ≡ 0 → s.older ≡ []
+  pub each : Each j s.origin s.history s.answers
+  pub once : Ascend s.answers
+  pub safe : Safe s.promised s.answers
+
+-- ---- one holder
+
+-- what a holder depends on
+pub record Sight : Type 0 where
+  pub origin : List ℕ
+  pub file : File
+  pub older : List File
+  pub next : ℕ
+  pub fresh : List ℕ
+  pub fresh_forced : ℕ
+  pub history : List (List ℕ)
+  pub answers : List Answer
+
+abbrev pub sight : Shared → Sight
+sight s = record {
+  origin = s.origin;
+  file = s.file;
+  older = s.older;
+  next = s.next;
+  fresh = s.fresh;
+  fresh_forced = s.fresh_forced;
+  history = s.history;
+  answers = s.answers;
+}
+
+-- a state that has executed the first of these commands, up to a place in the file; what the holder
+-- has seen forced is forced
+pub record IsAt (j : Journal) (base : List ℕ) (cs : List (List ℕ)) (forced : ℕ) (force : Force) (state : List ℕ) (place : ℕ) (unsure : List ℕ) : Type 0 where
+  pub done : List (List ℕ)
+  pub ahead : List (List ℕ)
+  pub parts : cs ≡ done ++ ahead
+  pub is : state ≡ run j base done
+  pub front : List ℕ
+  pub text : whole j base done ≡ front ++ unsure
+  pub reached : place ≡ length (whole j base done)
+  pub sure : is_always force ≡ true → length front ≤ forced
+
+-- what a holder has in memory is of the file, if that is still the one that it knows
+pub record Knows (j : Journal) (origin : List ℕ) (f : File) (force : Force) (file : ℕ) (device : Option (List ℕ)) (place : ℕ) (unsure : List ℕ) : Type 0 where
+  pub at : (s : List ℕ) → device ≡ Some s → file ≡ f.number
+      → IsAt j (base_of j origin f) f.now.commands f.forced force s place unsure
+  pub empty : device ≡ None → (place ≡ 0) × (unsure ≡ [])
+
+abbrev pub KnowsOf : Journal → Sight → Holder → Type 0
+KnowsOf j v k = Knows j v.origin v.file k.force k.file k.device k.place k.unsure
+
+-- it has executed the whole file
+pub record HasAll (j : Journal) (origin : List ℕ) (f : File) (force : Force) (file place : ℕ) (unsure : List ℕ) : Type 0 where
+  pub same : file ≡ f.number
+  pub named : 0 < f.number
+  pub front : List ℕ
+  pub text : body j origin f ≡ front ++ unsure
+  pub reached : place ≡ length (body j origin f)
+  pub sure : is_always force ≡ true → length front ≤ f.forced
+
+-- the response is that of the job, in this state
+abbrev pub Gives : Job → Journal → (state command response : List ℕ) → Type 0
+Gives Execute j state c response = response ≡ j.response state c
+Gives Leap j state c response = response ≡ j.response state c
+Gives Show j state c response = response ≡ j.head state
+Gives job j state c response = Unit {0}
+
+-- the command is the last of the history, and has no answer yet
+pub record IsLast (j : Journal) (origin : List ℕ) (history : List (List ℕ)) (answers : List Answer) (command response : List ℕ) : Type 0 where
+  pub before : List (List ℕ)
+  pub is : history ≡ before ++ command ∷ []
+  pub gives : response ≡ j.response (run j origin before) command
+  pub new : AllByRecursion (λ a. a.is_gone ≡ false → a.place < length history) answers
+
+abbrev pub LastIf : Job → Journal → (origin : List ℕ) → (history : List (List ℕ)) → List Answer → (command response : List ℕ) → Type 0
+LastIf Execute j origin history answers c response = IsLast j origin history answers c response
+LastIf Leap j origin history answers c response = IsLast j origin history answers c response
+LastIf Show j origin history answers c response = response ≡ j.head (run j origin history)
+LastIf job j origin history answers c response = Unit {0}
+
+-- what was read of the file is what stands there
+pub record IsReading (j : Journal) (v : Sight) (k : Holder) : Type 0 where
+  pub knows : KnowsOf j v k
+  pub same : k.file ≡ v.file.number
+  pub named : 0 < v.file.number
+  pub size : k.size ≡ length v.file.now.text
+  pub seen : k.seen ≡ k.place + length k.read
+  pub read : take (length k.read) (drop k.place v.file.now.text) ≡ k.read
+
+-- with this word, what is done then is promised
+abbrev pub promises : Force → Job → Bool
+promises Always job = true
+promises Power Leap = true
+promises Power Renew = true
+promises force job = false
+
+-- it is to put its command's entry, if it has one, after all that it has not seen forced
+pub record Puts (j : Journal) (origin : List ℕ) (f : File) (job : Job) (k : Holder) : Type 0 where
+  pub all : HasAll j origin f k.force k.file k.place k.unsure
+  pub quiet : promises Power job ≡ false
+  pub has : k.device ≡ Some (run j (state_of j origin f) (adds job k.command))
+  pub out : k.out ≡ k.unsure ++ entries j (state_of j origin f) (adds job k.command)
+  pub gives : Gives job j (state_of j origin f) k.command k.response
+
+-- it has executed the file, and its command is in it
+pub record Stays (j : Journal) (origin : List ℕ) (f : File) (history : List (List ℕ)) (answers : List Answer) (force : Force) (file : ℕ) (device : Option (List ℕ)) (place : ℕ) (unsure : List ℕ) (job : Job) (command response : List ℕ) : Type 0 where
+  pub all : HasAll j origin f force file place unsure
+  pub has : device ≡ Some (state_of j origin f)
+  pub last : LastIf job j origin history answers command response
+
+abbrev pub StaysOf : Journal → Sight → Holder → Type 0
+StaysOf j v k = Stays j v.origin v.file v.history v.answers k.force k.file k.device k.place k.unsure k.job k.command k.response
+
+-- it begins a journal after the one that is there
+pub record Follows (j : Journal) (origin : List ℕ) (f : File) (job : Job) (command : List ℕ) (device : Option (List ℕ)) (out response : List ℕ) : Type 0 where
+  pub named : 0 < f.number
+  pub has : device ≡ Some (run j (run j (state_of j origin f) (leads job command)) (adds job command))
+  pub text : out ≡ whole j (run j (state_of j origin f) (leads job command)) (adds job command)
+  pub gives : Gives job j (state_of j origin f) command response
+
+-- or the first one
+pub record Founds (j : Journal) (f : File) (job : Job) (device : Option (List ℕ)) (out : List ℕ) : Type 0 where
+  pub unnamed : f.number ≡ 0
+  pub is : job ≡ Begin
+  pub state : List ℕ
+  pub has : device ≡ Some state
+  pub text : out ≡ j.head state
+
+abbrev pub Makes : Journal → Sight → Holder → Type 0
+Makes j v k =
+    Follows j v.origin v.file k.job k.command k.device k.out k.response ⊎ Founds j v.file k.job k.device k.out
+
+-- all entries of the file are on the disk
+pub record IsForced (j : Journal) (origin : List ℕ) (f : File) : Type 0 where
+  pub all : length (body j origin f) ≤ f.forced
+  pub past : f.past ≡ []
+
+pub record IsDone (j : Journal) (v : Sight) (k : Holder) : Type 0 where
+  pub stays : StaysOf j v k
+  pub forced : promises k.force k.job ≡ true → IsForced j v.origin v.file
+  pub settled : is_never k.force ≡ false → v.older ≡ []
+
+-- what is so in a phase
+abbrev pub In : Phase → Journal → Sight → Holder → Type 0
+In (Ended e) j v k = KnowsOf j v k
+In Locking j v k = KnowsOf j v k
+In Looking j v k = KnowsOf j v k
+In Reading j v k = IsReading j v k
+In Putting j v k = Puts j v.origin v.file k.job k
+In Forcing j v k = StaysOf j v k × (is_always k.force ≡ true) × (v.file.is_dropped ≡ false)
+In Making j v k = Makes j v k
+In Naming j v k = Makes j v k × (v.fresh ≡ k.out) × (length k.out ≤ v.fresh_forced)
+In Settling j v k = StaysOf j v k × (promises k.force k.job ≡ true → IsForced j v.origin v.file)
+In (Leaving ending.Done) j v k = IsDone j v k
+In (Leaving (ending.Failed f)) j v k = KnowsOf j v k
+
+-- whether a holder has the lock in this phase
+abbrev pub holds : Phase → Bool
+holds (Ended e) = false
+holds Locking = false
+holds phase = true
+
+-- the folder was forced since it opened the file
+abbrev pub Calm : Sight → (settled : Bool) → (file : ℕ) → Type 0
+Calm v settled file = settled ≡ true → file ≡ v.file.number → v.older ≡ []
+
+pub record Fits (j : Journal) (s : Shared) (p : ℕ) (k : Holder) : Type 0 where
+  pub lock : holds k.phase ≡ true → (s.locked ≡ true) × (s.locker ≡ p)
+  pub now : In k.phase j (sight s) k
+  pub below : k.file < s.next
+  pub calm : Calm (sight s) k.settled k.file
+
+pub record Fine (j : Journal) (w : World) : Type 0 where
+  pub still : Still j w.shared
+  pub holders : (p : ℕ) → Fits j w.shared p (w.holders p)

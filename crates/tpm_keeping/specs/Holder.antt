@@ -1,0 +1,244 @@
+-- One holder of a kept device: what it knows, and where it goes.
+use Rattle.std.specs.Prelude.{ℕ, ◌+◌, ◌-◌, ◌==◌, ◌&&◌, ◌||◌, Bool, true, false, cond, List, [], ◌++◌, length, nat_le, take, Option, Some, None}
+use Rattle.tpm_keeping.specs.Journal.{Journal}
+use Rattle.tpm_keeping.specs.declared.holder.Force.{Force}
+use Rattle.tpm_keeping.specs.declared.holder.Force.TheVariants.{Never, Always}
+use Rattle.tpm_keeping.specs.declared.holder.Job.{Job}
+use Rattle.tpm_keeping.specs.declared.holder.Job.TheVariants.{Execute, Leap, Renew, Show, Begin}
+use Rattle.tpm_keeping.specs.declared.holder.Fault.{Fault}
+use Rattle.tpm_keeping.specs.declared.holder.Fault.TheVariants as fault
+use Rattle.tpm_keeping.specs.declared.holder.End.TheVariants as ending
+use Rattle.tpm_keeping.specs.declared.holder.Phase.{Phase}
+use Rattle.tpm_keeping.specs.declared.holder.Phase.TheVariants.{Ended, Locking, Looking, Reading, Putting, Forcing, Making, Naming, Settling, Leaving}
+
+pub record Holder : Type 0 where
+  -- when it forces, and from which size on a journal begins anew
+  pub force : Force
+  pub limit : ℕ
+  pub phase : Phase
+  pub job : Job
+  pub command : List ℕ
+  -- the device in memory; the number of the file that it was read from; how many bytes it executed
+  pub device : Option (List ℕ)
+  pub file : ℕ
+  pub place : ℕ
+  -- the last of these bytes, which the holder has not itself seen forced
+  pub unsure : List ℕ
+  -- how many bytes the file has, how many were read, and those that are not executed yet
+  pub size : ℕ
+  pub seen : ℕ
+  pub read : List ℕ
+  -- the folder was forced since the file was opened
+  pub settled : Bool
+  -- what is to be written
+  pub out : List ℕ
+  pub response : List ℕ
+
+-- what the host tells
+pub data Told : Type 0 where
+  Done : Told
+  Stands : (file size : ℕ) → Told
+  Gone : Told
+  Bytes : (bytes : List ℕ) → Told
+  Failed : Told
+  -- it did it, and there was no memory for what comes next
+  Starved : Told
+
+abbrev pub fault_of : Phase → Fault
+fault_of Locking = fault.Lock
+fault_of Looking = fault.Look
+fault_of Reading = fault.Read
+fault_of Putting = fault.Write
+fault_of Forcing = fault.Force
+fault_of Making = fault.Make
+fault_of Naming = fault.Name
+fault_of Settling = fault.Settle
+fault_of (Ended e) = fault.Idle
+fault_of (Leaving e) = fault.Idle
+
+abbrev pub fault_told : Phase → Told → Fault
+fault_told phase Starved = fault.Memory
+fault_told phase told = fault_of phase
+
+-- a process that has done nothing yet
+abbrev pub newborn : Force → ℕ → Holder
+newborn force limit = record {
+  force = force;
+  limit = limit;
+  phase = Ended (ending.Failed fault.Idle);
+  job = Show;
+  command = [];
+  device = None;
+  file = 0;
+  place = 0;
+  unsure = [];
+  size = 0;
+  seen = 0;
+  read = [];
+  settled = false;
+  out = [];
+  response = [];
+}
+
+-- What was left in the middle is not gone on with: by a call that was interrupted, or in a fork.
+abbrev pub rests_in : Phase → Holder → Holder
+rests_in (Ended e) k = k
+rests_in phase k = newborn k.force k.limit
+
+abbrev pub rests : Holder → Holder
+rests k = rests_in k.phase k
+
+-- a holder that does nothing is asked for something
+abbrev pub asked_in : Phase → Holder → Job → List ℕ → Holder
+asked_in (Ended e) k job command = record k { phase = Locking; job = job; command = command }
+asked_in phase k job command = k
+
+abbrev pub asked : Holder → Job → List ℕ → Holder
+asked k job command = asked_in k.phase k job command
+
+-- The holder knows nothing any more: its next look opens the device from the file.
+abbrev pub forgets : Phase → Holder → Holder
+forgets p k = record (newborn k.force k.limit) { phase = p }
+
+abbrev pub dropped : Fault → Holder → Holder
+dropped f k = forgets (Leaving (ending.Failed f)) k
+
+abbrev pub goes : Phase → Holder → Holder
+goes p k = record k { phase = p }
+
+abbrev pub is_always : Force → Bool
+is_always Always = true
+is_always f = false
+
+abbrev pub is_never : Force → Bool
+is_never Never = true
+is_never f = false
+
+-- the place from which on the holder has not itself seen the file forced
+abbrev pub sure : Holder → ℕ
+sure k = k.place - length k.unsure
+
+-- The folder is forced once, before the first answer from a file.
+abbrev pub settles : Holder → Phase
+settles k = cond (k.settled || is_never k.force) (Leaving ending.Done) Settling
+
+-- What is put is all that the holder has not seen forced, and the entry.
+abbrev pub executes : Journal → Holder → (s : List ℕ) → (grown : Bool) → Holder
+executes j k s true = record k {
+  phase = Making;
+  device = Some (j.after s k.command);
+  out = j.head s ++ j.entry s k.command;
+  response = j.response s k.command;
+}
+executes j k s false = record k {
+  phase = Putting;
+  device = Some (j.after s k.command);
+  out = k.unsure ++ j.entry s k.command;
+  response = j.response s k.command;
+}
+
+abbrev pub shows : Holder → (s response : List ℕ) → Holder
+shows k s response = record k {
+  phase = cond (is_always k.force) Putting (settles k);
+  device = Some s;
+  out = k.unsure;
+  response = response;
+}
+
+-- the device has executed the whole file
+abbrev pub acts : Journal → Job → Holder → (s : List ℕ) → Holder
+acts j Execute k s = executes j k s (nat_le k.limit k.place)
+acts j Leap k s = record k {
+  phase = Making;
+  device = Some (j.after s k.command);
+  out = j.head (j.after s k.command);
+  response = j.response s k.command;
+}
+acts j Renew k s = record k { phase = Making; device = Some s; out = j.head s; response = [] }
+acts j Show k s = shows k s (j.head s)
+acts j Begin k s = shows k s []
+
+-- so much of what was read is executed
+abbrev pub caught_up : Holder → (taken : ℕ) → Holder
+caught_up k taken = record k {
+  place = k.place + taken;
+  unsure = cond (is_always k.force) (k.unsure ++ take taken k.read) [];
+  read = [];
+}
+
+abbrev pub finishes : Journal → Holder → Option (List ℕ × ℕ) → Holder
+finishes j k None = dropped fault.Damaged k
+finishes j k (Some found) = acts j k.job (caught_up k found.1) found.0
+
+abbrev pub found : Journal → Option (List ℕ) → List ℕ → Option (List ℕ × ℕ)
+found j None text = j.opened text
+found j (Some s) text = j.followed s text
+
+-- once all was read, it is executed
+abbrev pub reads_on : Journal → Holder → Holder
+reads_on j k = cond (nat_le k.size k.seen) (finishes j k (found j k.device k.read)) (goes Reading k)
+
+-- a read gives something, or the file was cut
+abbrev pub has_read : Journal → Holder → List ℕ → Holder
+has_read j k [] = dropped fault.Read k
+has_read j k bytes = reads_on j (record k { seen = k.seen + length bytes; read = k.read ++ bytes })
+
+-- the file that the holder knows, or another one, which it opens
+abbrev pub knows_file : Holder → (file size : ℕ) → Bool
+knows_file k file size = k.file == file && nat_le k.place size
+
+abbrev pub looked : Journal → Holder → (file size : ℕ) → Holder
+looked j k file size =
+    cond (knows_file k file size)
+    (reads_on j (record k { size = size; seen = k.place; read = [] }))
+    (reads_on j (record (newborn k.force k.limit) {
+      job = k.job;
+      command = k.command;
+      file = file;
+      size = size;
+    }))
+
+-- There is no journal: one begins, if that is asked for.
+abbrev pub begins_of : Journal → Holder → Option (List ℕ) → Holder
+begins_of j k None = dropped fault.Unreadable k
+begins_of j k (Some s) = record k { phase = Making; device = Some s; out = j.head s; response = [] }
+
+abbrev pub begins : Journal → Job → Holder → Holder
+begins j Begin k = begins_of j k (j.begun k.command)
+begins j job k = dropped fault.Absent k
+
+abbrev pub has_put : Holder → Holder
+has_put k = record k {
+  phase = cond (is_always k.force) Forcing (settles k);
+  place = sure k + length k.out;
+  unsure = cond (is_always k.force) k.out [];
+  out = [];
+}
+
+abbrev pub has_named : Holder → (file : ℕ) → Holder
+has_named k file = record k {
+  phase = cond (is_never k.force) (Leaving ending.Done) Settling;
+  file = file;
+  place = length k.out;
+  unsure = [];
+  settled = false;
+}
+
+-- the next step
+abbrev pub next_in : Journal → Phase → Holder → Told → Holder
+next_in j Locking k Done = goes Looking k
+next_in j Locking k told = forgets (Ended (ending.Failed (fault_told Locking told))) k
+next_in j Looking k (Stands file size) = looked j k file size
+next_in j Looking k Gone = begins j k.job k
+next_in j Reading k (Bytes bytes) = has_read j k bytes
+next_in j Putting k Done = has_put k
+next_in j Forcing k Done = record k { phase = settles k; unsure = [] }
+next_in j Making k Done = goes Naming k
+next_in j Naming k (Stands file size) = has_named k file
+next_in j Settling k Done = record k { phase = Leaving ending.Done; settled = true }
+next_in j (Leaving e) k told = goes (Ended e) k
+next_in j (Ended e) k told = k
+next_in j phase k told = dropped (fault_told phase told) k
+
+abbrev pub next_of : Journal → Holder → Told → Holder
+next_of j k told = next_in j k.phase k told

@@ -1,0 +1,77 @@
+-- What holds at each moment.
+use Rattle.std.specs.Prelude.{◌≡◌, ◌⊎◌, ℕ, Bool, false, true, ◌+◌, ◌<◌, ◌≤◌, List, [], ◌∷◌, ◌++◌, length, take, Some}
+use Rattle.std.specs.List.{AllByRecursion}
+use Rattle.tpm_keeping.specs.Journal.{Journal, run}
+use Rattle.tpm_keeping.specs.Holder.{Holder, is_always}
+use Rattle.tpm_keeping.specs.World.{Answer, Asks, Event, Shared}
+use Rattle.tpm_keeping.specs.declared.holder.Phase.{Phase}
+use Rattle.tpm_keeping.specs.declared.holder.Phase.TheVariants.{Ended, Locking, Looking, Reading, Putting, Forcing, Making, Naming, Settling, Leaving}
+
+-- An answer's command is in the history, in its place, and the response is the one that the device
+-- gives which executed all before it.
+pub record IsTrue (j : Journal) (origin : List ℕ) (history : List (List ℕ)) (a : Answer)
+    : Type 0 where
+  pub before : List (List ℕ)
+  pub rest : List (List ℕ)
+  pub is : history ≡ before ++ (a.command ∷ rest)
+  pub place : a.place ≡ length before + 1
+  pub response : a.response ≡ j.response (run j origin before) a.command
+
+-- each answer has a place of its own, after those before it
+abbrev pub Ascend : List Answer → Type 0
+Ascend [] = Unit {0}
+Ascend (a ∷ before) =
+    (a.is_gone ≡ false → AllByRecursion (λ b. b.is_gone ≡ false → b.place < a.place) before)
+    × Ascend before
+
+pub record IsKept (j : Journal) (w : Shared) : Type 0 where
+  -- the journal, where there is one, opens as the device that executed the history
+  pub opens : 0 < w.file.number
+      → (taken : ℕ) × (j.opened w.file.now.text ≡ Some (run j w.origin w.history, taken))
+  -- which has the command of each answer that is not gone, in a place of its own
+  pub each : AllByRecursion (λ a. a.is_gone ≡ false → IsTrue j w.origin w.history a) w.answers
+  pub once : Ascend w.answers
+  -- no answer of a holder with `force=always` is gone, whatever word others have
+  pub always : AllByRecursion
+      (λ a. is_always a.force ≡ true → (a.is_gone ≡ false) × (a.place ≤ w.promised))
+      w.answers
+  -- what was promised is there
+  pub promised : w.promised ≤ length w.history
+  -- and so is the device, once a holder that forces has done a call
+  pub lasts : w.lasting ≡ true → 0 < w.file.number
+
+-- what was promised before is the beginning of the history after
+abbrev pub KeepsPromises : Shared → Shared → Type 0
+KeepsPromises old new =
+    (old.promised ≤ new.promised)
+    × (take old.promised new.history ≡ take old.promised old.history)
+
+-- ---- one call
+
+-- how far a call has come
+abbrev pub rank : Phase → ℕ
+rank Locking = 0
+rank Looking = 1
+rank Reading = 2
+rank Putting = 3
+rank Making = 3
+rank Forcing = 4
+rank Naming = 4
+rank Settling = 5
+rank (Leaving e) = 6
+rank (Ended e) = 7
+
+-- With each answer of the host a call comes further, or has read more: so it ends, and puts one
+-- entry at most.
+abbrev pub Advances : Holder → Holder → Type 0
+Advances old new =
+    (rank old.phase < rank new.phase)
+    ⊎ ((old.phase ≡ Reading) × (new.phase ≡ Reading) × (old.seen < new.seen))
+
+-- ---- what was asked for
+
+-- each command that is asked for passes a test
+abbrev pub Pass : (List ℕ → Bool) → List Event → Type 0
+Pass test [] = Unit {0}
+Pass test (Asks p job command ∷ events) = (test command ≡ true) × Pass test events
+Pass test (e ∷ events) = Pass test events

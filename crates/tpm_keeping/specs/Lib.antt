@@ -1,0 +1,5 @@
+pub mod Journal
+pub mod Holder
+pub mod View
+pub mod World
+pub mod Kept

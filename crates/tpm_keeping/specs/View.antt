@@ -1,0 +1,52 @@
+-- The keeper of the code, as the definitions see it.
+use Rattle.std.specs.Prelude.{ℕ, List}
+use Rattle.std.specs.Option.{option_map}
+use Rattle.tpm_keeping.specs.Holder.{Holder, Told, sure}
+use Rattle.tpm_keeping.specs.Holder as holder
+use Rattle.tpm_keeping.specs.declared.keeper.Ask.{Ask}
+use Rattle.tpm_keeping.specs.declared.keeper.Ask.TheVariants as ask
+use Rattle.tpm_keeping.specs.declared.keeper.Got.{Got}
+use Rattle.tpm_keeping.specs.declared.keeper.Got.TheVariants as got
+use Rattle.tpm_keeping.specs.declared.keeper.Keeper.{Keeper}
+use Rattle.tpm_keeping.specs.declared.holder.Phase.TheVariants.{Ended, Locking, Looking, Reading, Putting, Forcing, Making, Naming, Settling, Leaving}
+
+abbrev pub holder_of : {D : Type 0} → (D → List ℕ) → Keeper D → Holder
+holder_of state k = record {
+  force = k.force;
+  limit = k.limit;
+  phase = k.phase;
+  job = k.job;
+  command = k.command.items;
+  device = option_map state k.device;
+  file = k.file;
+  place = k.place;
+  unsure = k.unsure.items;
+  size = k.size;
+  seen = k.seen;
+  read = k.read.items;
+  settled = k.settled;
+  out = k.out.items;
+  response = k.response.items;
+}
+
+abbrev pub told_of : Got → Told
+told_of got.Done = holder.Done
+told_of (got.Stands file size) = holder.Stands file size
+told_of got.Gone = holder.Gone
+told_of (got.Bytes bytes) = holder.Bytes bytes.now
+told_of got.Failed = holder.Failed
+
+-- what the host is to do in a phase
+abbrev pub ask_of : Holder → Ask
+ask_of k = elim k.phase [
+  | Ended e ↦ ask.Nothing e
+  | Locking ↦ ask.Lock
+  | Looking ↦ ask.Look
+  | Reading ↦ ask.Read k.seen
+  | Putting ↦ ask.Put k.place (sure k)
+  | Forcing ↦ ask.Force
+  | Making ↦ ask.Make
+  | Naming ↦ ask.Name
+  | Settling ↦ ask.Settle
+  | Leaving e ↦ ask.Unlock
+]

@@ -1,0 +1,368 @@
+-- The folder of a kept device, as its processes see it and as a crash of the host may leave it.
+--
+-- For somebody who knows fsync. A file is what all processes see of it (`now`), and what else a
+-- crash may leave of it: any text that it had since it was forced (`past`), up to any byte that is
+-- not before `forced`, and litter after that, as zeros. A rename is seen at once. Until the folder
+-- is forced, a crash may take it back: an earlier file (`older`) has the name again, or none has.
+--
+-- A force that fails may have dropped what it did not write: the pages count as clean. Then a force
+-- by another process succeeds without them (`is_dropped`), until they are written again. The system
+-- may also drop them by itself, when it writes back (`Drops`). Where it does so between a holder's
+-- write and its force, the force says so: that is the holder's `Fails`.
+--
+-- One process has the lock. Processes read less than they asked for, fail in the middle of a write
+-- or after it, do what they then report as failed, die at any byte, and fork. A fork has the memory
+-- of its parent, and no lock. They force by words of their own.
+--
+-- What is left out: a disk that says forced and has not; file systems that leave a file without
+-- bytes and with later ones, or take back one of two renames; a folder whose force fails and then
+-- succeeds without the rename; a sector that is torn where bytes stand that were forced before;
+-- network file systems, whose locks and renames are seen late; two hosts on one folder; the lock's
+-- file removed under its holder; anybody else who writes to the folder.
+use Rattle.std.specs.Prelude.{◌≡◌, ℕ, zero, suc, ◌+◌, ◌-◌, ◌<◌, ◌==◌, ◌&&◌, Bool, true, false, cond, List, [], ◌∷◌, ◌++◌, drop, length, max, min, nat_le, take, Option, Some, None}
+use Rattle.tpm_keeping.specs.Journal.{Journal, run, whole_in}
+use Rattle.tpm_keeping.specs.Holder.{Holder, Told, Done, Stands, Gone, Bytes, Failed, Starved, asked, is_never, newborn, next_in, rests, sure}
+use Rattle.tpm_keeping.specs.declared.holder.Force.{Force}
+use Rattle.tpm_keeping.specs.declared.holder.Force.TheVariants.{Power, Always}
+use Rattle.tpm_keeping.specs.declared.holder.Job.{Job}
+use Rattle.tpm_keeping.specs.declared.holder.Job.TheVariants.{Execute, Leap, Renew}
+use Rattle.tpm_keeping.specs.declared.holder.End.{End}
+use Rattle.tpm_keeping.specs.declared.holder.End.TheVariants as ending
+use Rattle.tpm_keeping.specs.declared.holder.Phase.{Phase}
+use Rattle.tpm_keeping.specs.declared.holder.Phase.TheVariants.{Ended, Locking, Looking, Reading, Putting, Forcing, Making, Naming, Settling, Leaving}
+
+-- what a file holds, and the commands whose entries are whole in it
+pub record Content : Type 0 where
+  pub text : List ℕ
+  pub commands : List (List ℕ)
+
+-- A file. Its number is 0 where there is none, and no other has it ever.
+pub record File : Type 0 where
+  pub number : ℕ
+  -- the commands before its first entry
+  pub before : List (List ℕ)
+  pub now : Content
+  -- what it held since it was forced
+  pub past : List Content
+  -- so many bytes of its front are on the disk
+  pub forced : ℕ
+  -- bytes after these were dropped, and not written since
+  pub is_dropped : Bool
+
+-- a response that went out
+pub record Answer : Type 0 where
+  -- how many commands the history had then, its own as the last
+  pub place : ℕ
+  -- the word of the holder that gave it
+  pub force : Force
+  pub command : List ℕ
+  pub response : List ℕ
+  -- a crash of the host has taken its command from the history
+  pub is_gone : Bool
+
+-- what the processes share
+pub record Shared : Type 0 where
+  -- the state in which the first journal began
+  pub origin : List ℕ
+  -- the file that is named journal, and those that had the name since the folder was forced
+  pub file : File
+  pub older : List File
+  -- the number of the next file that is made
+  pub next : ℕ
+  -- the bytes of the new file that has no name yet, and how many are on the disk
+  pub fresh : List ℕ
+  pub fresh_forced : ℕ
+  pub locked : Bool
+  pub locker : ℕ
+  -- The device's history: each command whose entry was written whole, or after which a journal
+  -- began, but for those that a crash of the host has taken.
+  pub history : List (List ℕ)
+  -- so many of them no crash takes
+  pub promised : ℕ
+  -- a holder that forces has done a call: no crash takes the device
+  pub lasting : Bool
+  -- the latest first
+  pub answers : List Answer
+
+pub record World : Type 0 where
+  pub shared : Shared
+  pub holders : ℕ → Holder
+
+-- how far a process came with what it was to do
+pub data Effect : Type 0 where
+  Nothing : Effect
+  Part : (count : ℕ) → Effect
+  All : Effect
+
+-- What may happen. `p` is the process.
+pub data Event : Type 0 where
+  -- it begins, with a word of its own
+  Starts : (p : ℕ) → (force : Force) → (limit : ℕ) → Event
+  Asks : (p : ℕ) → (job : Job) → (command : List ℕ) → Event
+  -- it does what it is to do; reading, it gets one byte and at most `more`
+  Does : (p more : ℕ) → Event
+  Fails : (p : ℕ) → (effect : Effect) → (starved : Bool) → Event
+  Dies : (p : ℕ) → (effect : Effect) → Event
+  Forks : (p child : ℕ) → Event
+  Drops : Event
+  -- The host crashes. It leaves this file, in this one of its contents, up to this byte and no less
+  -- than is on the disk, and this litter.
+  Crashes : (file content far : ℕ) → (litter : List ℕ) → Event
+
+abbrev pub with_holder : Shared → (ℕ → Holder) → ℕ → Holder → World
+with_holder s holders p k = record { shared = s; holders = λ q. cond (q == p) k (holders q) }
+
+-- ---- what a process does
+
+-- bytes are written over those at a place, and behind the end
+abbrev pub written : (text : List ℕ) → (at : ℕ) → (bytes : List ℕ) → List ℕ
+written text at bytes = take at text ++ (bytes ++ drop (at + length bytes) text)
+
+-- the commands whose entries a job appends; those that lead to the state in which its new journal
+-- begins, and those whose entries it has
+abbrev pub adds : Job → List ℕ → List (List ℕ)
+adds Execute c = c ∷ []
+adds job c = []
+
+abbrev pub leads : Job → List ℕ → List (List ℕ)
+leads Leap c = c ∷ []
+leads job c = []
+
+-- so much of a holder's text is put: what is behind the executed bytes is cut first
+abbrev pub put_more : Holder → (count : ℕ) → List (List ℕ)
+put_more k count = cond (nat_le (length k.out) count) (adds k.job k.command) []
+
+-- what was dropped is written again, where all from the forced bytes on is
+abbrev pub put_dropped : File → Holder → (count : ℕ) → Bool
+put_dropped f k count =
+    cond (nat_le (length k.out) count && nat_le (sure k) (min f.forced k.place)) false f.is_dropped
+
+abbrev pub put_on : File → Holder → (count : ℕ) → File
+put_on f k count = record {
+  number = f.number;
+  before = f.before;
+  now = record {
+    text = written (take k.place f.now.text) (sure k) (take count k.out);
+    commands = f.now.commands ++ put_more k count;
+  };
+  past = f.now ∷ f.past;
+  forced = min f.forced k.place;
+  is_dropped = put_dropped f k count;
+}
+
+abbrev pub put : Shared → Holder → (count : ℕ) → Shared
+put s k count = record s { file = put_on s.file k count; history = s.history ++ put_more k count }
+
+-- all bytes are on the disk, but where some were dropped
+abbrev pub forced : File → File
+forced f = record f {
+  past = cond f.is_dropped f.past [];
+  forced = cond f.is_dropped f.forced (length f.now.text);
+}
+
+-- what is not forced is dropped
+abbrev pub lost : Shared → Shared
+lost s = record s { file = record s.file { is_dropped = true } }
+
+-- the new file has the journal's name; the first one that has it says in which state all began
+abbrev pub state_in : Option (List ℕ) → List ℕ
+state_in None = []
+state_in (Some s) = s
+
+abbrev pub named_from : (origin : List ℕ) → Shared → Holder → Shared
+named_from origin s k = record s {
+  origin = origin;
+  file = record {
+    number = s.next;
+    before = s.history ++ leads k.job k.command;
+    now = record { text = s.fresh; commands = adds k.job k.command };
+    past = [];
+    forced = s.fresh_forced;
+    is_dropped = false;
+  };
+  older = s.file ∷ s.older;
+  next = s.next + 1;
+  history = (s.history ++ leads k.job k.command) ++ adds k.job k.command;
+}
+
+abbrev pub named : Shared → Holder → Shared
+named s k = named_from (cond (s.file.number == 0) (state_in k.device) s.origin) s k
+
+-- what is done of what a holder is to do
+abbrev pub does : Phase → Shared → Holder → Effect → Shared
+does Putting s k (Part count) = put s k count
+does Putting s k All = put s k (length k.out)
+does Forcing s k (Part count) = lost s
+does Forcing s k All = record s { file = forced s.file }
+does Making s k (Part count) = record s { fresh = take count k.out; fresh_forced = 0 }
+does Making s k All = record s { fresh = k.out; fresh_forced = length k.out }
+does Naming s k All = named s k
+does Settling s k All = record s { older = [] }
+does phase s k effect = s
+
+-- what the host then tells
+abbrev pub tells : Phase → Shared → Holder → (more : ℕ) → Told
+tells Looking s k more =
+    cond (s.file.number == 0) Gone (Stands s.file.number (length s.file.now.text))
+tells Reading s k more = Bytes (take (suc more) (drop k.seen s.file.now.text))
+tells Naming s k more = Stands s.file.number (length s.file.now.text)
+tells phase s k more = Done
+
+-- ---- what a call that is done promises
+
+abbrev pub answer_of : Shared → Holder → Answer
+answer_of s k = record {
+  place = length s.history;
+  force = k.force;
+  command = k.command;
+  response = k.response;
+  is_gone = false;
+}
+
+abbrev pub with_answer : Job → Shared → Holder → List Answer
+with_answer Execute s k = answer_of s k ∷ s.answers
+with_answer Leap s k = answer_of s k ∷ s.answers
+with_answer job s k = s.answers
+
+abbrev pub promise : Force → Job → Shared → ℕ
+promise Always job s = length s.history
+promise Power Leap s = length s.history
+promise Power Renew s = length s.history
+promise force job s = s.promised
+
+-- the lock is given back
+abbrev pub left : End → Shared → Holder → Shared
+left ending.Done s k = record s {
+  locked = false;
+  promised = promise k.force k.job s;
+  lasting = cond (is_never k.force) s.lasting true;
+  answers = with_answer k.job s k;
+}
+left (ending.Failed f) s k = record s { locked = false }
+
+-- ---- one event
+
+abbrev pub does_in : Journal → Phase → World → (p : ℕ) → Holder → (more : ℕ) → World
+does_in j (Ended e) w p k more = w
+does_in j Locking w p k more =
+    cond w.shared.locked w
+    (with_holder (record w.shared { locked = true; locker = p }) w.holders p
+    (next_in j Locking k Done))
+does_in j (Leaving e) w p k more =
+    with_holder (left e w.shared k) w.holders p (next_in j (Leaving e) k Done)
+does_in j phase w p k more =
+    let s = does phase w.shared k All in
+    with_holder s w.holders p (next_in j phase k (tells phase s k more))
+
+abbrev pub fails_in : Journal → Phase → World → (p : ℕ) → Holder → Effect → Told → World
+fails_in j (Ended e) w p k effect told = w
+fails_in j (Leaving e) w p k effect told =
+    with_holder (left e w.shared k) w.holders p (next_in j (Leaving e) k told)
+fails_in j phase w p k effect told =
+    with_holder (does phase w.shared k effect) w.holders p (next_in j phase k told)
+
+-- a process that died has no lock
+abbrev pub freed : Shared → ℕ → Shared
+freed s p = record s { locked = cond (s.locker == p) false s.locked }
+
+abbrev pub starts_in : Phase → Holder → Force → ℕ → Holder
+starts_in (Ended e) k force limit = newborn force limit
+starts_in phase k force limit = k
+
+-- ---- a crash of the host
+
+abbrev pub file_at : File → List File → ℕ → File
+file_at f [] n = f
+file_at f (g ∷ gs) zero = f
+file_at f (g ∷ gs) (suc n) = file_at g gs n
+
+abbrev pub content_at : Content → List Content → ℕ → Content
+content_at c [] n = c
+content_at c (d ∷ ds) zero = c
+content_at c (d ∷ ds) (suc n) = content_at d ds n
+
+abbrev pub litter_of : Journal → List ℕ → List ℕ
+litter_of j litter = cond (j.is_litter litter) litter []
+
+-- what is left of a file: so many bytes of a content, and litter
+abbrev pub left_of : Journal → (base : List ℕ) → File → Content → (count : ℕ)
+    → (litter : List ℕ) → File
+left_of j base f c count litter = record {
+  number = f.number;
+  before = f.before;
+  now = record {
+    text = take count c.text ++ litter;
+    commands = whole_in j base c.commands (count - length (j.head base));
+  };
+  past = [];
+  forced = length (take count c.text ++ litter);
+  is_dropped = false;
+}
+
+-- an answer whose command is not among so many is gone
+abbrev pub within : ℕ → List Answer → List Answer
+within count [] = []
+within count (a ∷ answers) =
+    record a { is_gone = cond (nat_le a.place count) a.is_gone true } ∷ within count answers
+
+abbrev pub stands : File → Shared → Shared
+stands f s = record s {
+  file = f;
+  older = [];
+  fresh = [];
+  fresh_forced = 0;
+  locked = false;
+  history = f.before ++ f.now.commands;
+  answers = within (length (f.before ++ f.now.commands)) s.answers;
+}
+
+abbrev pub crashed_to : Journal → Shared → File → (content far : ℕ) → (litter : List ℕ)
+    → Shared
+crashed_to j s f content far litter =
+    let base = run j s.origin f.before in
+    let content = content_at f.now f.past content in
+    stands (left_of j base f content (max f.forced far) (litter_of j litter)) s
+
+abbrev pub crashed : Journal → Shared → (file content far : ℕ) → (litter : List ℕ) → Shared
+crashed j s file content far litter =
+    crashed_to j s (file_at s.file s.older file) content far litter
+
+-- ---- runs
+
+abbrev pub happens : Journal → World → Event → World
+happens j w (Starts p force limit) =
+    with_holder w.shared w.holders p (starts_in (w.holders p).phase (w.holders p) force limit)
+happens j w (Asks p job command) =
+    with_holder w.shared w.holders p (asked (w.holders p) job command)
+happens j w (Does p more) = does_in j (w.holders p).phase w p (w.holders p) more
+happens j w (Fails p effect starved) =
+    fails_in j (w.holders p).phase w p (w.holders p) effect (cond starved Starved Failed)
+happens j w (Dies p effect) =
+    with_holder (freed (does (w.holders p).phase w.shared (w.holders p) effect) p) w.holders p
+    (newborn (w.holders p).force (w.holders p).limit)
+happens j w (Forks p child) = with_holder w.shared w.holders child (rests (w.holders p))
+happens j w Drops =
+    cond w.shared.locked w (record w { shared = lost w.shared })
+happens j w (Crashes file content far litter) = record {
+  shared = crashed j w.shared file content far litter;
+  holders = λ q. newborn (w.holders q).force (w.holders q).limit;
+}
+
+abbrev pub happen : Journal → List Event → World → World
+happen j [] w = w
+happen j (e ∷ es) w = happen j es (happens j w e)
+
+-- an empty folder, and processes that have done nothing yet
+pub record IsStart (w : World) : Type 0 where
+  pub number : w.shared.file.number ≡ 0
+  pub before : w.shared.file.before ≡ []
+  pub commands : w.shared.file.now.commands ≡ []
+  pub past : w.shared.file.past ≡ []
+  pub older : w.shared.older ≡ []
+  pub next : 0 < w.shared.next
+  pub unlocked : w.shared.locked ≡ false
+  pub history : w.shared.history ≡ []
+  pub promised : w.shared.promised ≡ 0
+  pub lasting : w.shared.lasting ≡ false
+  pub answers : w.shared.answers ≡ []
+  pub holders : (p : ℕ) → w.holders p ≡ newborn (w.holders p).force (w.holders p).limit

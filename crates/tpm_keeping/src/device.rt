@@ -1,0 +1,57 @@
+//! What a keeper asks of the device that it keeps and of its journal.
+
+ghost use Rattle.std.specs.Prelude.{◌≡◌, ◌++◌, ℕ, List, IfOk, OnOk};
+ghost use Rattle.std.specs.Option.{MatchOption};
+ghost use Rattle.std.specs.declared.option.Option.TheVariants.{None, Some};
+ghost use Rattle.tpm_keeping.specs.Journal.{Journal, IsJournal};
+
+use std::alloc::Global;
+
+/// Memory was refused, or a number is too large for the machine.
+#[derive(Clone, Copy, PartialEq, Eq)]
+pub struct Exhausted;
+
+/// A device in memory that executes the entries of a journal.
+pub trait Device: Drop + Sized {
+    /// What its journal is.
+    ghost journal: { Journal };
+
+    /// The text that stands for its state.
+    ghost state: { Self → List ℕ };
+
+    /// The journal meets what a keeper needs.
+    ghost keeps: { IsJournal journal };
+
+    /// A device that begins of random bytes or of a text; None where they are none.
+    fn begin(alloc: Global, seed: &[u8]) -> Result<Option<Self>, Exhausted>
+        ensures { IfOk result (λ begun. MatchOption begun (journal.begun seed.now ≡ None)
+            (λ device. journal.begun seed.now ≡ Some (state device))) };
+
+    /// The device of a journal, and how many bytes it executed; None where the text is no journal.
+    fn open(alloc: Global, text: &[u8]) -> Result<Option<(Self, usize)>, Exhausted>
+        ensures { IfOk result (λ opened. MatchOption opened (journal.opened text.now ≡ None)
+            (λ found. journal.opened text.now ≡ Some (state found.0, found.1))) };
+
+    /// Executes the entries of a text, and tells how many bytes it executed; None where they do not
+    /// follow.
+    fn follow(&mut self, text: &[u8]) -> Option<usize>
+        ensures { MatchOption result (journal.followed (state self.old) text.now ≡ None)
+            (λ taken. journal.followed (state self.old) text.now ≡ Some (state self.new, taken)) };
+
+    /// Executes a command, and appends its entry and its response.
+    fn execute(
+        &mut self,
+        command: &[u8],
+        out: &mut Vec<u8>,
+        response: &mut Vec<u8>,
+    ) -> Result<(), Exhausted>
+        ensures state { OnOk result (state self.new ≡ journal.after (state self.old) command.now) }
+        ensures entry { OnOk result (out.new.items
+            ≡ out.old.items ++ journal.entry (state self.old) command.now) }
+        ensures response { OnOk result (response.new.items
+            ≡ response.old.items ++ journal.response (state self.old) command.now) };
+
+    /// Appends the text with which a journal begins in this state.
+    fn head(&self, out: &mut Vec<u8>) -> Result<(), Exhausted>
+        ensures { OnOk result (out.new.items ≡ out.old.items ++ journal.head (state self.now)) };
+}

@@ -1,0 +1,107 @@
+//! What a holder of a device is asked for, where it is, and why it gave up.
+
+ghost use Rattle.std.specs.Prelude.{◌≡◌};
+ghost use Rattle.tpm_keeping.specs.Holder.{fault_of};
+
+/// When a holder forces what it wrote to the disk.
+#[derive(Clone, Copy, PartialEq, Eq)]
+pub enum Force {
+    /// Never, but a new journal.
+    Never,
+    /// When a journal begins anew, as at a power cycle or a checkpoint.
+    Power,
+    /// Before each answer.
+    Always,
+}
+
+/// What a holder is asked for.
+#[derive(Clone, Copy, PartialEq, Eq)]
+pub enum Job {
+    /// To execute a command. Its entry is appended, or begins a new journal where the old one has
+    /// grown past the limit.
+    Execute,
+    /// To execute what no entry is to tell, as a power cycle or the restoring of a snapshot: the
+    /// state after it begins a new journal.
+    Leap,
+    /// To begin the journal anew in the same state: a checkpoint.
+    Renew,
+    /// To give the text of the state: a snapshot.
+    Show,
+    /// To see that there is a device: to open it, or to begin one of random bytes or of a text.
+    Begin,
+}
+
+/// Why a call was not done.
+#[derive(Clone, Copy, PartialEq, Eq)]
+pub enum Fault {
+    /// Nothing was asked for, or the call was left in the middle.
+    Idle,
+    /// The host did not do what it was to do.
+    Lock,
+    Look,
+    Read,
+    Write,
+    Force,
+    Make,
+    Name,
+    Settle,
+    /// There is no journal.
+    Absent,
+    /// A device was to begin of what is no text of one.
+    Unreadable,
+    /// What the file holds is no journal.
+    Damaged,
+    /// Memory was refused, or a number is too large for the machine.
+    Memory,
+}
+
+/// How a call ends.
+#[derive(Clone, Copy, PartialEq, Eq)]
+pub enum End {
+    Done,
+    Failed(Fault),
+}
+
+/// Where a holder is: what its host is to do next.
+#[derive(Clone, Copy, PartialEq, Eq)]
+pub enum Phase {
+    /// Nothing. The last call ended so.
+    Ended(End),
+    /// To take the lock.
+    Locking,
+    /// To say which file the journal is.
+    Looking,
+    /// To read what follows what was read.
+    Reading,
+    /// To write the holder's text into the file.
+    Putting,
+    /// To force the file.
+    Forcing,
+    /// To write a new file, whole, and to force it.
+    Making,
+    /// To give the new file the journal's name.
+    Naming,
+    /// To force the folder.
+    Settling,
+    /// To give the lock back. The call ends so.
+    Leaving(End),
+}
+
+impl Phase {
+    /// What is said where the host does not do what it is to do in this phase.
+    pub fn fault(self) -> Fault
+        ensures { result ≡ fault_of self }
+    {
+        match self {
+            Phase::Locking => Fault::Lock,
+            Phase::Looking => Fault::Look,
+            Phase::Reading => Fault::Read,
+            Phase::Putting => Fault::Write,
+            Phase::Forcing => Fault::Force,
+            Phase::Making => Fault::Make,
+            Phase::Naming => Fault::Name,
+            Phase::Settling => Fault::Settle,
+            Phase::Ended(_) | Phase::Leaving(_) => Fault::Idle,
+        }
+    }
+}

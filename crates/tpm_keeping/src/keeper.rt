@@ -1,0 +1,217 @@
+//! The keeper of a device: what its host is to do next. It does no input and no output itself.
+
+ghost use Rattle.std.specs.Prelude.{◌≡◌, ◌+◌, ◌++◌, ℕ, List, [], IfOk, OnErr, OnOk, length};
+ghost use Rattle.tpm_keeping.specs.Holder.{acts, asked, begins, caught_up, dropped, executes};
+ghost use Rattle.tpm_keeping.specs.Holder.{finishes, forgets, found, has_named, has_put, has_read};
+ghost use Rattle.tpm_keeping.specs.Holder.{Starved, looked, newborn, next_of, reads_on, rests};
+ghost use Rattle.tpm_keeping.specs.Holder.{settles, shows, sure};
+ghost use Rattle.tpm_keeping.specs.declared.holder.End.{End};
+ghost use Rattle.tpm_keeping.specs.declared.holder.Phase.TheVariants.{Ended};
+ghost use Rattle.tpm_keeping.specs.declared.holder.Fault.TheVariants.{Memory};
+ghost use Rattle.tpm_keeping.specs.View.{ask_of, holder_of, told_of};
+
+use crate::device::{Device, Exhausted};
+use crate::holder::{End, Fault, Force, Job, Phase};
+use std::alloc::Global;
+
+/// What the host is to do next.
+#[derive(Clone, Copy, PartialEq, Eq)]
+pub enum Ask {
+    /// Nothing: the call has ended. If it is done, the response may go out.
+    Nothing(End),
+    /// To take the folder's lock, by an open file of this process's own.
+    Lock,
+    /// To open the file that is named journal, unless it is the one that is open, and to tell its
+    /// number and its size.
+    Look,
+    /// To read the file from this byte on, as much as it likes.
+    Read(u64),
+    /// To cut the file to `cut` bytes where it has more, and to write the keeper's text at `at`, by
+    /// the open file that is forced later.
+    Put { cut: u64, at: u64 },
+    /// To force the file to the disk.
+    Force,
+    /// To write the keeper's text to a new file, whole, and to force it to the disk.
+    Make,
+    /// To give the new file the journal's name, and to tell its number.
+    Name,
+    /// To force the folder to the disk.
+    Settle,
+    /// To give the lock back: where that fails, by closing its file.
+    Unlock,
+}
+
+/// What the host did or saw.
+#[derive(Clone, Copy)]
+pub enum Got<'a> {
+    Done,
+    /// The journal is the file of this number, and has so many bytes.
+    Stands { file: u64, size: u64 },
+    /// There is no journal.
+    Gone,
+    Bytes(&'a [u8]),
+    /// It was not done, or not all of it, or nobody knows.
+    Failed,
+}
+
+/// The keeper of a device.
+#[derive(Drop)]
+pub struct Keeper<D: Device> {
+    pub alloc: Global,
+    pub force: Force,
+    pub limit: u64,
+    pub phase: Phase,
+    pub job: Job,
+    pub command: Vec<u8>,
+    pub device: Option<D>,
+    pub file: u64,
+    pub place: u64,
+    pub unsure: Vec<u8>,
+    pub size: u64,
+    pub seen: u64,
+    pub read: Vec<u8>,
+    pub settled: bool,
+    pub out: Vec<u8>,
+    pub response: Vec<u8>,
+}
+
+impl<D: Device> Keeper<D> {
+    /// A keeper that has seen nothing. From `limit` bytes on a journal begins anew.
+    pub fn new(alloc: Global, force: Force, limit: u64) -> Keeper<D>
+        ensures { holder_of D.state result ≡ newborn force limit }
+    {
+        Keeper {
+            alloc,
+            force,
+            limit,
+            phase: Phase::Ended(End::Failed(Fault::Idle)),
+            job: Job::Show,
+            command: Vec::new(alloc),
+            device: None,
+            file: 0,
+            place: 0,
+            unsure: Vec::new(alloc),
+            size: 0,
+            seen: 0,
+            read: Vec::new(alloc),
+            settled: false,
+            out: Vec::new(alloc),
+            response: Vec::new(alloc),
+        }
+    }
+
+    /// What the host is to do next.
+    pub fn ask(&self) -> Ask
+        ensures { result ≡ ask_of (holder_of D.state self.now) }
+    {
+        match self.phase {
+            Phase::Ended(end) => Ask::Nothing(end),
+            Phase::Locking => Ask::Lock,
+            Phase::Looking => Ask::Look,
+            Phase::Reading => Ask::Read(self.seen),
+            Phase::Putting => Ask::Put {
+                cut: self.place,
+                at: self.sure(),
+            },
+            Phase::Forcing => Ask::Force,
+            Phase::Making => Ask::Make,
+            Phase::Naming => Ask::Name,
+            Phase::Settling => Ask::Settle,
+            Phase::Leaving(_) => Ask::Unlock,
+        }
+    }
+
+    /// The place from which on this holder has not itself seen the file forced.
+    pub(crate) fn sure(&self) -> u64
+        ensures { result ≡ sure (holder_of D.state self.now) }
+    {
+        self.place.saturating_sub(self.unsure.len() as u64)
+    }
+
+    /// Begins a call. What was left in the middle is dropped: the host that left it, or that is a
+    /// fork of one that did, first closes its lock.
+    pub fn begin(&mut self, job: Job, command: &[u8]) -> Result<(), Exhausted>
+        ensures ok { OnOk result (holder_of D.state self.new
+            ≡ asked (rests (holder_of D.state self.old)) job command.now) }
+        ensures err { OnErr result (holder_of D.state self.new
+            ≡ rests (holder_of D.state self.old)) }
+    {
+        self.rest();
+        let Ok(command) = Vec::from_slice(self.alloc, command) else {
+            return Err(Exhausted);
+        };
+        self.command = command;
+        self.job = job;
+        self.phase = Phase::Locking;
+        Ok(())
+    }
+
+    /// Drops all, where something is under way.
+    fn rest(&mut self)
+        ensures holder { holder_of D.state self.new ≡ rests (holder_of D.state self.old) }
+        ensures ended { (e : End) × (self.new.phase ≡ Ended e) }
+    {
+        if let Phase::Ended(_) = self.phase {
+            return;
+        }
+        *self = Keeper::new(self.alloc, self.force, self.limit);
+    }
+
+    /// Knows nothing any more: the next look opens the device from the file.
+    fn forget(&mut self, phase: Phase)
+        ensures { holder_of D.state self.new ≡ forgets phase (holder_of D.state self.old) }
+    {
+        *self = Keeper::new(self.alloc, self.force, self.limit);
+        self.phase = phase;
+    }
+
+    /// Ends the call with a fault.
+    pub(crate) fn give_up(&mut self, fault: Fault)
+        ensures { holder_of D.state self.new ≡ dropped fault (holder_of D.state self.old) }
+    {
+        self.forget(Phase::Leaving(End::Failed(fault)));
+    }
+
+    /// Takes what the host did or saw, and goes on. At `Err` the call ends for want of memory.
+    pub fn next(&mut self, got: Got<'_>) -> Result<(), Exhausted>
+        ensures ok { OnOk result (holder_of D.state self.new
+            ≡ next_of D.journal (holder_of D.state self.old) (told_of got.entry)) }
+        ensures err { OnErr result (holder_of D.state self.new
+            ≡ next_of D.journal (holder_of D.state self.old) Starved) }
+    {
+        match (self.phase, got) {
+            (Phase::Ended(_), _) => {}
+            (Phase::Locking, Got::Done) => self.phase = Phase::Looking,
+            (Phase::Locking, _) => self.forget(Phase::Ended(End::Failed(Fault::Lock))),
+            (Phase::Looking, Got::Stands { file, size }) => return self.looked(file, size),
+            (Phase::Looking, Got::Gone) => return self.begins(),
+            (Phase::Reading, Got::Bytes(bytes)) => return self.has_read(bytes),
+            (Phase::Putting, Got::Done) => return self.has_put(),
+            (Phase::Forcing, Got::Done) => {
+                self.phase = self.settles();
+                self.unsure.clear();
+            }
+            (Phase::Making, Got::Done) => self.phase = Phase::Naming,
+            (Phase::Naming, Got::Stands { file, .. }) => self.has_named(file),
+            (Phase::Settling, Got::Done) => {
+                self.phase = Phase::Leaving(End::Done);
+                self.settled = true;
+            }
+            (Phase::Leaving(end), _) => self.phase = Phase::Ended(end),
+            (phase, _) => self.give_up(phase.fault()),
+        }
+        Ok(())
+    }
+
+    /// What follows once the file is as it is to be: the folder is forced, before the first answer
+    /// from a file.
+    pub(crate) fn settles(&self) -> Phase
+        ensures { result ≡ settles (holder_of D.state self.now) }
+    {
+        if self.settled || matches!(self.force, Force::Never) {
+            Phase::Leaving(End::Done)
+        } else {
+            Phase::Settling
+        }
+    }
+}

@@ -1,0 +1,9 @@
+#![tactic(auto)]
+
+//! How a device is kept in a folder: what its holder is to do next, and what holds after a crash.
+
+pub mod device;
+pub mod holder;
+pub mod keeper;
+pub mod laws;
+pub mod steps;

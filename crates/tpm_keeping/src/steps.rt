@@ -1,0 +1,287 @@
+//! The steps of a keeper: what it makes of what its host did or saw.
+
+ghost use Rattle.std.specs.Prelude.{◌≡◌, ◌+◌, ◌++◌, ℕ, List, [], IfOk, OnErr, OnOk, length};
+ghost use Rattle.std.specs.Prelude.{take};
+ghost use Rattle.std.specs.declared.option.Option.TheVariants.{None, Some};
+ghost use Rattle.tpm_keeping.specs.Holder.{acts, begins, caught_up, dropped, executes, finishes};
+ghost use Rattle.tpm_keeping.specs.Holder.{found, has_named, has_put, has_read, looked, reads_on};
+ghost use Rattle.tpm_keeping.specs.Holder.{settles, shows};
+ghost use Rattle.tpm_keeping.specs.Holder.{begins_of};
+ghost use Rattle.tpm_keeping.specs.declared.holder.Fault.TheVariants.{Memory};
+ghost use Rattle.tpm_keeping.specs.declared.holder.Job.TheVariants.{Execute, Leap};
+ghost use Rattle.tpm_keeping.specs.View.{holder_of};
+
+use crate::device::{Device, Exhausted};
+use crate::holder::{End, Fault, Force, Job, Phase};
+use crate::keeper::Keeper;
+use std::mem;
+
+impl<D: Device> Keeper<D> {
+    /// Goes on with the file that stands there: the one that is known, or another one.
+    pub(crate) fn looked(&mut self, file: u64, size: u64) -> Result<(), Exhausted>
+        ensures ok { OnOk result (holder_of D.state self.new
+            ≡ looked D.journal (holder_of D.state self.old) file size) }
+        ensures err { OnErr result (holder_of D.state self.new
+            ≡ dropped Memory (holder_of D.state self.old)) }
+    {
+        if self.file != file || size < self.place {
+            *self = Keeper {
+                job: self.job,
+                command: mem::replace(&mut self.command, Vec::new(self.alloc)),
+                ..Keeper::new(self.alloc, self.force, self.limit)
+            };
+            self.file = file;
+        }
+        self.size = size;
+        self.seen = self.place;
+        self.read.clear();
+        self.reads_on()
+    }
+
+    /// Takes what was read, and goes on.
+    pub(crate) fn has_read(&mut self, bytes: &[u8]) -> Result<(), Exhausted>
+        ensures ok { OnOk result (holder_of D.state self.new
+            ≡ has_read D.journal (holder_of D.state self.old) bytes.now) }
+        ensures err { OnErr result (holder_of D.state self.new
+            ≡ dropped Memory (holder_of D.state self.old)) }
+    {
+        if bytes.is_empty() {
+            self.give_up(Fault::Read);
+            return Ok(());
+        }
+        let seen = self.seen.checked_add(bytes.len() as u64);
+        let (Some(seen), Ok(())) = (seen, self.read.extend_from_slice(bytes)) else {
+            self.give_up(Fault::Memory);
+            return Err(Exhausted);
+        };
+        self.seen = seen;
+        self.reads_on()
+    }
+
+    /// Reads on, or executes what was read once that is all, and acts.
+    fn reads_on(&mut self) -> Result<(), Exhausted>
+        ensures ok { OnOk result (holder_of D.state self.new
+            ≡ reads_on D.journal (holder_of D.state self.old)) }
+        ensures err { OnErr result (holder_of D.state self.new
+            ≡ dropped Memory (holder_of D.state self.old)) }
+    {
+        if self.seen < self.size {
+            self.phase = Phase::Reading;
+            return Ok(());
+        }
+        let done = self.finishes();
+        if done.is_err() {
+            self.give_up(Fault::Memory);
+        }
+        done
+    }
+
+    /// Executes what was read, and acts. At `Err` the device is nowhere.
+    fn finishes(&mut self) -> Result<(), Exhausted>
+        ensures ok { OnOk result (holder_of D.state self.new ≡ finishes D.journal
+            (holder_of D.state self.old)
+            (found D.journal (holder_of D.state self.old).device self.old.read.items)) }
+        ensures err { OnErr result (dropped Memory (holder_of D.state self.new)
+            ≡ dropped Memory (holder_of D.state self.old)) }
+    {
+        let found = match self.device.take() {
+            None => D::open(self.alloc, &self.read)?,
+            Some(mut device) => match device.follow(&self.read) {
+                Some(taken) => Some((device, taken)),
+                None => None,
+            },
+        };
+        let Some((device, taken)) = found else {
+            self.give_up(Fault::Damaged);
+            return Ok(());
+        };
+        self.caught_up(taken)?;
+        self.acts(device)
+    }
+
+    /// So much of what was read is executed. A holder that forces before each answer keeps it,
+    /// since it has not seen it forced.
+    fn caught_up(&mut self, taken: usize) -> Result<(), Exhausted>
+        ensures ok { OnOk result (holder_of D.state self.new
+            ≡ caught_up (holder_of D.state self.old) taken) }
+        ensures err { OnErr result (dropped Memory (holder_of D.state self.new)
+            ≡ dropped Memory (holder_of D.state self.old)) }
+    {
+        let Some(place) = self.place.checked_add(taken as u64) else {
+            return Err(Exhausted);
+        };
+        self.place = place;
+        self.read.truncate(taken);
+        if let Force::Always = self.force {
+            let Ok(()) = self.unsure.extend_from_slice(&self.read) else {
+                return Err(Exhausted);
+            };
+        } else {
+            self.unsure.clear();
+        }
+        self.read.clear();
+        Ok(())
+    }
+
+    /// Does what was asked for with the device that has executed the whole file.
+    fn acts(&mut self, device: D) -> Result<(), Exhausted>
+        ensures ok { OnOk result (holder_of D.state self.new
+            ≡ acts D.journal self.old.job (holder_of D.state self.old) (D.state device)) }
+        ensures err { OnErr result (dropped Memory (holder_of D.state self.new)
+            ≡ dropped Memory (holder_of D.state self.old)) }
+    {
+        self.out.clear();
+        self.response.clear();
+        match self.job {
+            Job::Execute => self.executes(device),
+            Job::Leap => self.leaps(device),
+            Job::Renew => {
+                device.head(&mut self.out)?;
+                self.phase = Phase::Making;
+                self.device = Some(device);
+                Ok(())
+            }
+            Job::Show => {
+                device.head(&mut self.response)?;
+                self.shows(device)
+            }
+            Job::Begin => self.shows(device),
+        }
+    }
+
+    /// Executes the command. Its entry follows all that the holder has not seen forced, or begins a
+    /// new journal.
+    fn executes(&mut self, mut device: D) -> Result<(), Exhausted>
+        requires out { self.old.out.items ≡ [] }
+        requires response { self.old.response.items ≡ [] }
+        ensures ok { OnOk result (holder_of D.state self.new ≡ acts D.journal Execute
+            (holder_of D.state self.old) (D.state device)) }
+        ensures err { OnErr result (dropped Memory (holder_of D.state self.new)
+            ≡ dropped Memory (holder_of D.state self.old)) }
+    {
+        if self.limit <= self.place {
+            device.head(&mut self.out)?;
+            self.phase = Phase::Making;
+        } else {
+            let Ok(()) = self.out.extend_from_slice(&self.unsure) else {
+                return Err(Exhausted);
+            };
+            self.phase = Phase::Putting;
+        }
+        device.execute(&self.command, &mut self.out, &mut self.response)?;
+        self.device = Some(device);
+        Ok(())
+    }
+
+    /// Executes the command. The state after it begins a new journal.
+    fn leaps(&mut self, mut device: D) -> Result<(), Exhausted>
+        requires out { self.old.out.items ≡ [] }
+        requires response { self.old.response.items ≡ [] }
+        ensures ok { OnOk result (holder_of D.state self.new ≡ acts D.journal Leap
+            (holder_of D.state self.old) (D.state device)) }
+        ensures err { OnErr result (dropped Memory (holder_of D.state self.new)
+            ≡ dropped Memory (holder_of D.state self.old)) }
+    {
+        let mut entry = Vec::new(self.alloc);
+        device.execute(&self.command, &mut entry, &mut self.response)?;
+        device.head(&mut self.out)?;
+        self.phase = Phase::Making;
+        self.device = Some(device);
+        Ok(())
+    }
+
+    /// Gives the response, of a state that the holder has seen forced if it forces before each
+    /// answer.
+    fn shows(&mut self, device: D) -> Result<(), Exhausted>
+        requires out { self.old.out.items ≡ [] }
+        ensures ok { OnOk result (holder_of D.state self.new ≡ shows (holder_of D.state self.old)
+            (D.state device) self.old.response.items) }
+        ensures err { OnErr result (dropped Memory (holder_of D.state self.new)
+            ≡ dropped Memory (holder_of D.state self.old)) }
+    {
+        let Ok(()) = self.out.extend_from_slice(&self.unsure) else {
+            return Err(Exhausted);
+        };
+        self.phase = match self.force {
+            Force::Always => Phase::Putting,
+            _ => self.settles(),
+        };
+        self.device = Some(device);
+        Ok(())
+    }
+
+    /// There is no journal: one begins, if that is asked for.
+    pub(crate) fn begins(&mut self) -> Result<(), Exhausted>
+        ensures ok { OnOk result (holder_of D.state self.new
+            ≡ begins D.journal self.old.job (holder_of D.state self.old)) }
+        ensures err { OnErr result (holder_of D.state self.new
+            ≡ dropped Memory (holder_of D.state self.old)) }
+    {
+        let Job::Begin = self.job else {
+            self.give_up(Fault::Absent);
+            return Ok(());
+        };
+        let done = self.makes();
+        if done.is_err() {
+            self.give_up(Fault::Memory);
+        }
+        done
+    }
+
+    /// Makes a device and the text with which its journal begins. At `Err` there is none.
+    fn makes(&mut self) -> Result<(), Exhausted>
+        ensures ok { OnOk result (holder_of D.state self.new ≡ begins_of D.journal
+            (holder_of D.state self.old) (D.journal.begun self.old.command.items)) }
+        ensures err { OnErr result (dropped Memory (holder_of D.state self.new)
+            ≡ dropped Memory (holder_of D.state self.old)) }
+    {
+        self.out.clear();
+        self.response.clear();
+        let Some(device) = D::begin(self.alloc, &self.command)? else {
+            self.give_up(Fault::Unreadable);
+            return Ok(());
+        };
+        device.head(&mut self.out)?;
+        self.phase = Phase::Making;
+        self.device = Some(device);
+        Ok(())
+    }
+
+    /// The text is in the file. A holder that forces before each answer keeps it until it is
+    /// forced.
+    pub(crate) fn has_put(&mut self) -> Result<(), Exhausted>
+        ensures ok { OnOk result (holder_of D.state self.new
+            ≡ has_put (holder_of D.state self.old)) }
+        ensures err { OnErr result (holder_of D.state self.new
+            ≡ dropped Memory (holder_of D.state self.old)) }
+    {
+        let Some(place) = self.sure().checked_add(self.out.len() as u64) else {
+            self.give_up(Fault::Memory);
+            return Err(Exhausted);
+        };
+        self.place = place;
+        self.unsure.clear();
+        if let Force::Always = self.force {
+            mem::swap(&mut self.unsure, &mut self.out);
+            self.phase = Phase::Forcing;
+        } else {
+            self.out.clear();
+            self.phase = self.settles();
+        }
+        Ok(())
+    }
+
+    /// The new file is the journal, and this holder has seen it forced.
+    pub(crate) fn has_named(&mut self, file: u64)
+        ensures { holder_of D.state self.new ≡ has_named (holder_of D.state self.old) file }
+    {
+        self.file = file;
+        self.place = self.out.len() as u64;
+        self.unsure.clear();
+        self.settled = false;
+        self.phase = match self.force {
+            Force::Never => Phase::Leaving(End::Done),
+            _ => Phase::Settling,
+        };
+    }
+}
