@@ -27,7 +27,7 @@ promise_is Power Show s = inr refl
 promise_is Power Begin s = inr refl
 promise_is Never job s = inr refl
 
-promise_bounds : (force : Force) (job : Job) (s : Shared) → s.promised ≤ length s.history
+pub promise_bounds : (force : Force) (job : Job) (s : Shared) → s.promised ≤ length s.history
     → (s.promised ≤ promise force job s) × (promise force job s ≤ length s.history)
 promise_bounds force job s le =
     let P : ℕ → Type 0 = λ n. (s.promised ≤ n) × (n ≤ length s.history) in

@@ -6,3 +6,6 @@ pub mod Reading
 pub mod OneStep
 pub mod Crash
 pub mod Runs
+pub mod LineLaws
+pub mod Promises
+pub mod Asked

@@ -250,7 +250,7 @@ drops_by_itself j w h false is =
 
 -- ---- a run
 
-step : (j : Journal) (w : World) (e : Event) → IsJournal j → Fine j w → Fine j (happens j w e)
+pub step : (j : Journal) (w : World) (e : Event) → IsJournal j → Fine j w → Fine j (happens j w e)
 step j w (Starts p force limit) laws h =
     beside j w p (starts_in (w.holders p).phase (w.holders p) force limit) h
     (starts_fits (w.holders p).phase j w.shared p (w.holders p) force limit (omega (arith, h.still.file.below)) (h.holders p))
@@ -294,7 +294,7 @@ kept j w laws h =
       lasts = still.file.lasts;
     }
 
-begun : (j : Journal) (w : World) → IsStart w → Fine j w
+pub begun : (j : Journal) (w : World) → IsStart w → Fine j w
 begun j w h =
     let s = w.shared in
     let none : s.history ≡ s.file.before ++ s.file.now.commands =

@@ -3,3 +3,4 @@ pub mod Holder
 pub mod View
 pub mod World
 pub mod Kept
+pub mod Lines

@@ -4,8 +4,13 @@ ghost use Rattle.std.specs.Prelude.{◌≡◌, ◌<◌, ℕ, Bool, List, true};
 ghost use Rattle.std.specs.List.{AllByRecursion};
 ghost use Rattle.tpm_keeping.specs.Holder.{Holder, Told, next_of};
 ghost use Rattle.tpm_keeping.specs.Journal.{IsJournal, Journal};
-ghost use Rattle.tpm_keeping.specs.Kept.{Advances, IsKept, rank};
-ghost use Rattle.tpm_keeping.specs.World.{Event, IsStart, World, happen};
+ghost use Rattle.tpm_keeping.specs.Journal.{run};
+ghost use Rattle.tpm_keeping.specs.Kept.{Advances, IsKept, KeepsPromises, Pass, rank};
+ghost use Rattle.tpm_keeping.specs.Lines.{lines};
+ghost use Rattle.tpm_keeping.specs.World.{Event, IsStart, World, happen, happens};
+ghost use Rattle.tpm_keeping.specs.declared.holder.End.TheVariants.{Done};
+ghost use Rattle.tpm_keeping.specs.declared.holder.Job.TheVariants.{Show};
+ghost use Rattle.tpm_keeping.specs.declared.holder.Phase.TheVariants.{Leaving};
 
 /// Whatever the holders of one device are asked for, wherever each is killed, whatever fails and
 /// whenever the host crashes: the journal opens as the device that executed the history, each
@@ -19,4 +24,34 @@ pub fn kept_through_crashes()
 pub fn each_call_ends()
     ensures { (j : Journal) (k : Holder) (told : Told) → rank k.phase < 7
         → Advances k (next_of j k told) }
+{}
+
+/// What was promised stays the beginning of the history, whatever happens next.
+pub fn promises_are_kept()
+    ensures { (j : Journal) (start : World) (events : List Event) (e : Event)
+        → IsJournal j → IsStart start
+        → KeepsPromises (happen j events start).shared (happens j (happen j events start) e).shared }
+{}
+
+/// What holds of all commands that were asked for holds of the history: nothing else is in it.
+pub fn only_what_was_asked()
+    ensures { (j : Journal) (start : World) (events : List Event) (test : List ℕ → Bool)
+        → IsJournal j → IsStart start → Pass test events
+        → AllByRecursion (λ c. test c ≡ true) (happen j events start).shared.history }
+{}
+
+/// What a holder shows, before it gives the lock back, is the text of the state in which the
+/// history has left the device.
+pub fn snapshots_are_true()
+    ensures { (j : Journal) (start : World) (events : List Event) (p : ℕ)
+        → IsJournal j → IsStart start
+        → ((happen j events start).holders p).phase ≡ Leaving Done
+        → ((happen j events start).holders p).job ≡ Show
+        → ((happen j events start).holders p).response ≡ j.head
+            (run j (happen j events start).shared.origin (happen j events start).shared.history) }
+{}
+
+/// There is a journal that meets what a keeper needs.
+pub fn a_journal_can_be_kept()
+    ensures { IsJournal lines }
 {}

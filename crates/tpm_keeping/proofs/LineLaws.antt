@@ -1,0 +1,80 @@
+-- The journal of lines meets what a keeper needs.
+use Rattle.std.proofs.Common.{◌≡◌, ℕ, zero, suc, ◌+◌, ◌<◌, ◌≤◌, Bool, true, false, List, [], ◌∷◌, ◌++◌, length, take, Some, None, Option, refl, sym, ap, ◌∙◌, subst, arith, append_assoc, length-append}
+use Rattle.std.proofs.lemmas.List.{append-nil}
+use Rattle.tpm_keeping.specs.Journal.{Journal, IsJournal, entries, run}
+use Rattle.tpm_keeping.specs.Lines.{is_zeros, line, line_at, lines, marked, opened_by, unended, walk, with_first}
+
+line_again : (s rest : List ℕ) → line_at (line s ++ rest) ≡ Some (s, rest)
+line_again [] rest = refl
+line_again (b ∷ s) rest = ap (with_first b) (line_again s rest)
+
+line_size : (c : List ℕ) → length (line c) ≡ suc (length c)
+line_size [] = refl
+line_size (b ∷ c) = ap suc (line_size c)
+
+walk_line : (c state part rest : List ℕ) (taken far : ℕ)
+    → walk state part taken far (line c ++ rest) ≡ walk (state ++ (part ++ marked c)) [] (far + length (line c)) (far + length (line c)) rest
+walk_line [] state part rest taken far =
+    let one : suc far ≡ far + 1 = omega arith in
+    ap (λ (x : List ℕ). walk (state ++ x) [] (suc far) (suc far) rest) (sym (append-nil part))
+    ∙ ap (λ (n : ℕ). walk (state ++ (part ++ [])) [] n n rest) one
+walk_line (b ∷ c) state part rest taken far =
+    let more : suc far + length (line c) ≡ far + length (line (b ∷ c)) = omega (arith, line_size c, line_size (b ∷ c)) in
+    walk_line c state (part ++ suc (suc b) ∷ []) rest taken (suc far)
+    ∙ (ap (λ (x : List ℕ). walk (state ++ x) [] (suc far + length (line c)) (suc far + length (line c)) rest) (append_assoc part (suc (suc b) ∷ []) (marked c))
+    ∙ ap (λ (n : ℕ). walk (state ++ (part ++ marked (b ∷ c))) [] n n rest) more)
+
+walk_torn : (tail state part : List ℕ) (taken far : ℕ) → unended tail ≡ true → walk state part taken far tail ≡ (state, taken)
+walk_torn [] state part taken far torn = refl
+walk_torn (zero ∷ tail) state part taken far torn = walk_torn tail state (part ++ zero ∷ []) taken (suc far) torn
+walk_torn (suc zero ∷ tail) state part taken far torn = absurd cc
+walk_torn (suc (suc b) ∷ tail) state part taken far torn = walk_torn tail state (part ++ suc (suc b) ∷ []) taken (suc far) torn
+
+walk_all : (cs : List (List ℕ)) (state tail : List ℕ) (far : ℕ) → unended tail ≡ true
+    → walk state [] far far (entries lines state cs ++ tail) ≡ (run lines state cs, far + length (entries lines state cs))
+walk_all [] state tail far torn =
+    let same : far ≡ far + 0 = omega arith in
+    walk_torn tail state [] far far torn ∙ ap (λ (n : ℕ). (state, n)) same
+walk_all (c ∷ cs) state tail far torn =
+    let rest = entries lines (state ++ marked c) cs in
+    let size : (far + length (line c)) + length rest ≡ far + length (line c ++ rest) = omega (arith, length-append (line c) rest) in
+    ap (walk state [] far far) (append_assoc (line c) rest tail)
+    ∙ (walk_line c state [] (rest ++ tail) far far
+    ∙ (walk_all cs (state ++ marked c) tail (far + length (line c)) torn
+    ∙ ap (λ (n : ℕ). (run lines (state ++ marked c) cs, n)) size))
+
+front_unended : (c : List ℕ) (k : ℕ) → k < length (line c) → unended (take k (line c)) ≡ true
+front_unended c zero le = refl
+front_unended [] (suc k) le = absurd (omega arith)
+front_unended (b ∷ c) (suc k) le = front_unended c k (omega (arith, le, line_size c, line_size (b ∷ c)))
+
+zeros_unended : (litter : List ℕ) → is_zeros litter ≡ true → unended litter ≡ true
+zeros_unended [] is = refl
+zeros_unended (zero ∷ litter) is = zeros_unended litter is
+zeros_unended (suc b ∷ litter) is = absurd cc
+
+cut_unended : (tail : List ℕ) (k : ℕ) (litter : List ℕ) → unended tail ≡ true → is_zeros litter ≡ true → unended (take k tail ++ litter) ≡ true
+cut_unended tail zero litter torn is = zeros_unended litter is
+cut_unended [] (suc k) litter torn is = zeros_unended litter is
+cut_unended (zero ∷ tail) (suc k) litter torn is = cut_unended tail k litter torn is
+cut_unended (suc zero ∷ tail) (suc k) litter torn is = absurd cc
+cut_unended (suc (suc b) ∷ tail) (suc k) litter torn is = cut_unended tail k litter torn is
+
+pub lines_are_a_journal : IsJournal lines
+lines_are_a_journal = record {
+    opens = λ s cs tail torn. (
+      let n = length (entries lines s cs) in
+      let all = walk_all cs s tail 0 torn in
+      let size : suc (length s) + (0 + n) ≡ length (line s) + n = omega (arith, line_size s) in
+      ap opened_by (line_again s (entries lines s cs ++ tail))
+      ∙ (ap (λ (r : List ℕ × ℕ). Some (r.0, suc (length s) + r.1)) all ∙ ap (λ (m : ℕ). Some (run lines s cs, m)) size)
+    );
+    follows = λ s cs tail torn. (
+      let same : 0 + length (entries lines s cs) ≡ length (entries lines s cs) = omega arith in
+      ap (λ (r : List ℕ × ℕ). Some r) (walk_all cs s tail 0 torn) ∙ ap (λ (m : ℕ). Some (run lines s cs, m)) same
+    );
+    nothing = λ s. refl;
+    front = λ s c k le. front_unended c k le;
+    littered = λ s tail k litter torn is. cut_unended tail k litter torn is;
+    clean = refl;
+  }

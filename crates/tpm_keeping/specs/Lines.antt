@@ -1,0 +1,59 @@
+-- A small journal, which shows that one can meet what a keeper needs. A text is a line: each byte two
+-- more than it is, and a 1 at its end. So no line has a zero, and a line without its end is none. A
+-- state is all that was executed.
+use Rattle.std.specs.Prelude.{◌≡◌, ℕ, zero, suc, ◌+◌, Bool, true, false, List, [], ◌∷◌, ◌++◌, length, Option, Some, None}
+use Rattle.tpm_keeping.specs.Journal.{Journal}
+
+abbrev pub marked : List ℕ → List ℕ
+marked [] = []
+marked (b ∷ text) = suc (suc b) ∷ marked text
+
+abbrev pub line : List ℕ → List ℕ
+line text = marked text ++ 1 ∷ []
+
+-- the text of a line, and what follows it
+abbrev pub with_first : ℕ → Option (List ℕ × List ℕ) → Option (List ℕ × List ℕ)
+with_first b None = None
+with_first b (Some found) = Some (b ∷ found.0, found.1)
+
+abbrev pub line_at : List ℕ → Option (List ℕ × List ℕ)
+line_at [] = None
+line_at (zero ∷ rest) = None
+line_at (suc zero ∷ rest) = Some ([], rest)
+line_at (suc (suc b) ∷ rest) = with_first b (line_at rest)
+
+-- Executes lines: `part` is what is read of a line, `taken` how many bytes the lines before it have,
+-- and `far` how many were read.
+abbrev pub walk : (state part : List ℕ) → (taken far : ℕ) → List ℕ → List ℕ × ℕ
+walk state part taken far [] = (state, taken)
+walk state part taken far (suc zero ∷ rest) = walk (state ++ part) [] (suc far) (suc far) rest
+walk state part taken far (b ∷ rest) = walk state (part ++ b ∷ []) taken (suc far) rest
+
+abbrev pub opened_by : Option (List ℕ × List ℕ) → Option (List ℕ × ℕ)
+opened_by None = None
+opened_by (Some found) =
+    Some ((walk found.0 [] 0 0 found.1).0, suc (length found.0) + (walk found.0 [] 0 0 found.1).1)
+
+-- no line ends in it
+abbrev pub unended : List ℕ → Bool
+unended [] = true
+unended (suc zero ∷ rest) = false
+unended (b ∷ rest) = unended rest
+
+abbrev pub is_zeros : List ℕ → Bool
+is_zeros [] = true
+is_zeros (zero ∷ rest) = is_zeros rest
+is_zeros (suc b ∷ rest) = false
+
+abbrev pub lines : Journal
+lines = record {
+  after = λ s c. s ++ marked c;
+  response = λ s c. s;
+  begun = λ seed. Some seed;
+  entry = λ s c. line c;
+  head = λ s. line s;
+  opened = λ text. opened_by (line_at text);
+  followed = λ s text. Some (walk s [] 0 0 text);
+  is_torn = λ s text. unended text;
+  is_litter = λ text. is_zeros text;
+}
